@@ -64,7 +64,8 @@ no_length : (n : ℕ) → length {A = Option UserValue} (replicate n None) ≡ n
 no_length zero = refl
 no_length (suc n) = let rest = no_length n in omega (arith, rest)
 
-pub fragment_fits : (format : FileFormat) (tree : Tree) (known : List ℕ) (meanings : List LineMeaning) (es : List (ℕ × UserValue)) → is_prefix format.prefix ≡ true
+pub fragment_fits : (format : FileFormat) (tree : Tree) (known : List ℕ) (meanings : List LineMeaning) (es : List (ℕ × UserValue))
+    → is_prefix format.prefix ≡ true
     → IsConsistent tree
     → IsAccepted format tree known → FileMeans format tree known meanings → users_of tree es ≡ file_assignment tree meanings → Rises es
     → Below (length tree.units) es → FitsTree tree es

@@ -14,7 +14,8 @@ use Rattle.kc_dotconfig_model.specs.ConfigFiles.{empty_assignment, overlay}
 use Rattle.kc_dotconfig.specs.Fragments.{FitsTree, changes_of, users_of}
 use Rattle.kc_dotconfig.specs.checker.Configs.{clears_of, units_of}
 
-pub changed_both : (a b : List (ℕ × Option UserValue)) (users : List (Option UserValue)) → changed_users (a ++ b) users ≡ changed_users b (changed_users a users)
+pub changed_both : (a b : List (ℕ × Option UserValue)) (users : List (Option UserValue)) → changed_users (a ++ b) users
+    ≡ changed_users b (changed_users a users)
 changed_both [] b users = refl
 changed_both (c ∷ a) b users = changed_both a b (slice_set users c.0 c.1)
 

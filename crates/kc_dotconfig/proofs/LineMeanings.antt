@@ -130,7 +130,8 @@ no_hash_says [] some h = cc
 no_hash_says (b ∷ line) some h = sym (ap (λ t. cond {A = Option LineMeaning} t (Some silent) None) h)
 
 -- a symbol that has the name is the symbol of the name
-pub named_there : (tree : Tree) → IsConsistent tree → (s : ℕ) (found name : List ℕ) → option_map (λ (t : Symbol). t.name) (slice_get tree.symbols s) ≡ Some found
+pub named_there : (tree : Tree) → IsConsistent tree → (s : ℕ) (found name : List ℕ) → option_map (λ (t : Symbol). t.name) (slice_get tree.symbols s)
+    ≡ Some found
     → true ≡ bytes_eq found name → symbol_named tree name ≡ Some s
 named_there tree sound s found name at equal = go (slice_get tree.symbols s) refl at where
   go : (o : Option Symbol) → slice_get tree.symbols s ≡ o → option_map (λ (t : Symbol). t.name) o ≡ Some found → symbol_named tree name ≡ Some s

@@ -127,7 +127,8 @@ line_taken format tree old g piece line g_new is short one few (text, meaning) k
     )
 
 -- a line that is refused
-pub line_refused : (format : FileFormat) (tree : Tree) (old : List ℕ) (g : Accumulator) (piece line : List ℕ) (kind : LoadKind) (lines : ℕ) → line ≡ old ++ piece
+pub line_refused : (format : FileFormat) (tree : Tree) (old : List ℕ) (g : Accumulator) (piece line : List ℕ) (kind : LoadKind) (lines : ℕ)
+    → line ≡ old ++ piece
     → length line ≤ MAX_LINE_BYTES → lacks 10 piece ≡ true → g.lines < MAX_CONFIG_LINES → lines ≡ g.lines
     → (kind ≡ NotUtf8 → IsUtf8 line → ⊥) → (kind ≡ Malformed → IsUtf8 line × IsMalformed format tree line)
     → (kind ≡ NotUtf8) ⊎ (kind ≡ Malformed) ⊎ (kind ≡ OutOfMemory)
@@ -164,7 +165,8 @@ line_refused format tree old g piece line kind lines is short one few same odd b
       (subst (λ b. IsFirstFault format tree complete b from (length h.0 + 1)) (append_assoc known piece (10 ∷ rest) ∙ sym (seam known piece rest)) fault))
 
 -- what is taken in two parts
-pub both_taken : (format : FileFormat) (tree : Tree) (a : List ℕ) (g : Accumulator) (front : List ℕ) (b : List ℕ) (h : Accumulator) (back c : List ℕ) (k : Accumulator)
+pub both_taken : (format : FileFormat) (tree : Tree) (a : List ℕ) (g : Accumulator) (front : List ℕ) (b : List ℕ) (h : Accumulator) (back c : List ℕ)
+    (k : Accumulator)
     → AcceptsBytes format tree a g front b h → AcceptsBytes format tree b h back c k → AcceptsBytes format tree a g (front ++ back) c k
 both_taken format tree a g front b h back c k first second known holds room =
     let n = length-append front back in
@@ -172,7 +174,8 @@ both_taken format tree a g front b h back c k first second known holds room =
     subst (λ t. Holds format tree t c k) (append_assoc known front back) (second (known ++ front) (first known holds (omega arith)) (omega arith))
 
 -- a fault after what is taken
-pub later_refused : (format : FileFormat) (tree : Tree) (a : List ℕ) (g : Accumulator) (front b : List ℕ) (h : Accumulator) (back more : List ℕ) (kind : LoadKind) (lines : ℕ)
+pub later_refused : (format : FileFormat) (tree : Tree) (a : List ℕ) (g : Accumulator) (front b : List ℕ) (h : Accumulator) (back more : List ℕ)
+    (kind : LoadKind) (lines : ℕ)
     → AcceptsBytes format tree a g front b h → Refuses format tree b h back kind lines → Refuses format tree a g (front ++ (back ++ more)) kind lines
 later_refused format tree a g front b h back more kind lines first second known rest holds room =
     let n = length-append front (back ++ more) in
@@ -273,7 +276,8 @@ push_refused {T} (Err kind) format tree old g piece long kinds one few = elim ki
   | inr e ↦ inl e
 ]
 
-pub result_taken : {T : Type 0} (r : Result T LoadKind) (format : FileFormat) (tree : Tree) (old : List ℕ) (g : Accumulator) (piece line after : List ℕ) (g_new : Accumulator)
+pub result_taken : {T : Type 0} (r : Result T LoadKind) (format : FileFormat) (tree : Tree) (old : List ℕ) (g : Accumulator) (piece line after : List ℕ)
+    (g_new : Accumulator)
     → line ≡ old ++ piece → length line ≤ MAX_LINE_BYTES → lacks 10 piece ≡ true → g.lines < MAX_CONFIG_LINES → after ≡ []
     → OnOk r (IsUtf8 line × ((x : LineMeaning) × Means format tree (without_white_end line) x
     × ((meanings : List LineMeaning) → IsGathered tree meanings g → IsGathered tree (meanings ++ x ∷ []) g_new)))
@@ -286,7 +290,8 @@ pub lines_bound : {T : Type 0} (r : Result T LoadKind) (a b : ℕ) → OnOk r (b
 lines_bound (Ok x) a b ok err few = omega arith
 lines_bound (Err e) a b ok err few = omega arith
 
-pub result_ends : {T : Type 0} (r : Result T LoadKind) (format : FileFormat) (tree : Tree) (old line : List ℕ) (g g_new : Accumulator) → line ≡ old → 0 < length line
+pub result_ends : {T : Type 0} (r : Result T LoadKind) (format : FileFormat) (tree : Tree) (old line : List ℕ) (g g_new : Accumulator) → line ≡ old
+    → 0 < length line
     → length old ≤ MAX_LINE_BYTES
     → OnOk r (IsUtf8 line × ((x : LineMeaning) × Means format tree (without_white_end line) x
     × ((meanings : List LineMeaning) → IsGathered tree meanings g → IsGathered tree (meanings ++ x ∷ []) g_new)))
@@ -340,7 +345,8 @@ rest_is rest n = grind (arith, common_steps)
 line_of : (rest : List ℕ) (at : ℕ) → IsFirstByte (is_byte 10) rest (Some at) → rest ≡ (take at rest ++ 10 ∷ []) ++ drop (at + 1) rest
 line_of rest at first = (first_newline rest at first).0 ∙ sym (append_assoc (take at rest) (10 ∷ []) (drop (at + 1) rest))
 
-pub step_taken : (format : FileFormat) (tree : Tree) (a : List ℕ) (g : Accumulator) (bytes rest : List ℕ) (at : ℕ) (b : List ℕ) (h : Accumulator) (c : List ℕ) (k : Accumulator)
+pub step_taken : (format : FileFormat) (tree : Tree) (a : List ℕ) (g : Accumulator) (bytes rest : List ℕ) (at : ℕ) (b : List ℕ) (h : Accumulator) (c : List ℕ)
+    (k : Accumulator)
     → (front : List ℕ) × (bytes ≡ front ++ rest) × AcceptsBytes format tree a g front b h → IsFirstByte (is_byte 10) rest (Some at)
     → AcceptsBytes format tree b h (take at rest ++ 10 ∷ []) c k
     → (front : List ℕ) × (bytes ≡ front ++ take (length rest - (at + 1)) (drop (at + 1) rest)) × AcceptsBytes format tree a g front c k
@@ -351,7 +357,8 @@ step_taken format tree a g bytes rest at b h c k (front, is, takes) first second
   both_taken format tree a g front b h (take at rest ++ 10 ∷ []) c k takes second,
 )
 
-pub step_refused : (format : FileFormat) (tree : Tree) (a : List ℕ) (g : Accumulator) (bytes rest : List ℕ) (at : ℕ) (b : List ℕ) (h : Accumulator) (kind : LoadKind) (lines : ℕ)
+pub step_refused : (format : FileFormat) (tree : Tree) (a : List ℕ) (g : Accumulator) (bytes rest : List ℕ) (at : ℕ) (b : List ℕ) (h : Accumulator)
+    (kind : LoadKind) (lines : ℕ)
     → (front : List ℕ) × (bytes ≡ front ++ rest) × AcceptsBytes format tree a g front b h → IsFirstByte (is_byte 10) rest (Some at)
     → (kind ≡ OutOfMemory) ⊎ Refuses format tree b h (take at rest ++ 10 ∷ []) kind lines
     → (kind ≡ OutOfMemory) ⊎ Refuses format tree a g bytes kind lines
@@ -361,14 +368,16 @@ step_refused format tree a g bytes rest at b h kind lines (front, is, takes) fir
       (later_refused format tree a g front b h (take at rest ++ 10 ∷ []) (drop (at + 1) rest) kind lines takes refuses))
 ]
 
-pub last_taken : {T : Type 0} (r : Result T LoadKind) (format : FileFormat) (tree : Tree) (a : List ℕ) (g : Accumulator) (bytes rest b : List ℕ) (h : Accumulator) (c : List ℕ)
+pub last_taken : {T : Type 0} (r : Result T LoadKind) (format : FileFormat) (tree : Tree) (a : List ℕ) (g : Accumulator) (bytes rest b : List ℕ)
+    (h : Accumulator) (c : List ℕ)
     → (front : List ℕ) × (bytes ≡ front ++ rest) × AcceptsBytes format tree a g front b h → OnOk r (GoesOn b c rest h.lines)
     → OnOk r (AcceptsBytes format tree a g bytes c h)
 last_taken (Ok x) format tree a g bytes rest b h c (front, is, takes) goes =
     subst (λ x. AcceptsBytes format tree a g x c h) (sym is) (both_taken format tree a g front b h rest c h takes (piece_taken format tree b h rest c goes))
 last_taken (Err e) format tree a g bytes rest b h c taken goes = tt
 
-pub last_refused : {T : Type 0} (r : Result T LoadKind) (format : FileFormat) (tree : Tree) (a : List ℕ) (g : Accumulator) (bytes rest b : List ℕ) (h : Accumulator)
+pub last_refused : {T : Type 0} (r : Result T LoadKind) (format : FileFormat) (tree : Tree) (a : List ℕ) (g : Accumulator) (bytes rest b : List ℕ)
+    (h : Accumulator)
     → (front : List ℕ) × (bytes ≡ front ++ rest) × AcceptsBytes format tree a g front b h → IfErr r (λ kind. (kind ≡ OutOfMemory) ⊎ StopsIn b rest h.lines kind)
     → IfErr r (λ kind. (kind ≡ OutOfMemory) ⊎ Refuses format tree a g bytes kind h.lines)
 last_refused (Ok x) format tree a g bytes rest b h taken fault = tt
@@ -402,7 +411,8 @@ block_faulty (Err kind) format tree a g block size lines small short fault = eli
 ]
 
 -- of a block that reaches past the size, the part within it
-pub part_refused : (format : FileFormat) (tree : Tree) (a : List ℕ) (g : Accumulator) (block : List ℕ) (kind : LoadKind) (size lines : ℕ) → size ≤ MAX_CONFIG_BYTES
+pub part_refused : (format : FileFormat) (tree : Tree) (a : List ℕ) (g : Accumulator) (block : List ℕ) (kind : LoadKind) (size lines : ℕ)
+    → size ≤ MAX_CONFIG_BYTES
     → MAX_CONFIG_BYTES - size < length block → (kind ≡ OutOfMemory) ⊎ Refuses format tree a g (take (MAX_CONFIG_BYTES - size) block) kind lines
     → (kind ≡ OutOfMemory) ⊎ ((known rest : List ℕ) → Holds format tree known a g → length known ≡ size
     → IsFirstFault format tree complete (known ++ (block ++ rest)) kind (lines + 1))
@@ -412,7 +422,8 @@ part_refused format tree a g block kind size lines small long fault =
     → IsFirstFault format tree complete (known ++ (x ++ rest)) kind (lines + 1))) (take-append-drop (MAX_CONFIG_BYTES - size) block)
     (block_refused format tree a g (take (MAX_CONFIG_BYTES - size) block) (drop (MAX_CONFIG_BYTES - size) block) kind size lines (omega arith) fault)
 
-pub part_too_large : (format : FileFormat) (tree : Tree) (a : List ℕ) (g : Accumulator) (block b : List ℕ) (h : Accumulator) (size : ℕ) → size ≤ MAX_CONFIG_BYTES
+pub part_too_large : (format : FileFormat) (tree : Tree) (a : List ℕ) (g : Accumulator) (block b : List ℕ) (h : Accumulator) (size : ℕ)
+    → size ≤ MAX_CONFIG_BYTES
     → MAX_CONFIG_BYTES - size < length block → AcceptsBytes format tree a g (take (MAX_CONFIG_BYTES - size) block) b h
     → (known rest : List ℕ) → Holds format tree known a g → length known ≡ size
     → IsFirstFault format tree complete (known ++ (block ++ rest)) TooLarge (h.lines + 1)

@@ -57,7 +57,8 @@ has_read_none format tree a line g empty gathered =
           ([], nothing_told format tree, gathered);
     }
 
-pub has_read_more : (format : FileFormat) (tree : Tree) (a b c : Option (List ℕ)) (line : List ℕ) (g : Accumulator) (size : ℕ) (block line_new : List ℕ) (h : Accumulator) (count : ℕ)
+pub has_read_more : (format : FileFormat) (tree : Tree) (a b c : Option (List ℕ)) (line : List ℕ) (g : Accumulator) (size : ℕ) (block line_new : List ℕ)
+    (h : Accumulator) (count : ℕ)
     → HasRead format tree a b line g size → Consumes b c block → length block ≡ count → AcceptsBytes format tree line g block line_new h
     → size + length block ≤ MAX_CONFIG_BYTES → HasRead format tree a c line_new h (size + count)
 has_read_more format tree a b c line g size block line_new h count r consumed n takes room =
@@ -119,7 +120,8 @@ tells_refused format tree a c f f_after OutOfMemory number h = elim h [
   | inr r ↦ elim r.first [ inl whole ↦ absurd whole.1.comes | inr any ↦ absurd (any []).comes ]
 ]
 
-pub refused_in : (format : FileFormat) (tree : Tree) (a b c : Option (List ℕ)) (line : List ℕ) (g : Accumulator) (size : ℕ) (block : List ℕ) (kind : LoadKind) (number : ℕ)
+pub refused_in : (format : FileFormat) (tree : Tree) (a b c : Option (List ℕ)) (line : List ℕ) (g : Accumulator) (size : ℕ) (block : List ℕ) (kind : LoadKind)
+    (number : ℕ)
     → HasRead format tree a b line g size → Consumes b c block → length block ≤ MAX_READ
     → ((kind ≡ OutOfMemory) × (number ≡ 0)) ⊎ ((known rest : List ℕ) → Holds format tree known line g → length known ≡ size
     → IsFirstFault format tree complete (known ++ (block ++ rest)) kind number)
@@ -230,7 +232,8 @@ tells_short format tree a c f f_after k n is cut rise = subst (λ x. ReportsFaul
 none_taken : (count : ℕ) (block : List ℕ) → count ≡ 0 → take count block ≡ []
 none_taken count block e = ap (λ n. take n block) e
 
-pub whole_read : (r : Result Fragment LoadFault) (format : FileFormat) (tree : Tree) (a b c : Option (List ℕ)) (line : List ℕ) (g : Accumulator) (size count : ℕ) (block : List ℕ)
+pub whole_read : (r : Result Fragment LoadFault) (format : FileFormat) (tree : Tree) (a b c : Option (List ℕ)) (line : List ℕ) (g : Accumulator)
+    (size count : ℕ) (block : List ℕ)
     → HasRead format tree a b line g size → count ≡ 0 → 0 < length block
     → Consumes b c (take count block) × (count ≡ 0 → 0 < length block → IsAtEnd c) → IfOk r (IsFragmentOf format tree line g)
     → IfOk r (IsReadAs format tree a c)
@@ -238,7 +241,8 @@ whole_read (Ok f) format tree a b c line g size count block r none some bytes wh
     read_whole format tree a b c line g size f r (subst (Consumes b c) (none_taken count block none) bytes.0) (bytes.1 none some) whole
 whole_read (Err e) format tree a b c line g size count block r none some bytes whole = tt
 
-pub end_fault : (r : Result Fragment LoadFault) (format : FileFormat) (tree : Tree) (a b c : Option (List ℕ)) (line : List ℕ) (g : Accumulator) (size count : ℕ) (block : List ℕ) (f f_after : ℕ)
+pub end_fault : (r : Result Fragment LoadFault) (format : FileFormat) (tree : Tree) (a b c : Option (List ℕ)) (line : List ℕ) (g : Accumulator) (size count : ℕ)
+    (block : List ℕ) (f f_after : ℕ)
     → HasRead format tree a b line g size → count ≡ 0 → 0 < length block
     → Consumes b c (take count block) × (count ≡ 0 → 0 < length block → IsAtEnd c)
     → IfErr r (λ fault. ((fault.kind ≡ OutOfMemory) × (fault.line ≡ 0))

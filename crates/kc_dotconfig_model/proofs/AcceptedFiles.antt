@@ -111,7 +111,8 @@ placed (b ∷ bytes) k n line e at = go (b == 10) refl (file_lines bytes) refl k
       let number : k + 1 + 1 ≡ n = omega arith in (
         below.0 + 1,
         subst (λ m. IsLineAt (b ∷ bytes) line m (below.0 + 1)) number
-            (subst (λ c. IsLineAt (c ∷ bytes) line (k + 1 + 1) (below.0 + 1)) (sym (eqb-true b 10 newline)) (behind_newline bytes line (k + 1) below.0 below.1)),
+            (subst (λ c. IsLineAt (c ∷ bytes) line (k + 1 + 1) (below.0 + 1)) (sym (eqb-true b 10 newline))
+            (behind_newline bytes line (k + 1) below.0 below.1)),
       )
   go false other [] is zero e at next =
       let whole : b ∷ [] ≡ line = cc in

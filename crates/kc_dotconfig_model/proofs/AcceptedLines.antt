@@ -127,7 +127,8 @@ says_something format tree line valid good = go (line_meaning format tree (witho
   go None e = absurd (good (λ meaning says. let read = (line_read format tree (without_white_end line) meaning valid).1 says in cc (read, e)))
 
 -- each line of an accepted file is good
-pub accepted_line : (format : FileFormat) (tree : Tree) (bytes : List ℕ) → is_prefix format.prefix ≡ true → IsAccepted format tree bytes → (i : ℕ) (line : List ℕ)
+pub accepted_line : (format : FileFormat) (tree : Tree) (bytes : List ℕ) → is_prefix format.prefix ≡ true → IsAccepted format tree bytes
+    → (i : ℕ) (line : List ℕ)
     → slice_get (file_lines bytes) i ≡ Some line → IsGoodLine format tree line
 accepted_line format tree bytes valid accepted i line at =
     let place = placed bytes i (i + 1) line refl at in
@@ -179,6 +180,7 @@ each_passes p [] each = refl
 each_passes p (line ∷ lines) each = and_from (p line) (list_all p lines) (each 0 line refl) (each_passes p lines (λ i l at. each (suc i) l at))
 
 -- an accepted file is UTF-8
-pub accepted_utf8 : (format : FileFormat) (tree : Tree) (bytes : List ℕ) → is_prefix format.prefix ≡ true → IsAccepted format tree bytes → has_utf8_lines bytes ≡ true
+pub accepted_utf8 : (format : FileFormat) (tree : Tree) (bytes : List ℕ) → is_prefix format.prefix ≡ true → IsAccepted format tree bytes
+    → has_utf8_lines bytes ≡ true
 accepted_utf8 format tree bytes valid accepted =
     each_passes is_utf8 (file_lines bytes) (λ i line at. is_utf8-from_IsUtf8 line (accepted_line format tree bytes valid accepted i line at).utf8)

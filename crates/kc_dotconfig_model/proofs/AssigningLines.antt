@@ -38,7 +38,8 @@ one_further : (format : FileFormat) (tree : Tree) (first : List ℕ) (lines : Li
 one_further format tree first lines u x h = record { number = suc h.number; line = h.line; at = h.at; says = h.says }
 
 -- what is held after some lines was held before, or one of them assigns it
-pub assigning_line : (format : FileFormat) (tree : Tree) (lines : List (List ℕ)) (meanings : List LineMeaning) (held : List (Option UserValue)) (u : ℕ) (x : UserValue)
+pub assigning_line : (format : FileFormat) (tree : Tree) (lines : List (List ℕ)) (meanings : List LineMeaning) (held : List (Option UserValue)) (u : ℕ)
+    (x : UserValue)
     → Reads format tree lines meanings → u < length held
     → user_of (assigned_over meanings held) u ≡ Some x → (user_of held u ≡ Some x) ⊎ HasAssigningLine format tree lines u x
 assigning_line format tree [] [] held u x reads inside has = inl has
@@ -88,9 +89,11 @@ pub record IsTextLine (format : FileFormat) (tree : Tree) (line : List ℕ) (u :
 
 abbrev TextSays : Strings → Tree → ℕ → Symbol → List ℕ → ℕ → List ℕ → Type 0
 TextSays strings tree s symbol text u means =
-    (unit_of tree s ≡ u) × ((IsStringSpelling strings text means × (symbol.kind ≡ Text)) ⊎ ((text ≡ means) × (is_some (number_of_text symbol.kind text) ≡ true)))
+    (unit_of tree s ≡ u) × ((IsStringSpelling strings text means × (symbol.kind ≡ Text))
+    ⊎ ((text ≡ means) × (is_some (number_of_text symbol.kind text) ≡ true)))
 
-text_says : (strings : Strings) (tree : Tree) (s : ℕ) (symbol : Symbol) (text : List ℕ) (meaning : LineMeaning) (u : ℕ) (means : List ℕ) → ValueMeans strings tree s symbol text meaning
+text_says : (strings : Strings) (tree : Tree) (s : ℕ) (symbol : Symbol) (text : List ℕ) (meaning : LineMeaning) (u : ℕ) (means : List ℕ)
+    → ValueMeans strings tree s symbol text meaning
     → meaning ≡ assigns u (TextUser means) → TextSays strings tree s symbol text u means
 text_says strings tree s symbol text meaning u means (tri _ t out meant) e = cc
 text_says strings tree s symbol text meaning u means (chosen c _ within meant) e = cc

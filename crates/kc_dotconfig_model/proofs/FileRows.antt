@@ -39,7 +39,8 @@ unset_lines : (read config tree_a (codes "# CONFIG_A is not set\n") ≡ assignin
 unfolding line_meaning
 unset_lines = (refl, refl, refl)
 
-ints : (read config tree_int (codes "CONFIG_N=25\n") ≡ assigning (writes (codes "25") ∷ [])) × (read config tree_int (codes "CONFIG_N=010\n") ≡ assigning (writes (codes "010") ∷ []))
+ints : (read config tree_int (codes "CONFIG_N=25\n") ≡ assigning (writes (codes "25") ∷ []))
+    × (read config tree_int (codes "CONFIG_N=010\n") ≡ assigning (writes (codes "010") ∷ []))
     × (read config tree_int (codes "CONFIG_N=\n") ≡ assigning (None ∷ []))
     × (read config tree_int (codes "CONFIG_N=1x\n") ≡ Some (None ∷ [], (1, NotOfType) ∷ []))
 unfolding line_meaning int_text
@@ -103,12 +104,14 @@ comments_and_white_ends : (read config tree_a (codes "#\n# Automatically generat
 unfolding line_meaning
 comments_and_white_ends = (refl, refl)
 
-malformed_lines : (read config tree_a (codes "CONFIG_A=n\n# x\nFOO=y\n") ≡ None) × (line_meaning config tree_a (codes "FOO=y") ≡ None) × (line_meaning config tree_a (codes "CONFIG_=A=y") ≡ None)
+malformed_lines : (read config tree_a (codes "CONFIG_A=n\n# x\nFOO=y\n") ≡ None) × (line_meaning config tree_a (codes "FOO=y") ≡ None)
+    × (line_meaning config tree_a (codes "CONFIG_=A=y") ≡ None)
     × (line_meaning config tree_a (codes " CONFIG_A=y") ≡ None) × (line_meaning config tree_a (codes "CONFIG_A") ≡ None)
 unfolding line_meaning
 malformed_lines = (refl, refl, refl, refl, refl)
 
-names_are_what_stands_there : (line_meaning config tree_a (codes "CONFIG_A =y") ≡ Some (notice UnknownSymbol)) × (line_meaning config tree_a (codes "# CONFIG_A=B is not set") ≡ Some (notice UnknownSymbol))
+names_are_what_stands_there : (line_meaning config tree_a (codes "CONFIG_A =y") ≡ Some (notice UnknownSymbol))
+    × (line_meaning config tree_a (codes "# CONFIG_A=B is not set") ≡ Some (notice UnknownSymbol))
     × (line_meaning config tree_a (codes "# CONFIG_A is not set is not set") ≡ Some silent)
     × (line_meaning config tree_a (codes " # CONFIG_A is not set") ≡ Some silent)
     × (line_meaning config tree_a (codes "#CONFIG_A is not set") ≡ Some silent)
@@ -122,18 +125,21 @@ cut_files : (line_meaning config tree_a (codes "C") ≡ None) × (line_meaning c
 unfolding line_meaning
 cut_files = (refl, refl, refl, refl)
 
-other_prefixes : (read (escaped (codes "BOARD_")) tree_a (codes "BOARD_A=y\n") ≡ assigning (sets Y ∷ [])) × (read (escaped (codes "BOARD_")) tree_a (codes "CONFIG_A=y\n") ≡ None)
+other_prefixes : (read (escaped (codes "BOARD_")) tree_a (codes "BOARD_A=y\n") ≡ assigning (sets Y ∷ []))
+    × (read (escaped (codes "BOARD_")) tree_a (codes "CONFIG_A=y\n") ≡ None)
     × (read (escaped (codes "C")) tree_a (codes "CONFIG_A=y\n") ≡ Some (None ∷ [], (1, UnknownSymbol) ∷ []))
 unfolding line_meaning
 other_prefixes = (refl, refl, refl)
 
 -- titles of menus are read as nothing
-headings : (read config (tree_titled (codes "CONFIG_A is not set")) (codes "\n#\n#  CONFIG_A is not set\n#\nCONFIG_A=y\n# end of CONFIG_A is not set\n") ≡ assigning (sets Y ∷ []))
+headings : (read config (tree_titled (codes "CONFIG_A is not set")) (codes "\n#\n#  CONFIG_A is not set\n#\nCONFIG_A=y\n# end of CONFIG_A is not set\n")
+    ≡ assigning (sets Y ∷ []))
     × (read (escaped (codes "end")) (tree_titled (codes "CONFIG_A is not set")) (codes "\n#\n# CONFIG_A is not set\n#\nendA=y\n# end of CONFIG_A is not set\n")
     ≡ assigning (sets Y ∷ []))
 unfolding line_meaning
 headings = (refl, refl)
 
 -- a later file over an earlier one
-later_files_win : (assigned_over (assigns 0 (TriUser N) ∷ []) (file_assignment tree_a (assigns 0 (TriUser Y) ∷ [])) ≡ sets N ∷ []) × (overlay (sets N ∷ []) (sets Y ∷ []) ≡ sets N ∷ []) × (overlay (None ∷ []) (sets Y ∷ []) ≡ sets Y ∷ [])
+later_files_win : (assigned_over (assigns 0 (TriUser N) ∷ []) (file_assignment tree_a (assigns 0 (TriUser Y) ∷ [])) ≡ sets N ∷ [])
+    × (overlay (sets N ∷ []) (sets Y ∷ []) ≡ sets N ∷ []) × (overlay (None ∷ []) (sets Y ∷ []) ≡ sets Y ∷ [])
 later_files_win = (refl, refl, refl)

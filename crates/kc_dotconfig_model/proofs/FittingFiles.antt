@@ -133,7 +133,8 @@ module _ (tree : Tree) (sound : IsConsistent tree) (s : ℕ) (symbol : Symbol) (
   outside None e other = e
   outside (Some c) e other = absurd (other (sound.bool_members s c symbol at e))
 
-  value_fits_unit : (strings : Strings) (text : List ℕ) (meaning : LineMeaning) → lacks 10 text ≡ true → IsUtf8 text → ValueMeans strings tree s symbol text meaning
+  value_fits_unit : (strings : Strings) (text : List ℕ) (meaning : LineMeaning) → lacks 10 text ≡ true → IsUtf8 text
+      → ValueMeans strings tree s symbol text meaning
       → SayingFits tree meaning
   value_fits_unit strings text meaning one utf8 (tri _ t out meant) = outside_fits (TriUser t) out (tri_meant_fits symbol.kind text t meant)
   value_fits_unit strings text meaning one utf8 (chosen c _ within meant) = member_fits c within

@@ -26,7 +26,8 @@ no_length : (line : List ℕ) → length line ≤ 0 → line ≡ []
 no_length [] h = refl
 no_length (b ∷ line) h = absurd (omega arith)
 
-module _ (format : FileFormat) (valid : is_prefix format.prefix ≡ true) (tree : Tree) (known line : List ℕ) (meanings : List LineMeaning) (c : IsCut format tree known line meanings) where
+module _ (format : FileFormat) (valid : is_prefix format.prefix ≡ true) (tree : Tree) (known line : List ℕ) (meanings : List LineMeaning)
+    (c : IsCut format tree known line meanings) where
   -- the line so far has a fault at its end, or what follows judges
   at_line_end : (more : List ℕ) → AtEnd format tree known line meanings c more
       → ((x : LineMeaning) → IsSound format tree line x → Judged format tree (known ++ more)) → Judged format tree (known ++ more)

@@ -91,9 +91,11 @@ module _ (format : FileFormat) (tree : Tree) where
       → Means format tree line (of_named tree (λ s symbol. value_meaning format.strings tree s symbol parts.1) o)
   value_sound line parts is None named = unknown_value line parts.0 parts.1 is named
   value_sound line parts is (Some s) named = go (slice_get tree.symbols s) refl where
-    go : (o : Option Symbol) → slice_get tree.symbols s ≡ o → Means format tree line (of_symbol_at (λ s symbol. value_meaning format.strings tree s symbol parts.1) s o)
+    go : (o : Option Symbol) → slice_get tree.symbols s ≡ o → Means format tree line
+        (of_symbol_at (λ s symbol. value_meaning format.strings tree s symbol parts.1) s o)
     go None at = absurd (named_inside tree parts.0 s named at)
-    go (Some symbol) at = value line parts.0 parts.1 s symbol (value_meaning format.strings tree s symbol parts.1) is named at (value_says format.strings tree s symbol parts.1)
+    go (Some symbol) at = value line parts.0 parts.1 s symbol (value_meaning format.strings tree s symbol parts.1) is named at
+        (value_says format.strings tree s symbol parts.1)
 
   unset_sound : (line name : List ℕ) → IsUnsetLine format.prefix line name → (o : Option ℕ) → symbol_named tree name ≡ o
       → Means format tree line (of_named tree (λ s symbol. unset_meaning tree s symbol symbol.choice) o)
@@ -125,7 +127,8 @@ module _ (format : FileFormat) (tree : Tree) where
       let same : of_named tree (λ s symbol. unset_meaning tree s symbol symbol.choice) (symbol_named tree name) ≡ meaning = cc in
       subst (Means format tree line) same (unset_sound line name (unset_line_is format.prefix line name e) (symbol_named tree name) refl)
 
-  form_sound : (line : List ℕ) (meaning : LineMeaning) (o : Option (List ℕ × List ℕ)) → value_parts format.prefix line ≡ o → of_value format tree line o ≡ Some meaning
+  form_sound : (line : List ℕ) (meaning : LineMeaning) (o : Option (List ℕ × List ℕ)) → value_parts format.prefix line ≡ o
+      → of_value format tree line o ≡ Some meaning
       → Means format tree line meaning
   form_sound line meaning None e f = unset_form_sound line meaning (unset_name format.prefix line) refl f
   form_sound line meaning (Some parts) e f =
@@ -142,16 +145,20 @@ module _ (format : FileFormat) (tree : Tree) where
 
   module _ (valid : is_prefix format.prefix ≡ true) where
     of_unset_line : (line name : List ℕ) → IsUnsetLine format.prefix line name
-        → of_value format tree line (value_parts format.prefix line) ≡ Some (of_named tree (λ s symbol. unset_meaning tree s symbol symbol.choice) (symbol_named tree name))
+        → of_value format tree line (value_parts format.prefix line) ≡ Some
+        (of_named tree (λ s symbol. unset_meaning tree s symbol symbol.choice) (symbol_named tree name))
     of_unset_line line name is =
-        ap (of_value format tree line) (ap (value_parts format.prefix) is.2 ∙ no_value_line format.prefix valid 35 (32 ∷ (format.prefix ++ (name ++ codes " is not set"))) refl)
+        ap (of_value format tree line) (ap (value_parts format.prefix) is.2 ∙ no_value_line format.prefix valid 35
+        (32 ∷ (format.prefix ++ (name ++ codes " is not set"))) refl)
         ∙ ap (of_unset tree line) (unset_line_read format.prefix line name is)
 
-    form_complete : (line : List ℕ) (meaning : LineMeaning) → Means format tree line meaning → of_value format tree line (value_parts format.prefix line) ≡ Some meaning
+    form_complete : (line : List ℕ) (meaning : LineMeaning) → Means format tree line meaning → of_value format tree line (value_parts format.prefix line)
+        ≡ Some meaning
     form_complete line meaning (value _ name text s symbol _ is named at says) =
         ap (of_value format tree line) (value_line_read format.prefix line name text is)
         ∙ ap (λ o. Some (of_named tree (λ s symbol. value_meaning format.strings tree s symbol text) o)) named
-        ∙ ap (λ o. Some (of_symbol_at (λ s symbol. value_meaning format.strings tree s symbol text) s o)) at ∙ ap Some (value_said format.strings tree s symbol text meaning says)
+        ∙ ap (λ o. Some (of_symbol_at (λ s symbol. value_meaning format.strings tree s symbol text) s o)) at
+        ∙ ap Some (value_said format.strings tree s symbol text meaning says)
     form_complete line meaning (unset _ name s symbol is named at) =
         of_unset_line line name is ∙ ap (λ o. Some (of_named tree (λ s symbol. unset_meaning tree s symbol symbol.choice) o)) named
         ∙ ap (λ o. Some (of_symbol_at (λ s symbol. unset_meaning tree s symbol symbol.choice) s o)) at
@@ -167,7 +174,10 @@ module _ (format : FileFormat) (tree : Tree) where
 
 pub line_read : LinesAreRead
 unfolding line_meaning
-line_read format tree line meaning valid = (form_sound format tree line meaning (value_parts format.prefix line) refl, form_complete format tree valid line meaning)
+line_read format tree line meaning valid = (
+  form_sound format tree line meaning (value_parts format.prefix line) refl,
+  form_complete format tree valid line meaning,
+)
 
 lines_sound : (format : FileFormat) (tree : Tree) → is_prefix format.prefix ≡ true → (lines : List (List ℕ)) (meanings : List LineMeaning)
     → meanings_of_lines format tree lines ≡ Some meanings → AllZip (λ line meaning. Means format tree (without_white_end line) meaning) lines meanings

@@ -9,7 +9,8 @@ use Rattle.kc_dotconfig_model.specs.Missed.{missed}
 hidden_symbol : missed tree_hidden (sets N ∷ []) (y ∷ []) ≡ 0 ∷ []
 hidden_symbol = refl
 
-invisible_member : (missed tree_pick (Some (MemberUser 2) ∷ None ∷ []) (MemberValue (Some 1) ∷ n ∷ []) ≡ 2 ∷ []) × (missed tree_pick (Some (MemberUser 2) ∷ sets Y ∷ []) (MemberValue (Some 2) ∷ y ∷ []) ≡ [])
+invisible_member : (missed tree_pick (Some (MemberUser 2) ∷ None ∷ []) (MemberValue (Some 1) ∷ n ∷ []) ≡ 2 ∷ [])
+    × (missed tree_pick (Some (MemberUser 2) ∷ sets Y ∷ []) (MemberValue (Some 2) ∷ y ∷ []) ≡ [])
 invisible_member = (refl, refl)
 
 -- under a classic `imply` an `m` becomes `y`

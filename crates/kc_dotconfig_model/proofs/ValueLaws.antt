@@ -42,7 +42,11 @@ one_more c rest text means not_quote not_escape same r =
 
 pair_more : (c d : ℕ) (rest text means : List ℕ) → (c == 92) ≡ true → means ≡ d ∷ text → IsRest rest text → IsRest (c ∷ d ∷ rest) means
 pair_more c d rest text means escape same r =
-    record { body = c ∷ d ∷ r.body; whole = ap (λ l. c ∷ d ∷ l) r.whole; stands = subst (λ b. IsBody 34 (b ∷ d ∷ r.body) means) (sym (eqb-true c 92 escape)) (subst (IsBody 34 (92 ∷ d ∷ r.body)) (sym same) (pair r.stands)) }
+    record {
+      body = c ∷ d ∷ r.body;
+      whole = ap (λ l. c ∷ d ∷ l) r.whole;
+      stands = subst (λ b. IsBody 34 (b ∷ d ∷ r.body) means) (sym (eqb-true c 92 escape)) (subst (IsBody 34 (92 ∷ d ∷ r.body)) (sym same) (pair r.stands));
+    }
 
 just_quote : (c : ℕ) (rest means : List ℕ) → (c == 34) ≡ true → ended rest ≡ Some means → IsRest (c ∷ rest) means
 just_quote c rest means quote e =
@@ -118,7 +122,8 @@ pub string_read : (strings : Strings) (text means : List ℕ) → IsStringSpelli
 string_read Escaped text means is = means_unquoted text means is
 string_read Raw text means is = ap raw_text is ∙ before_its_quote means
 
-tri_sound : (strings : Strings) (tree : Tree) (s : ℕ) (symbol : Symbol) (kind : Kind) (text : List ℕ) → symbol.kind ≡ kind → is_tri_kind kind ≡ true → (c : Option ℕ)
+tri_sound : (strings : Strings) (tree : Tree) (s : ℕ) (symbol : Symbol) (kind : Kind) (text : List ℕ) → symbol.kind ≡ kind → is_tri_kind kind ≡ true
+    → (c : Option ℕ)
     → symbol.choice ≡ c → (o : Option Tri) → tri_of_text symbol.kind text ≡ o
     → ValueMeans strings tree s symbol text (tri_meaning (unit_of tree s) s c o)
 tri_sound strings tree s symbol kind text is small c choice None meant = no_tri text (ap is_tri_kind is ∙ small) meant
@@ -153,7 +158,8 @@ says_at strings tree s symbol text Hex is =
     number_sound strings tree s symbol text (ap is_tri_kind is) (λ e. cc) (no_hex is) (number_of_text Hex text) (ap (λ k. number_of_text k text) is)
 
 -- the text has the meaning that the function returns
-pub value_says : (strings : Strings) (tree : Tree) (s : ℕ) (symbol : Symbol) (text : List ℕ) → ValueMeans strings tree s symbol text (value_meaning strings tree s symbol text)
+pub value_says : (strings : Strings) (tree : Tree) (s : ℕ) (symbol : Symbol) (text : List ℕ) → ValueMeans strings tree s symbol text
+    (value_meaning strings tree s symbol text)
 value_says strings tree s symbol text = says_at strings tree s symbol text symbol.kind refl
 
 is_tri_meant : (kind : Kind) (text : List ℕ) (t : Tri) → tri_of_text kind text ≡ Some t → is_tri_kind kind ≡ true
@@ -206,7 +212,8 @@ no_meaning strings text None e lacks = refl
 no_meaning strings text (Some means) e lacks = absurd (lacks means (string_is strings text means e))
 
 -- and nothing else
-pub value_said : (strings : Strings) (tree : Tree) (s : ℕ) (symbol : Symbol) (text : List ℕ) (meaning : LineMeaning) → ValueMeans strings tree s symbol text meaning
+pub value_said : (strings : Strings) (tree : Tree) (s : ℕ) (symbol : Symbol) (text : List ℕ) (meaning : LineMeaning)
+    → ValueMeans strings tree s symbol text meaning
     → value_meaning strings tree s symbol text ≡ meaning
 value_said strings tree s symbol text meaning (tri _ t out meant) =
     of_tri_kind strings symbol.kind (unit_of tree s) s symbol.choice text (is_tri_meant symbol.kind text t meant)
@@ -233,7 +240,8 @@ value_said strings tree s symbol text meaning (no_hex is) =
 value_said strings tree s symbol text meaning (no_tri _ small meant) =
     of_tri_kind strings symbol.kind (unit_of tree s) s symbol.choice text small ∙ ap (λ o. tri_meaning (unit_of tree s) s symbol.choice o) meant
 value_said strings tree s symbol text meaning (no_text _ is lacks) =
-    ap (λ k. meaning_of_kind strings k (unit_of tree s) s symbol.choice text) is ∙ ap (string_meaning (unit_of tree s)) (no_meaning strings text (string_text strings text) refl lacks)
+    ap (λ k. meaning_of_kind strings k (unit_of tree s) s symbol.choice text) is ∙ ap (string_meaning (unit_of tree s))
+    (no_meaning strings text (string_text strings text) refl lacks)
 value_said strings tree s symbol text meaning (no_number b rest large other lacks) =
     of_number_kind strings symbol.kind (unit_of tree s) s symbol.choice (b ∷ rest) large other
     ∙ ap (λ o. cond (is_some o) (assigns (unit_of tree s) (TextUser (b ∷ rest))) (notice NotOfType)) lacks

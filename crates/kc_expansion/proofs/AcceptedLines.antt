@@ -31,7 +31,7 @@ use Rattle.kc_tree_model.proofs.HelpLines.{help_alike}
 use Rattle.kc_tree_model.proofs.NestedTrees.LineFits.{unless_ok, bind_ok}
 use Rattle.kc_macros_model.specs.Limits.{max_text_bytes}
 use Rattle.kc_macros_model.specs.LineTokens.{LineToken, line_tokens}
-use Rattle.kc_macros_model.specs.Rewriting.{is_keyword, inner_keywords, WrittenToken, a_word, a_quoted, an_other, written_as}
+use Rattle.kc_macros_model.specs.WrittenTokens.{is_keyword, inner_keywords, WrittenToken, a_word, a_quoted, an_other, written_as}
 use Rattle.kc_macros_model.specs.Assignments.{Assigned}
 use Rattle.kc_macros_model.specs.LineForms.{LineForm, plain, bare_prompt, prompt_words, source_words, help_words, is_word, is_path, is_bare_prompt, form_of_pair, form_of, without_gaps, is_help_line}
 use Rattle.kc_macros_model.specs.PathPatterns.{is_pattern}
@@ -41,7 +41,7 @@ use Rattle.kc_macros_model.proofs.Keys.{same_text}
 use Rattle.kc_macros_model.proofs.PlainTokens.{plain_items, no_plain_dollar, run_kept}
 use Rattle.kc_expansion.specs.TreeLaws.{is_sourced_by, AcceptedLinesStay}
 use Rattle.kc_expansion.proofs.HelpWordLemmas.{is_help_text, help_keyword}
-use Rattle.kc_expansion.proofs.ReadTokens.{AreRead, none_read, gap_read, word_read, quoted_read, operator_read, long_operator_read, cut_tokens}
+use Rattle.kc_expansion.proofs.ReaderTokens.{AreRead, none_read, gap_read, word_read, quoted_read, operator_read, long_operator_read, cut_tokens}
 
 -- nothing is left to expand in the tokens
 tokens_kept : {ps : List Lexeme} {ts : List LineToken} → AreRead ps ts → list_all is_kept_token ts ≡ true
@@ -53,11 +53,13 @@ tokens_kept (operator_read c e r) = tokens_kept r
 tokens_kept (long_operator_read c d e r) = tokens_kept r
 
 -- a line that begins with a keyword is no assignment
-in_table : {A : Type 0} (table : List (List ℕ × A)) (w : List ℕ) (x : A) → keyword_in_table table w ≡ Some x → list_any (λ (e : List ℕ × A). bytes_eq e.0 w) table ≡ true
+in_table : {A : Type 0} (table : List (List ℕ × A)) (w : List ℕ) (x : A) → keyword_in_table table w ≡ Some x
+    → list_any (λ (e : List ℕ × A). bytes_eq e.0 w) table ≡ true
 in_table [] w x e = let z : ⊥ = cc in absurd z
 in_table {A = A} (e ∷ table) w x h = by_test (bytes_eq e.0 w) (in_table table w x) h
   where
-    by_test : (b : Bool) → (keyword_in_table table w ≡ Some x → list_any (λ (e : List ℕ × A). bytes_eq e.0 w) table ≡ true) → cond b (Some e.1) (keyword_in_table table w) ≡ Some x → (b || list_any (λ (e : List ℕ × A). bytes_eq e.0 w) table) ≡ true
+    by_test : (b : Bool) → (keyword_in_table table w ≡ Some x → list_any (λ (e : List ℕ × A). bytes_eq e.0 w) table ≡ true)
+        → cond b (Some e.1) (keyword_in_table table w) ≡ Some x → (b || list_any (λ (e : List ℕ × A). bytes_eq e.0 w) table) ≡ true
     by_test true ih h = refl
     by_test false ih h = ih h
 
@@ -102,9 +104,12 @@ no_assignment (long_operator_read c d e r) h = refl
 -- the tokens as they are written
 data AreWritten : List Lexeme → List WrittenToken → Type 0 where
   none_written : AreWritten [] []
-  word_written : {p : Lexeme} {ps : List Lexeme} {ts : List WrittenToken} → p.kind ≡ Word → AreWritten ps ts → AreWritten (p ∷ ps) (written_as a_word p.text p.text ∷ ts)
-  quoted_written : {p : Lexeme} {ps : List Lexeme} {ts : List WrittenToken} (bytes : List ℕ) → p.kind ≡ Quoted → AreWritten ps ts → AreWritten (p ∷ ps) (written_as a_quoted bytes (quoted_text p.text) ∷ ts)
-  operator_written : {p : Lexeme} {ps : List Lexeme} {ts : List WrittenToken} (c : ℕ) → is_operand_kind p.kind ≡ false → AreWritten ps ts → AreWritten (p ∷ ps) (written_as an_other (c ∷ []) [] ∷ ts)
+  word_written : {p : Lexeme} {ps : List Lexeme} {ts : List WrittenToken} → p.kind ≡ Word → AreWritten ps ts
+      → AreWritten (p ∷ ps) (written_as a_word p.text p.text ∷ ts)
+  quoted_written : {p : Lexeme} {ps : List Lexeme} {ts : List WrittenToken} (bytes : List ℕ) → p.kind ≡ Quoted → AreWritten ps ts
+      → AreWritten (p ∷ ps) (written_as a_quoted bytes (quoted_text p.text) ∷ ts)
+  operator_written : {p : Lexeme} {ps : List Lexeme} {ts : List WrittenToken} (c : ℕ) → is_operand_kind p.kind ≡ false → AreWritten ps ts
+      → AreWritten (p ∷ ps) (written_as an_other (c ∷ []) [] ∷ ts)
   long_operator_written : {p : Lexeme} {ps : List Lexeme} {ts : List WrittenToken} (c d : ℕ) → is_operand_kind p.kind ≡ false → AreWritten ps ts
       → AreWritten (p ∷ ps) (written_as an_other (c ∷ []) [] ∷ (written_as an_other (d ∷ []) [] ∷ ts))
 
@@ -112,9 +117,11 @@ as_written : {ps : List Lexeme} {ts : List LineToken} → AreRead ps ts → AreW
 as_written none_read = none_written
 as_written (gap_read r) = as_written r
 as_written (word_read {p = p} {ps = ps} {ts = ts} e h r) =
-    subst (λ b. AreWritten (p ∷ ps) (without_gaps (cond b (written_as an_other p.text []) (written_as a_word p.text p.text) ∷ map token_as_it_is ts))) (sym (no_plain_dollar (plain_items false p.text h))) (word_written e (as_written r))
+    subst (λ b. AreWritten (p ∷ ps) (without_gaps (cond b (written_as an_other p.text []) (written_as a_word p.text p.text) ∷ map token_as_it_is ts)))
+    (sym (no_plain_dollar (plain_items false p.text h))) (word_written e (as_written r))
 as_written (quoted_read {p = p} {ps = ps} {ts = ts} quote s e h m r) =
-    subst (λ t. AreWritten (p ∷ ps) (written_as a_quoted (quote ∷ (s ++ quote ∷ [])) t ∷ without_gaps (map token_as_it_is ts))) (sym m) (quoted_written (quote ∷ (s ++ quote ∷ [])) e (as_written r))
+    subst (λ t. AreWritten (p ∷ ps) (written_as a_quoted (quote ∷ (s ++ quote ∷ [])) t ∷ without_gaps (map token_as_it_is ts))) (sym m)
+    (quoted_written (quote ∷ (s ++ quote ∷ [])) e (as_written r))
 as_written (operator_read c e r) = operator_written c e (as_written r)
 as_written (long_operator_read c d e r) = long_operator_written c d e (as_written r)
 
@@ -142,7 +149,9 @@ turned x y = by_tests (bytes_eq x y) (bytes_eq y x) refl refl
     by_tests false true e f = let z : false ≡ true = sym e ∙ ap (λ v. bytes_eq x v) (same_text y x f) ∙ nat_list_eq_equiv.refl x in z
 
 help_text_in : (w : List ℕ) → is_in_list w help_words ≡ is_help_text w
-help_text_in w = ap (λ b. b || (bytes_eq (codes "---help---") w || false)) (turned (codes "help") w) ∙ ap (λ b. bytes_eq w (codes "help") || (b || false)) (turned (codes "---help---") w) ∙ ap (λ b. bytes_eq w (codes "help") || b) (or_false (bytes_eq w (codes "---help---")))
+help_text_in w = ap (λ b. b || (bytes_eq (codes "---help---") w || false)) (turned (codes "help") w)
+    ∙ ap (λ b. bytes_eq w (codes "help") || (b || false)) (turned (codes "---help---") w) ∙ ap (λ b. bytes_eq w (codes "help") || b)
+    (or_false (bytes_eq w (codes "---help---")))
   where
     or_false : (b : Bool) → (b || false) ≡ b
     or_false true = refl
@@ -172,45 +181,49 @@ help_same (long_operator_written c d e (quoted_written b f r)) = refl
 help_same (long_operator_written c d e (operator_written x f r)) = refl
 help_same (long_operator_written c d e (long_operator_written x y f r)) = refl
 
--- what the reader says of a line
+-- the statement that the reader has for a line with these tokens
 record IsStatement (language : Language) (read : List Group) (p : Lexeme) (ps : List Lexeme) (s : Statement) : Type 0 where
   keyword : Keyword
   first : keyword_of p ≡ Some keyword
   kept : is_left_out language read keyword ps ≡ false
   form : statement_of keyword ps ≡ Ok s
 
-abbrev LineSays : Language → List Group → List Lexeme → Option Statement → Type 0
-LineSays language read [] o = o ≡ None
-LineSays language read (p ∷ ps) None = ⊥
-LineSays language read (p ∷ ps) (Some s) = IsStatement language read p ps s
+abbrev HasStatement : Language → List Group → List Lexeme → Option Statement → Type 0
+HasStatement language read [] o = o ≡ None
+HasStatement language read (p ∷ ps) None = ⊥
+HasStatement language read (p ∷ ps) (Some s) = IsStatement language read p ps s
 
-statement_says : (language : Language) (read : List Group) (k : Keyword) (p : Lexeme) (ps : List Lexeme) (o : Option Statement) → keyword_of p ≡ Some k → statement_by_keyword language read k ps ≡ Ok o → LineSays language read (p ∷ ps) o
-statement_says language read k p ps o first h =
+keyword_statement : (language : Language) (read : List Group) (k : Keyword) (p : Lexeme) (ps : List Lexeme) (o : Option Statement) → keyword_of p ≡ Some k
+    → statement_by_keyword language read k ps ≡ Ok o → HasStatement language read (p ∷ ps) o
+keyword_statement language read k p ps o first h =
     let a = unless_ok (is_left_out language read k ps) LeftOut _ o h in
     let b = unless_ok (not (is_allowed read k)) Misplaced _ o a.1 in
     let c = unless_ok (is_stray_end read k) StrayEnd _ o b.1 in
     let d = bind_ok (statement_of k ps) _ o c.1 in
     let e = unless_ok (is_too_deep read d.0) TooDeep _ o d.2 in
     let f = unless_ok (is_too_many read d.0) TooMany _ o e.1 in
-    let said : Some d.0 ≡ o = cc in
-    subst (LineSays language read (p ∷ ps)) said (record { keyword = k; first = first; kept = a.0; form = d.1 })
+    let same : Some d.0 ≡ o = cc in
+    subst (HasStatement language read (p ∷ ps)) same (record { keyword = k; first = first; kept = a.0; form = d.1 })
 
-word_says : (language : Language) (read : List Group) (w : Option Keyword) (p : Lexeme) (ps : List Lexeme) (o : Option Statement) → keyword_of p ≡ w → statement_by_word language read ps w ≡ Ok o → LineSays language read (p ∷ ps) o
-word_says language read None p ps o first h = let z : ⊥ = cc in absurd z
-word_says language read (Some k) p ps o first h = statement_says language read k p ps o first h
+word_statement : (language : Language) (read : List Group) (w : Option Keyword) (p : Lexeme) (ps : List Lexeme) (o : Option Statement) → keyword_of p ≡ w
+    → statement_by_word language read ps w ≡ Ok o → HasStatement language read (p ∷ ps) o
+word_statement language read None p ps o first h = let z : ⊥ = cc in absurd z
+word_statement language read (Some k) p ps o first h = keyword_statement language read k p ps o first h
 
-tokens_say : (language : Language) (read : List Group) (ps : List Lexeme) (o : Option Statement) → statement_of_tokens language read ps ≡ Ok o → LineSays language read ps o
-tokens_say language read [] o h = let e : None ≡ o = cc in sym e
-tokens_say language read (p ∷ ps) o h = word_says language read (keyword_of p) p ps o refl h
+tokens_statement : (language : Language) (read : List Group) (ps : List Lexeme) (o : Option Statement) → statement_of_tokens language read ps ≡ Ok o
+    → HasStatement language read ps o
+tokens_statement language read [] o h = let e : None ≡ o = cc in sym e
+tokens_statement language read (p ∷ ps) o h = word_statement language read (keyword_of p) p ps o refl h
 
-record IsSaid (language : Language) (read : List Group) (text : List ℕ) (o : Option Statement) : Type 0 where
+record IsStatementOf (language : Language) (read : List Group) (text : List ℕ) (o : Option Statement) : Type 0 where
   tokens : List Lexeme
-  lexed : lexemes_from language 0 0 text ≡ Ok tokens
-  says : LineSays language read tokens o
+  lexemes : lexemes_from language 0 0 text ≡ Ok tokens
+  statement : HasStatement language read tokens o
 
-lexed_says : (language : Language) (read : List Group) (text : List ℕ) (r : Result (List Lexeme) ExprFault) (o : Option Statement) → lexemes_from language 0 0 text ≡ r → statement_or_fault language read r ≡ Ok o → IsSaid language read text o
-lexed_says language read text (Err e) o l h = let z : ⊥ = cc in absurd z
-lexed_says language read text (Ok ps) o l h = record { tokens = ps; lexed = l; says = tokens_say language read ps o h }
+lexemes_statement : (language : Language) (read : List Group) (text : List ℕ) (r : Result (List Lexeme) ExprFault) (o : Option Statement)
+    → lexemes_from language 0 0 text ≡ r → statement_or_fault language read r ≡ Ok o → IsStatementOf language read text o
+lexemes_statement language read text (Err e) o l h = let z : ⊥ = cc in absurd z
+lexemes_statement language read text (Ok ps) o l h = record { tokens = ps; lexemes = l; statement = tokens_statement language read ps o h }
 
 past : {A : Type 0} (b : Bool) (e : TreeKind) (r : Result A TreeKind) (o : A) → cond b (Err e) r ≡ Ok o → (b ≡ false) × (r ≡ Ok o)
 past true e r o h = let z : ⊥ = cc in absurd z
@@ -245,7 +258,8 @@ test_holds : {B : Type 0} (b : Bool) (r : Result B TreeKind) (s : B) → cond b 
 test_holds true r s h = refl
 test_holds false r s h = let z : ⊥ = cc in absurd z
 
-prompt_quoted : (k : Keyword) (q : Lexeme) (qs : List Lexeme) (s : Statement) → is_prompt_keyword k ≡ true → statement_of k (q ∷ qs) ≡ Ok s → is_quoted_kind q.kind ≡ true
+prompt_quoted : (k : Keyword) (q : Lexeme) (qs : List Lexeme) (s : Statement) → is_prompt_keyword k ≡ true → statement_of k (q ∷ qs) ≡ Ok s
+    → is_quoted_kind q.kind ≡ true
 prompt_quoted (words.Type k) q qs s e h = test_holds (is_quoted_kind q.kind) _ s h
 prompt_quoted words.Prompt q qs s e h = test_holds (is_quoted_kind q.kind) _ s h
 prompt_quoted words.Menu q qs s e h = test_holds (is_quoted_kind q.kind) _ s h
@@ -291,7 +305,8 @@ has_one_source table = list_all (λ (e : List ℕ × Keyword). not (is_source_ke
 
 source_entry : (table : List (List ℕ × Keyword)) (w : List ℕ) → has_one_source table ≡ true → keyword_in_table table w ≡ Some words.Source → w ≡ codes "source"
 source_entry [] w h e = let z : ⊥ = cc in absurd z
-source_entry (x ∷ table) w h e = by_test (bytes_eq x.0 w) refl (source_entry table w (second_so (not (is_source_keyword x.1) || bytes_eq x.0 (codes "source")) (has_one_source table) h)) e
+source_entry (x ∷ table) w h e =
+    by_test (bytes_eq x.0 w) refl (source_entry table w (second_so (not (is_source_keyword x.1) || bytes_eq x.0 (codes "source")) (has_one_source table) h)) e
   where
     test : Bool
     test = not (is_source_keyword x.1) || bytes_eq x.0 (codes "source")
@@ -300,10 +315,12 @@ source_entry (x ∷ table) w h e = by_test (bytes_eq x.0 w) refl (source_entry t
     or_so true b f g = g
     or_so false b f g = let z : ⊥ = cc in absurd z
 
-    by_test : (b : Bool) → bytes_eq x.0 w ≡ b → (keyword_in_table table w ≡ Some words.Source → w ≡ codes "source") → cond b (Some x.1) (keyword_in_table table w) ≡ Some words.Source → w ≡ codes "source"
+    by_test : (b : Bool) → bytes_eq x.0 w ≡ b → (keyword_in_table table w ≡ Some words.Source → w ≡ codes "source")
+        → cond b (Some x.1) (keyword_in_table table w) ≡ Some words.Source → w ≡ codes "source"
     by_test true f ih e =
         let is : x.1 ≡ words.Source = cc in
-        sym (same_text x.0 w f) ∙ same_text x.0 (codes "source") (or_so (is_source_keyword x.1) (bytes_eq x.0 (codes "source")) (ap is_source_keyword is) (first_so test (has_one_source table) h))
+        sym (same_text x.0 w f) ∙ same_text x.0 (codes "source") (or_so (is_source_keyword x.1) (bytes_eq x.0 (codes "source")) (ap is_source_keyword is)
+        (first_so test (has_one_source table) h))
     by_test false f ih e = ih e
 
 -- no other statement sources a path
@@ -329,11 +346,13 @@ none_config (p ∷ ts) = none_if (is_name p) (no_more (head (config p.text)) ts)
 
 none_title : (f : List ℕ → Head) → ((x : List ℕ) → path_of_head (f x) ≡ None) → (ts : List Lexeme) → NoSource (titled_line f ts)
 none_title f h [] = tt
-none_title f h (p ∷ ts) = none_if (is_quoted_kind p.kind) (no_more (head (f (quoted_text p.text))) ts) Malformed (none_last (head (f (quoted_text p.text))) ts (h (quoted_text p.text)))
+none_title f h (p ∷ ts) = none_if (is_quoted_kind p.kind) (no_more (head (f (quoted_text p.text))) ts) Malformed
+    (none_last (head (f (quoted_text p.text))) ts (h (quoted_text p.text)))
 
 none_prompt : (f : Option Expr → Attribute) (ts : List Lexeme) → NoSource (prompt_line f ts)
 none_prompt f [] = tt
-none_prompt f (p ∷ ts) = none_if (is_quoted_kind p.kind) (optional_if ts >>= λ c. Ok (attribute (f c))) Malformed (none_bind (optional_if ts) (λ c. Ok (attribute (f c))) (λ c. refl))
+none_prompt f (p ∷ ts) = none_if (is_quoted_kind p.kind) (optional_if ts >>= λ c. Ok (attribute (f c))) Malformed
+    (none_bind (optional_if ts) (λ c. Ok (attribute (f c))) (λ c. refl))
 
 none_type : (k : Kind) (ts : List Lexeme) → NoSource (type_line k ts)
 none_type k [] = refl
@@ -362,7 +381,8 @@ none_range (p ∷ q ∷ ts) = none_bounds (operand_of_lexeme p) (operand_of_lexe
 
 none_worded : (w : List ℕ) (f : Expr → Attribute) (ts : List Lexeme) → NoSource (condition_line w f ts)
 none_worded w f [] = tt
-none_worded w f (p ∷ ts) = none_if (is_the_word w p) (last_condition ts >>= λ e. Ok (attribute (f e))) Malformed (none_bind (last_condition ts) (λ e. Ok (attribute (f e))) (λ e. refl))
+none_worded w f (p ∷ ts) = none_if (is_the_word w p) (last_condition ts >>= λ e. Ok (attribute (f e))) Malformed
+    (none_bind (last_condition ts) (λ e. Ok (attribute (f e))) (λ e. refl))
 
 none_option : (ts : List Lexeme) → NoSource (option_line ts)
 none_option [] = tt
@@ -413,7 +433,8 @@ source_parts : (ts : List Lexeme) (s : Statement) → source_line ts ≡ Ok s �
 source_parts [] s h = let z : ⊥ = cc in absurd z
 source_parts (t ∷ ts) s h = by_path (path_of t) ts refl h
   where
-    by_path : (o : Option (List ℕ)) (us : List Lexeme) → path_of t ≡ o → elim o as (λ _. Result Statement TreeKind) [ None ↦ Err Malformed | Some path ↦ no_more (head (source path)) us ] ≡ Ok s
+    by_path : (o : Option (List ℕ)) (us : List Lexeme) → path_of t ≡ o → elim o as (λ _. Result Statement TreeKind)
+        [ None ↦ Err Malformed | Some path ↦ no_more (head (source path)) us ] ≡ Ok s
         → (path : List ℕ) × IsSourceLine (t ∷ us) path × (path_to_read (Some s) ≡ Some path)
     by_path None us e h = let z : ⊥ = cc in absurd z
     by_path (Some path) [] e h =
@@ -439,16 +460,21 @@ no_globs [] h = (refl, refl)
 no_globs (c ∷ s) h =
     let first = neither_first (c == 42 || (c == 63) || (c == 91)) (is_glob s) h in
     let rest = no_globs s (neither_second (c == 42 || (c == 63) || (c == 91)) (is_glob s) h) in
-    let wild = neither_first (c == 42 || (c == 63)) (c == 91) first in
-    (either_test (c == 42 || (c == 63)) (is_pattern s) wild rest.0, either_test (c == 91) (list_any (λ c. c == 91) s) (neither_second (c == 42 || (c == 63)) (c == 91) first) rest.1)
+    let wild = neither_first (c == 42 || (c == 63)) (c == 91) first in (
+      either_test (c == 42 || (c == 63)) (is_pattern s) wild rest.0,
+      either_test (c == 91) (list_any (λ c. c == 91) s)
+          (neither_second (c == 42 || (c == 63)) (c == 91) first) rest.1,
+    )
 
-word_has_word : {q : Lexeme} {qs : List Lexeme} {u : WrittenToken} {us : List WrittenToken} → AreWritten (q ∷ qs) (u ∷ us) → is_word u ≡ true → (q.kind ≡ Word) × (u.bytes ≡ q.text)
+word_has_word : {q : Lexeme} {qs : List Lexeme} {u : WrittenToken} {us : List WrittenToken} → AreWritten (q ∷ qs) (u ∷ us) → is_word u ≡ true
+    → (q.kind ≡ Word) × (u.bytes ≡ q.text)
 word_has_word (word_written e r) h = (e, refl)
 word_has_word (quoted_written bytes e r) h = let z : ⊥ = cc in absurd z
 word_has_word (operator_written c e r) h = let z : ⊥ = cc in absurd z
 word_has_word (long_operator_written c d e r) h = let z : ⊥ = cc in absurd z
 
-four_tests : (a b c d : Bool) (x y z u : LineForm) → a ≡ false → b ≡ false → c ≡ false → d ≡ false → is_plain_form (cond a x (cond b y (cond c z (cond d u plain)))) ≡ true
+four_tests : (a b c d : Bool) (x y z u : LineForm) → a ≡ false → b ≡ false → c ≡ false → d ≡ false → is_plain_form
+    (cond a x (cond b y (cond c z (cond d u plain)))) ≡ true
 four_tests true b c d x y z u ha hb hc hd = let n : ⊥ = cc in absurd n
 four_tests false true c d x y z u ha hb hc hd = let n : ⊥ = cc in absurd n
 four_tests false false true d x y z u ha hb hc hd = let n : ⊥ = cc in absurd n
@@ -462,7 +488,8 @@ module _ (language : Language) (read : List Group) (p : Lexeme) (k : Keyword) (i
   entry_of : (w : List ℕ) → bytes_eq p.text w ≡ true → keyword_in_table keywords w ≡ Some k
   entry_of w e = ap (keyword_in_table keywords) (sym (same_text p.text w e)) ∙ is.entry
 
-  no_prompt : (q : Lexeme) (qs : List Lexeme) (u : WrittenToken) (us : List WrittenToken) (s : Statement) → AreWritten (q ∷ qs) (u ∷ us) → statement_of k (q ∷ qs) ≡ Ok s → (is_in_list p.text prompt_words && is_bare_prompt u) ≡ false
+  no_prompt : (q : Lexeme) (qs : List Lexeme) (u : WrittenToken) (us : List WrittenToken) (s : Statement) → AreWritten (q ∷ qs) (u ∷ us)
+      → statement_of k (q ∷ qs) ≡ Ok s → (is_in_list p.text prompt_words && is_bare_prompt u) ≡ false
   no_prompt q qs u us s r h = by_tests (is_in_list p.text prompt_words) (is_bare_prompt u) refl refl
     where
       by_tests : (a b : Bool) → is_in_list p.text prompt_words ≡ a → is_bare_prompt u ≡ b → (a && b) ≡ false
@@ -470,13 +497,15 @@ module _ (language : Language) (read : List Group) (p : Lexeme) (k : Keyword) (i
       by_tests true false e f = refl
       by_tests true true e f =
           let w = word_has_word r (first_so (is_word u) (not (is_in_list u.bytes (codes "if" ∷ codes "on" ∷ []))) f) in
-          let listed : is_prompt_entry (keyword_in_table keywords p.text) ≡ true = in_all (λ w. is_prompt_entry (keyword_in_table keywords w)) p.text prompt_words all_prompts e in
+          let listed : is_prompt_entry (keyword_in_table keywords p.text) ≡ true =
+          in_all (λ w. is_prompt_entry (keyword_in_table keywords w)) p.text prompt_words all_prompts e in
           let takes : is_prompt_keyword k ≡ true = sym (ap is_prompt_entry is.entry) ∙ listed in
           let z : true ≡ false = sym (prompt_quoted k q qs s takes h) ∙ ap is_quoted_kind w.0 in
           z
 
   -- a line of two tokens that sources nothing
-  no_source_pair : (q : Lexeme) (qs : List Lexeme) (u : WrittenToken) (s : Statement) → is_left_out language read k (q ∷ qs) ≡ false → statement_of k (q ∷ qs) ≡ Ok s → path_to_read (Some s) ≡ None → (is_in_list p.text source_words && is_path u) ≡ false
+  no_source_pair : (q : Lexeme) (qs : List Lexeme) (u : WrittenToken) (s : Statement) → is_left_out language read k (q ∷ qs) ≡ false
+      → statement_of k (q ∷ qs) ≡ Ok s → path_to_read (Some s) ≡ None → (is_in_list p.text source_words && is_path u) ≡ false
   no_source_pair q qs u s kept h none = by_test (is_in_list p.text source_words) refl
     where
       by_word : (a : Bool) → bytes_eq p.text (codes "source") ≡ a → (a || is_left_out_entry (keyword_in_table keywords p.text)) ≡ true → ⊥
@@ -493,9 +522,11 @@ module _ (language : Language) (read : List Group) (p : Lexeme) (k : Keyword) (i
       by_test : (a : Bool) → is_in_list p.text source_words ≡ a → (a && is_path u) ≡ false
       by_test false e = refl
       by_test true e =
-          absurd (by_word (bytes_eq p.text (codes "source")) refl (in_all (λ w. bytes_eq w (codes "source") || is_left_out_entry (keyword_in_table keywords w)) p.text source_words all_sources e))
+          absurd (by_word (bytes_eq p.text (codes "source")) refl (in_all (λ w. bytes_eq w (codes "source") || is_left_out_entry (keyword_in_table keywords w))
+          p.text source_words all_sources e))
 
-  no_choice : (q : Lexeme) (qs : List Lexeme) (u : WrittenToken) (us : List WrittenToken) → AreWritten (q ∷ qs) (u ∷ us) → is_left_out language read k (q ∷ qs) ≡ false → (bytes_eq p.text (codes "choice") && is_word u) ≡ false
+  no_choice : (q : Lexeme) (qs : List Lexeme) (u : WrittenToken) (us : List WrittenToken) → AreWritten (q ∷ qs) (u ∷ us)
+      → is_left_out language read k (q ∷ qs) ≡ false → (bytes_eq p.text (codes "choice") && is_word u) ≡ false
   no_choice q qs u us r kept = by_tests (bytes_eq p.text (codes "choice")) (is_word u) refl refl
     where
       by_tests : (a b : Bool) → bytes_eq p.text (codes "choice") ≡ a → is_word u ≡ b → (a && b) ≡ false
@@ -508,19 +539,24 @@ module _ (language : Language) (read : List Group) (p : Lexeme) (k : Keyword) (i
           sym (ap is_word_kind w.0) ∙ left
 
   -- an option is `modules`
-  option_bytes : (q : Lexeme) (qs : List Lexeme) (u : WrittenToken) (us : List WrittenToken) (s : Statement) → AreWritten (q ∷ qs) (u ∷ us) → option_line (q ∷ qs) ≡ Ok s → u.bytes ≡ codes "modules"
+  option_bytes : (q : Lexeme) (qs : List Lexeme) (u : WrittenToken) (us : List WrittenToken) (s : Statement) → AreWritten (q ∷ qs) (u ∷ us)
+      → option_line (q ∷ qs) ≡ Ok s → u.bytes ≡ codes "modules"
   option_bytes q qs u us s r h = by_written r (test_holds (is_the_word (codes "modules") q) _ s h)
     where
-      by_written : {u : WrittenToken} {us : List WrittenToken} → AreWritten (q ∷ qs) (u ∷ us) → (is_word_kind q.kind && bytes_eq q.text (codes "modules")) ≡ true → u.bytes ≡ codes "modules"
+      by_written : {u : WrittenToken} {us : List WrittenToken} → AreWritten (q ∷ qs) (u ∷ us) → (is_word_kind q.kind && bytes_eq q.text (codes "modules"))
+          ≡ true → u.bytes ≡ codes "modules"
       by_written (word_written e r) t = same_text q.text (codes "modules") (second_so (is_word_kind q.kind) (bytes_eq q.text (codes "modules")) t)
       by_written (quoted_written bytes e r) t =
           let z : false ≡ true = sym (ap is_word_kind e) ∙ first_so (is_word_kind q.kind) (bytes_eq q.text (codes "modules")) t in let y : ⊥ = cc in absurd y
       by_written (operator_written c e r) t =
-          let z : false ≡ true = sym (operator_no_word q.kind e) ∙ first_so (is_word_kind q.kind) (bytes_eq q.text (codes "modules")) t in let y : ⊥ = cc in absurd y
+          let z : false ≡ true = sym (operator_no_word q.kind e) ∙ first_so (is_word_kind q.kind) (bytes_eq q.text (codes "modules")) t in let y : ⊥ = cc in
+          absurd y
       by_written (long_operator_written c d e r) t =
-          let z : false ≡ true = sym (operator_no_word q.kind e) ∙ first_so (is_word_kind q.kind) (bytes_eq q.text (codes "modules")) t in let y : ⊥ = cc in absurd y
+          let z : false ≡ true = sym (operator_no_word q.kind e) ∙ first_so (is_word_kind q.kind) (bytes_eq q.text (codes "modules")) t in let y : ⊥ = cc in
+          absurd y
 
-  no_option : (q : Lexeme) (qs : List Lexeme) (u : WrittenToken) (us : List WrittenToken) (s : Statement) (w : List ℕ) → bytes_eq (codes "modules") w ≡ false → AreWritten (q ∷ qs) (u ∷ us) → statement_of k (q ∷ qs) ≡ Ok s
+  no_option : (q : Lexeme) (qs : List Lexeme) (u : WrittenToken) (us : List WrittenToken) (s : Statement) (w : List ℕ) → bytes_eq (codes "modules") w ≡ false
+      → AreWritten (q ∷ qs) (u ∷ us) → statement_of k (q ∷ qs) ≡ Ok s
       → (bytes_eq p.text (codes "option") && bytes_eq u.bytes w) ≡ false
   no_option q qs u us s w n r h = by_test (bytes_eq p.text (codes "option")) refl
     where
@@ -530,13 +566,18 @@ module _ (language : Language) (read : List Group) (p : Lexeme) (k : Keyword) (i
           let here : words.Option ≡ k = (let x : keyword_in_table keywords (codes "option") ≡ Some k = entry_of (codes "option") e in cc) in
           ap (λ b. bytes_eq b w) (option_bytes q qs u us s r (ap (λ j. statement_of j (q ∷ qs)) here ∙ h)) ∙ n
 
-  pair_plain : (q : Lexeme) (qs : List Lexeme) (u : WrittenToken) (us : List WrittenToken) (s : Statement) → AreWritten (q ∷ qs) (u ∷ us) → is_left_out language read k (q ∷ qs) ≡ false → statement_of k (q ∷ qs) ≡ Ok s
+  pair_plain : (q : Lexeme) (qs : List Lexeme) (u : WrittenToken) (us : List WrittenToken) (s : Statement) → AreWritten (q ∷ qs) (u ∷ us)
+      → is_left_out language read k (q ∷ qs) ≡ false → statement_of k (q ∷ qs) ≡ Ok s
       → path_to_read (Some s) ≡ None → is_plain_form (form_of_pair p.text u) ≡ true
   pair_plain q qs u us s r kept h none =
-      four_tests (is_in_list p.text source_words && is_path u) (bytes_eq p.text (codes "choice") && is_word u) (bytes_eq p.text (codes "option") && bytes_eq u.bytes (codes "defconfig_list")) (bytes_eq p.text (codes "option") && bytes_eq u.bytes (codes "allnoconfig_y"))
-      _ _ _ _ (no_source_pair q qs u s kept h none) (no_choice q qs u us r kept) (no_option q qs u us s (codes "defconfig_list") refl r h) (no_option q qs u us s (codes "allnoconfig_y") refl r h)
+      four_tests (is_in_list p.text source_words && is_path u) (bytes_eq p.text (codes "choice") && is_word u)
+      (bytes_eq p.text (codes "option") && bytes_eq u.bytes (codes "defconfig_list"))
+      (bytes_eq p.text (codes "option") && bytes_eq u.bytes (codes "allnoconfig_y"))
+      _ _ _ _ (no_source_pair q qs u s kept h none) (no_choice q qs u us r kept) (no_option q qs u us s (codes "defconfig_list") refl r h)
+      (no_option q qs u us s (codes "allnoconfig_y") refl r h)
 
-  rest_plain : (qs : List Lexeme) (us : List WrittenToken) (s : Statement) → AreWritten qs us → is_left_out language read k qs ≡ false → statement_of k qs ≡ Ok s → path_to_read (Some s) ≡ None
+  rest_plain : (qs : List Lexeme) (us : List WrittenToken) (s : Statement) → AreWritten qs us → is_left_out language read k qs ≡ false
+      → statement_of k qs ≡ Ok s → path_to_read (Some s) ≡ None
       → is_plain_form (form_of (written_as a_word p.text p.text ∷ us)) ≡ true
   rest_plain [] [] s r kept h none = refl
   rest_plain [] (u ∷ us) s r kept h none = absurd (nothing_written r)
@@ -546,18 +587,22 @@ module _ (language : Language) (read : List Group) (p : Lexeme) (k : Keyword) (i
   rest_plain (q ∷ qs) (u ∷ (v ∷ us)) s r kept h none = ap (λ b. is_plain_form (cond b (bare_prompt u.bytes) plain)) (no_prompt q qs u (v ∷ us) s r h)
 
 -- a line that sources a path
-path_written : (q : Lexeme) (u : WrittenToken) (us : List WrittenToken) (path : List ℕ) → AreWritten (q ∷ []) (u ∷ us) → path_of q ≡ Some path → (us ≡ []) × (is_path u ≡ true) × (u.meaning ≡ Some path)
+path_written : (q : Lexeme) (u : WrittenToken) (us : List WrittenToken) (path : List ℕ) → AreWritten (q ∷ []) (u ∷ us) → path_of q ≡ Some path
+    → (us ≡ []) × (is_path u ≡ true) × (u.meaning ≡ Some path)
 path_written q u us path (word_written e none_written) h = (refl, refl, sym (by_kind q.kind e) ∙ h)
   where
-    by_kind : (kind : TokenKind) → kind ≡ Word → cond (is_quoted_kind kind) (Some (quoted_text q.text)) (cond (is_word_kind kind) (Some q.text) None) ≡ Some q.text
+    by_kind : (kind : TokenKind) → kind ≡ Word → cond (is_quoted_kind kind) (Some (quoted_text q.text)) (cond (is_word_kind kind) (Some q.text) None)
+        ≡ Some q.text
     by_kind kind e = ap (λ j. cond (is_quoted_kind j) (Some (quoted_text q.text)) (cond (is_word_kind j) (Some q.text) None)) e
 path_written q u us path (quoted_written bytes e none_written) h = (refl, refl, sym (by_kind q.kind e) ∙ h)
   where
-    by_kind : (kind : TokenKind) → kind ≡ Quoted → cond (is_quoted_kind kind) (Some (quoted_text q.text)) (cond (is_word_kind kind) (Some q.text) None) ≡ Some (quoted_text q.text)
+    by_kind : (kind : TokenKind) → kind ≡ Quoted → cond (is_quoted_kind kind) (Some (quoted_text q.text)) (cond (is_word_kind kind) (Some q.text) None)
+        ≡ Some (quoted_text q.text)
     by_kind kind e = ap (λ j. cond (is_quoted_kind j) (Some (quoted_text q.text)) (cond (is_word_kind j) (Some q.text) None)) e
 path_written q u us path (operator_written c e none_written) h = absurd (no_path q.kind e h)
   where
-    no_path : (kind : TokenKind) → is_operand_kind kind ≡ false → cond (is_quoted_kind kind) (Some (quoted_text q.text)) (cond (is_word_kind kind) (Some q.text) None) ≡ Some path → ⊥
+    no_path : (kind : TokenKind) → is_operand_kind kind ≡ false → cond (is_quoted_kind kind) (Some (quoted_text q.text))
+        (cond (is_word_kind kind) (Some q.text) None) ≡ Some path → ⊥
     no_path Word e h = cc
     no_path Quoted e h = cc
     no_path (Relation op) e h = cc
@@ -568,7 +613,8 @@ path_written q u us path (operator_written c e none_written) h = absurd (no_path
     no_path Close e h = cc
 path_written q u us path (long_operator_written c d e none_written) h = absurd (no_path q.kind e h)
   where
-    no_path : (kind : TokenKind) → is_operand_kind kind ≡ false → cond (is_quoted_kind kind) (Some (quoted_text q.text)) (cond (is_word_kind kind) (Some q.text) None) ≡ Some path → ⊥
+    no_path : (kind : TokenKind) → is_operand_kind kind ≡ false → cond (is_quoted_kind kind) (Some (quoted_text q.text))
+        (cond (is_word_kind kind) (Some q.text) None) ≡ Some path → ⊥
     no_path Word e h = cc
     no_path Quoted e h = cc
     no_path (Relation op) e h = cc
@@ -585,18 +631,21 @@ some_written (operator_written c e r) = (_, _, refl)
 some_written (long_operator_written c d e r) = (_, _, refl)
 
 module _ (language : Language) (read : List Group) (p : Lexeme) (text : p.text ≡ codes "source") (path : List ℕ) where
-  path_line : (q : Lexeme) (us : List WrittenToken) → AreWritten (q ∷ []) us → path_of q ≡ Some path → is_glob_path q ≡ false → IsPlainPath (written_as a_word p.text p.text ∷ us) path
+  path_line : (q : Lexeme) (us : List WrittenToken) → AreWritten (q ∷ []) us → path_of q ≡ Some path → is_glob_path q ≡ false
+      → IsPlainPath (written_as a_word p.text p.text ∷ us) path
   path_line q us r h g =
       let w = some_written r in
       let is = path_written q w.0 w.1 path (subst (AreWritten (q ∷ [])) w.2 r) h in
       let globs = no_globs path (sym (ap (λ o. elim o as (λ _. Bool) [ None ↦ false | Some path ↦ is_glob path ]) h) ∙ g) in
       record {
-        one = ap (λ x. plain_path (written_as a_word p.text p.text ∷ x)) (w.2 ∙ ap (λ x. w.0 ∷ x) is.0) ∙ ap (λ t. cond (bytes_eq t (codes "source") && is_path w.0) w.0.meaning None) text ∙ ap (λ b. cond b w.0.meaning None) is.1 ∙ is.2;
+        one = ap (λ x. plain_path (written_as a_word p.text p.text ∷ x)) (w.2 ∙ ap (λ x. w.0 ∷ x) is.0)
+            ∙ ap (λ t. cond (bytes_eq t (codes "source") && is_path w.0) w.0.meaning None) text ∙ ap (λ b. cond b w.0.meaning None) is.1 ∙ is.2;
         no_pattern = globs.0;
         no_bracket = globs.1;
       }
 
-  source_fits : (ps : List Lexeme) (us : List WrittenToken) (s : Statement) → AreWritten ps us → is_left_out language read words.Source ps ≡ false → source_line ps ≡ Ok s → path_to_read (Some s) ≡ Some path → IsPlainPath (written_as a_word p.text p.text ∷ us) path
+  source_fits : (ps : List Lexeme) (us : List WrittenToken) (s : Statement) → AreWritten ps us → is_left_out language read words.Source ps ≡ false
+      → source_line ps ≡ Ok s → path_to_read (Some s) ≡ Some path → IsPlainPath (written_as a_word p.text p.text ∷ us) path
   source_fits [] us s r g h e = let z : ⊥ = cc in absurd z
   source_fits (q ∷ qs) us s r g h e =
       let parts = source_parts (q ∷ qs) s h in
@@ -606,32 +655,38 @@ module _ (language : Language) (read : List Group) (p : Lexeme) (text : p.text �
       path_line q us (subst (λ x. AreWritten (q ∷ x) us) none r) (sym (ap path_of here) ∙ parts.1.means ∙ ap Some same) g
 
 -- the form of a line with these tokens
-head_written : {p : Lexeme} {ps : List Lexeme} {ts : List WrittenToken} → AreWritten (p ∷ ps) ts → p.kind ≡ Word → (us : List WrittenToken) × (ts ≡ written_as a_word p.text p.text ∷ us) × AreWritten ps us
+head_written : {p : Lexeme} {ps : List Lexeme} {ts : List WrittenToken} → AreWritten (p ∷ ps) ts → p.kind ≡ Word
+    → (us : List WrittenToken) × (ts ≡ written_as a_word p.text p.text ∷ us) × AreWritten ps us
 head_written (word_written e r) h = (_, refl, r)
 head_written (quoted_written bytes e r) h = let z : ⊥ = cc in absurd z
 head_written (operator_written c e r) h = let z : true ≡ false = sym (ap is_operand_kind h) ∙ e in let y : ⊥ = cc in absurd y
 head_written (long_operator_written c d e r) h = let z : true ≡ false = sym (ap is_operand_kind h) ∙ e in let y : ⊥ = cc in absurd y
 
-statement_fits : (language : Language) (read : List Group) (p : Lexeme) (ps : List Lexeme) (ts : List WrittenToken) (s : Statement) → IsStatement language read p ps s → AreWritten (p ∷ ps) ts → FormFits (path_to_read (Some s)) ts
+statement_fits : (language : Language) (read : List Group) (p : Lexeme) (ps : List Lexeme) (ts : List WrittenToken) (s : Statement)
+    → IsStatement language read p ps s → AreWritten (p ∷ ps) ts → FormFits (path_to_read (Some s)) ts
 statement_fits language read p ps ts s is r =
     let k = is.keyword in
     let key = keyword_is p k is.first in
     let w = head_written r key.word in
     subst (FormFits (path_to_read (Some s))) (sym w.1) (by_path w.0 w.2 key (path_to_read (Some s)) refl)
   where
-    by_path : (us : List WrittenToken) → AreWritten ps us → IsKeyword p is.keyword → (o : Option (List ℕ)) → path_to_read (Some s) ≡ o → FormFits o (written_as a_word p.text p.text ∷ us)
+    by_path : (us : List WrittenToken) → AreWritten ps us → IsKeyword p is.keyword → (o : Option (List ℕ)) → path_to_read (Some s) ≡ o
+        → FormFits o (written_as a_word p.text p.text ∷ us)
     by_path us r key None e = rest_plain language read p is.keyword key ps us s r is.kept is.form e
     by_path us r key (Some path) e =
         let k : is.keyword ≡ words.Source = only_source is.keyword ps s path is.form e in
         let text = source_entry keywords p.text refl (key.entry ∙ ap Some k) in
-        source_fits language read p text path ps us s r (sym (ap (λ j. is_left_out language read j ps) k) ∙ is.kept) (sym (ap (λ j. statement_of j ps) k) ∙ is.form) e
+        source_fits language read p text path ps us s r (sym (ap (λ j. is_left_out language read j ps) k) ∙ is.kept)
+        (sym (ap (λ j. statement_of j ps) k) ∙ is.form) e
 
-line_form : (language : Language) (read : List Group) (ps : List Lexeme) (ts : List WrittenToken) (o : Option Statement) → LineSays language read ps o → AreWritten ps ts → FormFits (path_to_read o) ts
+line_form : (language : Language) (read : List Group) (ps : List Lexeme) (ts : List WrittenToken) (o : Option Statement) → HasStatement language read ps o
+    → AreWritten ps ts → FormFits (path_to_read o) ts
 line_form language read [] ts o h none_written = subst (λ x. FormFits (path_to_read x) []) (sym h) refl
 line_form language read (p ∷ ps) ts None h r = absurd h
 line_form language read (p ∷ ps) ts (Some s) h r = statement_fits language read p ps ts s h r
 
-keyword_first : (language : Language) (read : List Group) (ps : List Lexeme) (o : Option Statement) → LineSays language read ps o → begins_with_keyword ps ≡ true
+keyword_first : (language : Language) (read : List Group) (ps : List Lexeme) (o : Option Statement) → HasStatement language read ps o
+    → begins_with_keyword ps ≡ true
 keyword_first language read [] o h = refl
 keyword_first language read (p ∷ ps) None h = absurd h
 keyword_first language read (p ∷ ps) (Some s) h =
@@ -650,38 +705,46 @@ not_so : (b : Bool) → not b ≡ false → b ≡ true
 not_so true h = refl
 not_so false h = let z : ⊥ = cc in absurd z
 
-said_line : (language : Language) (read : List Group) (text : List ℕ) (o : Option Statement) → nat_lt max_text_bytes (length text) ≡ false → is_utf8 text ≡ true → IsSaid language read text o → IsAcceptedLine text (path_to_read o)
-said_line language read text o short utf8 is =
-    let read_as : AreRead is.tokens (line_tokens 0 text) = cut_tokens language 0 text is.tokens (read_cut language (length text) 0 text is.tokens (omega arith) is.lexed) in
+line_with_statement : (language : Language) (read : List Group) (text : List ℕ) (o : Option Statement) → nat_lt max_text_bytes (length text) ≡ false
+    → is_utf8 text ≡ true → IsStatementOf language read text o → IsAcceptedLine text (path_to_read o)
+line_with_statement language read text o short utf8 is =
+    let read_as : AreRead is.tokens (line_tokens 0 text) = cut_tokens language 0 text is.tokens
+    (read_cut language (length text) 0 text is.tokens (omega arith) is.lexemes) in
     let written = as_written read_as in
     record {
       short = short;
       utf8 = utf8;
       kept = tokens_kept read_as;
-      no_name = no_assignment read_as (keyword_first language read is.tokens o is.says);
-      form = line_form language read is.tokens (tokens_as_they_are text) o is.says written;
-      help = help_same written ∙ sym (ap is_help_or_fault is.lexed) ∙ help_alike text language;
+      no_name = no_assignment read_as (keyword_first language read is.tokens o is.statement);
+      form = line_form language read is.tokens (tokens_as_they_are text) o is.statement written;
+      help = help_same written ∙ sym (ap is_help_or_fault is.lexemes) ∙ help_alike text language;
     }
 
-pub accepted_line : (language : Language) (read : List Group) (l : LogicalLine) (o : Option Statement) → l.help ≡ false → statement_on_line language read l ≡ Ok o → IsAcceptedLine l.text (path_to_read o)
+pub accepted_line : (language : Language) (read : List Group) (l : LogicalLine) (o : Option Statement) → l.help ≡ false
+    → statement_on_line language read l ≡ Ok o → IsAcceptedLine l.text (path_to_read o)
 unfolding statement_on_line
 accepted_line language read l o no_help h =
     let a = past (nat_lt MAX_LINE_BYTES (length l.text)) LineTooLong _ o h in
     let b = past (not (is_utf8 l.text)) NotUtf8 _ o a.1 in
-    let c : statement_or_fault language read (lexemes_from language 0 0 l.text) ≡ Ok o = sym (ap (λ x. cond x (Ok None) (statement_or_fault language read (lexemes_from language 0 0 l.text))) no_help) ∙ b.1 in
-    said_line language read l.text o a.0 (not_so (is_utf8 l.text) b.0) (lexed_says language read l.text (lexemes_from language 0 0 l.text) o refl c)
+    let c : statement_or_fault language read (lexemes_from language 0 0 l.text) ≡ Ok o =
+    sym (ap (λ x. cond x (Ok None) (statement_or_fault language read (lexemes_from language 0 0 l.text))) no_help) ∙ b.1 in
+    line_with_statement language read l.text o a.0 (not_so (is_utf8 l.text) b.0)
+    (lexemes_statement language read l.text (lexemes_from language 0 0 l.text) o refl c)
 
 -- such a line is plain
 either_true : (a b : Bool) → b ≡ true → (a || b) ≡ true
 either_true true b e = refl
 either_true false b e = e
 
-plain_or_source : (o : Option Statement) (path : Option (List ℕ)) (real : List WrittenToken) → path_to_read o ≡ path → FormFits path real → (is_plain_form (form_of real) || is_one_of (is_sourced_by o) (plain_path real)) ≡ true
+plain_or_source : (o : Option Statement) (path : Option (List ℕ)) (real : List WrittenToken) → path_to_read o ≡ path → FormFits path real
+    → (is_plain_form (form_of real) || is_one_of (is_sourced_by o) (plain_path real)) ≡ true
 plain_or_source o None real e h = ap (λ b. b || is_one_of (is_sourced_by o) (plain_path real)) h
 plain_or_source o (Some path) real e h =
-    let same : is_sourced_by o path ≡ true = ap (λ (p : Option (List ℕ)). elim p as (λ _. Bool) [ None ↦ false | Some q ↦ bytes_eq q path ]) e ∙ nat_list_eq_equiv.refl path in
+    let same : is_sourced_by o path ≡ true = ap (λ (p : Option (List ℕ)). elim p as (λ _. Bool) [ None ↦ false | Some q ↦ bytes_eq q path ]) e
+    ∙ nat_list_eq_equiv.refl path in
     either_true (is_plain_form (form_of real)) (is_one_of (is_sourced_by o) (plain_path real))
-    (ap (is_one_of (is_sourced_by o)) h.one ∙ ap (λ b. not b && (not (list_any (λ c. c == 91) path) && is_sourced_by o path)) h.no_pattern ∙ ap (λ b. not b && is_sourced_by o path) h.no_bracket ∙ same)
+    (ap (is_one_of (is_sourced_by o)) h.one ∙ ap (λ b. not b && (not (list_any (λ c. c == 91) path) && is_sourced_by o path)) h.no_pattern
+    ∙ ap (λ b. not b && is_sourced_by o path) h.no_bracket ∙ same)
 
 pub accepted_lines_stay : AcceptedLinesStay
 accepted_lines_stay language read l o no_help h =
@@ -689,8 +752,10 @@ accepted_lines_stay language read l o no_help h =
     let real = tokens_as_they_are l.text in
     let form = plain_or_source o (path_to_read o) real refl is.form in
     let copied : is_copied l.text ≡ false = ap (λ b. b || not (is_utf8 l.text)) is.short ∙ ap not is.utf8 in (
-      ap (λ b. b || (list_all is_kept_token (line_tokens 0 l.text) && (not (is_assignment (line_tokens 0 l.text)) && (is_plain_form (form_of real) || is_one_of (is_sourced_by o) (plain_path real))))) copied
-          ∙ ap (λ b. b && (not (is_assignment (line_tokens 0 l.text)) && (is_plain_form (form_of real) || is_one_of (is_sourced_by o) (plain_path real)))) is.kept
+      ap (λ b. b || (list_all is_kept_token (line_tokens 0 l.text) && (not (is_assignment (line_tokens 0 l.text))
+          && (is_plain_form (form_of real) || is_one_of (is_sourced_by o) (plain_path real))))) copied
+          ∙ ap (λ b. b && (not (is_assignment (line_tokens 0 l.text)) && (is_plain_form (form_of real) || is_one_of (is_sourced_by o)
+          (plain_path real)))) is.kept
           ∙ ap (λ b. not b && (is_plain_form (form_of real) || is_one_of (is_sourced_by o) (plain_path real))) is.no_name ∙ form,
       ap (λ b. cond b (begins_help l.text) (is_help_line real)) copied ∙ is.help,
     )

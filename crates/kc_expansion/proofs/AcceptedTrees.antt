@@ -32,12 +32,12 @@ use Rattle.kc_macros_model.specs.Limits.{max_text_bytes, max_files, max_bytes, m
 use Rattle.kc_macros_model.specs.Programs.{Place, spend, report, ask, read_file, list_folder, Program, returns, fails, stops, does, ◌>>=◌}
 use Rattle.kc_macros_model.specs.Expansion.{fault}
 use Rattle.kc_macros_model.specs.LineTokens.{line_tokens}
-use Rattle.kc_macros_model.specs.Rewriting.{WrittenToken, written_as, a_word}
+use Rattle.kc_macros_model.specs.WrittenTokens.{WrittenToken, written_as, a_word}
 use Rattle.kc_macros_model.specs.Assignments.{line_content}
 use Rattle.kc_macros_model.specs.LineForms.{sources, with_nth_token, line_bytes, quoted_text_token, is_help_line}
 use Rattle.kc_macros_model.specs.PathPatterns.{files_of_pattern}
 use Rattle.kc_macros_model.specs.PlainLines.{tokens_as_they_are}
-use Rattle.kc_macros_model.specs.ReadingStates.{ExpandedFile, ReadingState, initial_state, Progress, progress, WrittenLine, written_line, counted, has_key, is_taken, free_key, key_of, kept}
+use Rattle.kc_macros_model.specs.ReadingStates.{ExpandedFile, ReadingState, initial_state, Progress, progress, WrittenLine, written_line, counted, has_key, is_taken, free_key, key_of, stored_file}
 use Rattle.kc_macros_model.specs.TreeExpansion.{place, one_file, SourceReader, source_line, pattern_read, path_read, source_followed, short_line, content_written, line_written, bytes_of_lines, lines_written, help_after, lines_read, source_fault, contents_read, sourced_read, source_read, root_read, tree_read}
 use Rattle.kc_macros_model.specs.Worlds.{World, returned, Outcome, outcome, expansion, questions_or_fault, wanted}
 use Rattle.kc_macros_model.proofs.Keys.{same_text}
@@ -58,7 +58,8 @@ Gives w P (does (report notice) k) = ⊥
 Gives w P (does (ask at question) k) = ⊥
 Gives w P (does (list_folder folder) k) = ⊥
 
-gives_both : {A B : Type 0} (w : World) (Q : A → Type 0) (P : B → Type 0) (p : Program A) (f : A → Program B) → Gives w Q p → ((x : A) → Q x → Gives w P (f x)) → Gives w P (p >>= f)
+gives_both : {A B : Type 0} (w : World) (Q : A → Type 0) (P : B → Type 0) (p : Program A) (f : A → Program B) → Gives w Q p → ((x : A) → Q x → Gives w P (f x))
+    → Gives w P (p >>= f)
 gives_both w Q P (returns x) f h k = k x h
 gives_both w Q P (fails g) f h k = h
 gives_both w Q P stops f h k = h
@@ -93,9 +94,23 @@ module _ {A : Type 0} (w : World) (P : A → Type 0) where
   quiet_outcome all left (fails g) h = absurd h
   quiet_outcome all left stops h = absurd h
   quiet_outcome true left (does (read_file path) k) h =
-      let q = quiet_outcome true left (k (w.bytes path)) h in record { notices = q.notices; questions = q.questions; work = q.work; value = q.value; ending = q.ending; holds = q.holds }
+      let q = quiet_outcome true left (k (w.bytes path)) h in record {
+        notices = q.notices;
+        questions = q.questions;
+        work = q.work;
+        value = q.value;
+        ending = q.ending;
+        holds = q.holds;
+      }
   quiet_outcome false left (does (read_file path) k) h =
-      let q = quiet_outcome false left (k (w.bytes path)) h in record { notices = q.notices; questions = q.questions; work = q.work; value = q.value; ending = q.ending; holds = q.holds }
+      let q = quiet_outcome false left (k (w.bytes path)) h in record {
+        notices = q.notices;
+        questions = q.questions;
+        work = q.work;
+        value = q.value;
+        ending = q.ending;
+        holds = q.holds;
+      }
   quiet_outcome all left (does (spend at work) k) h = absurd h
   quiet_outcome all left (does (report notice) k) h = absurd h
   quiet_outcome all left (does (ask at question) k) h = absurd h
@@ -152,18 +167,21 @@ source_statement (Some (head mainmenu)) path e = let z : ⊥ = cc in absurd z
 source_statement (Some (head (ends b))) path e = let z : ⊥ = cc in absurd z
 
 -- one that sources none leaves the files that were read
-same_files : (at : Position) (o : Option Statement) (read : List Group) → path_to_read o ≡ None → filter_map sourced_path (with_statement at o read) ≡ filter_map sourced_path read
+same_files : (at : Position) (o : Option Statement) (read : List Group) → path_to_read o ≡ None → filter_map sourced_path (with_statement at o read)
+    ≡ filter_map sourced_path read
 same_files at None read e = refl
 same_files at (Some (head h)) read e = ap (λ o. cons_option o (filter_map sourced_path read)) e
 same_files at (Some (attribute a)) [] e = refl
 same_files at (Some (attribute a)) (g ∷ before) e = refl
 
 -- a line of a help text has no statement
-help_says : (r : FileSource) (read : List Group) (l : LogicalLine) (o : Option Statement) → l.help ≡ true → statement_on_line r.language read l ≡ Ok o → o ≡ None
+help_statement : (r : FileSource) (read : List Group) (l : LogicalLine) (o : Option Statement) → l.help ≡ true → statement_on_line r.language read l ≡ Ok o
+    → o ≡ None
 unfolding statement_on_line
-help_says r read l o help h = by_tests (nat_lt 65536 (length l.text)) (not (is_utf8 l.text)) l.help _ _ _ help h
+help_statement r read l o help h = by_tests (nat_lt 65536 (length l.text)) (not (is_utf8 l.text)) l.help _ _ _ help h
   where
-    by_tests : (a b c : Bool) (j k : TreeKind) (x : Result (Option Statement) TreeKind) → c ≡ true → cond a (Err j) (cond b (Err k) (cond c (Ok None) x)) ≡ Ok o → o ≡ None
+    by_tests : (a b c : Bool) (j k : TreeKind) (x : Result (Option Statement) TreeKind) → c ≡ true → cond a (Err j) (cond b (Err k) (cond c (Ok None) x)) ≡ Ok o
+        → o ≡ None
     by_tests true b c j k x e h = let z : ⊥ = cc in absurd z
     by_tests false true c j k x e h = let z : ⊥ = cc in absurd z
     by_tests false false true j k x e h = let z : None ≡ o = cc in sym z
@@ -188,8 +206,10 @@ has_room r read path h =
     let e = past_kind (nat_lt MAX_TREE_BYTES (sum_by (size_in r) (files_read r read) + size_in r path)) TooMany _ d.1 in
     by_bytes (r.bytes path) refl (not_false (is_some (r.bytes path)) b.0) a.0 c.0 d.0 e.0
   where
-    by_bytes : (o : Option (List ℕ)) → r.bytes path ≡ o → is_some o ≡ true → is_in_list path (open_files r read) ≡ false → nat_le MAX_OPEN_FILES (length (open_files r read)) ≡ false → nat_le MAX_FILES (length (files_read r read)) ≡ false
-        → nat_lt MAX_TREE_BYTES (sum_by (size_in r) (files_read r read) + length (elim o as (λ _. List ℕ) [ None ↦ [] | Some bytes ↦ bytes ])) ≡ false → HasRoom r read path
+    by_bytes : (o : Option (List ℕ)) → r.bytes path ≡ o → is_some o ≡ true → is_in_list path (open_files r read) ≡ false
+        → nat_le MAX_OPEN_FILES (length (open_files r read)) ≡ false → nat_le MAX_FILES (length (files_read r read)) ≡ false
+        → nat_lt MAX_TREE_BYTES (sum_by (size_in r) (files_read r read) + length (elim o as (λ _. List ℕ) [ None ↦ [] | Some bytes ↦ bytes ])) ≡ false
+        → HasRoom r read path
     by_bytes None e there a c d s = let z : ⊥ = cc in absurd z
     by_bytes (Some bytes) e there a c d s = record { bytes = bytes; there = e; closed = a; few_open = c; few = d; small = s }
 
@@ -208,7 +228,8 @@ module _ (w : World) (r : FileSource) (among : AreAmong r.bytes w.bytes) where
   one_more_in (g ∷ fs) f (next_file_in h t) k = next_file_in h (one_more_in fs f t k)
 
   -- no file takes the path of another from it
-  key_free : (path text : List ℕ) → r.bytes path ≡ Some text → {fs : List ExpandedFile} → AreFilesIn fs → list_any (λ (f : ExpandedFile). bytes_eq f.key path && not (bytes_eq f.text text)) fs ≡ false
+  key_free : (path text : List ℕ) → r.bytes path ≡ Some text → {fs : List ExpandedFile} → AreFilesIn fs
+      → list_any (λ (f : ExpandedFile). bytes_eq f.key path && not (bytes_eq f.text text)) fs ≡ false
   key_free path text e no_files_in = refl
   key_free path text e (next_file_in {f = f} {fs = fs} h t) = by_test (key_free path text e t) (bytes_eq f.key path) refl
     where
@@ -230,7 +251,8 @@ module _ (w : World) (r : FileSource) (among : AreAmong r.bytes w.bytes) where
     bytes : s.bytes ≡ sum_by (size_in r) (files_read r read)
     met : (path : List ℕ) → (has_key s.expanded path || is_in_list path opened) ≡ is_in_list path (files_read r read)
 
-  same_follows : {opened : List (List ℕ)} {s : ReadingState} (read more : List Group) → filter_map sourced_path more ≡ filter_map sourced_path read → Follows read opened s → Follows more opened s
+  same_follows : {opened : List (List ℕ)} {s : ReadingState} (read more : List Group) → filter_map sourced_path more ≡ filter_map sourced_path read
+      → Follows read opened s → Follows more opened s
   same_follows {opened = opened} {s = s} read more e f =
       record {
         own = f.own;
@@ -259,27 +281,49 @@ module _ (w : World) (r : FileSource) (among : AreAmong r.bytes w.bytes) where
 
   -- a file that the reader reads after these groups is read by the expansion too
   abbrev ReadsBoth : List Group → List (List ℕ) → (List ℕ → List Group → Reading) → SourceReader → Type 0
-  ReadsBoth start opened sub reads = (at : Place) (position : Position) (path : List ℕ) (read : List Group) (s : ReadingState) → Since start read → Follows read opened s → reader_fault r read path ≡ None
-      → (sub path (group_at position path read ∷ read)).fault ≡ None → Gives w (IsRead path (sub path (group_at position path read ∷ read)).read opened) (reads at (one_file path) s)
+  ReadsBoth start opened sub reads = (at : Place) (position : Position) (path : List ℕ) (read : List Group) (s : ReadingState) → Since start read
+      → Follows read opened s → reader_fault r read path ≡ None
+      → (sub path (group_at position path read ∷ read)).fault ≡ None → Gives w (IsRead path (sub path (group_at position path read ∷ read)).read opened)
+      (reads at (one_file path) s)
 
   -- lines of a file
-  module _ (start : List Group) (first : innermost start ≡ None) (opened : List (List ℕ)) (sub : List ℕ → List Group → Reading) (closes : Reads sub) (reads : SourceReader) (both : ReadsBoth start opened sub reads) (file : List ℕ) (number : ℕ) where
+  module _ (start : List Group) (first : innermost start ≡ None) (opened : List (List ℕ)) (sub : List ℕ → List Group → Reading) (closes : Reads sub)
+      (reads : SourceReader) (both : ReadsBoth start opened sub reads) (file : List ℕ) (number : ℕ) where
     -- a line that the reader accepts
     module _ (at : Place) (continued : Bool) (text : List ℕ) (s : ReadingState) where
-      line_is : nat_lt max_text_bytes (length text) ≡ false → is_utf8 text ≡ true → line_written reads at continued text s ≡ (line_content at s.bindings true (line_tokens 0 text) >>= content_written reads at continued s)
+      line_is : nat_lt max_text_bytes (length text) ≡ false → is_utf8 text ≡ true → line_written reads at continued text s
+          ≡ (line_content at s.bindings true (line_tokens 0 text) >>= content_written reads at continued s)
       line_is short utf8 =
-          ap (λ b. elim (b || not (is_utf8 text)) as (λ z. Program WrittenLine) [ true ↦ returns (written_line text (begins_help text) s) | false ↦ line_content at s.bindings true (line_tokens 0 text) >>= content_written reads at continued s ]) short
-          ∙ ap (λ b. elim (not b) as (λ z. Program WrittenLine) [ true ↦ returns (written_line text (begins_help text) s) | false ↦ line_content at s.bindings true (line_tokens 0 text) >>= content_written reads at continued s ]) utf8
+          ap (λ b. elim (b || not (is_utf8 text)) as (λ z. Program WrittenLine) [
+            | true ↦ returns (written_line text (begins_help text) s)
+            | false ↦ line_content at s.bindings true (line_tokens 0 text) >>= content_written reads at continued s
+          ]) short
+          ∙ ap (λ b. elim (not b) as (λ z. Program WrittenLine) [
+            | true ↦ returns (written_line text (begins_help text) s)
+            | false ↦ line_content at s.bindings true (line_tokens 0 text) >>= content_written reads at continued s
+          ]) utf8
 
-      plain_line : (read : List Group) → IsAcceptedLine text None → Follows read opened s → Gives w (IsLine text read opened) (line_written reads at continued text s)
+      plain_line : (read : List Group) → IsAcceptedLine text None → Follows read opened s → Gives w (IsLine text read opened)
+          (line_written reads at continued text s)
       plain_line read is f =
-          subst (λ p. Gives w (IsLine text read opened) p) (sym (line_is is.short is.utf8 ∙ plain_line_stays reads at continued text s is.kept is.no_name is.form is.short)) (record { text = refl; help = is.help; state = f })
+          subst (λ p. Gives w (IsLine text read opened) p) (sym (line_is is.short is.utf8
+          ∙ plain_line_stays reads at continued text s is.kept is.no_name is.form is.short)) (record { text = refl; help = is.help; state = f })
 
-      followed : (path : List ℕ) (read : List Group) → IsPlainPath (tokens_as_they_are text) path → Gives w (IsRead path read opened) (reads at (one_file path) s) → Gives w (IsRead text read opened) (source_followed reads at (own_tokens text) one_source (Some path) s)
+      followed : (path : List ℕ) (read : List Group) → IsPlainPath (tokens_as_they_are text) path → Gives w (IsRead path read opened)
+          (reads at (one_file path) s) → Gives w (IsRead text read opened) (source_followed reads at (own_tokens text) one_source (Some path) s)
       followed path read is g =
-          subst (λ c. Gives w (IsRead text read opened) (elim c as (λ z. Program Progress) [ true ↦ returns (progress (line_bytes ts) s) | false ↦ path_read reads at one_source path s >>= λ p. returns (progress (source_line ts path p.text) p.state) ])) (sym is.no_bracket)
-          (subst (λ c. Gives w (IsRead text read opened) (elim c as (λ z. Program Progress) [ true ↦ files_of_pattern at path s.listed >>= pattern_read reads at one_source s | false ↦ reads at (one_file path) s ] >>= λ p. returns (progress (source_line ts path p.text) p.state))) (sym is.no_pattern)
-          (gives_both w (IsRead path read opened) (IsRead text read opened) (reads at (one_file path) s) (λ p. returns (progress (source_line ts path p.text) p.state)) g (λ q k. record { text = written q.text k.text; state = k.state })))
+          subst (λ c. Gives w (IsRead text read opened) (elim c as (λ z. Program Progress) [
+            | true ↦ returns (progress (line_bytes ts) s)
+            | false ↦ path_read reads at one_source path s >>= λ p. returns (progress (source_line ts path p.text) p.state)
+          ])) (sym is.no_bracket)
+          (subst (λ c. Gives w (IsRead text read opened) (elim c as (λ z. Program Progress) [
+            | true ↦
+                files_of_pattern at path s.listed >>= pattern_read reads at one_source s
+            | false ↦ reads at (one_file path) s
+          ] >>= λ p. returns
+          (progress (source_line ts path p.text) p.state))) (sym is.no_pattern)
+          (gives_both w (IsRead path read opened) (IsRead text read opened) (reads at (one_file path) s)
+          (λ p. returns (progress (source_line ts path p.text) p.state)) g (λ q k. record { text = written q.text k.text; state = k.state })))
         where
           ts : List WrittenToken
           ts = own_tokens text
@@ -288,35 +332,43 @@ module _ (w : World) (r : FileSource) (among : AreAmong r.bytes w.bytes) where
           first_token = with_nth_token 0 (written_as a_word (codes "source") []) ts
 
           begins : BeginsWithSource ts
-          begins = let source : IsSource (tokens_as_they_are text) path = source_of_path (tokens_as_they_are text) path is.one in record { first = source.first; rest = source.rest; parts = source.parts; bytes = source.bytes }
+          begins = let source : IsSource (tokens_as_they_are text) path = source_of_path (tokens_as_they_are text) path is.one in
+              record { first = source.first; rest = source.rest; parts = source.parts; bytes = source.bytes }
 
           written : (key : List ℕ) → key ≡ path → source_line ts path key ≡ text
           written key e =
-              ap (λ x. source_line ts path x) e ∙ ap (λ c. line_bytes (cond c first_token (with_nth_token 1 (quoted_text_token path) first_token))) (nat_list_eq_equiv.refl path) ∙ source_word_stays begins ∙ own_bytes text
+              ap (λ x. source_line ts path x) e ∙ ap (λ c. line_bytes (cond c first_token (with_nth_token 1 (quoted_text_token path) first_token)))
+              (nat_list_eq_equiv.refl path) ∙ source_word_stays begins ∙ own_bytes text
 
-      path_line : (path : List ℕ) (read : List Group) → IsAcceptedLine text (Some path) → Gives w (IsRead path read opened) (reads at (one_file path) s) → Gives w (IsLine text read opened) (line_written reads at continued text s)
+      path_line : (path : List ℕ) (read : List Group) → IsAcceptedLine text (Some path) → Gives w (IsRead path read opened) (reads at (one_file path) s)
+          → Gives w (IsLine text read opened) (line_written reads at continued text s)
       path_line path read is g =
           let source : IsSource (tokens_as_they_are text) path = source_of_path (tokens_as_they_are text) path is.form.one in
           let help = is_help_line (tokens_as_they_are text) in
-          subst (λ p. Gives w (IsLine text read opened) p) (sym (line_is is.short is.utf8 ∙ line_by_form reads at continued text s (sources one_source (Some path)) is.kept is.no_name source.form))
-          (gives_both w (IsRead text read opened) (IsLine text read opened) (source_followed reads at (own_tokens text) one_source (Some path) s) (short_line at help) (followed path read is.form g)
-          (λ x k. subst (λ p. Gives w (IsLine text read opened) p) (sym (short_stays at help text x.text x.state k.text is.short)) (record { text = refl; help = is.help; state = k.state })))
+          subst (λ p. Gives w (IsLine text read opened) p) (sym (line_is is.short is.utf8 ∙ line_by_form reads at continued text s
+          (sources one_source (Some path)) is.kept is.no_name source.form))
+          (gives_both w (IsRead text read opened) (IsLine text read opened) (source_followed reads at (own_tokens text) one_source (Some path) s)
+          (short_line at help) (followed path read is.form g)
+          (λ x k. subst (λ p. Gives w (IsLine text read opened) p) (sym (short_stays at help text x.text x.state k.text is.short))
+          (record { text = refl; help = is.help; state = k.state })))
 
     -- the lines from a place on
     abbrev GoesOn : ℕ → List PhysicalLine → Type 0
-    GoesOn n ls = (behind help skip : ℕ) (read : List Group) (s : ReadingState) → skip ≡ behind + help → Since start read → Follows read opened s
-        → (read_lines sub r number (logical_lines_from behind help n (map without_return ls)) read).fault ≡ None
-        → Gives w (IsRead (bytes_of_lines (drop skip ls)) (read_lines sub r number (logical_lines_from behind help n (map without_return ls)) read).read opened) (lines_read reads file skip n ls s)
+    GoesOn n ls = (pending help skip : ℕ) (read : List Group) (s : ReadingState) → skip ≡ pending + help → Since start read → Follows read opened s
+        → (read_lines sub r number (logical_lines_from pending help n (map without_return ls)) read).fault ≡ None
+        → Gives w (IsRead (bytes_of_lines (drop skip ls)) (read_lines sub r number (logical_lines_from pending help n (map without_return ls)) read).read
+        opened) (lines_read reads file skip n ls s)
 
     end_read : (read : List Group) (o : Option (Group × Block)) → (at_file_end number read o).read ≡ read
     end_read read None = refl
     end_read read (Some o) = refl
 
     -- a line of a help text
-    help_goes : (rest : List Group → Reading) (at : Position) (read : List Group) (l : LogicalLine) (x : Result (Option Statement) TreeKind) → l.help ≡ true → statement_on_line r.language read l ≡ x → (continue_after_line sub rest r at read x).fault ≡ None
+    help_goes : (rest : List Group → Reading) (at : Position) (read : List Group) (l : LogicalLine) (x : Result (Option Statement) TreeKind) → l.help ≡ true
+        → statement_on_line r.language read l ≡ x → (continue_after_line sub rest r at read x).fault ≡ None
         → continue_after_line sub rest r at read x ≡ rest read
     help_goes rest at read l (Err k) help e h = let z : ⊥ = cc in absurd z
-    help_goes rest at read l (Ok o) help e h = ap (λ o. continue_after_line sub rest r at read (Ok o)) (help_says r read l o help e)
+    help_goes rest at read l (Ok o) help e h = ap (λ o. continue_after_line sub rest r at read (Ok o)) (help_statement r read l o help e)
 
     -- a line with those after it
     module _ (n : ℕ) (l : PhysicalLine) (ls : List PhysicalLine) (goes : GoesOn (n + 1) ls) where
@@ -327,7 +379,8 @@ module _ (w : World) (r : FileSource) (among : AreAmong r.bytes w.bytes) where
       text = joined_bytes (map without_return (l ∷ ls))
 
       rest_of : List Group → Reading
-      rest_of = read_lines sub r number (logical_lines_from more (cond (begins_help text) (help_line_count (drop more (map without_return ls))) 0) (n + 1) (map without_return ls))
+      rest_of = read_lines sub r number (logical_lines_from more (cond (begins_help text) (help_line_count (drop more (map without_return ls))) 0) (n + 1)
+          (map without_return ls))
 
       written : List ℕ → ℕ → List ℕ → List ℕ
       written new help rest = lines_written (l ∷ take more ls) text new ++ (bytes_of_lines (take help (drop more ls)) ++ rest)
@@ -338,20 +391,31 @@ module _ (w : World) (r : FileSource) (among : AreAmong r.bytes w.bytes) where
           let help = help_after line.begins_help (drop more ls) in
           lines_read reads file (more + help) (n + 1) ls line.state >>= λ rest. returns (progress (written line.text help rest.text) rest.state)
 
-      tail : (read : List Group) (s : ReadingState) → Since start read → (rest_of read).fault ≡ None → Gives w (IsLine text read opened) (line_written reads (place file n) (is_continued (without_return l)) text s)
+      tail : (read : List Group) (s : ReadingState) → Since start read → (rest_of read).fault ≡ None
+          → Gives w (IsLine text read opened) (line_written reads (place file n) (is_continued (without_return l)) text s)
           → Gives w (IsRead (bytes_of_lines (l ∷ ls)) (rest_of read).read opened) (after_line s)
       unfolding after_line written rest_of more text
       tail read s since h line =
-          gives_both w (IsLine text read opened) (IsRead (bytes_of_lines (l ∷ ls)) (rest_of read).read opened) (line_written reads (place file n) (is_continued (without_return l)) text s)
-          (λ line. let help = help_after line.begins_help (drop more ls) in lines_read reads file (more + help) (n + 1) ls line.state >>= λ rest. returns (progress (written line.text help rest.text) rest.state))
+          gives_both w (IsLine text read opened) (IsRead (bytes_of_lines (l ∷ ls)) (rest_of read).read opened)
+          (line_written reads (place file n) (is_continued (without_return l)) text s)
+          (λ line. let help = help_after line.begins_help (drop more ls) in
+          lines_read reads file (more + help) (n + 1) ls line.state >>= λ rest. returns (progress (written line.text help rest.text) rest.state))
           line
           (λ line q. let help = help_after line.begins_help (drop more ls) in
-          gives_both w (IsRead (bytes_of_lines (drop (more + help) ls)) (rest_of read).read opened) (IsRead (bytes_of_lines (l ∷ ls)) (rest_of read).read opened) (lines_read reads file (more + help) (n + 1) ls line.state) (λ rest. returns (progress (written line.text help rest.text) rest.state))
-          (goes more (cond (begins_help text) (help_line_count (drop more (map without_return ls))) 0) (more + help) read line.state (ap (λ k. more + k) (same_help line.begins_help q.help)) since q.state h)
-          (λ rest x. record { text = ap (λ t. written t help rest.text) q.text ∙ ap (λ t. written text help t) x.text ∙ whole_lines l ls more help text; state = x.state }))
+          gives_both w (IsRead (bytes_of_lines (drop (more + help) ls)) (rest_of read).read opened)
+          (IsRead (bytes_of_lines (l ∷ ls)) (rest_of read).read opened) (lines_read reads file (more + help) (n + 1) ls line.state)
+          (λ rest. returns (progress (written line.text help rest.text) rest.state))
+          (goes more (cond (begins_help text) (help_line_count (drop more (map without_return ls))) 0) (more + help) read line.state
+          (ap (λ k. more + k) (same_help line.begins_help q.help)) since q.state h)
+          (λ rest x. record {
+            text = ap (λ t. written t help rest.text) q.text ∙ ap (λ t. written text help t) x.text ∙ whole_lines l ls more help text;
+            state = x.state;
+          }))
         where
-          same_help : (b : Bool) → b ≡ begins_help text → help_after b (drop more ls) ≡ cond (begins_help text) (help_line_count (drop more (map without_return ls))) 0
-          same_help b e = ap (λ x. cond x (help_line_count (map without_return (drop more ls))) 0) e ∙ ap (λ x. cond (begins_help text) (help_line_count x) 0) (sym (drop-map without_return more ls))
+          same_help : (b : Bool) → b ≡ begins_help text → help_after b (drop more ls) ≡ cond (begins_help text)
+              (help_line_count (drop more (map without_return ls))) 0
+          same_help b e = ap (λ x. cond x (help_line_count (map without_return (drop more ls))) 0) e
+              ∙ ap (λ x. cond (begins_help text) (help_line_count x) 0) (sym (drop-map without_return more ls))
 
       this_line : LogicalLine
       this_line = record { number = n; text = text; help = false }
@@ -360,9 +424,11 @@ module _ (w : World) (r : FileSource) (among : AreAmong r.bytes w.bytes) where
       position = record { file = number; line = n }
 
       -- a source
-      source_goes : (read : List Group) (s : ReadingState) (path : List ℕ) (k : Option TreeKind) → IsAcceptedLine text (Some path) → Since start read → Follows read opened s → reader_fault r read path ≡ k
+      source_goes : (read : List Group) (s : ReadingState) (path : List ℕ) (k : Option TreeKind) → IsAcceptedLine text (Some path) → Since start read
+          → Follows read opened s → reader_fault r read path ≡ k
           → (continue_after_source sub rest_of position path (group_at position path read ∷ read) k).fault ≡ None
-          → Gives w (IsRead (bytes_of_lines (l ∷ ls)) (continue_after_source sub rest_of position path (group_at position path read ∷ read) k).read opened) (after_line s)
+          → Gives w (IsRead (bytes_of_lines (l ∷ ls)) (continue_after_source sub rest_of position path (group_at position path read ∷ read) k).read opened)
+          (after_line s)
       unfolding Reads
       source_goes read s path (Some k) is since f e h = let z : ⊥ = cc in absurd z
       source_goes read s path None is since f e h = by_fault (sub path (group_at position path read ∷ read)).fault refl h
@@ -370,31 +436,47 @@ module _ (w : World) (r : FileSource) (among : AreAmong r.bytes w.bytes) where
           o : Reading
           o = sub path (group_at position path read ∷ read)
 
-          by_fault : (k : Option TreeFault) → (sub path (group_at position path read ∷ read)).fault ≡ k → (continue_after_file rest_of position (sub path (group_at position path read ∷ read)) k).fault ≡ None
-              → Gives w (IsRead (bytes_of_lines (l ∷ ls)) (continue_after_file rest_of position (sub path (group_at position path read ∷ read)) k).read opened) (after_line s)
+          by_fault : (k : Option TreeFault) → (sub path (group_at position path read ∷ read)).fault ≡ k
+              → (continue_after_file rest_of position (sub path (group_at position path read ∷ read)) k).fault ≡ None
+              → Gives w (IsRead (bytes_of_lines (l ∷ ls)) (continue_after_file rest_of position (sub path (group_at position path read ∷ read)) k).read opened)
+              (after_line s)
           by_fault (Some k) g h = let z : Some k ≡ None = sym g ∙ h in let y : ⊥ = cc in absurd y
           by_fault None g h =
               let inner = sub path (group_at position path read ∷ read) in
-              let closed : Closes (group_at position path read ∷ read) inner.read = closes path (group_at position path read ∷ read) refl ((λ c. cc), since.matched) g in
-              let back : open_blocks 0 (with_group position file_end inner.read) ≡ open_blocks 0 read = popped (record { number = length inner.read; at = position; head = file_end; attributes = [] }) inner.read refl ∙ ap (drop 1) closed.opened in
+              let closed : Closes (group_at position path read ∷ read) inner.read =
+              closes path (group_at position path read ∷ read) refl ((λ c. cc), since.matched) g in
+              let back : open_blocks 0 (with_group position file_end inner.read) ≡ open_blocks 0 read =
+              popped (record { number = length inner.read; at = position; head = file_end; attributes = [] }) inner.read refl ∙ ap (drop 1) closed.opened in
               tail (with_group position file_end inner.read) s
-              (record { blocks = since.blocks; own = since.own; opened = back ∙ since.opened; matched = ((λ x. ap (λ os. ends_first os file_end) closed.opened), closed.matched) }) h
+              (record {
+                blocks = since.blocks;
+                own = since.own;
+                opened = back ∙ since.opened;
+                matched =
+                    ((λ x. ap (λ os. ends_first os file_end) closed.opened), closed.matched);
+              }) h
               (path_line (place file n) (is_continued (without_return l)) text s path (with_group position file_end inner.read) is
-              (gives_more w (IsRead path inner.read opened) (IsRead path (with_group position file_end inner.read) opened) (reads (place file n) (one_file path) s) (both (place file n) position path read s since f e g)
+              (gives_more w (IsRead path inner.read opened) (IsRead path (with_group position file_end inner.read) opened)
+              (reads (place file n) (one_file path) s) (both (place file n) position path read s since f e g)
               (λ x k. record { text = k.text; state = same_follows inner.read (with_group position file_end inner.read) refl k.state })))
 
-      statement_goes : (read : List Group) (s : ReadingState) (o : Option Statement) (path : Option (List ℕ)) → IsAcceptedLine text path → Since start read → Follows read opened s → path_to_read o ≡ path → Fits read o
+      statement_goes : (read : List Group) (s : ReadingState) (o : Option Statement) (path : Option (List ℕ)) → IsAcceptedLine text path → Since start read
+          → Follows read opened s → path_to_read o ≡ path → Fits read o
           → (continue_after_statement sub rest_of r position read o path).fault ≡ None
           → Gives w (IsRead (bytes_of_lines (l ∷ ls)) (continue_after_statement sub rest_of r position read o path).read opened) (after_line s)
       statement_goes read s o None is since f e fits h =
           tail (with_statement position o read) s (after_given start read position o first since e fits) h
-          (plain_line (place file n) (is_continued (without_return l)) text s (with_statement position o read) is (same_follows read (with_statement position o read) (same_files position o read e) f))
+          (plain_line (place file n) (is_continued (without_return l)) text s (with_statement position o read) is
+          (same_follows read (with_statement position o read) (same_files position o read e) f))
       statement_goes read s o (Some path) is since f e fits h =
           let same = source_statement o path e in
-          subst (λ x. (continue_after_statement sub rest_of r position read x (Some path)).fault ≡ None → Gives w (IsRead (bytes_of_lines (l ∷ ls)) (continue_after_statement sub rest_of r position read x (Some path)).read opened) (after_line s)) (sym same)
+          subst (λ x. (continue_after_statement sub rest_of r position read x (Some path)).fault ≡ None
+          → Gives w (IsRead (bytes_of_lines (l ∷ ls)) (continue_after_statement sub rest_of r position read x (Some path)).read opened) (after_line s))
+          (sym same)
           (λ h. source_goes read s path (reader_fault r read path) is since f refl h) h
 
-      line_goes : (read : List Group) (s : ReadingState) (x : Result (Option Statement) TreeKind) → Since start read → Follows read opened s → statement_on_line r.language read this_line ≡ x → (continue_after_line sub rest_of r position read x).fault ≡ None
+      line_goes : (read : List Group) (s : ReadingState) (x : Result (Option Statement) TreeKind) → Since start read → Follows read opened s
+          → statement_on_line r.language read this_line ≡ x → (continue_after_line sub rest_of r position read x).fault ≡ None
           → Gives w (IsRead (bytes_of_lines (l ∷ ls)) (continue_after_line sub rest_of r position read x).read opened) (after_line s)
       unfolding this_line
       line_goes read s (Err k) since f e h = let z : ⊥ = cc in absurd z
@@ -405,25 +487,33 @@ module _ (w : World) (r : FileSource) (among : AreAmong r.bytes w.bytes) where
     none_dropped zero = refl
     none_dropped (suc skip) = refl
 
-    lines_follow : (n : ℕ) (ls : List PhysicalLine) (behind help skip : ℕ) (read : List Group) (s : ReadingState) → skip ≡ behind + help → Since start read → Follows read opened s
-        → (read_lines sub r number (logical_lines_from behind help n (map without_return ls)) read).fault ≡ None
-        → Gives w (IsRead (bytes_of_lines (drop skip ls)) (read_lines sub r number (logical_lines_from behind help n (map without_return ls)) read).read opened) (lines_read reads file skip n ls s)
+    lines_follow : (n : ℕ) (ls : List PhysicalLine) (pending help skip : ℕ) (read : List Group) (s : ReadingState) → skip ≡ pending + help → Since start read
+        → Follows read opened s
+        → (read_lines sub r number (logical_lines_from pending help n (map without_return ls)) read).fault ≡ None
+        → Gives w (IsRead (bytes_of_lines (drop skip ls)) (read_lines sub r number (logical_lines_from pending help n (map without_return ls)) read).read
+        opened) (lines_read reads file skip n ls s)
     unfolding this_line position rest_of more text after_line written
-    lines_follow n [] behind help skip read s e since f h = record { text = sym (none_dropped skip); state = subst (λ x. Follows x opened s) (sym (end_read read (innermost read))) f }
-    lines_follow n (l ∷ ls) (suc behind) help (suc skip) read s e since f h = lines_follow (n + 1) ls behind help skip read s (omega (arith, e)) since f h
-    lines_follow n (l ∷ ls) (suc behind) help zero read s e since f h = absurd (omega (arith, e))
+    lines_follow n [] pending help skip read s e since f h = record {
+      text = sym (none_dropped skip);
+      state = subst (λ x. Follows x opened s) (sym (end_read read (innermost read))) f;
+    }
+    lines_follow n (l ∷ ls) (suc pending) help (suc skip) read s e since f h = lines_follow (n + 1) ls pending help skip read s (omega (arith, e)) since f h
+    lines_follow n (l ∷ ls) (suc pending) help zero read s e since f h = absurd (omega (arith, e))
     lines_follow n (l ∷ ls) zero (suc help) (suc skip) read s e since f h =
         let help_line : LogicalLine = record { number = n; text = (without_return l).text; help = true } in
         let rest : List Group → Reading = read_lines sub r number (logical_lines_from 0 help (n + 1) (map without_return ls)) in
-        let same : continue_after_line sub rest r (record { file = number; line = n }) read (statement_on_line r.language read help_line) ≡ rest read = help_goes rest (record { file = number; line = n }) read help_line (statement_on_line r.language read help_line) refl refl h in
+        let same : continue_after_line sub rest r (record { file = number; line = n }) read (statement_on_line r.language read help_line) ≡ rest read =
+        help_goes rest (record { file = number; line = n }) read help_line (statement_on_line r.language read help_line) refl refl h in
         subst (λ (o : Reading). Gives w (IsRead (bytes_of_lines (drop skip ls)) o.read opened) (lines_read reads file skip (n + 1) ls s)) (sym same)
         (lines_follow (n + 1) ls 0 help skip read s (omega (arith, e)) since f (sym (ap (λ (o : Reading). o.fault) same) ∙ h))
     lines_follow n (l ∷ ls) zero (suc help) zero read s e since f h = absurd (omega (arith, e))
     lines_follow n (l ∷ ls) zero zero (suc skip) read s e since f h = absurd (omega (arith, e))
-    lines_follow n (l ∷ ls) zero zero zero read s e since f h = line_goes n l ls (lines_follow (n + 1) ls) read s (statement_on_line r.language read (this_line n l ls (lines_follow (n + 1) ls))) since f refl h
+    lines_follow n (l ∷ ls) zero zero zero read s e since f h = line_goes n l ls (lines_follow (n + 1) ls) read s
+        (statement_on_line r.language read (this_line n l ls (lines_follow (n + 1) ls))) since f refl h
 
   -- the lines of a whole file
-  file_lines : (n : ℕ) (start : List Group) (opened : List (List ℕ)) (reads : SourceReader) (path bytes : List ℕ) (s : ReadingState) → innermost start ≡ None → EndsMatch start → r.bytes path ≡ Some bytes → Follows start opened s
+  file_lines : (n : ℕ) (start : List Group) (opened : List (List ℕ)) (reads : SourceReader) (path bytes : List ℕ) (s : ReadingState) → innermost start ≡ None
+      → EndsMatch start → r.bytes path ≡ Some bytes → Follows start opened s
       → ReadsBoth start opened (read_whole_file n r) reads → (read_whole_file (suc n) r path start).fault ≡ None
       → Gives w (IsRead bytes (read_whole_file (suc n) r path start).read opened) (lines_read reads path 0 1 (split_at_newlines bytes) s)
   unfolding lines_of
@@ -431,13 +521,15 @@ module _ (w : World) (r : FileSource) (among : AreAmong r.bytes w.bytes) where
       subst (λ b. (whole b).fault ≡ None → Gives w (IsRead bytes (whole b).read opened) (lines_read reads path 0 1 (split_at_newlines bytes) s))
       (sym (ap (λ o. elim o as (λ _. List ℕ) [ None ↦ [] | Some bytes ↦ bytes ]) there))
       (λ h. subst (λ b. Gives w (IsRead b (whole bytes).read opened) (lines_read reads path 0 1 (split_at_newlines bytes) s)) (split_bytes bytes)
-      (lines_follow start first opened (read_whole_file n r) (file_closes n r) reads both path (r.number path) 1 (split_at_newlines bytes) 0 0 0 start s refl (record { blocks = []; own = tt; opened = refl; matched = matched }) f h)) h
+      (lines_follow start first opened (read_whole_file n r) (file_closes n r) reads both path (r.number path) 1 (split_at_newlines bytes) 0 0 0 start s refl
+      (record { blocks = []; own = tt; opened = refl; matched = matched }) f h)) h
     where
       whole : List ℕ → Reading
       whole b = read_lines (read_whole_file n r) r (r.number path) (logical_lines_from 0 0 1 (map without_return (split_at_newlines b))) start
 
   -- a file that is kept
-  module _ (path bytes : List ℕ) (there : r.bytes path ≡ Some bytes) (other : bytes_eq path r.root ≡ false) (read : List Group) (opened : List (List ℕ)) (p : Progress) (q : IsRead bytes read (path ∷ opened) p) where
+  module _ (path bytes : List ℕ) (there : r.bytes path ≡ Some bytes) (other : bytes_eq path r.root ≡ false) (read : List Group) (opened : List (List ℕ))
+      (p : Progress) (q : IsRead bytes read (path ∷ opened) p) where
     abbrev before : List ExpandedFile
     before = p.state.expanded
 
@@ -445,7 +537,8 @@ module _ (w : World) (r : FileSource) (among : AreAmong r.bytes w.bytes) where
     holds = there ∙ ap Some (sym q.text)
 
     free : is_taken r.root before p.text path ≡ false
-    free = ap (λ b. b || list_any (λ (f : ExpandedFile). bytes_eq f.key path && not (bytes_eq f.text p.text)) before) other ∙ key_free path p.text holds q.state.own
+    free = ap (λ b. b || list_any (λ (f : ExpandedFile). bytes_eq f.key path && not (bytes_eq f.text p.text)) before) other
+        ∙ key_free path p.text holds q.state.own
 
     own_key : key_of r.root before path p.text ≡ path
     own_key = ap (λ b. elim b as (λ z. List ℕ) [ true ↦ free_key (length before) r.root before path p.text (path ++ 35 ∷ decimal 2) 3 | false ↦ path ]) free
@@ -463,35 +556,47 @@ module _ (w : World) (r : FileSource) (among : AreAmong r.bytes w.bytes) where
         by_test false e = sym (ap (λ b. has_key before x || (b || is_in_list x opened)) e)
 
     met_after : (x : List ℕ) → (has_key (before ++ new ∷ []) x || is_in_list x opened) ≡ is_in_list x (files_read r read)
-    met_after x = ap (λ b. b || is_in_list x opened) (list_any-append (λ (f : ExpandedFile). bytes_eq f.key x) before (new ∷ [])) ∙ one_more (has_key before x) (bytes_eq path x) (is_in_list x opened) ∙ q.state.met x
+    met_after x = ap (λ b. b || is_in_list x opened) (list_any-append (λ (f : ExpandedFile). bytes_eq f.key x) before (new ∷ []))
+        ∙ one_more (has_key before x) (bytes_eq path x) (is_in_list x opened) ∙ q.state.met x
       where
         one_more : (a b c : Bool) → ((a || (b || false)) || c) ≡ (a || (b || c))
         one_more true b c = refl
         one_more false true c = refl
         one_more false false c = refl
 
-    kept_follows : IsRead path read opened (kept r.root path p)
+    kept_follows : IsRead path read opened (stored_file r.root path p)
     kept_follows =
         record {
           text = own_key;
-          state = subst (λ k. Follows read opened (record p.state { expanded = cond (has_key before k) before (before ++ record { key = k; path = path; text = p.text } ∷ []) })) (sym own_key) (by_test (has_key before path) refl);
+          state = subst (λ k. Follows read opened (record p.state {
+            expanded = cond (has_key before k) before
+                (before ++ record { key = k; path = path; text = p.text } ∷ []);
+          })) (sym own_key) (by_test (has_key before path) refl);
         }
       where
         by_test : (b : Bool) → has_key before path ≡ b → Follows read opened (record p.state { expanded = cond b before (before ++ new ∷ []) })
         by_test true e = record { own = q.state.own; files = q.state.files; bytes = q.state.bytes; met = λ x. met_before x e }
-        by_test false e = record { own = one_more_in before new q.state.own (record { key = refl; text = holds }); files = q.state.files; bytes = q.state.bytes; met = met_after }
+        by_test false e = record {
+          own = one_more_in before new q.state.own (record { key = refl; text = holds });
+          files = q.state.files;
+          bytes = q.state.bytes;
+          met = met_after;
+        }
 
   -- a source that has no fault for the reader has none for the expansion
-  no_fault : (start read : List Group) (opened : List (List ℕ)) (path : List ℕ) (s : ReadingState) (room : HasRoom r read path) → Since start read → AreOpen start opened → Follows read opened s → source_fault opened s path (Some room.bytes) ≡ None
+  no_fault : (start read : List Group) (opened : List (List ℕ)) (path : List ℕ) (s : ReadingState) (room : HasRoom r read path) → Since start read
+      → AreOpen start opened → Follows read opened s → source_fault opened s path (Some room.bytes) ≡ None
   no_fault start read opened path s room since same_paths f =
       let same = same_open r start read since in
       let a : is_in_list path opened ≡ false = same_paths.listed path ∙ sym (ap (is_in_list path) same) ∙ room.closed in
       let b : nat_le max_open_files (length opened) ≡ false = ap (nat_le max_open_files) (same_paths.count ∙ sym (ap length same)) ∙ room.few_open in
       let c : nat_le max_files s.files ≡ false = ap (nat_le max_files) f.files ∙ room.few in
       let d : nat_lt max_bytes (s.bytes + length room.bytes) ≡ false = ap (λ n. nat_lt max_bytes (n + length room.bytes)) f.bytes ∙ room.small in
-      no_test (is_in_list path opened) (nat_le max_open_files (length opened)) (nat_le max_files s.files) (nat_lt max_bytes (s.bytes + length room.bytes)) _ _ _ a b c d
+      no_test (is_in_list path opened) (nat_le max_open_files (length opened)) (nat_le max_files s.files)
+      (nat_lt max_bytes (s.bytes + length room.bytes)) _ _ _ a b c d
     where
-      no_test : (a b c d : Bool) (x y z : MacroKind) → a ≡ false → b ≡ false → c ≡ false → d ≡ false → cond a (Some x) (cond b (Some y) (cond (c || d) (Some z) None)) ≡ None
+      no_test : (a b c d : Bool) (x y z : MacroKind) → a ≡ false → b ≡ false → c ≡ false → d ≡ false
+          → cond a (Some x) (cond b (Some y) (cond (c || d) (Some z) None)) ≡ None
       no_test true b c d x y z ha hb hc hd = let n : ⊥ = cc in absurd n
       no_test false true c d x y z ha hb hc hd = let n : ⊥ = cc in absurd n
       no_test false false true d x y z ha hb hc hd = let n : ⊥ = cc in absurd n
@@ -499,7 +604,8 @@ module _ (w : World) (r : FileSource) (among : AreAmong r.bytes w.bytes) where
       no_test false false false false x y z ha hb hc hd = refl
 
   -- the state where a source begins
-  source_begins : (start read : List Group) (opened : List (List ℕ)) (position : Position) (path : List ℕ) (s : ReadingState) (room : HasRoom r read path) → Follows read opened s → Follows (group_at position path read ∷ read) (path ∷ opened) (counted (length room.bytes) s)
+  source_begins : (start read : List Group) (opened : List (List ℕ)) (position : Position) (path : List ℕ) (s : ReadingState) (room : HasRoom r read path)
+      → Follows read opened s → Follows (group_at position path read ∷ read) (path ∷ opened) (counted (length room.bytes) s)
   source_begins start read opened position path s room f =
       let paths = filter_map sourced_path read in
       let size : size_in r path ≡ length room.bytes = ap (λ o. length (elim o as (λ _. List ℕ) [ None ↦ [] | Some bytes ↦ bytes ])) room.there in
@@ -513,18 +619,21 @@ module _ (w : World) (r : FileSource) (among : AreAmong r.bytes w.bytes) where
         met = λ x. more_of (has_key s.expanded x) (bytes_eq path x) (is_in_list x opened) (bytes_eq r.root x) (is_in_list x paths) (f.met x);
       }
 
-  source_opens : (start read : List Group) (opened : List (List ℕ)) (at : Position) (path : List ℕ) → Since start read → AreOpen start opened → AreOpen (group_at at path read ∷ read) (path ∷ opened)
+  source_opens : (start read : List Group) (opened : List (List ℕ)) (at : Position) (path : List ℕ) → Since start read → AreOpen start opened
+      → AreOpen (group_at at path read ∷ read) (path ∷ opened)
   source_opens start read opened at path since same_paths =
       let same = same_open r start read since in
       record {
-        listed = λ x. ap (λ b. bytes_eq path x || b) (same_paths.listed x ∙ sym (ap (is_in_list x) same)) ∙ swap_first (bytes_eq path x) (bytes_eq r.root x) (is_in_list x (filter_map sourced_path (open_blocks 0 read)));
+        listed = λ x. ap (λ b. bytes_eq path x || b) (same_paths.listed x ∙ sym (ap (is_in_list x) same))
+            ∙ swap_first (bytes_eq path x) (bytes_eq r.root x) (is_in_list x (filter_map sourced_path (open_blocks 0 read)));
         count = ap suc (same_paths.count ∙ sym (ap length same));
       }
     where
       swap_first : (a b c : Bool) → (a || (b || c)) ≡ (b || (a || c))
       swap_first = swap
 
-  reads_both : (n : ℕ) (start : List Group) (opened : List (List ℕ)) → n + length opened ≡ max_open_files → AreOpen start opened → ReadsBoth start opened (read_whole_file n r) (source_read (suc n) r.root opened)
+  reads_both : (n : ℕ) (start : List Group) (opened : List (List ℕ)) → n + length opened ≡ max_open_files → AreOpen start opened
+      → ReadsBoth start opened (read_whole_file n r) (source_read (suc n) r.root opened)
   reads_both zero start opened full same_paths at position path read s since f e h =
       let room = has_room r read path e in
       let less = leb-false MAX_OPEN_FILES (length (open_files r read)) room.few_open in
@@ -532,14 +641,23 @@ module _ (w : World) (r : FileSource) (among : AreAmong r.bytes w.bytes) where
   reads_both (suc n) start opened full same_paths at position path read s since f e h =
       let room = has_room r read path e in
       let inner : Reading = read_whole_file (suc n) r path (group_at position path read ∷ read) in
-      let other : bytes_eq path r.root ≡ false = turned path r.root ∙ neither_first (bytes_eq r.root path) (is_in_list path (filter_map sourced_path (open_blocks 0 read))) room.closed in
+      let other : bytes_eq path r.root ≡ false = turned path r.root ∙ neither_first (bytes_eq r.root path)
+      (is_in_list path (filter_map sourced_path (open_blocks 0 read))) room.closed in
       let deeper : SourceReader = source_read (suc n) r.root (path ∷ opened) in
       let follows = source_begins start read opened position path s room f in
-      let nested : ReadsBoth (group_at position path read ∷ read) (path ∷ opened) (read_whole_file n r) deeper = reads_both n (group_at position path read ∷ read) (path ∷ opened) (omega (arith, full)) (source_opens start read opened position path since same_paths) in
+      let nested : ReadsBoth (group_at position path read ∷ read) (path ∷ opened) (read_whole_file n r) deeper =
+      reads_both n (group_at position path read ∷ read) (path ∷ opened) (omega (arith, full))
+      (source_opens start read opened position path since same_paths) in
       subst (λ o. Gives w (IsRead path inner.read opened) (sourced_read deeper r.root opened at (one_file path) s o)) (sym (among path room.bytes room.there))
-      (subst (λ x. Gives w (IsRead path inner.read opened) (elim x as (λ z. Program Progress) [ Some kind ↦ fault at kind [] | None ↦ contents_read deeper at (one_file path) (Some room.bytes) s >>= λ p. returns (kept r.root path p) ])) (sym (no_fault start read opened path s room since same_paths f))
-      (gives_both w (IsRead room.bytes inner.read (path ∷ opened)) (IsRead path inner.read opened) (lines_read deeper path 0 1 (split_at_newlines room.bytes) (counted (length room.bytes) s)) (λ p. returns (kept r.root path p))
-      (file_lines n (group_at position path read ∷ read) (path ∷ opened) deeper path room.bytes (counted (length room.bytes) s) refl ((λ c. cc), since.matched) room.there follows nested h)
+      (subst (λ x. Gives w (IsRead path inner.read opened) (elim x as (λ z. Program Progress) [
+        | Some kind ↦ fault at kind []
+        | None ↦ contents_read deeper at (one_file path) (Some room.bytes) s >>= λ p. returns (stored_file r.root path p)
+      ]))
+      (sym (no_fault start read opened path s room since same_paths f))
+      (gives_both w (IsRead room.bytes inner.read (path ∷ opened)) (IsRead path inner.read opened)
+      (lines_read deeper path 0 1 (split_at_newlines room.bytes) (counted (length room.bytes) s)) (λ p. returns (stored_file r.root path p))
+      (file_lines n (group_at position path read ∷ read) (path ∷ opened) deeper path room.bytes (counted (length room.bytes) s) refl
+      ((λ c. cc), since.matched) room.there follows nested h)
       (λ p q. kept_follows path room.bytes room.there other inner.read opened p q)))
 
   -- the whole tree
@@ -547,7 +665,8 @@ module _ (w : World) (r : FileSource) (among : AreAmong r.bytes w.bytes) where
     own : AreFilesIn fs
     met : (path : List ℕ) → has_key fs path ≡ is_in_list path (files_read r read)
 
-  root_gives : (bytes : List ℕ) → r.bytes r.root ≡ Some bytes → (read_root r (Some bytes)).fault ≡ None → Gives w (IsTree (read_root r (Some bytes)).read) (root_read r.root initial_state (Some bytes))
+  root_gives : (bytes : List ℕ) → r.bytes r.root ≡ Some bytes → (read_root r (Some bytes)).fault ≡ None
+      → Gives w (IsTree (read_root r (Some bytes)).read) (root_read r.root initial_state (Some bytes))
   root_gives bytes there h = by_test (nat_lt MAX_TREE_BYTES (length bytes)) h
     where
       whole : Reading
@@ -561,26 +680,36 @@ module _ (w : World) (r : FileSource) (among : AreAmong r.bytes w.bytes) where
           let size : size_in r r.root ≡ length bytes = ap (λ o. length (elim o as (λ _. List ℕ) [ None ↦ [] | Some bytes ↦ bytes ])) there in
           record { own = no_files_in; files = refl; bytes = omega (arith, size, sum_by-cons (size_in r) r.root []); met = λ path. refl }
 
-      lines : whole.fault ≡ None → Gives w (IsRead bytes whole.read (r.root ∷ [])) (lines_read deeper r.root 0 1 (split_at_newlines bytes) (counted (length bytes) initial_state))
-      lines h = file_lines 31 [] (r.root ∷ []) deeper r.root bytes (counted (length bytes) initial_state) refl tt there begins (reads_both 31 [] (r.root ∷ []) refl (record { listed = λ path. refl; count = refl })) h
+      lines : whole.fault ≡ None → Gives w (IsRead bytes whole.read (r.root ∷ []))
+          (lines_read deeper r.root 0 1 (split_at_newlines bytes) (counted (length bytes) initial_state))
+      lines h = file_lines 31 [] (r.root ∷ []) deeper r.root bytes (counted (length bytes) initial_state) refl tt there begins
+          (reads_both 31 [] (r.root ∷ []) refl (record { listed = λ path. refl; count = refl })) h
 
-      by_test : (b : Bool) → (cond b (record { read = []; fault = Some (record { file = Some (r.number r.root); line = 0; kind = TooMany }) }) whole).fault ≡ None
-          → Gives w (IsTree (cond b (record { read = []; fault = Some (record { file = Some (r.number r.root); line = 0; kind = TooMany }) }) whole).read) (elim b as (λ z. Program (List ExpandedFile)) [
+      by_test : (b : Bool) → (cond b (record { read = []; fault = Some (record { file = Some (r.number r.root); line = 0; kind = TooMany }) })
+          whole).fault ≡ None
+          → Gives w (IsTree (cond b (record { read = []; fault = Some (record { file = Some (r.number r.root); line = 0; kind = TooMany }) }) whole).read)
+          (elim b as (λ z. Program (List ExpandedFile)) [
             | true ↦ fault (place r.root 0) kinds.TooMany []
-            | false ↦ lines_read deeper r.root 0 1 (split_at_newlines bytes) (counted (length bytes) initial_state) >>= λ p. returns (p.state.expanded ++ record { key = r.root; path = r.root; text = p.text } ∷ [])
+            | false ↦ lines_read deeper r.root 0 1 (split_at_newlines bytes) (counted (length bytes) initial_state) >>= λ p. returns
+                (p.state.expanded ++ record { key = r.root; path = r.root; text = p.text } ∷ [])
           ])
       by_test true h = let z : ⊥ = cc in absurd z
       by_test false h =
-          gives_both w (IsRead bytes whole.read (r.root ∷ [])) (IsTree whole.read) (lines_read deeper r.root 0 1 (split_at_newlines bytes) (counted (length bytes) initial_state)) (λ p. returns (p.state.expanded ++ record { key = r.root; path = r.root; text = p.text } ∷ [])) (lines h)
+          gives_both w (IsRead bytes whole.read (r.root ∷ [])) (IsTree whole.read)
+          (lines_read deeper r.root 0 1 (split_at_newlines bytes) (counted (length bytes) initial_state))
+          (λ p. returns (p.state.expanded ++ record { key = r.root; path = r.root; text = p.text } ∷ [])) (lines h)
           (λ p q. record {
-            own = one_more_in p.state.expanded (record { key = r.root; path = r.root; text = p.text }) q.state.own (record { key = refl; text = there ∙ ap Some (sym q.text) });
-            met = λ path. list_any-append (λ (f : ExpandedFile). bytes_eq f.key path) p.state.expanded (record { key = r.root; path = r.root; text = p.text } ∷ []) ∙ q.state.met path;
+            own = one_more_in p.state.expanded (record { key = r.root; path = r.root; text = p.text }) q.state.own
+                (record { key = refl; text = there ∙ ap Some (sym q.text) });
+            met = λ path. list_any-append (λ (f : ExpandedFile). bytes_eq f.key path) p.state.expanded
+                (record { key = r.root; path = r.root; text = p.text } ∷ []) ∙ q.state.met path;
           })
 
   tree_gives : (o : Option (List ℕ)) → r.bytes r.root ≡ o → (read_root r o).fault ≡ None → Gives w (IsTree (read_root r o).read) (tree_read r.root)
   unfolding tree_read
   tree_gives None there h = let z : ⊥ = cc in absurd z
-  tree_gives (Some bytes) there h = subst (λ o. Gives w (IsTree (read_root r (Some bytes)).read) (root_read r.root initial_state o)) (sym (among r.root bytes there)) (root_gives bytes there h)
+  tree_gives (Some bytes) there h = subst (λ o. Gives w (IsTree (read_root r (Some bytes)).read) (root_read r.root initial_state o))
+      (sym (among r.root bytes there)) (root_gives bytes there h)
 
 no_fault_read : (k : Option TreeFault) (t : Option TreeFault) → elim k as (λ _. Option TreeFault) [ None ↦ t | Some f ↦ Some f ] ≡ None → k ≡ None
 no_fault_read None t h = refl
@@ -603,9 +732,11 @@ module _ (w : World) (files : Files) (root : List ℕ) (among : AreAmong (file_a
           → text_of_key (f ∷ fs) path ≡ cond (bytes_eq f.key path || has_key fs path) (file_at files path) None
       by_test true e ih =
           let same : f.path ≡ path = sym h.key ∙ same_text f.key path e in
-          ap (λ b. cond b (Some f.text) (text_of_key fs path)) (turned path f.key ∙ e) ∙ sym h.text ∙ ap (file_at files) same ∙ sym (ap (λ b. cond (b || has_key fs path) (file_at files path) None) e)
+          ap (λ b. cond b (Some f.text) (text_of_key fs path)) (turned path f.key ∙ e) ∙ sym h.text ∙ ap (file_at files) same
+          ∙ sym (ap (λ b. cond (b || has_key fs path) (file_at files path) None) e)
       by_test false e ih =
-          ap (λ b. cond b (Some f.text) (text_of_key fs path)) (turned path f.key ∙ e) ∙ ih ∙ sym (ap (λ b. cond (b || has_key fs path) (file_at files path) None) e)
+          ap (λ b. cond b (Some f.text) (text_of_key fs path)) (turned path f.key ∙ e) ∙ ih
+          ∙ sym (ap (λ b. cond (b || has_key fs path) (file_at files path) None) e)
 
   pub unfolded_none : first_tree_fault files root ≡ None → (reading files root).fault ≡ None
   unfolding first_tree_fault
@@ -620,7 +751,16 @@ unfolding expansion
 accepted_trees_stay w files root h among =
     let r = origin w files root among in
     let q = quiet_outcome w (IsTree w r among (reading files root).read) true max_work (tree_read root) (tree_read_gives w files root among h) in
-    record { notices = q.notices; questions = q.questions; work = q.work; expanded = q.value; ending = q.ending; own = all_in w files root among q.holds.own; met = q.holds.met; texts = λ path. texts_in w files root among q.holds.own path ∙ ap (λ b. cond b (file_at files path) None) (q.holds.met path) }
+    record {
+      notices = q.notices;
+      questions = q.questions;
+      work = q.work;
+      expanded = q.value;
+      ending = q.ending;
+      own = all_in w files root among q.holds.own;
+      met = q.holds.met;
+      texts = λ path. texts_in w files root among q.holds.own path ∙ ap (λ b. cond b (file_at files path) None) (q.holds.met path);
+    }
 
 -- no question is wanted
 pub accepted_trees_want_nothing : AcceptedTreesWantNothing
@@ -628,4 +768,5 @@ unfolding wanted
 accepted_trees_want_nothing w files root h among =
     let r = origin w files root among in
     let q = quiet_outcome w (IsTree w r among (reading files root).read) false max_work (tree_read root) (tree_read_gives w files root among h) in
-    ap (λ qs. questions_or_fault (without_repeats (reverse qs)) (outcome false w max_work (tree_read root)).ending) q.questions ∙ ap (questions_or_fault []) q.ending
+    ap (λ qs. questions_or_fault (without_repeats (reverse qs)) (outcome false w max_work (tree_read root)).ending) q.questions
+    ∙ ap (questions_or_fault []) q.ending

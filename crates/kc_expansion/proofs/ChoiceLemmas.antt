@@ -6,7 +6,7 @@ use Rattle.std.specs.declared.alloc.Global.{Global}
 use Rattle.std.proofs.lemmas.List.{reverse-append}
 use Rattle.indexmap.specs.IndexMap.{insert_entry}
 use Rattle.kc_tree_model.specs.Limits.{is_in_list}
-use Rattle.kc_macros_model.specs.Rewriting.{WrittenToken, a_word, written_as}
+use Rattle.kc_macros_model.specs.WrittenTokens.{WrittenToken, a_word, written_as}
 use Rattle.kc_macros_model.specs.LineForms.{line_bytes, with_nth_token}
 use Rattle.kc_macros_model.specs.ReadingStates.{ReadingState, progress, with_choice}
 use Rattle.kc_macros_model.specs.TreeExpansion.{choice_written}
@@ -18,15 +18,18 @@ abbrev Entry : Type 0
 Entry = Vec ℕ Global × Unit {0}
 
 -- whether there is a name
-pub name_is_there : (name : List ℕ) (es : List Entry) → is_some (lookup (λ (k : Vec ℕ Global). bytes_eq name k.items) es) ≡ is_in_list name (reverse (map name_of_entry es))
+pub name_is_there : (name : List ℕ) (es : List Entry) → is_some (lookup (λ (k : Vec ℕ Global). bytes_eq name k.items) es)
+    ≡ is_in_list name (reverse (map name_of_entry es))
 name_is_there name es = in_order es ∙ sym (in_reverse name (map name_of_entry es))
   where
     in_order : (es : List Entry) → is_some (lookup (λ (k : Vec ℕ Global). bytes_eq name k.items) es) ≡ is_in_list name (map name_of_entry es)
     in_order [] = refl
     in_order (e ∷ es) = by_test (bytes_eq name e.0.items) (bytes_eq_turned name e.0.items) (in_order es)
       where
-        by_test : (b : Bool) → b ≡ bytes_eq e.0.items name → is_some (lookup (λ (k : Vec ℕ Global). bytes_eq name k.items) es) ≡ is_in_list name (map name_of_entry es)
-            → is_some (cond b (Some e.1) (lookup (λ (k : Vec ℕ Global). bytes_eq name k.items) es)) ≡ (bytes_eq e.0.items name || is_in_list name (map name_of_entry es))
+        by_test : (b : Bool) → b ≡ bytes_eq e.0.items name → is_some (lookup (λ (k : Vec ℕ Global). bytes_eq name k.items) es)
+            ≡ is_in_list name (map name_of_entry es)
+            → is_some (cond b (Some e.1) (lookup (λ (k : Vec ℕ Global). bytes_eq name k.items) es))
+            ≡ (bytes_eq e.0.items name || is_in_list name (map name_of_entry es))
         by_test true t ih = ap (λ c. c || is_in_list name (map name_of_entry es)) t
         by_test false t ih = ih ∙ ap (λ c. c || is_in_list name (map name_of_entry es)) t
 
@@ -37,24 +40,32 @@ last_inserted [] k v h = refl
 last_inserted (e ∷ es) k v h = by_test (bytes_eq e.0.items k.items) (bytes_eq_turned k.items e.0.items) h (last_inserted es k v)
   where
     by_test : (b : Bool) → bytes_eq k.items e.0.items ≡ b → (b || is_in_list k.items (map name_of_entry es)) ≡ false
-        → (is_in_list k.items (map name_of_entry es) ≡ false → map name_of_entry (insert_entry (λ (a b : Vec ℕ Global). bytes_eq a.items b.items) es k v) ≡ map name_of_entry es ++ k.items ∷ [])
-        → map name_of_entry (cond (bytes_eq k.items e.0.items) ((e.0, v) ∷ es) (e ∷ insert_entry (λ (a b : Vec ℕ Global). bytes_eq a.items b.items) es k v)) ≡ e.0.items ∷ (map name_of_entry es ++ k.items ∷ [])
+        → (is_in_list k.items (map name_of_entry es) ≡ false → map name_of_entry (insert_entry (λ (a b : Vec ℕ Global). bytes_eq a.items b.items) es k v)
+        ≡ map name_of_entry es ++ k.items ∷ [])
+        → map name_of_entry (cond (bytes_eq k.items e.0.items) ((e.0, v) ∷ es) (e ∷ insert_entry (λ (a b : Vec ℕ Global). bytes_eq a.items b.items) es k v))
+        ≡ e.0.items ∷ (map name_of_entry es ++ k.items ∷ [])
     by_test true t h ih = absurd (let z : ⊥ = cc in z)
-    by_test false t h ih = ap (λ b. map name_of_entry (cond b ((e.0, v) ∷ es) (e ∷ insert_entry (λ (a b : Vec ℕ Global). bytes_eq a.items b.items) es k v))) t ∙ ap (λ xs. e.0.items ∷ xs) (ih h)
+    by_test false t h ih = ap (λ b. map name_of_entry (cond b ((e.0, v) ∷ es) (e ∷ insert_entry (λ (a b : Vec ℕ Global). bytes_eq a.items b.items) es k v))) t
+        ∙ ap (λ xs. e.0.items ∷ xs) (ih h)
 
 pub name_inserted : (es : List Entry) (k : Vec ℕ Global) (v : Unit {0}) → is_in_list k.items (reverse (map name_of_entry es)) ≡ false
     → reverse (map name_of_entry (insert_entry (λ (a b : Vec ℕ Global). bytes_eq a.items b.items) es k v)) ≡ k.items ∷ reverse (map name_of_entry es)
-name_inserted es k v h = ap reverse (last_inserted es k v (sym (in_reverse k.items (map name_of_entry es)) ∙ h)) ∙ reverse-append (map name_of_entry es) (k.items ∷ [])
+name_inserted es k v h = ap reverse (last_inserted es k v (sym (in_reverse k.items (map name_of_entry es)) ∙ h))
+    ∙ reverse-append (map name_of_entry es) (k.items ∷ [])
 
 -- a line of a choice whose name is there, or not yet
-pub later_choice : (ts : List WrittenToken) (name t : List ℕ) (s : ReadingState) (names : List (List ℕ)) → s.choices ≡ names → is_in_list name names ≡ true → t ≡ line_bytes ts
+pub later_choice : (ts : List WrittenToken) (name t : List ℕ) (s : ReadingState) (names : List (List ℕ)) → s.choices ≡ names → is_in_list name names ≡ true
+    → t ≡ line_bytes ts
     → choice_written ts name s ≡ progress t (record s { choices = names })
 later_choice ts name t s names h e k =
-    ap (λ b. cond b (progress (line_bytes ts) s) (progress (line_bytes (with_nth_token 1 (written_as a_word [] []) ts)) (with_choice name s))) (ap (is_in_list name) h ∙ e)
+    ap (λ b. cond b (progress (line_bytes ts) s) (progress (line_bytes (with_nth_token 1 (written_as a_word [] []) ts)) (with_choice name s)))
+    (ap (is_in_list name) h ∙ e)
     ∙ ap (λ x. progress x s) (sym k) ∙ ap (λ ns. let u : ReadingState = record s { choices = ns } in progress t u) h
 
-pub first_choice : (ts : List WrittenToken) (name t : List ℕ) (s : ReadingState) (names : List (List ℕ)) → s.choices ≡ names → is_in_list name names ≡ false → t ≡ line_bytes (with_nth_token 1 (written_as a_word [] []) ts)
+pub first_choice : (ts : List WrittenToken) (name t : List ℕ) (s : ReadingState) (names : List (List ℕ)) → s.choices ≡ names → is_in_list name names ≡ false
+    → t ≡ line_bytes (with_nth_token 1 (written_as a_word [] []) ts)
     → choice_written ts name s ≡ progress t (record s { choices = name ∷ names })
 first_choice ts name t s names h e k =
-    ap (λ b. cond b (progress (line_bytes ts) s) (progress (line_bytes (with_nth_token 1 (written_as a_word [] []) ts)) (with_choice name s))) (ap (is_in_list name) h ∙ e)
+    ap (λ b. cond b (progress (line_bytes ts) s) (progress (line_bytes (with_nth_token 1 (written_as a_word [] []) ts)) (with_choice name s)))
+    (ap (is_in_list name) h ∙ e)
     ∙ ap (λ x. progress x (with_choice name s)) (sym k) ∙ ap (λ ns. let u : ReadingState = record s { choices = name ∷ ns } in progress t u) h

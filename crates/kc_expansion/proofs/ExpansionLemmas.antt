@@ -23,9 +23,9 @@ use Rattle.kc_expansion.specs.TreeContents.{TreeContents}
 use Rattle.kc_expansion.specs.between.KnownFiles.{FileRead, missing, KnownFiles, AreBytes, AreAsKnown, Grows}
 use Rattle.kc_expansion.specs.between.Reads.{FileRun, Reaches, Reads}
 use Rattle.kc_expansion.specs.checker.ExpansionViews.{nothing_known, with_root, GoesOn, HasEnded}
-use Rattle.kc_expansion.specs.checker.Leads.{Leads}
+use Rattle.kc_expansion.specs.checker.ProgramSteps.{Leads}
 use Rattle.kc_expansion.specs.checker.ReadingViews.{reader_for, fault_at}
-use Rattle.kc_expansion.proofs.ReadLemmas.{reaches_in, leads_read, leads_on, reads_value, reads_early}
+use Rattle.kc_expansion.proofs.FileProgramLemmas.{reaches_in, leads_read, leads_on, reads_value, reads_early}
 use Rattle.kc_expansion.proofs.WorldLemmas.{world_of, world_agrees, world_allowed, world_answers, first_sight}
 
 pub nothing_as_known : (contents : TreeContents) → AreAsKnown contents nothing_known
@@ -40,10 +40,12 @@ module _ (contents : TreeContents) (b : FileRun) (answers : Recorded) (root : Li
     here = world_of contents b.known answers as_known
 
     -- the expansion that was read
-    pub expansion_read : (notices : List Notice) (tree : Result (List ExpandedFile) Fault) → notices ≡ b.run.notices → Reaches b.known (run_at_start answers true) b.run (tree_read root) (ends (ending_of tree)) → IsExpansion contents answers root notices tree
+    pub expansion_read : (notices : List Notice) (tree : Result (List ExpandedFile) Fault) → notices ≡ b.run.notices
+        → Reaches b.known (run_at_start answers true) b.run (tree_read root) (ends (ending_of tree)) → IsExpansion contents answers root notices tree
     unfolding expansion
     expansion_read notices tree h r =
-        let run = reaches_in here b.known (run_at_start answers true) b.run (tree_read root) (ending_of tree) (world_agrees contents b.known answers as_known) (world_answers contents b.known answers as_known) r in
+        let run = reaches_in here b.known (run_at_start answers true) b.run (tree_read root) (ending_of tree) (world_agrees contents b.known answers as_known)
+        (world_answers contents b.known answers as_known) r in
         record {
           world = here;
           of_contents = world_allowed contents b.known answers as_known;
@@ -53,35 +55,44 @@ module _ (contents : TreeContents) (b : FileRun) (answers : Recorded) (root : Li
         }
 
     -- the questions that were met
-    pub wanted_read : (questions : List (List ℕ)) (e : Ending (List ExpandedFile)) → questions ≡ b.run.questions → Reaches b.known (run_at_start answers false) b.run (tree_read root) (ends e) → AreWanted contents answers root (questions_or_fault questions e)
+    pub wanted_read : (questions : List (List ℕ)) (e : Ending (List ExpandedFile)) → questions ≡ b.run.questions
+        → Reaches b.known (run_at_start answers false) b.run (tree_read root) (ends e) → AreWanted contents answers root (questions_or_fault questions e)
     unfolding wanted
     wanted_read questions e h r =
-        let run = reaches_in here b.known (run_at_start answers false) b.run (tree_read root) e (world_agrees contents b.known answers as_known) (world_answers contents b.known answers as_known) r in
+        let run = reaches_in here b.known (run_at_start answers false) b.run (tree_read root) e (world_agrees contents b.known answers as_known)
+        (world_answers contents b.known answers as_known) r in
         let o = outcome false here max_work (tree_read root) in
         record {
           world = here;
           of_contents = world_allowed contents b.known answers as_known;
           answered = world_answers contents b.known answers as_known;
-          are_wanted = ap (λ qs. questions_or_fault qs o.ending) (sym (first_sight o.questions) ∙ sym (ap (λ (t : RunState). t.questions) run.state) ∙ sym h) ∙ ap (questions_or_fault questions) run.ending;
+          are_wanted = ap (λ qs. questions_or_fault qs o.ending) (sym (first_sight o.questions) ∙ sym (ap (λ (t : RunState). t.questions) run.state) ∙ sym h)
+              ∙ ap (questions_or_fault questions) run.ending;
         }
 
     -- an expansion doesn't stop for want of an answer
     pub never_stopped : Reaches b.known (run_at_start answers true) b.run (tree_read root) (ends stopped) → ⊥
     unfolding expansion
     never_stopped r =
-        let run = reaches_in here b.known (run_at_start answers true) b.run (tree_read root) stopped (world_agrees contents b.known answers as_known) (world_answers contents b.known answers as_known) r in
+        let run = reaches_in here b.known (run_at_start answers true) b.run (tree_read root) stopped (world_agrees contents b.known answers as_known)
+        (world_answers contents b.known answers as_known) r in
         expansion_never_stops here root run.ending
 
-    pub goes_on : {X : Type 0} (view : X → List ExpandedFile) (r : Result X Stop) → Reaches b.known (run_at_start answers true) b.run (tree_read root) (end_of view r) → GoesOn r
+    pub goes_on : {X : Type 0} (view : X → List ExpandedFile) (r : Result X Stop) → Reaches b.known (run_at_start answers true) b.run (tree_read root)
+        (end_of view r) → GoesOn r
     goes_on view (Ok x) h = tt
     goes_on view (Err (kinds.Fault f)) h = tt
     goes_on view (Err kinds.Unanswered) h = never_stopped h
     goes_on view (Err kinds.OutOfMemory) h = tt
 
 -- a reading from nothing
-pub from_start : {A : Type 0} (a b : FileRun) (answers : Recorded) (all_answered : Bool) (p : Program A) (e : RunEnd A) → a.known ≡ nothing_known → a.run ≡ run_at_start answers all_answered → Reads a b p e
+pub from_start : {A : Type 0} (a b : FileRun) (answers : Recorded) (all_answered : Bool) (p : Program A) (e : RunEnd A) → a.known ≡ nothing_known
+    → a.run ≡ run_at_start answers all_answered → Reads a b p e
     → Grows a.contents nothing_known b.known × Reaches b.known (run_at_start answers all_answered) b.run p e
-from_start a b answers all_answered p e k r h = (subst (λ (x : KnownFiles). Grows a.contents x b.known) k h.grows, subst (λ (x : RunState). Reaches b.known x b.run p e) r h.reaches)
+from_start a b answers all_answered p e k r h = (
+  subst (λ (x : KnownFiles). Grows a.contents x b.known) k h.grows,
+  subst (λ (x : RunState). Reaches b.known x b.run p e) r h.reaches,
+)
 
 -- how a reading ended for which there was memory
 pub end_there : {X : Type 0} (view : X → List ExpandedFile) (r : Result X Stop) → HasEnded r → (e : Ending (List ExpandedFile)) × (end_of view r ≡ ends e)
@@ -91,17 +102,22 @@ end_there view (Err kinds.Unanswered) h = (stopped, refl)
 end_there view (Err kinds.OutOfMemory) h = absurd h
 
 -- what is given for the questions that were met
-pub wanted_of : {X V E : Type 0} (contents : TreeContents) (b : FileRun) (answers : Recorded) (root : List ℕ) (grows : Grows contents nothing_known b.known) (view : X → List ExpandedFile) (r : Result X Stop) (of : V → Result (List (List ℕ)) Fault) (result : Result V E) (questions : List (List ℕ))
+pub wanted_of : {X V E : Type 0} (contents : TreeContents) (b : FileRun) (answers : Recorded) (root : List ℕ) (grows : Grows contents nothing_known b.known)
+    (view : X → List ExpandedFile) (r : Result X Stop) (of : V → Result (List (List ℕ)) Fault) (result : Result V E) (questions : List (List ℕ))
     → questions ≡ b.run.questions → Reaches b.known (run_at_start answers false) b.run (tree_read root) (end_of view r) → OnOk result (HasEnded r)
-    → IfOk result (λ w. (e : Ending (List ExpandedFile)) → end_of view r ≡ ends e → of w ≡ questions_or_fault questions e) → IfOk result (λ w. AreWanted contents answers root (of w))
+    → IfOk result (λ w. (e : Ending (List ExpandedFile)) → end_of view r ≡ ends e → of w ≡ questions_or_fault questions e)
+    → IfOk result (λ w. AreWanted contents answers root (of w))
 wanted_of contents b answers root grows view r of (Ok w) questions q h ended k =
     let (e, i) = end_there view r ended in
-    subst (AreWanted contents answers root) (sym (k e i)) (wanted_read contents b answers root grows questions e q (subst (Reaches b.known (run_at_start answers false) b.run (tree_read root)) i h))
+    subst (AreWanted contents answers root) (sym (k e i)) (wanted_read contents b answers root grows questions e q
+    (subst (Reaches b.known (run_at_start answers false) b.run (tree_read root)) i h))
 wanted_of contents b answers root grows view r of (Err x) questions q h ended k = tt
 
 -- the first file goes last
-pub root_ends : {X : Type 0} (b c : FileRun) (p : Program Progress) (root : List ℕ) (s : ReadingState) (view : X → List ℕ) (r : Result X Stop) → Reads b c p (end_of (λ x. progress (view x) s) r)
-    → Reads b c (p >>= λ q. returns (q.state.expanded ++ record { key = root; path = root; text = q.text } ∷ [])) (end_of (λ x. with_root root (view x) s.expanded) r)
+pub root_ends : {X : Type 0} (b c : FileRun) (p : Program Progress) (root : List ℕ) (s : ReadingState) (view : X → List ℕ) (r : Result X Stop)
+    → Reads b c p (end_of (λ x. progress (view x) s) r)
+    → Reads b c (p >>= λ q. returns (q.state.expanded ++ record { key = root; path = root; text = q.text } ∷ []))
+    (end_of (λ x. with_root root (view x) s.expanded) r)
 root_ends b c p root s view (Ok x) h =
     let f = λ (q : Progress). returns (q.state.expanded ++ record { key = root; path = root; text = q.text } ∷ []) in
     reads_value b c (p >>= f) (with_root root (view x) s.expanded) (leads_on b c p f (progress (view x) s) h)
@@ -113,29 +129,38 @@ root_ends b c p root s view (Err stop) h =
 root_by : (root : List ℕ) (s : ReadingState) (bytes : List ℕ) → Bool → Program (List ExpandedFile)
 root_by root s bytes b = elim b [
   | true ↦ fails (fault_at (place root 0) TooMany)
-  | false ↦ lines_read (reader_for root (root ∷ [])) root 0 1 (split_at_newlines bytes) (counted (length bytes) s) >>= λ p. returns (p.state.expanded ++ record { key = root; path = root; text = p.text } ∷ [])
+  | false ↦ lines_read (reader_for root (root ∷ [])) root 0 1 (split_at_newlines bytes) (counted (length bytes) s) >>= λ p. returns
+      (p.state.expanded ++ record { key = root; path = root; text = p.text } ∷ [])
 ]
 
-pub root_missing : (root : List ℕ) (s : ReadingState) (bytes : Option (List ℕ)) → AreBytes missing bytes → root_read root s bytes ≡ fails (fault_at (place root 0) MissingFile)
+pub root_missing : (root : List ℕ) (s : ReadingState) (bytes : Option (List ℕ)) → AreBytes missing bytes
+    → root_read root s bytes ≡ fails (fault_at (place root 0) MissingFile)
 root_missing root s bytes h = ap (root_read root s) h
 
-pub root_too_long : (root : List ℕ) (s : ReadingState) (bytes : Option (List ℕ)) (there : List ℕ) → bytes ≡ Some there → 67108864 < length there → root_read root s bytes ≡ fails (fault_at (place root 0) TooMany)
+pub root_too_long : (root : List ℕ) (s : ReadingState) (bytes : Option (List ℕ)) (there : List ℕ) → bytes ≡ Some there → 67108864 < length there
+    → root_read root s bytes ≡ fails (fault_at (place root 0) TooMany)
 unfolding root_by
-root_too_long root s bytes there h k = ap (root_read root s) h ∙ ap (root_by root s there) (let e : nat_lt max_bytes (length there) ≡ true = grind (arith, nat_tests) in e)
+root_too_long root s bytes there h k = ap (root_read root s) h ∙ ap (root_by root s there) (let e : nat_lt max_bytes (length there) ≡ true =
+    grind (arith, nat_tests) in e)
 
 pub root_opened : (root : List ℕ) (s : ReadingState) (bytes : Option (List ℕ)) (there : List ℕ) → bytes ≡ Some there → length there ≤ 67108864
-    → root_read root s bytes ≡ lines_read (reader_for root (root ∷ [])) root 0 1 (split_at_newlines there) (counted (length there) s) >>= λ p. returns (p.state.expanded ++ record { key = root; path = root; text = p.text } ∷ [])
+    → root_read root s bytes ≡ lines_read (reader_for root (root ∷ [])) root 0 1 (split_at_newlines there) (counted (length there) s) >>= λ p. returns
+    (p.state.expanded ++ record { key = root; path = root; text = p.text } ∷ [])
 unfolding root_by
-root_opened root s bytes there h k = ap (root_read root s) h ∙ ap (root_by root s there) (let e : nat_lt max_bytes (length there) ≡ false = grind (arith, nat_tests) in e)
+root_opened root s bytes there h k = ap (root_read root s) h ∙ ap (root_by root s there) (let e : nat_lt max_bytes (length there) ≡ false =
+    grind (arith, nat_tests) in e)
 
-pub counted_first : (s : ReadingState) (n len : ℕ) → s ≡ initial_state → n ≡ len → (let t : ReadingState = record s { files = 1; bytes = n } in t) ≡ counted len s
+pub counted_first : (s : ReadingState) (n len : ℕ) → s ≡ initial_state → n ≡ len → (let t : ReadingState = record s { files = 1; bytes = n } in t)
+    ≡ counted len s
 counted_first s n len h k =
     ap (λ (u : ReadingState). let t : ReadingState = record u { files = 1; bytes = n } in t) h
     ∙ ap (λ m. let t : ReadingState = record initial_state { files = 1; bytes = m } in t) (let e : n ≡ 0 + len = omega (arith, k) in e)
     ∙ ap (counted len) (sym h)
 
-pub root_leads : (a b : FileRun) (root : List ℕ) (s : ReadingState) (read : FileRead) (q : Program (List ExpandedFile)) → s ≡ initial_state → b.contents ≡ a.contents → Grows a.contents a.known b.known → b.run ≡ a.run
-    → keyword_in_table b.known.files root ≡ Some read → ((bytes : Option (List ℕ)) → AreBytes read bytes → root_read root s bytes ≡ q) → Leads a (tree_read root) b q
+pub root_leads : (a b : FileRun) (root : List ℕ) (s : ReadingState) (read : FileRead) (q : Program (List ExpandedFile)) → s ≡ initial_state
+    → b.contents ≡ a.contents → Grows a.contents a.known b.known → b.run ≡ a.run
+    → keyword_in_table b.known.files root ≡ Some read → ((bytes : Option (List ℕ)) → AreBytes read bytes → root_read root s bytes ≡ q)
+    → Leads a (tree_read root) b q
 unfolding tree_read
 root_leads a b root s read q i same grows run known h =
     leads_read a b root (root_read root initial_state) q read same grows run known (λ bytes e. ap (λ t. root_read root t bytes) (sym i) ∙ h bytes e)

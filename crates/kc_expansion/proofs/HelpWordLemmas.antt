@@ -35,17 +35,21 @@ is_help_text w = bytes_eq w (codes "help") || bytes_eq w (codes "---help---")
 is_no_help : List (List ℕ × Keyword) → Bool
 is_no_help table = list_all (λ (e : List ℕ × Keyword). not (is_help_word (Some e.1)) || is_help_text e.0) table
 
-other_words : (table : List (List ℕ × Keyword)) (w : List ℕ) → is_no_help table ≡ true → is_help_text w ≡ false → is_help_word (keyword_in_table table w) ≡ false
+other_words : (table : List (List ℕ × Keyword)) (w : List ℕ) → is_no_help table ≡ true → is_help_text w ≡ false
+    → is_help_word (keyword_in_table table w) ≡ false
 unfolding is_no_help
 other_words [] w h k = refl
 other_words (e ∷ table) w h k = by_tests (is_help_word (Some e.1)) (is_help_text e.0) (bytes_eq e.0 w) refl refl refl h (λ more. other_words table w more k)
   where
-    by_tests : (a b d : Bool) → is_help_word (Some e.1) ≡ a → is_help_text e.0 ≡ b → bytes_eq e.0 w ≡ d → ((not a || b) && list_all (λ (e : List ℕ × Keyword). not (is_help_word (Some e.1)) || is_help_text e.0) table) ≡ true → (is_no_help table ≡ true → is_help_word (keyword_in_table table w) ≡ false)
+    by_tests : (a b d : Bool) → is_help_word (Some e.1) ≡ a → is_help_text e.0 ≡ b → bytes_eq e.0 w ≡ d
+        → ((not a || b) && list_all (λ (e : List ℕ × Keyword). not (is_help_word (Some e.1)) || is_help_text e.0) table) ≡ true
+        → (is_no_help table ≡ true → is_help_word (keyword_in_table table w) ≡ false)
         → is_help_word (cond d (Some e.1) (keyword_in_table table w)) ≡ false
     by_tests false b true f g t h ih = f
     by_tests false b false f g t h ih = ih h
     by_tests true false d f g t h ih = absurd (let z : ⊥ = cc in z)
-    by_tests true true true f g t h ih = absurd (let i = (bytes_eq-Decides e.0 w).0 t in let j : is_help_text w ≡ true = sym (ap is_help_text i) ∙ g in let z : ⊥ = cc in z)
+    by_tests true true true f g t h ih = absurd (let i = (bytes_eq-Decides e.0 w).0 t in let j : is_help_text w ≡ true = sym (ap is_help_text i) ∙ g in
+        let z : ⊥ = cc in z)
     by_tests true true false f g t h ih = ih h
 
 pub help_keyword : (w : List ℕ) → is_help_word (keyword_in_table keywords w) ≡ is_help_text w
@@ -101,13 +105,15 @@ end_cut at (c ∷ s) h = by_white (is_white_byte c) refl (end_cut (at + 1) s)
 some_help : (w : List ℕ) → is_help_text w ≡ true → (w ≡ codes "help") ⊎ (w ≡ codes "---help---")
 some_help w h = by_tests (bytes_eq w (codes "help")) (bytes_eq w (codes "---help---")) refl refl h
   where
-    by_tests : (a b : Bool) → bytes_eq w (codes "help") ≡ a → bytes_eq w (codes "---help---") ≡ b → (a || b) ≡ true → (w ≡ codes "help") ⊎ (w ≡ codes "---help---")
+    by_tests : (a b : Bool) → bytes_eq w (codes "help") ≡ a → bytes_eq w (codes "---help---") ≡ b → (a || b) ≡ true
+        → (w ≡ codes "help") ⊎ (w ≡ codes "---help---")
     by_tests true b f g t = inl ((bytes_eq-Decides w (codes "help")).0 f)
     by_tests false true f g t = inr ((bytes_eq-Decides w (codes "---help---")).0 g)
     by_tests false false f g t = absurd (let z : ⊥ = cc in z)
 
 -- a word that is the longest token in front is all the word bytes there
-word_front : (text rest : List ℕ) → 0 < length text → list_all is_word_byte text ≡ true → IsLongest Strict text (text ++ rest) → length (take_while is_word_byte (text ++ rest)) ≡ length text
+word_front : (text rest : List ℕ) → 0 < length text → list_all is_word_byte text ≡ true → IsLongest Strict text (text ++ rest)
+    → length (take_while is_word_byte (text ++ rest)) ≡ length text
 word_front text rest some all long =
     let run = take_while is_word_byte (text ++ rest) in
     let down = front_run text rest all in
@@ -121,11 +127,13 @@ help_front text rest h long e = by_text (some_help text h)
     by_text (inl f) =
         let w = codes "help" in
         let n = word_front w rest (omega arith) refl (subst (λ x. IsLongest Strict x (x ++ rest)) f long) in
-        ap (λ x. help_at (x ++ rest)) f ∙ other_help 104 (drop 1 w ++ rest) refl ∙ ap (λ m. is_help_text (take m (w ++ rest)) && is_end (drop m (w ++ rest))) n ∙ e
+        ap (λ x. help_at (x ++ rest)) f ∙ other_help 104 (drop 1 w ++ rest) refl
+        ∙ ap (λ m. is_help_text (take m (w ++ rest)) && is_end (drop m (w ++ rest))) n ∙ e
     by_text (inr f) =
         let w = codes "---help---" in
         let n = word_front w rest (omega arith) refl (subst (λ x. IsLongest Strict x (x ++ rest)) f long) in
-        ap (λ x. help_at (x ++ rest)) f ∙ other_help 45 (drop 1 w ++ rest) refl ∙ ap (λ m. is_help_text (take m (w ++ rest)) && is_end (drop m (w ++ rest))) n ∙ e
+        ap (λ x. help_at (x ++ rest)) f ∙ other_help 45 (drop 1 w ++ rest) refl
+        ∙ ap (λ m. is_help_text (take m (w ++ rest)) && is_end (drop m (w ++ rest))) n ∙ e
 
 -- a line whose one token begins a help text, by its bytes
 help_of_word : (p : Lexeme) → is_help_word (keyword_of p) ≡ true → is_help_text p.text ≡ true
@@ -174,7 +182,8 @@ word_longest s h k front rest e is = by_first (other_first k front is)
     is_longer (c ∷ cs) e f = absurd (let same : first_of s ≡ is_word_byte c = ap first_of e in let z : ⊥ = cc in z)
 
     by_first : (k ≡ Word) ⊎ (first_of front ≡ false) → length front ≤ length (take_while is_word_byte s)
-    by_first (inl w) = let word : IsToken Strict Word front = subst (λ j. IsToken Strict j front) w is in subst (λ x. length front ≤ length (take_while is_word_byte x)) (sym e) (front_run front rest word.1)
+    by_first (inl w) = let word : IsToken Strict Word front = subst (λ j. IsToken Strict j front) w is in
+        subst (λ x. length front ≤ length (take_while is_word_byte x)) (sym e) (front_run front rest word.1)
     by_first (inr f) = is_longer front e f
 
 -- what begins with such a word
@@ -199,8 +208,11 @@ line_help at s h =
     let front : take (length run) s ≡ run = ap (take (length run)) (run_front s) ∙ take-append_seam run rest in
     let help : is_help_text run ≡ true = sym (ap is_help_text front) ∙ w in
     let (some, first) = first_help run rest help in
-    let p : Lexeme = record { kind = Word; start = at; stop = at + length run; text = run } in
-    (p, token p rest (run_front s) (some, run_all s) (word_longest s (ap first_of (run_front s) ∙ first)) refl refl (end_cut (at + length run) rest e), help_keyword run ∙ help)
+    let p : Lexeme = record { kind = Word; start = at; stop = at + length run; text = run } in (
+      p,
+      token p rest (run_front s) (some, run_all s) (word_longest s (ap first_of (run_front s) ∙ first)) refl refl (end_cut (at + length run) rest e),
+      help_keyword run ∙ help,
+    )
 
 help_cut : (at : ℕ) (s : List ℕ) → help_at s ≡ true → HasHelp at s
 unfolding HasHelp
@@ -229,7 +241,8 @@ help_by_words s = by_tests (begins_help s) (help_at s) refl refl
     by_tests false true e f = sym e ∙ read_so f
 
 -- the same by the lengths of what comes first, and by what is left after it
-pub help_split : (text line rest : List ℕ) (w n : ℕ) (a b : Bool) → w ≡ length (take_while is_white_byte text) → line ≡ drop w text → n ≡ length (take_while is_word_byte line) → rest ≡ drop n line
+pub help_split : (text line rest : List ℕ) (w n : ℕ) (a b : Bool) → w ≡ length (take_while is_white_byte text) → line ≡ drop w text
+    → n ≡ length (take_while is_word_byte line) → rest ≡ drop n line
     → a ≡ is_help_text (take n line) → b ≡ is_end rest → (a && b) ≡ begins_help text
 help_split text line rest w n a b h l k r e f =
     ap (λ x. x && b) e ∙ ap (λ x. is_help_text (take n line) && x) (f ∙ ap is_end r)

@@ -16,8 +16,10 @@ joined o r = record { notices = o.notices ++ r.notices; questions = o.questions 
 
 after_joined : {A B : Type 0} (s : RunState) (o : Outcome A) (r : Outcome B) → after_outcome (after_outcome s o) r ≡ after_outcome s (joined o r)
 after_joined s o r =
-    ap (λ ns. let t : RunState = record s { left = r.left; notices = ns; questions = with_questions (with_questions s.questions o.questions) r.questions } in t) (append_assoc s.notices o.notices r.notices)
-    ∙ ap (λ qs. let t : RunState = record s { left = r.left; notices = s.notices ++ (o.notices ++ r.notices); questions = qs } in t) (sym (with_questions_append s.questions o.questions r.questions))
+    ap (λ ns. let t : RunState = record s { left = r.left; notices = ns; questions = with_questions (with_questions s.questions o.questions) r.questions } in t)
+    (append_assoc s.notices o.notices r.notices)
+    ∙ ap (λ qs. let t : RunState = record s { left = r.left; notices = s.notices ++ (o.notices ++ r.notices); questions = qs } in t)
+    (sym (with_questions_append s.questions o.questions r.questions))
 
 module _ {A B : Type 0} (w : World) (s : RunState) (p : Program A) (f : A → Program B) where
   abbrev first : Outcome A

@@ -24,10 +24,12 @@ pub ranges_meet : (bytes : List ℕ) (a b c : ℕ) → a ≤ b → b ≤ c → s
 ranges_meet bytes a b c h k =
     append_cancel_right (slice_range bytes a c) (slice_range bytes a b ++ slice_range bytes b c) (drop c bytes)
     (range_before_rest bytes a c (let e : a ≤ c = omega arith in e)
-    ∙ sym (append_assoc (slice_range bytes a b) (slice_range bytes b c) (drop c bytes) ∙ ap (λ t. slice_range bytes a b ++ t) (range_before_rest bytes b c k) ∙ range_before_rest bytes a b h))
+    ∙ sym (append_assoc (slice_range bytes a b) (slice_range bytes b c) (drop c bytes) ∙ ap (λ t. slice_range bytes a b ++ t) (range_before_rest bytes b c k)
+    ∙ range_before_rest bytes a b h))
 
 -- a file that is written further, where nothing is replaced
-pub text_further : (out : WrittenFile) (bytes : List ℕ) (mid end : ℕ) → out.original.value.items ≡ bytes → out.copied ≤ mid → mid ≤ end → text_up_to out end ≡ text_up_to out mid ++ slice_range bytes mid end
+pub text_further : (out : WrittenFile) (bytes : List ℕ) (mid end : ℕ) → out.original.value.items ≡ bytes → out.copied ≤ mid → mid ≤ end
+    → text_up_to out end ≡ text_up_to out mid ++ slice_range bytes mid end
 text_further out bytes mid end e h k =
     ap (λ t. out.written.items ++ t) (ranges_meet out.original.value.items out.copied mid end h k)
     ∙ sym (append_assoc out.written.items (slice_range out.original.value.items out.copied mid) (slice_range out.original.value.items mid end))
@@ -50,7 +52,8 @@ newlines_counted : {ls : List PhysicalLine} → AreCleanLines ls → newlines_of
 newlines_counted no_lines = refl
 newlines_counted (next_line {l = l} {ls = ls} h r) = by_test (newlines_counted r) l.ended
   where
-    by_test : newlines_of ls ≡ replicate (newline_count (bytes_of_lines ls)) 10 → (b : Bool) → cond b (10 ∷ []) [] ++ newlines_of ls ≡ replicate (newline_count (cond b (l.text ++ 10 ∷ []) l.text ++ bytes_of_lines ls)) 10
+    by_test : newlines_of ls ≡ replicate (newline_count (bytes_of_lines ls)) 10 → (b : Bool) → cond b (10 ∷ []) [] ++ newlines_of ls
+        ≡ replicate (newline_count (cond b (l.text ++ 10 ∷ []) l.text ++ bytes_of_lines ls)) 10
     by_test e true =
         ap (λ t. 10 ∷ t) e
         ∙ ap (λ n. replicate n 10) (let k : suc (newline_count (bytes_of_lines ls)) ≡ newline_count ((l.text ++ 10 ∷ []) ++ bytes_of_lines ls) =
@@ -58,36 +61,41 @@ newlines_counted (next_line {l = l} {ls = ls} h r) = by_test (newlines_counted r
       where
         one_newline : newline_count (10 ∷ []) ≡ 1
         one_newline = refl
-    by_test e false = e ∙ ap (λ n. replicate n 10) (let k : newline_count (bytes_of_lines ls) ≡ newline_count (l.text ++ bytes_of_lines ls) = omega (arith, count_both l.text (bytes_of_lines ls), count_clean l.text h) in k)
+    by_test e false = e ∙ ap (λ n. replicate n 10) (let k : newline_count (bytes_of_lines ls) ≡ newline_count (l.text ++ bytes_of_lines ls) =
+        omega (arith, count_both l.text (bytes_of_lines ls), count_clean l.text h) in k)
 
 -- lines with the same text stay
 pub lines_stay : (ls : List PhysicalLine) (text new : List ℕ) → bytes_eq new text ≡ true → lines_written ls text new ≡ bytes_of_lines ls
 lines_stay ls text new e = ap (λ b. cond b (bytes_of_lines ls) (new ++ newlines_of ls)) e
 
 -- lines between two places with another text
-pub lines_replaced : (bytes : List ℕ) (at next lines : ℕ) (text new : List ℕ) → at ≤ next → split_at_newlines (drop next bytes) ≡ drop lines (split_at_newlines (drop at bytes)) → bytes_eq new text ≡ false
+pub lines_replaced : (bytes : List ℕ) (at next lines : ℕ) (text new : List ℕ) → at ≤ next → split_at_newlines (drop next bytes)
+    ≡ drop lines (split_at_newlines (drop at bytes)) → bytes_eq new text ≡ false
     → lines_written (take lines (split_at_newlines (drop at bytes))) text new ≡ new ++ replicate (newline_count (slice_range bytes at next)) 10
 lines_replaced bytes at next lines text new h e f =
     let ls = take lines (split_at_newlines (drop at bytes)) in
     ap (λ b. cond b (bytes_of_lines ls) (new ++ newlines_of ls)) f
-    ∙ ap (λ t. new ++ t) (newlines_counted (taken_clean lines (split_at_newlines (drop at bytes)) (split_clean (drop at bytes))) ∙ ap (λ t. replicate (newline_count t) 10) (lines_between bytes at next lines h e))
+    ∙ ap (λ t. new ++ t) (newlines_counted (taken_clean lines (split_at_newlines (drop at bytes)) (split_clean (drop at bytes)))
+    ∙ ap (λ t. replicate (newline_count t) 10) (lines_between bytes at next lines h e))
 
 -- lines that are passed over
-lines_skipped : (sub : SourceReader) (file : List ℕ) (k n : ℕ) (ls : List PhysicalLine) (s : ReadingState) → lines_read sub file k n ls s ≡ lines_read sub file 0 (n + k) (drop k ls) s
+lines_skipped : (sub : SourceReader) (file : List ℕ) (k n : ℕ) (ls : List PhysicalLine) (s : ReadingState)
+    → lines_read sub file k n ls s ≡ lines_read sub file 0 (n + k) (drop k ls) s
 lines_skipped sub file zero n ls s = ap (λ m. lines_read sub file 0 m ls s) (let e : n ≡ n + 0 = omega arith in e)
 lines_skipped sub file (suc k) n [] s = refl
-lines_skipped sub file (suc k) n (l ∷ ls) s = lines_skipped sub file k (n + 1) ls s ∙ ap (λ m. lines_read sub file 0 m (drop k ls) s) (let e : n + 1 + k ≡ n + suc k = omega arith in e)
+lines_skipped sub file (suc k) n (l ∷ ls) s = lines_skipped sub file k (n + 1) ls s ∙ ap (λ m. lines_read sub file 0 m (drop k ls) s)
+    (let e : n + 1 + k ≡ n + suc k = omega arith in e)
 
 -- what is left of a file's lines after one that is written; `lines` counts its physical lines
-abbrev pub lines_behind : SourceReader → (file : List ℕ) → (lines n : ℕ) → List PhysicalLine → (text : List ℕ) → WrittenLine → Program Progress
-lines_behind sub file lines n all text line =
+abbrev pub lines_after : SourceReader → (file : List ℕ) → (lines n : ℕ) → List PhysicalLine → (text : List ℕ) → WrittenLine → Program Progress
+lines_after sub file lines n all text line =
     let help = help_after line.begins_help (drop lines all) in
     lines_read sub file 0 (n + lines + help) (drop help (drop lines all)) line.state >>= λ rest.
     returns (progress (lines_written (take lines all) text line.text ++ (bytes_of_lines (take help (drop lines all)) ++ rest.text)) rest.state)
 
 one_line : (sub : SourceReader) (file : List ℕ) (n : ℕ) (l : PhysicalLine) (ls : List PhysicalLine) (s : ReadingState)
     → lines_read sub file 0 n (l ∷ ls) s ≡ line_written sub (place file n) (is_continued (without_return l)) (joined_bytes (map without_return (l ∷ ls))) s
-    >>= lines_behind sub file (suc (continuation_count (map without_return (l ∷ ls)))) n (l ∷ ls) (joined_bytes (map without_return (l ∷ ls)))
+    >>= lines_after sub file (suc (continuation_count (map without_return (l ∷ ls)))) n (l ∷ ls) (joined_bytes (map without_return (l ∷ ls)))
 one_line sub file n l ls s =
     let more = continuation_count (map without_return (l ∷ ls)) in
     let text = joined_bytes (map without_return (l ∷ ls)) in
@@ -95,9 +103,10 @@ one_line sub file n l ls s =
     (λ line. let help = help_after line.begins_help (drop more ls) in
     lines_read sub file (more + help) (n + 1) ls line.state >>= λ rest.
     returns (progress (lines_written (l ∷ take more ls) text line.text ++ (bytes_of_lines (take help (drop more ls)) ++ rest.text)) rest.state))
-    (lines_behind sub file (suc more) n (l ∷ ls) text)
+    (lines_after sub file (suc more) n (l ∷ ls) text)
     (λ line. let help = help_after line.begins_help (drop more ls) in
-    ap (λ p. p >>= λ (rest : Progress). returns (progress (lines_written (l ∷ take more ls) text line.text ++ (bytes_of_lines (take help (drop more ls)) ++ rest.text)) rest.state))
+    ap (λ p. p >>= λ (rest : Progress). returns (progress (lines_written (l ∷ take more ls) text line.text
+    ++ (bytes_of_lines (take help (drop more ls)) ++ rest.text)) rest.state))
     (lines_skipped sub file (more + help) (n + 1) ls line.state
     ∙ ap (λ m. lines_read sub file 0 m (drop (more + help) ls) line.state) (let e : n + 1 + (more + help) ≡ n + suc more + help = omega arith in e)
     ∙ ap (λ rest. lines_read sub file 0 (n + suc more + help) rest line.state) (drop_twice more help ls)))
@@ -105,7 +114,7 @@ one_line sub file n l ls s =
 -- the line at the front of lines that aren't none
 pub line_in_front : (sub : SourceReader) (file : List ℕ) (n : ℕ) (all : List PhysicalLine) (s : ReadingState) → 0 < length all
     → lines_read sub file 0 n all s ≡ line_written sub (place file n) (is_first_continued (map without_return all)) (joined_bytes (map without_return all)) s
-    >>= lines_behind sub file (suc (continuation_count (map without_return all))) n all (joined_bytes (map without_return all))
+    >>= lines_after sub file (suc (continuation_count (map without_return all))) n all (joined_bytes (map without_return all))
 line_in_front sub file n [] s h = absurd (let z : ⊥ = omega arith in z)
 line_in_front sub file n (l ∷ ls) s h = one_line sub file n l ls s
 

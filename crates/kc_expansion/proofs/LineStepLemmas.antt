@@ -1,4 +1,4 @@
--- What a line becomes, by its tokens.
+-- The first step of a line, by its tokens.
 use Rattle.std.proofs.Common.{◌≡◌, ℕ, ◌<◌, ◌≤◌, Bool, true, false, not, ◌||◌, List, [], ◌∷◌, length, Some, refl, sym, ap, ◌∙◌, arith}
 use Rattle.std.specs.Prelude.{nat_lt, codes}
 use Rattle.std.specs.Str.{is_utf8}
@@ -9,7 +9,7 @@ use Rattle.kc_macros_model.specs.Limits.{max_text_bytes}
 use Rattle.kc_macros_model.specs.Programs.{Place, Program, returns, fails, stops, ◌>>=◌}
 use Rattle.kc_macros_model.specs.Variables.{Value, with_variable}
 use Rattle.kc_macros_model.specs.LineTokens.{line_tokens}
-use Rattle.kc_macros_model.specs.Rewriting.{WrittenToken}
+use Rattle.kc_macros_model.specs.WrittenTokens.{WrittenToken}
 use Rattle.kc_macros_model.specs.Assignments.{assigns, assigned, line_content, variable_assigned}
 use Rattle.kc_macros_model.specs.LineForms.{SourceSort, LineForm, sources, form_of, is_help_line, is_undecided}
 use Rattle.kc_macros_model.specs.ReadingStates.{ReadingState, progress, WrittenLine, written_line}
@@ -19,15 +19,15 @@ use Rattle.kc_macros.specs.declared.stop.Stop.{Stop}
 use Rattle.kc_macros.specs.declared.stop.Stop.TheVariants as kinds
 use Rattle.kc_macros.specs.Runs.{ends, end_of_stop}
 use Rattle.kc_expansion.specs.between.Reads.{FileRun, cut_short, Reads}
-use Rattle.kc_expansion.specs.checker.Leads.{Leads}
+use Rattle.kc_expansion.specs.checker.ProgramSteps.{Leads}
 use Rattle.kc_macros.specs.declared.assignments.Assignment.{Assignment}
-use Rattle.kc_macros.specs.Assigning.{operator_of}
+use Rattle.kc_macros.specs.between.AssignmentViews.{operator_of}
 use Rattle.kc_expansion.specs.checker.SameLines.{Stays}
 use Rattle.kc_expansion.specs.checker.ReadingViews.{fault_at, assigned_or_fault, IsNoPath}
 use Rattle.kc_macros.proofs.QuietLemmas.{narrow_is_utf8}
 use Rattle.kc_expansion.proofs.ProgramLemmas.{grouped}
 use Rattle.kc_expansion.proofs.StoreLemmas.{grows_same}
-use Rattle.kc_expansion.proofs.ReadLemmas.{leads_same, reads_on, reads_stop}
+use Rattle.kc_expansion.proofs.FileProgramLemmas.{leads_same, reads_on, reads_stop}
 
 module _ (at : Place) (help : Bool) (text : List ℕ) (s : ReadingState) where
   by_length : Bool → Program WrittenLine
@@ -43,7 +43,8 @@ module _ (at : Place) (help : Bool) (text : List ℕ) (s : ReadingState) where
   short_enough h = ap by_length (let e : nat_lt max_text_bytes (length text) ≡ false = grind (arith, nat_tests) in e)
 
 -- a text, and the names of choices that are there
-pub written_so : (t u : List ℕ) (s : ReadingState) (names : List (List ℕ)) → t ≡ u → s.choices ≡ names → returns (progress u s) ≡ returns (let v : ReadingState = record s { choices = names } in progress t v)
+pub written_so : (t u : List ℕ) (s : ReadingState) (names : List (List ℕ)) → t ≡ u → s.choices ≡ names
+    → returns (progress u s) ≡ returns (let v : ReadingState = record s { choices = names } in progress t v)
 written_so t u s names h k = ap (λ x. returns (progress x s)) (sym h) ∙ ap (λ ns. let v : ReadingState = record s { choices = ns } in returns (progress t v)) k
 
 module _ (sub : SourceReader) (at : Place) (s : ReadingState) (ts real : List WrittenToken) where
@@ -54,7 +55,8 @@ module _ (sub : SourceReader) (at : Place) (s : ReadingState) (ts real : List Wr
   unfolding by_knowledge
   undecided h = ap by_knowledge h
 
-  pub decided : (form : LineForm) → is_undecided real ≡ false → form_of real ≡ form → tokens_written sub at s ts real ≡ form_written sub at ts form s >>= short_line at (is_help_line real)
+  pub decided : (form : LineForm) → is_undecided real ≡ false → form_of real ≡ form → tokens_written sub at s ts real
+      ≡ form_written sub at ts form s >>= short_line at (is_help_line real)
   unfolding by_knowledge
   decided form h f = ap by_knowledge h ∙ ap (λ f. form_written sub at ts f s >>= short_line at (is_help_line real)) f
 
@@ -66,19 +68,26 @@ no_help_of_source (t ∷ u ∷ rest) sort path h = refl
 
 module _ (sub : SourceReader) (at : Place) (continued : Bool) (text : List ℕ) (s : ReadingState) where
   by_size : Bool → Program WrittenLine
-  by_size b = elim b [ true ↦ returns (written_line text (begins_help text) s) | false ↦ line_content at s.bindings true (line_tokens 0 text) >>= content_written sub at continued s ]
+  by_size b = elim b [
+    | true ↦ returns (written_line text (begins_help text) s)
+    | false ↦ line_content at s.bindings true
+        (line_tokens 0 text) >>= content_written sub at continued s
+  ]
 
   -- a line that may change
-  pub changing_line : (nat_lt max_text_bytes (length text) || not (is_utf8 text)) ≡ false → line_written sub at continued text s ≡ line_content at s.bindings true (line_tokens 0 text) >>= content_written sub at continued s
+  pub changing_line : (nat_lt max_text_bytes (length text) || not (is_utf8 text)) ≡ false → line_written sub at continued text s
+      ≡ line_content at s.bindings true (line_tokens 0 text) >>= content_written sub at continued s
   unfolding by_size
   changing_line h = ap by_size h
 
-  pub refused_line : (nat_lt max_text_bytes (length text) || not (is_utf8 text)) ≡ true → line_written sub at continued text s ≡ returns (written_line text (begins_help text) s)
+  pub refused_line : (nat_lt max_text_bytes (length text) || not (is_utf8 text)) ≡ true → line_written sub at continued text s
+      ≡ returns (written_line text (begins_help text) s)
   unfolding by_size
   refused_line h = ap by_size h
 
 -- a tab and `help`, as most help texts begin
-usual : (sub : SourceReader) (at : Place) (continued : Bool) (s : ReadingState) → line_written sub at continued (9 ∷ codes "help") s ≡ returns (written_line (9 ∷ codes "help") true s)
+usual : (sub : SourceReader) (at : Place) (continued : Bool) (s : ReadingState) → line_written sub at continued (9 ∷ codes "help") s
+    ≡ returns (written_line (9 ∷ codes "help") true s)
 usual sub at continued s =
     let text = 9 ∷ codes "help" in
     ap (λ b. elim (nat_lt max_text_bytes (length text) || not b) as (λ x. Program WrittenLine) [
@@ -90,34 +99,45 @@ pub usual_help : (text : List ℕ) → text ≡ 9 ∷ codes "help" → Stays tex
 usual_help text e = rw e (record { written = usual })
 
 -- a line that is too long or isn't UTF-8 stays
-pub refused_stays : (text : List ℕ) (help : Bool) → (nat_lt max_text_bytes (length text) || not (is_utf8 text)) ≡ true → help ≡ begins_help text → Stays text help
-refused_stays text help h e = record { written = λ sub at continued s. refused_line sub at continued text s h ∙ ap (λ b. returns (written_line text b s)) (sym e) }
+pub refused_stays : (text : List ℕ) (help : Bool) → (nat_lt max_text_bytes (length text) || not (is_utf8 text)) ≡ true → help ≡ begins_help text
+    → Stays text help
+refused_stays text help h e = record {
+  written = λ sub at continued s. refused_line sub at continued text s h
+      ∙ ap (λ b. returns (written_line text b s)) (sym e);
+}
 
 -- an assignment on a line
 pub assigned_line : (sub : SourceReader) (at : Place) (continued : Bool) (s : ReadingState) (a : Assignment)
-    → content_written sub at continued s (assigns a.name (assigned (operator_of a.operator) a.text)) ≡ (assigned_or_fault at continued s.bindings a >>= λ b. let t : ReadingState = record s { bindings = b } in returns (written_line [] false t))
+    → content_written sub at continued s (assigns a.name (assigned (operator_of a.operator) a.text))
+    ≡ (assigned_or_fault at continued s.bindings a >>= λ b. let t : ReadingState = record s { bindings = b } in returns (written_line [] false t))
 assigned_line sub at true s a = refl
 assigned_line sub at false s a =
-    sym (grouped (variable_assigned at s.bindings (operator_of a.operator) a.text (s.bindings a.name)) (λ v. returns (with_variable a.name v s.bindings)) (λ b. let t : ReadingState = record s { bindings = b } in returns (written_line [] false t)))
+    sym (grouped (variable_assigned at s.bindings (operator_of a.operator) a.text (s.bindings a.name)) (λ v. returns (with_variable a.name v s.bindings))
+    (λ b. let t : ReadingState = record s { bindings = b } in returns (written_line [] false t)))
 
 -- a line that sources no files leads to its text
-pub text_written : (a : FileRun) (sub : SourceReader) (at : Place) (s u : ReadingState) (ts real : List WrittenToken) (form : LineForm) (t : List ℕ) (help : Bool) → is_undecided real ≡ false → form_of real ≡ form → help ≡ is_help_line real
+pub text_written : (a : FileRun) (sub : SourceReader) (at : Place) (s u : ReadingState) (ts real : List WrittenToken) (form : LineForm) (t : List ℕ)
+    (help : Bool) → is_undecided real ≡ false → form_of real ≡ form → help ≡ is_help_line real
     → form_written sub at ts form s ≡ returns (progress t u) → Leads a (tokens_written sub at s ts real) a (short_line at help (progress t u))
 text_written a sub at s u ts real form t help d f h w =
     leads_same a (tokens_written sub at s ts real) (short_line at help (progress t u))
     (decided sub at s ts real form d f ∙ ap (λ p. p >>= short_line at (is_help_line real)) w ∙ ap (λ b. short_line at b (progress t u)) (sym h))
 
 -- a `source` line whose path isn't known, or is
-pub path_unknown : (a : FileRun) (sub : SourceReader) (at : Place) (ts : List WrittenToken) (sort : SourceSort) (path : Value) (s : ReadingState) (help : Bool) (stop : Stop) → IsNoPath path stop
+pub path_unknown : (a : FileRun) (sub : SourceReader) (at : Place) (ts : List WrittenToken) (sort : SourceSort) (path : Value) (s : ReadingState) (help : Bool)
+    (stop : Stop) → IsNoPath path stop
     → Reads a a (form_written sub at ts (sources sort path) s >>= short_line at help) (end_of_stop stop)
 path_unknown a sub at ts sort path s help (kinds.Fault f) h = absurd h
 path_unknown a sub at ts sort path s help kinds.Unanswered h =
     reads_on a a a (form_written sub at ts (sources sort path) s >>= short_line at help) stops (ends stopped)
-    (leads_same a (form_written sub at ts (sources sort path) s >>= short_line at help) stops (ap (λ v. form_written sub at ts (sources sort v) s >>= short_line at help) h)) (reads_stop a)
+    (leads_same a (form_written sub at ts (sources sort path) s >>= short_line at help) stops
+    (ap (λ v. form_written sub at ts (sources sort v) s >>= short_line at help) h)) (reads_stop a)
 path_unknown a sub at ts sort path s help kinds.OutOfMemory h = record { same = refl; grows = grows_same a.contents a.known; reaches = cut_short }
 
-pub path_known : (a : FileRun) (sub : SourceReader) (at : Place) (s : ReadingState) (ts real : List WrittenToken) (sort : SourceSort) (path : Value) (given : List ℕ) → is_undecided real ≡ false → form_of real ≡ sources sort path → path ≡ Some given
+pub path_known : (a : FileRun) (sub : SourceReader) (at : Place) (s : ReadingState) (ts real : List WrittenToken) (sort : SourceSort) (path : Value)
+    (given : List ℕ) → is_undecided real ≡ false → form_of real ≡ sources sort path → path ≡ Some given
     → Leads a (tokens_written sub at s ts real) a (source_followed sub at ts sort (Some given) s >>= short_line at false)
 path_known a sub at s ts real sort path given d f h =
     leads_same a (tokens_written sub at s ts real) (source_followed sub at ts sort (Some given) s >>= short_line at false)
-    (decided sub at s ts real (sources sort path) d f ∙ ap (λ b. source_followed sub at ts sort path s >>= short_line at b) (no_help_of_source real sort path f) ∙ ap (λ v. source_followed sub at ts sort v s >>= short_line at false) h)
+    (decided sub at s ts real (sources sort path) d f ∙ ap (λ b. source_followed sub at ts sort path s >>= short_line at b) (no_help_of_source real sort path f)
+    ∙ ap (λ v. source_followed sub at ts sort v s >>= short_line at false) h)

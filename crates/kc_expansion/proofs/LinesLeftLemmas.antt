@@ -10,95 +10,110 @@ use Rattle.kc_macros.specs.declared.stop.Stop.{Stop}
 use Rattle.kc_macros.specs.Runs.{ends, end_of_stop}
 use Rattle.kc_lines.specs.between.LinePlaces.{IsLogicalAt}
 use Rattle.kc_expansion.specs.between.Reads.{FileRun, Reads}
-use Rattle.kc_expansion.specs.checker.Leads.{Leads}
+use Rattle.kc_expansion.specs.checker.ProgramSteps.{Leads}
 use Rattle.kc_expansion.specs.checker.LineViews.{is_first_continued, IsHelpPassed}
 use Rattle.kc_expansion.specs.checker.ReadingViews.{after_text, lines_left, IsWrittenTo}
 use Rattle.kc_expansion.specs.checker.WrittenViews.{text_up_to}
 use Rattle.kc_expansion.specs.declared.line_places.LineStart.{LineStart}
 use Rattle.kc_expansion.specs.declared.written_file.WrittenFile.{WrittenFile}
 use Rattle.kc_expansion.proofs.ProgramLemmas.{grouped, same_rest}
-use Rattle.kc_expansion.proofs.ReadLemmas.{leads_same, leads_then, leads_on, reads_on, reads_early}
+use Rattle.kc_expansion.proofs.FileProgramLemmas.{leads_same, leads_then, leads_on, reads_on, reads_early}
 use Rattle.kc_expansion.proofs.TableLemmas.{bytes_eq_same}
-use Rattle.kc_expansion.proofs.LinePlaceLemmas.{text_further, lines_between, lines_stay, lines_behind, line_in_front, some_lines}
+use Rattle.kc_expansion.proofs.LinePlaceLemmas.{text_further, lines_between, lines_stay, lines_after, line_in_front, some_lines}
 
-module _ (sub : SourceReader) (file bytes : List ℕ) (start : LineStart) (there : start.at < length bytes) (text : List ℕ) (next lines : ℕ) (logical : IsLogicalAt bytes start.at text next lines) (s : ReadingState) (done : List ℕ) where
+module _ (sub : SourceReader) (file bytes : List ℕ) (start : LineStart) (there : start.at < length bytes) (text : List ℕ) (next lines : ℕ)
+    (logical : IsLogicalAt bytes start.at text next lines) (s : ReadingState) (done : List ℕ) where
   abbrev all : List PhysicalLine
   all = split_at_newlines (drop start.at bytes)
 
   abbrev pub written_here : Program WrittenLine
   written_here = line_written sub (place file start.number) (is_first_continued (physical_lines (drop start.at bytes))) text s
 
-  abbrev behind_line : WrittenLine → Program Progress
-  behind_line line = after_text done (lines_behind sub file lines start.number all text line)
+  abbrev after_line : WrittenLine → Program Progress
+  after_line line = after_text done (lines_after sub file lines start.number all text line)
 
   front : (text : List ℕ) (lines : ℕ) → Program Progress
-  front text lines = line_written sub (place file start.number) (is_first_continued (physical_lines (drop start.at bytes))) text s >>= lines_behind sub file lines start.number all text
+  front text lines = line_written sub (place file start.number) (is_first_continued (physical_lines (drop start.at bytes))) text s >>= lines_after sub file
+      lines start.number all text
 
-  pub line_first : lines_left sub file start done all s ≡ written_here >>= behind_line
+  pub line_first : lines_left sub file start done all s ≡ written_here >>= after_line
   unfolding front
   line_first =
-      ap (after_text done) (line_in_front sub file start.number all s (some_lines bytes start.at there) ∙ ap (λ t. front t (suc (continuation_count (physical_lines (drop start.at bytes))))) (sym logical.text_is) ∙ ap (front text) (sym logical.lines_are))
-      ∙ grouped written_here (lines_behind sub file lines start.number all text) (λ rest. returns (progress (done ++ rest.text) rest.state))
+      ap (after_text done) (line_in_front sub file start.number all s (some_lines bytes start.at there)
+      ∙ ap (λ t. front t (suc (continuation_count (physical_lines (drop start.at bytes))))) (sym logical.text_is) ∙ ap (front text) (sym logical.lines_are))
+      ∙ grouped written_here (lines_after sub file lines start.number all text) (λ rest. returns (progress (done ++ rest.text) rest.state))
 
   -- a line that stopped
-  pub line_stopped : (a b : FileRun) (stop : Stop) → Reads a b written_here (end_of_stop stop) → Reads a b (lines_left sub file start done all s) (end_of_stop stop)
-  line_stopped a b stop r = reads_on a a b (lines_left sub file start done all s) (written_here >>= behind_line) (end_of_stop stop) (leads_same a (lines_left sub file start done all s) (written_here >>= behind_line) line_first) (reads_early a b written_here behind_line stop r)
+  pub line_stopped : (a b : FileRun) (stop : Stop) → Reads a b written_here (end_of_stop stop) → Reads a b (lines_left sub file start done all s)
+      (end_of_stop stop)
+  line_stopped a b stop r = reads_on a a b (lines_left sub file start done all s) (written_here >>= after_line) (end_of_stop stop)
+      (leads_same a (lines_left sub file start done all s) (written_here >>= after_line) line_first) (reads_early a b written_here after_line stop r)
 
-  module _ (new : List ℕ) (help : Bool) (t : ReadingState) (after behind : LineStart) (at_next : after.at ≡ next) (number : after.number ≡ start.number + lines) (passed : IsHelpPassed bytes after help behind) where
+  module _ (new : List ℕ) (help : Bool) (t : ReadingState) (after past : LineStart) (at_next : after.at ≡ next) (number : after.number ≡ start.number + lines)
+      (passed : IsHelpPassed bytes after help past) where
     abbrev later : List PhysicalLine
     later = split_at_newlines (drop after.at bytes)
 
     abbrev help_lines : ℕ
     help_lines = help_after help later
 
-    abbrev pub text_behind : List ℕ
-    text_behind = (done ++ lines_written (take lines all) text new) ++ bytes_of_lines (take help_lines later)
+    abbrev pub text_after : List ℕ
+    text_after = (done ++ lines_written (take lines all) text new) ++ bytes_of_lines (take help_lines later)
 
     from_lines : List PhysicalLine → Program Progress
     from_lines ls =
         lines_read sub file 0 (start.number + lines + help_after help ls) (drop (help_after help ls) ls) t >>= λ rest.
         returns (progress (lines_written (take lines all) text new ++ (bytes_of_lines (take (help_after help ls) ls) ++ rest.text)) rest.state)
 
-    line_goes_on : behind_line (written_line new help t) ≡ lines_left sub file behind text_behind (split_at_newlines (drop behind.at bytes)) t
+    line_goes_on : after_line (written_line new help t) ≡ lines_left sub file past text_after (split_at_newlines (drop past.at bytes)) t
     unfolding from_lines
     line_goes_on =
         let lw = lines_written (take lines all) text new in
         let bl = bytes_of_lines (take help_lines later) in
         ap (λ ls. after_text done (from_lines ls)) (sym logical.whole ∙ ap (λ k. split_at_newlines (drop k bytes)) (sym at_next))
-        ∙ grouped (lines_read sub file 0 (start.number + lines + help_lines) (drop help_lines later) t) (λ rest. returns (progress (lw ++ (bl ++ rest.text)) rest.state)) (λ rest. returns (progress (done ++ rest.text) rest.state))
-        ∙ same_rest (lines_read sub file 0 (start.number + lines + help_lines) (drop help_lines later) t) (λ rest. returns (progress (done ++ (lw ++ (bl ++ rest.text))) rest.state)) (λ rest. returns (progress (((done ++ lw) ++ bl) ++ rest.text) rest.state))
+        ∙ grouped (lines_read sub file 0 (start.number + lines + help_lines) (drop help_lines later) t)
+        (λ rest. returns (progress (lw ++ (bl ++ rest.text)) rest.state)) (λ rest. returns (progress (done ++ rest.text) rest.state))
+        ∙ same_rest (lines_read sub file 0 (start.number + lines + help_lines) (drop help_lines later) t)
+        (λ rest. returns (progress (done ++ (lw ++ (bl ++ rest.text))) rest.state))
+        (λ rest. returns (progress (((done ++ lw) ++ bl) ++ rest.text) rest.state))
         (λ rest. ap (λ x. returns (progress x rest.state)) (sym (append_assoc (done ++ lw) bl rest.text ∙ append_assoc done lw (bl ++ rest.text))))
-        ∙ ap (λ n. after_text text_behind (lines_read sub file 0 n (drop help_lines later) t)) (sym (passed.number ∙ ap (λ n. n + help_lines) number))
-        ∙ ap (λ ls. after_text text_behind (lines_read sub file 0 behind.number ls t)) (sym passed.whole)
+        ∙ ap (λ n. after_text text_after (lines_read sub file 0 n (drop help_lines later) t)) (sym (passed.number ∙ ap (λ n. n + help_lines) number))
+        ∙ ap (λ ls. after_text text_after (lines_read sub file 0 past.number ls t)) (sym passed.whole)
 
     -- a line that was written, and what follows it
-    pub line_passed : (a b : FileRun) (out : List ℕ) → out ≡ text_behind → Reads a b written_here (ends (returned (written_line new help t)))
-        → Leads a (lines_left sub file start done all s) b (lines_left sub file behind out (split_at_newlines (drop behind.at bytes)) t)
+    pub line_passed : (a b : FileRun) (out : List ℕ) → out ≡ text_after → Reads a b written_here (ends (returned (written_line new help t)))
+        → Leads a (lines_left sub file start done all s) b (lines_left sub file past out (split_at_newlines (drop past.at bytes)) t)
     line_passed a b out e r =
         let p = lines_left sub file start done all s in
-        let q = lines_left sub file behind out (split_at_newlines (drop behind.at bytes)) t in
-        leads_then a a b p (written_here >>= behind_line) q (leads_same a p (written_here >>= behind_line) line_first)
-        (leads_then a b b (written_here >>= behind_line) (behind_line (written_line new help t)) q (leads_on a b written_here behind_line (written_line new help t) r)
-        (leads_same b (behind_line (written_line new help t)) q (line_goes_on ∙ ap (λ x. lines_left sub file behind x (split_at_newlines (drop behind.at bytes)) t) (sym e))))
+        let q = lines_left sub file past out (split_at_newlines (drop past.at bytes)) t in
+        leads_then a a b p (written_here >>= after_line) q (leads_same a p (written_here >>= after_line) line_first)
+        (leads_then a b b (written_here >>= after_line) (after_line (written_line new help t)) q
+        (leads_on a b written_here after_line (written_line new help t) r)
+        (leads_same b (after_line (written_line new help t)) q (line_goes_on ∙ ap (λ x. lines_left sub file past x (split_at_newlines (drop past.at bytes)) t)
+        (sym e))))
 
     -- the text after a line and its help text
-    pub written_behind : (out : WrittenFile) → out.original.value.items ≡ bytes → out.copied ≤ after.at → text_up_to out after.at ≡ done ++ lines_written (take lines all) text new → text_up_to out behind.at ≡ text_behind
-    written_behind out o c w =
-        text_further out bytes after.at behind.at o c passed.from
-        ∙ ap (λ x. x ++ slice_range bytes after.at behind.at) w
-        ∙ ap (λ x. (done ++ lines_written (take lines all) text new) ++ x) (sym (lines_between bytes after.at behind.at help_lines passed.from passed.whole))
+    pub written_after : (out : WrittenFile) → out.original.value.items ≡ bytes → out.copied ≤ after.at
+        → text_up_to out after.at ≡ done ++ lines_written (take lines all) text new → text_up_to out past.at ≡ text_after
+    written_after out o c w =
+        text_further out bytes after.at past.at o c passed.from
+        ∙ ap (λ x. x ++ slice_range bytes after.at past.at) w
+        ∙ ap (λ x. (done ++ lines_written (take lines all) text new) ++ x) (sym (lines_between bytes after.at past.at help_lines passed.from passed.whole))
 
 -- a line that stays as it is
-pub stayed : (out : WrittenFile) (bytes : List ℕ) (at next lines : ℕ) (text : List ℕ) → out.original.value.items ≡ bytes → out.copied ≤ at → at ≤ next → split_at_newlines (drop next bytes) ≡ drop lines (split_at_newlines (drop at bytes))
+pub stayed : (out : WrittenFile) (bytes : List ℕ) (at next lines : ℕ) (text : List ℕ) → out.original.value.items ≡ bytes → out.copied ≤ at → at ≤ next
+    → split_at_newlines (drop next bytes) ≡ drop lines (split_at_newlines (drop at bytes))
     → text_up_to out next ≡ text_up_to out at ++ lines_written (take lines (split_at_newlines (drop at bytes))) text text
 stayed out bytes at next lines text o c h w =
     text_further out bytes at next o c h
-    ∙ ap (λ x. text_up_to out at ++ x) (sym (lines_stay (take lines (split_at_newlines (drop at bytes))) text text (bytes_eq_same text) ∙ lines_between bytes at next lines h w))
+    ∙ ap (λ x. text_up_to out at ++ x) (sym (lines_stay (take lines (split_at_newlines (drop at bytes))) text text (bytes_eq_same text)
+    ∙ lines_between bytes at next lines h w))
 
 -- a file that is written up to the next line
-pub written_next : (bytes text : List ℕ) (start after behind : LineStart) (next lines : ℕ) (help : Bool) (before out : WrittenFile) → IsWrittenTo bytes start before → IsLogicalAt bytes start.at text next lines → after.at ≡ next → after.number ≡ start.number + lines
-    → IsHelpPassed bytes after help behind → out.original.value.items ≡ bytes → out.copied ≤ next → IsWrittenTo bytes behind out
-written_next bytes text start after behind next lines help before out w l a n p o c = record {
+pub written_next : (bytes text : List ℕ) (start after past : LineStart) (next lines : ℕ) (help : Bool) (before out : WrittenFile)
+    → IsWrittenTo bytes start before → IsLogicalAt bytes start.at text next lines → after.at ≡ next → after.number ≡ start.number + lines
+    → IsHelpPassed bytes after help past → out.original.value.items ≡ bytes → out.copied ≤ next → IsWrittenTo bytes past out
+written_next bytes text start after past next lines help before out w l a n p o c = record {
   original = o;
   copied = omega (arith, c, a, p.from);
   within = p.within;

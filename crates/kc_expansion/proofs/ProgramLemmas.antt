@@ -29,13 +29,15 @@ module _ {A B : Type 0} (known : KnownFiles) (p : Program A) (f : A → Program 
   -- after a program that comes to a value
   pub same_then : (x : A) → Comes known p (returned x) → HaveSameOutcome known (p >>= f) (f x)
   same_then x c = record {
-    in_world = λ w h all left. composed all w f left p ∙ ap (λ (o : Outcome A). continued_by o o.ending (λ more y. outcome all w more (f y))) (c.in_world w h all left);
+    in_world = λ w h all left. composed all w f left p ∙ ap (λ (o : Outcome A). continued_by o o.ending (λ more y. outcome all w more (f y)))
+        (c.in_world w h all left);
   }
 
   -- after a program that fails
   pub fails_then : (g : Fault) → Comes known p (failed g) → Comes known (p >>= f) (failed g)
   fails_then g c = record {
-    in_world = λ w h all left. composed all w f left p ∙ ap (λ (o : Outcome A). continued_by o o.ending (λ more y. outcome all w more (f y))) (c.in_world w h all left);
+    in_world = λ w h all left. composed all w f left p ∙ ap (λ (o : Outcome A). continued_by o o.ending (λ more y. outcome all w more (f y)))
+        (c.in_world w h all left);
   }
 
 pub comes_at_once : {A : Type 0} (known : KnownFiles) (x : A) → Comes known (returns x) (returned x)
@@ -61,8 +63,10 @@ module _ {A : Type 0} (contents : TreeContents) (old new : KnownFiles) (g : Grow
   same_later p q c = record { in_world = λ w h. c.in_world w (g.worlds w h) }
 
 -- after the names of a folder
-pub same_listed : {A : Type 0} (known : KnownFiles) (folder : List ℕ) (k : List (List ℕ) → Program A) (names : List (List ℕ)) → ((w : World) → Agrees w known → w.names folder ≡ names)
+pub same_listed : {A : Type 0} (known : KnownFiles) (folder : List ℕ) (k : List (List ℕ) → Program A) (names : List (List ℕ))
+    → ((w : World) → Agrees w known → w.names folder ≡ names)
     → HaveSameOutcome known (does (list_folder folder) k) (k names)
 same_listed {A = A} known folder k names h = record {
-  in_world = λ w a all left. ap (λ (ns : List (List ℕ)). let o = outcome all w left (k ns) in let r : Outcome A = record { notices = o.notices; questions = o.questions; left = o.left; ending = o.ending } in r) (h w a);
+  in_world = λ w a all left. ap (λ (ns : List (List ℕ)). let o = outcome all w left (k ns) in let r : Outcome A =
+      record { notices = o.notices; questions = o.questions; left = o.left; ending = o.ending } in r) (h w a);
 }

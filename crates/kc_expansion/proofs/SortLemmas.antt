@@ -41,11 +41,13 @@ not_less Greater e = absurd (let z : ⊥ = cc in z)
 order_twice : (x y z : List ℕ) → is_in_order x y ≡ true → is_in_order y z ≡ true → is_in_order x z ≡ true
 order_twice x y z e f =
     sym (order_of x z (slice_cmp nat_cmp x z) refl)
-    ∙ up_to (slice_cmp nat_cmp x z) (upto nat_list_cmp_total x y z (not_greater (slice_cmp nat_cmp x y) (order_of x y (slice_cmp nat_cmp x y) refl ∙ e)) (not_greater (slice_cmp nat_cmp y z) (order_of y z (slice_cmp nat_cmp y z) refl ∙ f)))
+    ∙ up_to (slice_cmp nat_cmp x z) (upto nat_list_cmp_total x y z (not_greater (slice_cmp nat_cmp x y) (order_of x y (slice_cmp nat_cmp x y) refl ∙ e))
+    (not_greater (slice_cmp nat_cmp y z) (order_of y z (slice_cmp nat_cmp y z) refl ∙ f)))
 
 other_order : (x y : List ℕ) → is_in_order x y ≡ false → is_in_order y x ≡ true
 other_order x y e =
-    sym (order_of y x (slice_cmp nat_cmp y x) refl) ∙ ap is_le (nat_list_cmp_total.antisymm y x) ∙ turned_order (slice_cmp nat_cmp x y) (order_of x y (slice_cmp nat_cmp x y) refl ∙ e)
+    sym (order_of y x (slice_cmp nat_cmp y x) refl) ∙ ap is_le (nat_list_cmp_total.antisymm y x) ∙ turned_order (slice_cmp nat_cmp x y)
+    (order_of x y (slice_cmp nat_cmp x y) refl ∙ e)
 
 order_by_cmp : (x y : List ℕ) → is_lt (slice_cmp nat_cmp y x) ≡ false → is_in_order x y ≡ true
 order_by_cmp x y e = sym (order_of x y (slice_cmp nat_cmp x y) refl) ∙ not_less (slice_cmp nat_cmp x y) (ap is_lt (sym (nat_list_cmp_total.antisymm y x)) ∙ e)
@@ -135,25 +137,32 @@ left_over a b m n e h = omega arith
 -- a chain is determined by its texts
 one_chain : (xs ys : List (List ℕ)) → IsChain xs → IsChain ys → ((z : List ℕ) → count z xs ≡ count z ys) → xs ≡ ys
 one_chain [] [] c d h = refl
-one_chain [] (y ∷ ys) c d h = absurd (let e = h y in let f = bytes_eq_same y in let k : count y (y ∷ ys) ≡ 1 + count y ys = ap (λ b. cond b 1 0 + count y ys) f in omega arith)
-one_chain (x ∷ xs) [] c d h = absurd (let e = h x in let f = bytes_eq_same x in let k : count x (x ∷ xs) ≡ 1 + count x xs = ap (λ b. cond b 1 0 + count x xs) f in omega arith)
+one_chain [] (y ∷ ys) c d h = absurd (let e = h y in let f = bytes_eq_same y in let k : count y (y ∷ ys) ≡ 1 + count y ys = ap (λ b. cond b 1 0 + count y ys) f
+    in omega arith)
+one_chain (x ∷ xs) [] c d h = absurd (let e = h x in let f = bytes_eq_same x in let k : count x (x ∷ xs) ≡ 1 + count x xs = ap (λ b. cond b 1 0 + count x xs) f
+    in omega arith)
 one_chain (x ∷ xs) (y ∷ ys) c d h =
     let here : count x (x ∷ xs) ≡ 1 + count x xs = ap (λ b. cond b 1 0 + count x xs) (bytes_eq_same x) in
     let there : count y (y ∷ ys) ≡ 1 + count y ys = ap (λ b. cond b 1 0 + count y ys) (bytes_eq_same y) in
     let hx = h x in
     let hy = h y in
     let e : x ≡ y = same_in_order x y (least_first y x xs c (omega arith)) (least_first x y ys d (omega arith)) in
-    let rest : (z : List ℕ) → count z xs ≡ count z ys = λ z. left_over (cond (bytes_eq z x) 1 0) (cond (bytes_eq z y) 1 0) (count z xs) (count z ys) (ap (λ t. cond (bytes_eq z t) 1 0) e) (h z) in
+    let rest : (z : List ℕ) → count z xs ≡ count z ys = λ z. left_over (cond (bytes_eq z x) 1 0) (cond (bytes_eq z y) 1 0) (count z xs) (count z ys)
+    (ap (λ t. cond (bytes_eq z t) 1 0) e) (h z) in
     ap (λ t. t ∷ xs) e ∙ ap (λ ts. y ∷ ts) (one_chain xs ys (chain_rest c) (chain_rest d) rest)
 
-chain_of : (vs : List (Vec ℕ Global)) → ((k : ℕ) (v : Vec ℕ Global) → suc k < length vs → is_lt (slice_cmp nat_cmp (get_or vs (suc k) v).items (get_or vs k v).items) ≡ false) → IsChain (items_of vs)
+chain_of : (vs : List (Vec ℕ Global)) → ((k : ℕ) (v : Vec ℕ Global) → suc k < length vs
+    → is_lt (slice_cmp nat_cmp (get_or vs (suc k) v).items (get_or vs k v).items) ≡ false) → IsChain (items_of vs)
 chain_of [] h = no_text
 chain_of (v ∷ []) h = one_text
 chain_of (v ∷ w ∷ vs) h = more_texts (order_by_cmp v.items w.items (h 0 v (omega arith))) (chain_of (w ∷ vs) (λ k d l. h (suc k) d (omega arith)))
 
 -- what a sort leaves
-pub sorted_by_sort : (old new : List (Vec ℕ Global)) → IsPermutation old new → ((k : ℕ) (v : Vec ℕ Global) → 0 ≤ k → k + 1 < length new → is_lt (slice_cmp nat_cmp (get_or new (k + 1) v).items (get_or new k v).items) ≡ false)
+pub sorted_by_sort : (old new : List (Vec ℕ Global)) → IsPermutation old new
+    → ((k : ℕ) (v : Vec ℕ Global) → 0 ≤ k → k + 1 < length new → is_lt (slice_cmp nat_cmp (get_or new (k + 1) v).items (get_or new k v).items) ≡ false)
     → items_of new ≡ sorted (items_of old)
 sorted_by_sort old new p h =
-    one_chain (items_of new) (sorted (items_of old)) (chain_of new (λ k v l. ap (λ i. is_lt (slice_cmp nat_cmp (get_or new i v).items (get_or new k v).items)) (let i : suc k ≡ k + 1 = omega arith in i) ∙ h k v (omega arith) (omega arith))) (sorted_chain (items_of old))
-    (λ z. count_is z (items_of new) ∙ sum_by-IsPermutation (λ y. cond (bytes_eq z y) 1 0) (items_of old) (items_of new) (IsPermutation-map (λ (v : Vec ℕ Global). v.items) old new p) ∙ sym (count_is z (items_of old)) ∙ sym (count_sorted z (items_of old)))
+    one_chain (items_of new) (sorted (items_of old)) (chain_of new (λ k v l. ap (λ i. is_lt (slice_cmp nat_cmp (get_or new i v).items (get_or new k v).items))
+    (let i : suc k ≡ k + 1 = omega arith in i) ∙ h k v (omega arith) (omega arith))) (sorted_chain (items_of old))
+    (λ z. count_is z (items_of new) ∙ sum_by-IsPermutation (λ y. cond (bytes_eq z y) 1 0) (items_of old) (items_of new)
+    (IsPermutation-map (λ (v : Vec ℕ Global). v.items) old new p) ∙ sym (count_is z (items_of old)) ∙ sym (count_sorted z (items_of old)))

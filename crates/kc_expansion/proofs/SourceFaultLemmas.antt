@@ -21,7 +21,8 @@ any_both : (x : List ℕ) (xs ys : List (List ℕ)) → is_in_list x (xs ++ ys) 
 any_both x [] ys = refl
 any_both x (y ∷ xs) ys = by_test (bytes_eq y x) (any_both x xs ys)
   where
-    by_test : (b : Bool) → is_in_list x (xs ++ ys) ≡ (is_in_list x xs || is_in_list x ys) → (b || is_in_list x (xs ++ ys)) ≡ ((b || is_in_list x xs) || is_in_list x ys)
+    by_test : (b : Bool) → is_in_list x (xs ++ ys) ≡ (is_in_list x xs || is_in_list x ys) → (b || is_in_list x (xs ++ ys))
+        ≡ ((b || is_in_list x xs) || is_in_list x ys)
     by_test true ih = refl
     by_test false ih = ih
 
@@ -34,7 +35,8 @@ or_turned false false = refl
 -- the order of open files doesn't matter
 pub in_reverse : (x : List ℕ) (xs : List (List ℕ)) → is_in_list x (reverse xs) ≡ is_in_list x xs
 in_reverse x [] = refl
-in_reverse x (y ∷ xs) = ap (is_in_list x) (reverse-append (y ∷ []) xs) ∙ any_both x (reverse xs) (y ∷ []) ∙ or_turned (is_in_list x (reverse xs)) (bytes_eq y x) ∙ ap (λ b. bytes_eq y x || b) (in_reverse x xs)
+in_reverse x (y ∷ xs) = ap (is_in_list x) (reverse-append (y ∷ []) xs) ∙ any_both x (reverse xs) (y ∷ []) ∙ or_turned (is_in_list x (reverse xs)) (bytes_eq y x)
+    ∙ ap (λ b. bytes_eq y x || b) (in_reverse x xs)
 
 -- whether a path is open
 pub open_by : (path : List ℕ) (os : List (Bor (List ℕ))) → list_any (λ (o : Bor (List ℕ)). bytes_eq o.now path) os ≡ is_in_list path (slices_of os)
@@ -50,16 +52,20 @@ module _ (open_files : List (List ℕ)) (s : ReadingState) (path : List ℕ) whe
   missing_fault bytes e m = ap (source_fault open_files s path) m ∙ ap (λ b. cond b (Some SourceLoop) (Some MissingFile)) e
 
   -- the fault of a file that is there and isn't open
-  pub fault_of_size : (bytes : Option (List ℕ)) (there : List ℕ) → is_in_list path open_files ≡ false → bytes ≡ Some there → source_fault open_files s path bytes ≡ size_fault (length open_files) s.files (s.bytes + length there)
-  fault_of_size bytes there e m = ap (source_fault open_files s path) m ∙ ap (λ b. cond b (Some SourceLoop) (size_fault (length open_files) s.files (s.bytes + length there))) e
+  pub fault_of_size : (bytes : Option (List ℕ)) (there : List ℕ) → is_in_list path open_files ≡ false → bytes ≡ Some there
+      → source_fault open_files s path bytes ≡ size_fault (length open_files) s.files (s.bytes + length there)
+  fault_of_size bytes there e m = ap (source_fault open_files s path) m
+      ∙ ap (λ b. cond b (Some SourceLoop) (size_fault (length open_files) s.files (s.bytes + length there))) e
 
 -- a limit that is passed
 pub fault_too_deep : (n files bytes : ℕ) → 32 ≤ n → size_fault n files bytes ≡ Some TooDeep
-fault_too_deep n files bytes h = ap (λ b. cond b (Some TooDeep) (cond (nat_le max_files files || nat_lt max_bytes bytes) (Some TooMany) None)) (let e : nat_le max_open_files n ≡ true = grind (arith, nat_tests) in e)
+fault_too_deep n files bytes h = ap (λ b. cond b (Some TooDeep) (cond (nat_le max_files files || nat_lt max_bytes bytes) (Some TooMany) None))
+    (let e : nat_le max_open_files n ≡ true = grind (arith, nat_tests) in e)
 
 pub fault_too_many : (n files bytes : ℕ) → n < 32 → 67108864 < bytes → size_fault n files bytes ≡ Some TooMany
 fault_too_many n files bytes h k =
-    ap (λ b. cond b (Some TooDeep) (cond (nat_le max_files files || nat_lt max_bytes bytes) (Some TooMany) None)) (let e : nat_le max_open_files n ≡ false = grind (arith, nat_tests) in e)
+    ap (λ b. cond b (Some TooDeep) (cond (nat_le max_files files || nat_lt max_bytes bytes) (Some TooMany) None))
+    (let e : nat_le max_open_files n ≡ false = grind (arith, nat_tests) in e)
     ∙ ap (λ b. cond (nat_le max_files files || b) (Some TooMany) None) (let e : nat_lt max_bytes bytes ≡ true = grind (arith, nat_tests) in e)
     ∙ ap (λ b. cond b (Some TooMany) None) (or_true (nat_le max_files files))
   where
@@ -71,7 +77,8 @@ fault_too_many n files bytes h k =
 pub no_limit_passed : (n files bytes : ℕ) → size_fault n files bytes ≡ None → (n < 32) × (files < 4096) × (bytes ≤ 67108864)
 no_limit_passed n files bytes h = by_tests (nat_le max_open_files n) (nat_le max_files files) (nat_lt max_bytes bytes) refl refl refl h
   where
-    by_tests : (a b c : Bool) → nat_le max_open_files n ≡ a → nat_le max_files files ≡ b → nat_lt max_bytes bytes ≡ c → cond a (Some TooDeep) (cond (b || c) (Some TooMany) None) ≡ None → (n < 32) × (files < 4096) × (bytes ≤ 67108864)
+    by_tests : (a b c : Bool) → nat_le max_open_files n ≡ a → nat_le max_files files ≡ b → nat_lt max_bytes bytes ≡ c
+        → cond a (Some TooDeep) (cond (b || c) (Some TooMany) None) ≡ None → (n < 32) × (files < 4096) × (bytes ≤ 67108864)
     by_tests true b c d e f h = absurd (let z : ⊥ = cc in z)
     by_tests false true c d e f h = absurd (let z : ⊥ = cc in z)
     by_tests false false true d e f h = absurd (let z : ⊥ = cc in z)
@@ -82,7 +89,8 @@ no_limit_passed n files bytes h = by_tests (nat_le max_open_files n) (nat_le max
     )
 
 -- counts that are those of a state
-pub fault_counted : (n files bytes len : ℕ) (s : ReadingState) → s.files ≡ files → s.bytes ≡ bytes → size_fault n s.files (s.bytes + len) ≡ size_fault n files (bytes + len)
+pub fault_counted : (n files bytes len : ℕ) (s : ReadingState) → s.files ≡ files → s.bytes ≡ bytes → size_fault n s.files (s.bytes + len)
+    ≡ size_fault n files (bytes + len)
 fault_counted n files bytes len s f g = ap (λ k. size_fault n k (s.bytes + len)) f ∙ ap (λ k. size_fault n files (k + len)) g
 
 module _ (open_files : List (List ℕ)) (counts : ReadCounts) (path : List ℕ) (read : FileRead) where
@@ -98,7 +106,8 @@ module _ (open_files : List (List ℕ)) (counts : ReadCounts) (path : List ℕ) 
 
     pub refused_whole : (kind : MacroKind) → fault_now ≡ Some kind → MayNotBeRead open_files counts path read kind
     refused_whole kind f = record {
-      is_fault = λ s c bytes h. fault_of_size open_files s path bytes there e (subst (λ (r : FileRead). AreBytes r bytes) m h) ∙ fault_counted (length open_files) counts.files counts.bytes (length there) s c.files c.bytes ∙ f;
+      is_fault = λ s c bytes h. fault_of_size open_files s path bytes there e (subst (λ (r : FileRead). AreBytes r bytes) m h)
+          ∙ fault_counted (length open_files) counts.files counts.bytes (length there) s c.files c.bytes ∙ f;
     }
 
     pub read_whole : fault_now ≡ None → MayBeRead open_files counts path read there
@@ -106,7 +115,8 @@ module _ (open_files : List (List ℕ)) (counts : ReadCounts) (path : List ℕ) 
         let w = no_limit_passed (length open_files) counts.files (counts.bytes + length there) f in
         record {
           is_whole = m;
-          no_fault = λ s c. fault_of_size open_files s path (Some there) there e refl ∙ fault_counted (length open_files) counts.files counts.bytes (length there) s c.files c.bytes ∙ f;
+          no_fault = λ s c. fault_of_size open_files s path (Some there) there e refl ∙ fault_counted (length open_files) counts.files counts.bytes
+              (length there) s c.files c.bytes ∙ f;
           few_files = w.1;
           few_bytes = w.2;
           few_open = w.0;
@@ -123,4 +133,5 @@ module _ (open_files : List (List ℕ)) (counts : ReadCounts) (path : List ℕ) 
     refused_long d = record { is_fault = λ s c bytes h. long s bytes (subst (λ (r : FileRead). AreBytes r bytes) m h) }
       where
         long : (s : ReadingState) (bytes : Option (List ℕ)) → AreBytes too_long bytes → source_fault open_files s path bytes ≡ Some TooMany
-        long s bytes (more, b, l) = fault_of_size open_files s path bytes more e b ∙ fault_too_many (length open_files) s.files (s.bytes + length more) d (let x : 67108864 < s.bytes + length more = omega (arith, l) in x)
+        long s bytes (more, b, l) = fault_of_size open_files s path bytes more e b ∙ fault_too_many (length open_files) s.files (s.bytes + length more) d
+            (let x : 67108864 < s.bytes + length more = omega (arith, l) in x)

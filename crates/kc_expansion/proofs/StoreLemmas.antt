@@ -1,4 +1,4 @@
--- What a store knows.
+-- The files and folders that a store has.
 use Rattle.std.proofs.Common.{◌≡◌, ℕ, List, [], ◌∷◌, ◌++◌, Option, Some, None, sym, ap, subst, ⊎_elim}
 use Rattle.std.specs.Prelude.{Vec, is_some, option_map}
 use Rattle.std.specs.declared.alloc.Global.{Global}
@@ -23,13 +23,15 @@ pub file_more : (contents : TreeContents) (known : KnownFiles) (path : List ℕ)
 file_more contents known path read m = record {
   worlds = λ w h. record { files = λ p r e. h.files p r (stays_found known.files (path, read) p r e); folders = h.folders };
   matched = λ h. record {
-    files = λ p r e. ⊎_elim (λ f. h.files p r f) (λ f. subst (λ q. MatchFile (contents.file q) r) (sym f.0) (subst (λ (s : FileRead). MatchFile (contents.file path) s) (sym f.1) m)) (found_or_new known.files path p read r e);
+    files = λ p r e. ⊎_elim (λ f. h.files p r f) (λ f. subst (λ q. MatchFile (contents.file q) r) (sym f.0)
+        (subst (λ (s : FileRead). MatchFile (contents.file path) s) (sym f.1) m)) (found_or_new known.files path p read r e);
     folders = h.folders;
   };
 }
 
 -- names that were listed as they were known to be
-pub folder_matched : (content : FolderContent) (names : Option (Vec (Vec ℕ Global) Global)) → ListsAs content max_listed_names (option_map texts_of names) → MatchFolder content (folder_of_names names)
+pub folder_matched : (content : FolderContent) (names : Option (Vec (Vec ℕ Global) Global)) → ListsAs content max_listed_names (option_map texts_of names)
+    → MatchFolder content (folder_of_names names)
 folder_matched None names h = tt
 folder_matched (Some known) None h = h
 folder_matched (Some known) (Some ns) h = h
@@ -41,7 +43,8 @@ folder_more contents known folder read m = record {
   worlds = λ w h. record { files = h.files; folders = λ p r e. h.folders p r (stays_found known.folders (folder, read) p r e) };
   matched = λ h. record {
     files = h.files;
-    folders = λ p r e. ⊎_elim (λ f. h.folders p r f) (λ f. subst (λ q. MatchFolder (contents.folder q) r) (sym f.0) (subst (λ (s : FolderRead). MatchFolder (contents.folder folder) s) (sym f.1) m)) (found_or_new known.folders folder p read r e);
+    folders = λ p r e. ⊎_elim (λ f. h.folders p r f) (λ f. subst (λ q. MatchFolder (contents.folder q) r) (sym f.0)
+        (subst (λ (s : FolderRead). MatchFolder (contents.folder folder) s) (sym f.1) m)) (found_or_new known.folders folder p read r e);
   };
 }
 
@@ -50,5 +53,6 @@ read_by missing bytes h = ap is_some h
 read_by (whole b) bytes h = ap is_some h
 read_by too_long bytes (more, h, l) = ap is_some h
 
-pub readable_by : (known : KnownFiles) (path : List ℕ) (read : FileRead) → keyword_in_table known.files path ≡ Some read → (w : World) → Agrees w known → is_some (w.bytes path) ≡ is_read read
+pub readable_by : (known : KnownFiles) (path : List ℕ) (read : FileRead) → keyword_in_table known.files path ≡ Some read → (w : World) → Agrees w known
+    → is_some (w.bytes path) ≡ is_read read
 readable_by known path read e w a = read_by read (w.bytes path) (a.files path read e)

@@ -47,7 +47,8 @@ module _ {V A : Type 0} (view : V → A) where
   found_by false e o = refl
 
   -- a look-up by bytes
-  pub found : (path : List ℕ) (es : List (Vec ℕ Global × V)) → keyword_in_table (map entry_view es) path ≡ option_map view (lookup (λ (k : Vec ℕ Global). bytes_eq path k.items) es)
+  pub found : (path : List ℕ) (es : List (Vec ℕ Global × V)) → keyword_in_table (map entry_view es) path
+      ≡ option_map view (lookup (λ (k : Vec ℕ Global). bytes_eq path k.items) es)
   found path [] = refl
   found path (e ∷ es) =
       ap (λ b. cond b (Some (view e.1)) (keyword_in_table (map entry_view es) path)) (bytes_eq_turned e.0.items path)
@@ -61,18 +62,23 @@ module _ {V A : Type 0} (view : V → A) where
   inserted_new (e ∷ es) k v h = by_test (bytes_eq e.0.items k.items) (bytes_eq_turned k.items e.0.items) h (inserted_new es k v)
     where
       by_test : (b : Bool) → bytes_eq k.items e.0.items ≡ b → cond b (Some (view e.1)) (keyword_in_table (map entry_view es) k.items) ≡ None
-          → (keyword_in_table (map entry_view es) k.items ≡ None → map entry_view (insert_entry (λ (a b : Vec ℕ Global). bytes_eq a.items b.items) es k v) ≡ map entry_view es ++ (k.items, view v) ∷ [])
-          → map entry_view (cond (bytes_eq k.items e.0.items) ((e.0, v) ∷ es) (e ∷ insert_entry (λ (a b : Vec ℕ Global). bytes_eq a.items b.items) es k v)) ≡ entry_view e ∷ (map entry_view es ++ (k.items, view v) ∷ [])
+          → (keyword_in_table (map entry_view es) k.items ≡ None → map entry_view (insert_entry (λ (a b : Vec ℕ Global). bytes_eq a.items b.items) es k v)
+          ≡ map entry_view es ++ (k.items, view v) ∷ [])
+          → map entry_view (cond (bytes_eq k.items e.0.items) ((e.0, v) ∷ es) (e ∷ insert_entry (λ (a b : Vec ℕ Global). bytes_eq a.items b.items) es k v))
+          ≡ entry_view e ∷ (map entry_view es ++ (k.items, view v) ∷ [])
       by_test true e2 h ih = absurd (let z : ⊥ = cc in z)
-      by_test false e2 h ih = ap (λ b. map entry_view (cond b ((e.0, v) ∷ es) (e ∷ insert_entry (λ (a b : Vec ℕ Global). bytes_eq a.items b.items) es k v))) e2 ∙ ap (λ xs. entry_view e ∷ xs) (ih h)
+      by_test false e2 h ih = ap (λ b. map entry_view (cond b ((e.0, v) ∷ es) (e ∷ insert_entry (λ (a b : Vec ℕ Global). bytes_eq a.items b.items) es k v))) e2
+          ∙ ap (λ xs. entry_view e ∷ xs) (ih h)
 
 module _ {A : Type 0} where
   -- what is there stays where another key goes last
-  pub stays_found : (t : List (List ℕ × A)) (new : List ℕ × A) (key : List ℕ) (x : A) → keyword_in_table t key ≡ Some x → keyword_in_table (t ++ new ∷ []) key ≡ Some x
+  pub stays_found : (t : List (List ℕ × A)) (new : List ℕ × A) (key : List ℕ) (x : A) → keyword_in_table t key ≡ Some x
+      → keyword_in_table (t ++ new ∷ []) key ≡ Some x
   stays_found [] new key x h = absurd (let z : ⊥ = cc in z)
   stays_found (e ∷ t) new key x h = by_test (bytes_eq e.0 key) (stays_found t new key x) h
     where
-      by_test : (b : Bool) → (keyword_in_table t key ≡ Some x → keyword_in_table (t ++ new ∷ []) key ≡ Some x) → cond b (Some e.1) (keyword_in_table t key) ≡ Some x → cond b (Some e.1) (keyword_in_table (t ++ new ∷ []) key) ≡ Some x
+      by_test : (b : Bool) → (keyword_in_table t key ≡ Some x → keyword_in_table (t ++ new ∷ []) key ≡ Some x)
+          → cond b (Some e.1) (keyword_in_table t key) ≡ Some x → cond b (Some e.1) (keyword_in_table (t ++ new ∷ []) key) ≡ Some x
       by_test true ih h = h
       by_test false ih h = ih h
 
@@ -81,12 +87,14 @@ module _ {A : Type 0} where
   new_found [] key x h = ap (λ b. cond b (Some x) None) (bytes_eq_same key)
   new_found (e ∷ t) key x h = by_test (bytes_eq e.0 key) (new_found t key x) h
     where
-      by_test : (b : Bool) → (keyword_in_table t key ≡ None → keyword_in_table (t ++ (key, x) ∷ []) key ≡ Some x) → cond b (Some e.1) (keyword_in_table t key) ≡ None → cond b (Some e.1) (keyword_in_table (t ++ (key, x) ∷ []) key) ≡ Some x
+      by_test : (b : Bool) → (keyword_in_table t key ≡ None → keyword_in_table (t ++ (key, x) ∷ []) key ≡ Some x)
+          → cond b (Some e.1) (keyword_in_table t key) ≡ None → cond b (Some e.1) (keyword_in_table (t ++ (key, x) ∷ []) key) ≡ Some x
       by_test true ih h = absurd (let z : ⊥ = cc in z)
       by_test false ih h = ih h
 
   -- what is found with a new key was there, or is it
-  pub found_or_new : (t : List (List ℕ × A)) (key other : List ℕ) (x y : A) → keyword_in_table (t ++ (key, x) ∷ []) other ≡ Some y → (keyword_in_table t other ≡ Some y) ⊎ ((other ≡ key) × (y ≡ x))
+  pub found_or_new : (t : List (List ℕ × A)) (key other : List ℕ) (x y : A) → keyword_in_table (t ++ (key, x) ∷ []) other ≡ Some y
+      → (keyword_in_table t other ≡ Some y) ⊎ ((other ≡ key) × (y ≡ x))
   found_or_new [] key other x y h = by_test (bytes_eq key other) refl h
     where
       by_test : (b : Bool) → bytes_eq key other ≡ b → cond b (Some x) None ≡ Some y → (None ≡ Some y) ⊎ ((other ≡ key) × (y ≡ x))
@@ -94,6 +102,8 @@ module _ {A : Type 0} where
       by_test false e h = inl h
   found_or_new (e ∷ t) key other x y h = by_test (bytes_eq e.0 other) (found_or_new t key other x y) h
     where
-      by_test : (b : Bool) → (keyword_in_table (t ++ (key, x) ∷ []) other ≡ Some y → (keyword_in_table t other ≡ Some y) ⊎ ((other ≡ key) × (y ≡ x))) → cond b (Some e.1) (keyword_in_table (t ++ (key, x) ∷ []) other) ≡ Some y → (cond b (Some e.1) (keyword_in_table t other) ≡ Some y) ⊎ ((other ≡ key) × (y ≡ x))
+      by_test : (b : Bool) → (keyword_in_table (t ++ (key, x) ∷ []) other ≡ Some y → (keyword_in_table t other ≡ Some y) ⊎ ((other ≡ key) × (y ≡ x)))
+          → cond b (Some e.1) (keyword_in_table (t ++ (key, x) ∷ []) other) ≡ Some y → (cond b (Some e.1) (keyword_in_table t other) ≡ Some y)
+          ⊎ ((other ≡ key) × (y ≡ x))
       by_test true ih h = inl h
       by_test false ih h = ih h

@@ -42,7 +42,8 @@ bytes_agree (Some (Some known)) too_long m = (known, refl, m)
 bytes_agree (Some None) too_long m = absurd (let z : ⊥ = cc in z)
 bytes_agree None too_long m = ((longer 0 max_bytes).0, refl, (longer 0 max_bytes).1)
 
-bytes_allowed : (content : FileContent) (read : Option FileRead) → ((r : FileRead) → read ≡ Some r → MatchFile content r) → IsContentRead content (bytes_of content read)
+bytes_allowed : (content : FileContent) (read : Option FileRead) → ((r : FileRead) → read ≡ Some r → MatchFile content r)
+    → IsContentRead content (bytes_of content read)
 unfolding bytes_of
 bytes_allowed None read m = tt
 bytes_allowed (Some None) None m = refl
@@ -60,7 +61,8 @@ names_agree content (names ns) m = refl
 names_agree (Some known) too_many m = m
 names_agree None too_many m = (longer {A = List ℕ} [] max_listed_names).1
 
-names_allowed : (content : FolderContent) (read : Option FolderRead) → ((r : FolderRead) → read ≡ Some r → MatchFolder content r) → IsFolderRead content (names_of content read)
+names_allowed : (content : FolderContent) (read : Option FolderRead) → ((r : FolderRead) → read ≡ Some r → MatchFolder content r)
+    → IsFolderRead content (names_of content read)
 unfolding names_of
 names_allowed None read m = tt
 names_allowed (Some known) None m = refl
@@ -77,8 +79,11 @@ module _ (contents : TreeContents) (known : KnownFiles) (answers : Recorded) (m 
 
   pub world_agrees : Agrees world_of known
   world_agrees = record {
-    files = λ path read e. let f : AreBytes read (bytes_of (contents.file path) (Some read)) = bytes_agree (contents.file path) read (m.files path read e) in subst (λ (o : Option FileRead). AreBytes read (bytes_of (contents.file path) o)) (sym e) f;
-    folders = λ folder read e. let f : AreNames read (names_of (contents.folder folder) (Some read)) = names_agree (contents.folder folder) read (m.folders folder read e) in subst (λ (o : Option FolderRead). AreNames read (names_of (contents.folder folder) o)) (sym e) f;
+    files = λ path read e. let f : AreBytes read (bytes_of (contents.file path) (Some read)) = bytes_agree (contents.file path) read (m.files path read e) in
+        subst (λ (o : Option FileRead). AreBytes read (bytes_of (contents.file path) o)) (sym e) f;
+    folders = λ folder read e. let f : AreNames read (names_of (contents.folder folder) (Some read)) =
+        names_agree (contents.folder folder) read (m.folders folder read e) in
+        subst (λ (o : Option FolderRead). AreNames read (names_of (contents.folder folder) o)) (sym e) f;
   }
 
   pub world_allowed : IsWorldOf contents world_of
@@ -95,7 +100,8 @@ any_in : (x : List ℕ) (xs ys : List (List ℕ)) → is_in_list x (xs ++ ys) �
 any_in x [] ys = refl
 any_in x (y ∷ xs) ys = by_test (bytes_eq y x) (any_in x xs ys)
   where
-    by_test : (b : Bool) → is_in_list x (xs ++ ys) ≡ (is_in_list x xs || is_in_list x ys) → (b || is_in_list x (xs ++ ys)) ≡ ((b || is_in_list x xs) || is_in_list x ys)
+    by_test : (b : Bool) → is_in_list x (xs ++ ys) ≡ (is_in_list x xs || is_in_list x ys) → (b || is_in_list x (xs ++ ys))
+        ≡ ((b || is_in_list x xs) || is_in_list x ys)
     by_test true ih = refl
     by_test false ih = ih
 
@@ -113,7 +119,8 @@ in_without x (y ∷ ys) = by_test (is_in_list y ys) refl (in_without x ys)
     repeated true e h = ap (λ z. is_in_list z ys) (sym ((bytes_eq-Decides y x).0 e)) ∙ h
     repeated false e h = refl
 
-    by_test : (b : Bool) → is_in_list y ys ≡ b → is_in_list x (without_repeats ys) ≡ is_in_list x ys → is_in_list x (cond b (without_repeats ys) (without_repeats ys ++ y ∷ [])) ≡ (bytes_eq y x || is_in_list x ys)
+    by_test : (b : Bool) → is_in_list y ys ≡ b → is_in_list x (without_repeats ys) ≡ is_in_list x ys
+        → is_in_list x (cond b (without_repeats ys) (without_repeats ys ++ y ∷ [])) ≡ (bytes_eq y x || is_in_list x ys)
     by_test true h ih = ih ∙ repeated (bytes_eq y x) refl h
     by_test false h ih = any_in x (without_repeats ys) (y ∷ []) ∙ or_turned (is_in_list x (without_repeats ys)) (bytes_eq y x) ∙ ap (λ b. bytes_eq y x || b) ih
 

@@ -1,4 +1,4 @@
--- The results of the public calls: the expansion of a tree, and the questions that its reading meets.
+-- The expansion of a tree, and the questions that it asks, in a world of known files.
 use Rattle.std.specs.Prelude.{◌≡◌, ℕ, List, Vec, Result, Ok, Err}
 use Rattle.std.specs.declared.alloc.Global.{Global}
 use Rattle.kc_macros_model.specs.AnswerFiles.{Recorded}
@@ -10,21 +10,22 @@ use Rattle.kc_macros.specs.Runs.{HasAnswers, fault_of}
 use Rattle.kc_expansion.specs.TextViews.{texts_of}
 use Rattle.kc_expansion.specs.TreeContents.{TreeContents, IsWorldOf}
 
--- expanded files, or a fault
+-- expanded files or a fault of the code, as the definitions have them
 abbrev pub tree_of : Result (List ExpandedFile) MacroFault → Result (List ExpandedFile) Fault
 tree_of (Ok files) = Ok files
 tree_of (Err fault) = Err (fault_of fault)
 
--- questions, or a fault
+-- questions or a fault of the code, as the definitions have them
 abbrev pub questions_of : Result (Vec (Vec ℕ Global) Global) MacroFault → Result (List (List ℕ)) Fault
 questions_of (Ok questions) = Ok (texts_of questions)
 questions_of (Err fault) = Err (fault_of fault)
 
+-- the end of an expansion with these files or this fault
 abbrev pub ending_of : Result (List ExpandedFile) Fault → Ending (List ExpandedFile)
 ending_of (Ok files) = returned files
 ending_of (Err fault) = failed fault
 
--- in a world of these files and folders and of these answers the expansion of a tree has these notices, and these files or this fault
+-- the expansion of a tree has these notices, and these files or this fault, in a world that has the known files and folders and just these answers
 pub record IsExpansion (contents : TreeContents) (answers : Recorded) (root : List ℕ) (notices : List Notice) (tree : Result (List ExpandedFile) Fault) : Type 0 where
   pub world : World
   pub of_contents : IsWorldOf contents world
@@ -32,7 +33,7 @@ pub record IsExpansion (contents : TreeContents) (answers : Recorded) (root : Li
   pub has_notices : (expansion world root).notices ≡ notices
   pub ends_so : (expansion world root).ending ≡ ending_of tree
 
--- in a world of these files and folders and of these answers these questions are wanted, or a reading without questions has this fault
+-- a tree asks these questions, or none and has this fault, in a world that has the known files and folders and just these answers
 pub record AreWanted (contents : TreeContents) (answers : Recorded) (root : List ℕ) (questions : Result (List (List ℕ)) Fault) : Type 0 where
   pub world : World
   pub of_contents : IsWorldOf contents world

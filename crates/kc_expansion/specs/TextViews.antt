@@ -1,9 +1,11 @@
--- Lists of texts, as vectors have them.
+-- Lists of texts, by vectors of vectors.
 use Rattle.std.specs.Prelude.{ℕ, List, Vec, map}
 use Rattle.std.specs.declared.alloc.Global.{Global}
 
+-- the texts of a list of vectors
 abbrev pub items_of : List (Vec ℕ Global) → List (List ℕ)
 items_of vs = map (λ (v : Vec ℕ Global). v.items) vs
 
+-- the texts of a vector of vectors
 abbrev pub texts_of : Vec (Vec ℕ Global) Global → List (List ℕ)
 texts_of vs = items_of vs.items

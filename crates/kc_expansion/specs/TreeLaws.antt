@@ -1,4 +1,4 @@
--- Laws of the expansion of trees that the reader accepts: they are given back as they are.
+-- Laws of the expansion of trees that the reader accepts: they stay as they are.
 use Rattle.std.specs.Prelude.{◌≡◌, ℕ, Bool, true, false, List, [], ◌∷◌, map, filter_map, Option, Some, None, Ok, bytes_eq, if◌then◌else◌}
 use Rattle.std.specs.List.{All}
 use Rattle.kc_expr.specs.declared.language.Language.{Language}
@@ -15,7 +15,7 @@ use Rattle.kc_macros_model.specs.PlainLines.{is_plain_line, is_before_help}
 use Rattle.kc_macros_model.specs.ReadingStates.{ExpandedFile, has_key}
 use Rattle.kc_macros_model.specs.Worlds.{World, returned, Outcome, expansion, wanted}
 
--- the paths that the reader meets, the first among them
+-- the paths that the reader of a tree meets, the first among them
 abbrev pub paths_met : Files → List ℕ → List (List ℕ)
 paths_met files root = root ∷ filter_map sourced_path (reading files root).read
 
@@ -27,7 +27,7 @@ by_key expanded = linux_files (map (λ (f : ExpandedFile). (f.key, f.text)) expa
 abbrev pub text_of_key : List ExpandedFile → List ℕ → Option (List ℕ)
 text_of_key expanded key = file_at (by_key expanded) key
 
--- whether a statement sources this path
+-- whether the statement of a line, if it has one, sources this path
 abbrev pub is_sourced_by : Option Statement → List ℕ → Bool
 is_sourced_by o path = elim (path_to_read o) [ None ↦ false | Some p ↦ bytes_eq p path ]
 
@@ -37,13 +37,13 @@ abbrev pub AcceptedLinesStay : Type 0
 AcceptedLinesStay = (language : Language) (read : List Group) (l : LogicalLine) (o : Option Statement) → l.help ≡ false → statement_on_line language read l ≡ Ok o
     → (is_plain_line (is_sourced_by o) l.text ≡ true) × (is_before_help l.text ≡ begins_help l.text)
 
--- one of these files, with its own bytes under its own path
+-- an expanded file is one of these files: it has its own bytes under its own path
 pub record IsFileOf (files : Files) (f : ExpandedFile) : Type 0 where
   pub key : f.key ≡ f.path
   pub text : file_at files f.path ≡ Some f.text
 
--- An outcome that gives files back: no notice, no question, no work, and exactly the files that the reader meets, each with
--- its own bytes under its own path.
+-- An outcome that returns the files of a tree: no notice, no question, no work, and exactly the files that the reader meets,
+-- each with its own bytes under its own path.
 pub record IsGivenBack (files : Files) (root : List ℕ) (o : Outcome (List ExpandedFile)) : Type 0 where
   pub notices : o.notices ≡ []
   pub questions : o.questions ≡ []
@@ -54,23 +54,24 @@ pub record IsGivenBack (files : Files) (root : List ℕ) (o : Outcome (List Expa
   pub met : (path : List ℕ) → has_key expanded path ≡ is_in_list path (paths_met files root)
   pub texts : (path : List ℕ) → text_of_key expanded path ≡ (if is_in_list path (paths_met files root) then file_at files path else None)
 
--- A tree that the reader accepts, in the strict language or in that of Linux, is given back by the expansion in every world
+-- The expansion returns the files of a tree that the reader accepts, in the strict language or in that of Linux, in every world
 -- that has its files, whatever else is in that world and whatever the answers are. The limits of the reader are those of the
 -- expansion: 4,096 files, 67,108,864 bytes, 32 files open within each other, 65,536 bytes of a line.
 abbrev pub AcceptedTreesStay : Type 0
 AcceptedTreesStay = (w : World) (files : Files) (root : List ℕ) → first_tree_fault files root ≡ None → AreAmong (file_at files) w.bytes → IsGivenBack files root (expansion w root)
 
--- such a tree wants no answer
+-- a tree that the reader accepts wants no answer
 abbrev pub AcceptedTreesWantNothing : Type 0
 AcceptedTreesWantNothing = (w : World) (files : Files) (root : List ℕ) → first_tree_fault files root ≡ None → AreAmong (file_at files) w.bytes → wanted w root ≡ Ok []
 
--- The reader reads the expanded files of such a tree as it reads the tree itself, where they have the numbers of its files.
+-- The reader reads the expanded files of a tree that it accepts as it reads the tree itself, where they have the numbers of
+-- its files.
 abbrev pub ReadingsStay : Type 0
 ReadingsStay = (w : World) (files : Files) (root : List ℕ) (expanded : List ExpandedFile) → first_tree_fault files root ≡ None → AreAmong (file_at files) w.bytes → (expansion w root).ending ≡ returned expanded
     → reading_from (record { language = files.language; bytes = text_of_key expanded; number = index_of_file files; root = root }) ≡ reading files root
 
--- A tree that was expanded is given back when it is expanded again, with no answers or with any, if the reader accepts its
--- files by their keys in the language of Linux: those of its files that the reader meets.
+-- A second expansion of a tree, with no answers or with any, returns the files of the first that the reader meets, if it accepts
+-- them by their keys in the language of Linux.
 abbrev pub ExpandedTreesStay : Type 0
 ExpandedTreesStay = (w again : World) (root : List ℕ) (files : List ExpandedFile) → (expansion w root).ending ≡ returned files
     → first_tree_fault (by_key files) root ≡ None → AreAmong (text_of_key files) again.bytes → IsGivenBack (by_key files) root (expansion again root)
@@ -79,16 +80,16 @@ ExpandedTreesStay = (w again : World) (root : List ℕ) (files : List ExpandedFi
 abbrev pub MeetsEach : List ExpandedFile → List ℕ → Type 0
 MeetsEach files root = (key : List ℕ) → has_key files key ≡ true → is_in_list key (paths_met (by_key files) root) ≡ true
 
--- where the reader meets each of the expanded files, all are given back: the second expansion has the text of the first under
--- each key, and each key is a path
+-- an outcome returns just these expanded files: it has their texts under their keys, and each key is a path
 pub record IsSameTree (files : List ExpandedFile) (o : Outcome (List ExpandedFile)) : Type 0 where
   pub expanded : List ExpandedFile
   pub ending : o.ending ≡ returned expanded
   pub paths : All (λ (f : ExpandedFile). f.key ≡ f.path) expanded
   pub texts : (key : List ℕ) → text_of_key expanded key ≡ text_of_key files key
 
-abbrev pub WholeTreesStay : Type 0
-WholeTreesStay = (w again : World) (root : List ℕ) (files : List ExpandedFile) → (expansion w root).ending ≡ returned files
+-- a second expansion returns all expanded files, where the reader accepts them and meets each
+abbrev pub AllFilesStay : Type 0
+AllFilesStay = (w again : World) (root : List ℕ) (files : List ExpandedFile) → (expansion w root).ending ≡ returned files
     → first_tree_fault (by_key files) root ≡ None → AreAmong (text_of_key files) again.bytes → MeetsEach files root → IsSameTree files (expansion again root)
 
 -- An expansion of which the reader accepts the files without meeting each. There are such: a line after a help text of which

@@ -5,7 +5,7 @@ pub mod PatternRuns
 pub mod ExpandedViews
 pub mod WrittenViews
 pub mod Sizes
-pub mod Leads
+pub mod ProgramSteps
 pub mod ReadingViews
 pub mod ChoiceViews
 pub mod Slices

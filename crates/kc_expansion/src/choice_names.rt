@@ -1,4 +1,4 @@
-//! The names of choices.
+//! The names that the choices of a tree have.
 ghost use Rattle.std.specs.Prelude.{◌≡◌, ◌∷◌, [], false, OnOk, OnErr};
 ghost use Rattle.kc_tree_model.specs.Limits.{is_in_list};
 
@@ -7,7 +7,7 @@ use kc_value::Seed;
 use std::alloc::{AllocError, Global};
 use std::marker::Model;
 
-/// The names that choices have, the last one first.
+/// The names that choices had so far, the last one first.
 #[derive(Drop)]
 pub(crate) struct ChoiceNames {
     alloc: Global,
@@ -25,7 +25,7 @@ impl Model for ChoiceNames {
 }
 
 impl ChoiceNames {
-    /// No names; they are hashed by this seed.
+    /// No names; `seed` will hash them.
     pub(crate) fn new(alloc: Global, seed: Seed) -> ChoiceNames
         ensures { result ≡ [] }
     {
@@ -35,20 +35,20 @@ impl ChoiceNames {
         }
     }
 
-    /// Whether a choice has this name.
+    /// Whether a choice had this name.
     pub(crate) fn has(&self, name: &[u8]) -> bool
         ensures { result ≡ is_in_list name.now self.now }
     {
         self.names.get(name).is_some()
     }
 
-    /// A name that no choice has yet.
+    /// Adds a name that no choice had.
     ///
     /// # Errors
     ///
     /// Where memory runs out, nothing is changed.
     pub(crate) fn insert(&mut self, name: &[u8]) -> Result<(), AllocError>
-        requires { is_in_list name.now self.old ≡ false }
+        requires absent { is_in_list name.now self.old ≡ false }
         ensures ok { OnOk result (self.new ≡ name.now ∷ self.old) }
         ensures err { OnErr result (self.new ≡ self.old) }
     {

@@ -13,14 +13,14 @@ use std::alloc::{AllocError, Global};
 use std::marker::Model;
 use std::rc::Rc;
 
-/// The path that was read for a key, and what its lines became.
+/// The path of the file of a key, and its expanded text.
 #[derive(Drop)]
 pub(crate) struct FileOfKey {
     pub path: Vec<u8>,
     pub text: Rc<Vec<u8>>,
 }
 
-/// Expanded files by their keys, in the order in which they were read to their ends.
+/// Expanded files by their keys, in the order in which their last lines were read.
 #[derive(Drop)]
 pub(crate) struct ExpandedFiles {
     alloc: Global,
@@ -38,7 +38,7 @@ impl Model for ExpandedFiles {
     ghost view = { λ e. map expanded_file e.files.entries };
 }
 
-/// A path, `#` and a number.
+/// A key: a path, `#` and a number.
 fn numbered(alloc: Global, path: &[u8], number: usize) -> Result<Vec<u8>, AllocError>
     ensures { IfOk result (λ key. key.items ≡ path.now ++ 35 ∷ decimal number) }
 {
@@ -50,7 +50,7 @@ fn numbered(alloc: Global, path: &[u8], number: usize) -> Result<Vec<u8>, AllocE
 }
 
 impl ExpandedFiles {
-    /// No files; keys are hashed by this seed.
+    /// No files; `seed` will hash their keys.
     pub(crate) fn new(alloc: Global, seed: Seed) -> ExpandedFiles
         ensures { result ≡ [] }
     {
@@ -60,16 +60,16 @@ impl ExpandedFiles {
         }
     }
 
-    /// The number of files; no two have one key.
+    /// The number of files, no two of which have the same key.
     pub(crate) fn len(&self) -> usize
-        ensures len { result ≡ length self.now }
+        ensures value { result ≡ length self.now }
         ensures small { result < 2 ^ 63 }
         ensures distinct { HasDistinctKeys self.now }
     {
         self.files.len()
     }
 
-    /// The file at a place, if there are so many.
+    /// The file at a place from 0 on, or none past the last.
     pub(crate) fn get(&self, at: usize) -> Option<ExpandedText<'_>>
         ensures { option_map file_of_slices result ≡ slice_get self.now at }
     {
@@ -92,8 +92,8 @@ impl ExpandedFiles {
 
     /// Whether a key is the root's, or that of a file with other bytes.
     fn is_taken(&self, root: &[u8], text: &[u8], key: &[u8]) -> bool
-        requires { HasDistinctKeys self.now }
-        ensures { result ≡ is_taken root.now self.now text.now key.now }
+        requires distinct { HasDistinctKeys self.now }
+        ensures value { result ≡ is_taken root.now self.now text.now key.now }
     {
         if key == root {
             return true;
@@ -104,8 +104,8 @@ impl ExpandedFiles {
         }
     }
 
-    /// The key of a text that was read for a path: the path, or else the path with the first number from 2 on that isn't
-    /// taken. Each key before it is looked up once.
+    /// The key of the text of a path: the path, or else the path with the first number from 2 on that isn't taken. Each key
+    /// before it is looked up once.
     fn key_of(&self, root: &[u8], path: &[u8], text: &[u8]) -> Result<Vec<u8>, AllocError>
         ensures { IfOk result (λ key. key.items ≡ key_of root.now self.now path.now text.now) }
     {
@@ -120,9 +120,9 @@ impl ExpandedFiles {
         Ok(key)
     }
 
-    /// Keeps a text under a key that no file has.
+    /// Appends the text of a path under a key that no file has.
     fn push(&mut self, key: &[u8], path: &[u8], text: Rc<Vec<u8>>) -> Result<(), AllocError>
-        requires { has_key self.old key.now ≡ false }
+        requires absent { has_key self.old key.now ≡ false }
         ensures ok { OnOk result (self.new ≡ self.old ++ record { key = key.now; path = path.now; text = text.value.items } ∷ []) }
         ensures err { OnErr result (self.new ≡ self.old) }
     {
@@ -132,7 +132,7 @@ impl ExpandedFiles {
         Ok(())
     }
 
-    /// Keeps the text that was read for a path under the path, unless a file has that key; returns whether none had.
+    /// Appends the text of a path under the path as its key, unless a file has that key; returns whether none had.
     fn push_first(&mut self, path: &[u8], text: Rc<Vec<u8>>) -> Result<bool, AllocError>
         ensures first { IfOk result (λ first. first ≡ not (has_key self.old path.now)) }
         ensures ok { OnOk result (self.new ≡ with_file path.now path.now text.value.items self.old) }
@@ -145,7 +145,7 @@ impl ExpandedFiles {
         Ok(self.files.len() > before)
     }
 
-    /// Keeps the text that was read for a path whose key may be another, as another file has that path.
+    /// Appends the text of a path under the first key that isn't taken, unless it is there; returns the key.
     fn keep_beside(
         &mut self,
         root: &[u8],
@@ -164,7 +164,7 @@ impl ExpandedFiles {
         Ok(key)
     }
 
-    /// Keeps the text that was read for a path, and returns its key; a text that is there under its key isn't kept twice.
+    /// Appends the text of a path, and returns its key; a text that is there under its key isn't appended again.
     ///
     /// # Errors
     ///
@@ -189,7 +189,7 @@ impl ExpandedFiles {
         self.keep_beside(root, path, text)
     }
 
-    /// The path that was read for a key, if a file has it.
+    /// The path of the file of a key, if there is one.
     pub(crate) fn path_of(&self, key: &[u8]) -> Option<&[u8]>
         ensures { option_map (λ p. p.now) result ≡ path_of_key self.now key.now }
     {

@@ -7,7 +7,7 @@ use super::expanded_files::ExpandedFiles;
 use std::marker::Model;
 use std::rc::Rc;
 
-/// An expanded file: its key, the path that was read for it, and its text.
+/// An expanded file: its key, which expanded `source` lines name, the path that was read for it, and its text.
 #[derive(Clone, Copy)]
 pub struct ExpandedText<'a> {
     pub key: &'a [u8],
@@ -15,7 +15,7 @@ pub struct ExpandedText<'a> {
     pub text: &'a [u8],
 }
 
-/// The expanded files of a tree, in the order in which they were read to their ends. The first file of the tree is the last.
+/// The expanded files of a tree, in the order in which their last lines were read. So the first file of the tree is the last.
 #[derive(Drop)]
 pub struct ExpandedTree {
     sourced: ExpandedFiles,
@@ -33,7 +33,7 @@ impl Model for ExpandedTree {
 }
 
 impl ExpandedTree {
-    /// The expanded files that were sourced, and the first file with its text.
+    /// A tree of the expanded files that were sourced, and of the first file with its text.
     pub(crate) fn new(sourced: ExpandedFiles, root: Vec<u8>, text: Rc<Vec<u8>>) -> ExpandedTree
         ensures { result ≡ sourced ++ record { key = root.items; path = root.items; text = text.value.items } ∷ [] }
     {
@@ -51,7 +51,7 @@ impl ExpandedTree {
         self.sourced.len() + 1
     }
 
-    /// The expanded file at a place, if there are so many.
+    /// The expanded file at a place from 0 on, or none past the last.
     pub fn get(&self, at: usize) -> Option<ExpandedText<'_>>
         ensures { option_map file_of_slices result ≡ slice_get self.now at }
     {
@@ -65,7 +65,7 @@ impl ExpandedTree {
         self.sourced.get(at)
     }
 
-    /// The path that was read for a key, if a file has it.
+    /// The path that was read for the file of a key, if there is one.
     pub fn path_of(&self, key: &[u8]) -> Option<&[u8]>
         ensures { option_map (λ p. p.now) result ≡ path_of_key self.now key.now }
     {

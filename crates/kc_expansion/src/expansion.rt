@@ -1,4 +1,4 @@
-//! The public calls: the expansion of a tree, and the questions that its reading meets.
+//! The expansion of a tree, and the questions that it asks.
 ghost use Rattle.std.specs.Prelude.{◌≡◌, ◌≤◌, ℕ, List, Vec, IfOk, OnOk, length, map};
 ghost use Rattle.std.specs.declared.alloc.Global.{Global};
 ghost use Rattle.kc_macros_model.specs.ReadingStates.{ExpandedFile, initial_state};
@@ -22,7 +22,7 @@ use super::files::TreeFiles;
 use super::limits::{MAX_FILES, MAX_TREE_BYTES};
 use super::line_steps::LineState;
 use super::open_files::{OpenFiles, with_path};
-use super::reading::Reading;
+use super::reading_state::Reading;
 use super::source_faults::ReadCounts;
 use super::store::Store;
 use super::tree_reading::read_lines;
@@ -38,7 +38,7 @@ pub struct Expansion {
     pub tree: Result<ExpandedTree, MacroFault>,
 }
 
-/// A reading that has read nothing.
+/// A reading at its start.
 fn new_reading(alloc: Global, seed: Seed, answers: &Answers, all_answered: bool) -> Reading<'_>
     ensures run { result.lines.run ≡ run_at_start answers.now all_answered }
     ensures state { state_of result ≡ initial_state }
@@ -58,14 +58,14 @@ fn new_reading(alloc: Global, seed: Seed, answers: &Answers, all_answered: bool)
     }
 }
 
-/// Reads the first file of a tree, and what its lines source; returns its expanded text.
+/// Reads the first file of a tree and all files that its lines source; returns its expanded text.
 fn read_root<F: TreeFiles>(
     reading: &mut Reading<'_>,
     files: &mut F,
     root: &[u8],
 ) -> Result<Rc<Vec<u8>>, Stop>
-    requires { state_of reading.old ≡ initial_state }
-    ensures { Reads (file_run_of (F.contents files.old) reading.old) (file_run_of (F.contents files.new) reading.new) (tree_read root.now) (end_of (λ text. with_root root.now text.value.items reading.new.expanded) result) }
+    requires initial { state_of reading.old ≡ initial_state }
+    ensures reads { Reads (file_run_of (F.contents files.old) reading.old) (file_run_of (F.contents files.new) reading.new) (tree_read root.now) (end_of (λ text. with_root root.now text.value.items reading.new.expanded) result) }
 {
     let at = Place {
         file: root,
@@ -92,15 +92,15 @@ fn read_root<F: TreeFiles>(
     read_lines(reading, files, &opened, root, bytes)
 }
 
-/// The expanded files of a reading that isn't stopped, or its fault; the text of the first file goes last.
+/// The expanded files of a reading that isn't stopped, the first file of the tree last, or the fault of the reading.
 fn read_tree(
     alloc: Global,
     read: Result<Rc<Vec<u8>>, Stop>,
     sourced: ExpandedFiles,
     root: &[u8],
 ) -> Result<Result<ExpandedTree, MacroFault>, AllocError>
-    requires { GoesOn read }
-    ensures { IfOk result (λ tree. end_of (λ text. with_root root.now text.value.items sourced) read ≡ ends (ending_of (tree_of tree))) }
+    requires goes_on { GoesOn read }
+    ensures tree { IfOk result (λ tree. end_of (λ text. with_root root.now text.value.items sourced) read ≡ ends (ending_of (tree_of tree))) }
 {
     match read {
         Ok(text) => {
@@ -144,7 +144,7 @@ pub fn expand<F: TreeFiles>(
     })
 }
 
-/// The questions that were met, or the fault of a reading that met none.
+/// The questions that a reading met, or its fault where it met none.
 fn wanted_by(
     read: Result<Rc<Vec<u8>>, Stop>,
     questions: Vec<Vec<u8>>,

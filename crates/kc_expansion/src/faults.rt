@@ -1,12 +1,12 @@
 //! Faults of the expansion of a tree.
 ghost use Rattle.kc_macros.specs.Runs.{place_of};
-ghost use Rattle.kc_macros.specs.checker.Events.{FailsWith};
+ghost use Rattle.kc_macros.specs.between.Stops.{FailsWith};
 ghost use Rattle.kc_expansion.specs.checker.ReadingViews.{fault_at};
 
 use kc_macros::{Bytes, MacroFault, MacroKind, Place, Stop};
 use std::alloc::Global;
 
-/// The stop for a fault at a line; want of memory where the fault can't be kept.
+/// Stops a reading by a fault at a line, or by running out of memory where the fault can't be copied.
 pub(crate) fn fault(alloc: Global, at: Place<'_>, kind: MacroKind) -> Stop
     ensures { FailsWith (fault_at (place_of at.entry) kind) result }
 {

@@ -1,4 +1,4 @@
-//! Reading the bytes of a file.
+//! The bytes of a file, as far as they are read.
 ghost use Rattle.std.specs.Prelude.{◌≡◌, ◌⊎◌, ◌≤◌, IfOk, IfSome, length};
 ghost use Rattle.std.specs.Io.KnownBytes.{Consumes, IsAtEnd};
 ghost use Rattle.kc_expansion.specs.between.KnownFiles.{MatchFile, content_of_reader};
@@ -10,7 +10,7 @@ use kc_value::Source;
 use std::alloc::{AllocError, Global};
 use std::rc::Rc;
 
-/// A file is missing, has these bytes, or has more bytes than may be read.
+/// The reading of a file: it is missing, has these bytes, or has more bytes than may be read.
 #[derive(Drop)]
 pub(crate) enum FileRead {
     Missing,
@@ -18,8 +18,8 @@ pub(crate) enum FileRead {
     TooLong,
 }
 
-/// All bytes of a reader, or the first `MAX_FILE_BYTES` of more; nothing where a read fails. `room` is for how many bytes
-/// room is made at once, and `block` is read into.
+/// All bytes of a reader, or the first `MAX_FILE_BYTES` of more; nothing where a read fails. Room is made for `room` bytes at
+/// once, and `block` is read into.
 fn read_front<S: Source>(
     alloc: Global,
     source: &mut S,
@@ -42,7 +42,7 @@ fn read_front<S: Source>(
     Ok(Some(bytes))
 }
 
-/// What is read of a reader's bytes.
+/// The reading of the file of a reader; one that fails means a missing file.
 fn read_bytes<S: Source>(
     alloc: Global,
     source: &mut S,
@@ -58,7 +58,7 @@ fn read_bytes<S: Source>(
     }
 }
 
-/// What is read of the file of a path, which is opened, by blocks of bytes.
+/// Opens the file of a path, and reads it by blocks of bytes.
 ///
 /// # Errors
 ///

@@ -1,4 +1,4 @@
-//! What was read of paths.
+//! The files that were read, by their paths.
 ghost use Rattle.std.specs.Prelude.{◌≡◌, [], ◌∷◌, ◌++◌, None, OnOk, OnErr, option_map};
 ghost use Rattle.kc_tree_model.specs.Keywords.{keyword_in_table};
 ghost use Rattle.kc_expansion.specs.checker.FileViews.{file_of};
@@ -9,7 +9,7 @@ use kc_value::Seed;
 use std::alloc::{AllocError, Global};
 use std::marker::Model;
 
-/// Paths, with what was read of them.
+/// Paths, each with the reading of its file.
 #[derive(Drop)]
 pub(crate) struct FileTable {
     alloc: Global,
@@ -28,7 +28,7 @@ impl Model for FileTable {
 }
 
 impl FileTable {
-    /// No paths; they are hashed by this seed.
+    /// No paths; `seed` will hash them.
     pub(crate) fn new(alloc: Global, seed: Seed) -> FileTable
         ensures { result ≡ [] }
     {
@@ -38,20 +38,20 @@ impl FileTable {
         }
     }
 
-    /// What was read of a path, if it was.
+    /// The reading of the file of a path, if it was read.
     pub(crate) fn get(&self, path: &[u8]) -> Option<&FileRead>
         ensures { option_map (λ r. file_of r.now) result ≡ keyword_in_table self.now path.now }
     {
         self.entries.get(path)
     }
 
-    /// Notes what was read of a path that isn't there.
+    /// Adds the reading of the file of a path that the table doesn't have.
     ///
     /// # Errors
     ///
     /// Where memory runs out, nothing is changed.
     pub(crate) fn insert(&mut self, path: &[u8], read: FileRead) -> Result<(), AllocError>
-        requires { keyword_in_table self.old path.now ≡ None }
+        requires absent { keyword_in_table self.old path.now ≡ None }
         ensures ok { OnOk result (self.new ≡ self.old ++ (path.now, file_of read) ∷ []) }
         ensures err { OnErr result (self.new ≡ self.old) }
     {

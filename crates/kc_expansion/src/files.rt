@@ -1,4 +1,4 @@
-//! The files of a tree, from outside.
+//! The files and folders of a tree.
 ghost use Rattle.std.specs.Prelude.{◌≡◌, IfOk, option_map};
 ghost use Rattle.kc_expansion.specs.TextViews.{texts_of};
 ghost use Rattle.kc_expansion.specs.TreeContents.{TreeContents, OpensAs, ListsAs};
@@ -11,7 +11,7 @@ pub trait TreeFiles {
     /// The reader of an open file.
     type File: Source + Drop;
 
-    /// What is known of each path and each folder.
+    /// The known contents of each path and each folder.
     ghost contents: { Self → TreeContents };
 
     /// The seed by which paths and names are hashed; it changes no answer.

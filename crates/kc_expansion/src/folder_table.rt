@@ -1,4 +1,4 @@
-//! The names that folders have.
+//! The folders that were listed, with their names.
 ghost use Rattle.std.specs.Prelude.{◌≡◌, [], ◌∷◌, ◌++◌, None, OnOk, OnErr, option_map};
 ghost use Rattle.kc_tree_model.specs.Keywords.{keyword_in_table};
 ghost use Rattle.kc_expansion.specs.checker.FileViews.{folder_of_names};
@@ -8,7 +8,7 @@ use kc_value::Seed;
 use std::alloc::{AllocError, Global};
 use std::marker::Model;
 
-/// Folders, with the names in them; one with more than may be listed has none.
+/// Folders, with the names in them; `None` for one with more than may be listed.
 #[derive(Drop)]
 pub(crate) struct FolderTable {
     alloc: Global,
@@ -27,7 +27,7 @@ impl Model for FolderTable {
 }
 
 impl FolderTable {
-    /// No folders; they are hashed by this seed.
+    /// No folders; `seed` will hash their paths.
     pub(crate) fn new(alloc: Global, seed: Seed) -> FolderTable
         ensures { result ≡ [] }
     {
@@ -44,7 +44,7 @@ impl FolderTable {
         self.entries.get(folder)
     }
 
-    /// Notes the names of a folder that isn't there.
+    /// Adds a folder that the table doesn't have, with its names.
     ///
     /// # Errors
     ///
@@ -54,7 +54,7 @@ impl FolderTable {
         folder: &[u8],
         names: Option<Vec<Vec<u8>>>,
     ) -> Result<(), AllocError>
-        requires { keyword_in_table self.old folder.now ≡ None }
+        requires absent { keyword_in_table self.old folder.now ≡ None }
         ensures ok { OnOk result (self.new ≡ self.old ++ (folder.now, folder_of_names names) ∷ []) }
         ensures err { OnErr result (self.new ≡ self.old) }
     {

@@ -18,14 +18,14 @@ fn is_word(byte: u8) -> bool
     byte.is_ascii_alphanumeric() || matches!(byte, b'_' | b'-' | b'.' | b'/')
 }
 
-/// How many white bytes come first.
+/// How many white bytes a text begins with.
 fn white_length(text: &[u8]) -> usize
     ensures { result ≡ length (take_while is_white_byte text.now) }
 {
     text.iter().take_while(|byte| is_white(**byte)).count()
 }
 
-/// How many bytes of a word come first.
+/// How many bytes of a word a text begins with.
 fn word_length(text: &[u8]) -> usize
     ensures { result ≡ length (take_while is_word_byte text.now) }
 {
@@ -39,7 +39,7 @@ fn is_help_word(word: &[u8]) -> bool
     word == b"help".as_slice() || word == b"---help---".as_slice()
 }
 
-/// Whether nothing but white bytes and a comment is left of a line.
+/// Whether the rest of a line has nothing but white bytes and a comment.
 fn is_end(text: &[u8]) -> bool
     ensures { result ≡ is_end text.now }
 {

@@ -1,5 +1,5 @@
 //! Laws of the expansion of trees that the reader accepts.
-ghost use Rattle.kc_expansion.specs.TreeLaws.{AcceptedLinesStay, AcceptedTreesStay, AcceptedTreesWantNothing, ReadingsStay, ExpandedTreesStay, WholeTreesStay, LosesAFile};
+ghost use Rattle.kc_expansion.specs.TreeLaws.{AcceptedLinesStay, AcceptedTreesStay, AcceptedTreesWantNothing, ReadingsStay, ExpandedTreesStay, AllFilesStay, LosesAFile};
 
 /// A line that the reader accepts has nothing to expand, is no assignment, and is of no form that is written anew but a
 /// `source` of the path that the reader sources.
@@ -9,18 +9,18 @@ pub fn accepted_lines_stay()
 
 /// The expansion changes nothing of a tree that the reader accepts: without notices and questions, and whatever the answers,
 /// it returns exactly the files that the reader meets, each with its own bytes under its own path. No answer is wanted, and
-/// the reader reads what is returned as it reads the tree.
+/// the reader reads the returned files as it reads the tree.
 pub fn accepted_trees_stay()
     ensures files { AcceptedTreesStay }
     ensures questions { AcceptedTreesWantNothing }
     ensures reading { ReadingsStay }
 {}
 
-/// A tree that was expanded is given back when it is expanded again, if the reader accepts it: the files that the reader
-/// meets, and where it meets each, all of them. It may meet fewer: for example a blank line that the first expansion leaves
-/// after a help text lets that go on.
+/// A tree that was expanded is returned when it is expanded again, if the reader accepts it: the files that the reader meets,
+/// and where it meets each, all of them. It may meet fewer: for example a blank line that the first expansion leaves after a
+/// help text lets that go on.
 pub fn expanded_trees_stay()
     ensures met { ExpandedTreesStay }
-    ensures all { WholeTreesStay }
+    ensures all { AllFilesStay }
     ensures fewer { LosesAFile }
 {}

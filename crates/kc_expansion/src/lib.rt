@@ -1,4 +1,4 @@
-//! The expansion of a tree: its files are read as their lines source them, and written with the values of macros.
+//! The expansion of a tree: each file is read where a line sources it, and written with the values of its macros.
 #![tactic(auto)]
 
 mod choice_names;
@@ -15,11 +15,11 @@ mod laws;
 mod limits;
 mod line_places;
 mod line_steps;
-mod matching;
+mod name_matches;
 mod open_files;
 mod paths;
 mod patterns;
-mod reading;
+mod reading_state;
 mod same_lines;
 mod source_faults;
 mod source_lines;

@@ -1,4 +1,4 @@
-//! The limits of the expansion of a tree. Those of files, bytes and lines are the limits of the reader as well.
+//! The limits of the expansion of a tree. The limits of files, bytes and lines are those of the reader of trees.
 
 /// The most files that are read for a tree, lists of files among them; a file that is sourced twice counts twice.
 pub const MAX_FILES: usize = kc_value::MAX_FILES;

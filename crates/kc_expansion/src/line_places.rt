@@ -1,4 +1,4 @@
-//! The places of the lines of a file, and its lines written anew.
+//! The places of the lines of a file, and the lines that are replaced.
 ghost use Rattle.std.specs.Prelude.{true, ◌≡◌, ◌<◌, ◌≤◌, ◌+◌, ◌-◌, ◌++◌, ℕ, suc, ◌==◌, length, count_by, drop, take, slice_range, OnOk};
 ghost use Rattle.kc_tree_model.specs.LogicalLines.{is_continued, physical_lines, split_at_newlines};
 ghost use Rattle.kc_macros_model.specs.TreeExpansion.{lines_written};
@@ -19,8 +19,8 @@ pub(crate) struct LineStart {
 
 /// Whether the line at a place goes on in the next one.
 pub(crate) fn is_continued_at(bytes: &[u8], at: usize) -> bool
-    requires { at < length bytes.now }
-    ensures { result ≡ is_first_continued (physical_lines (drop at bytes.now)) }
+    requires there { at < length bytes.now }
+    ensures value { result ≡ is_first_continued (physical_lines (drop at bytes.now)) }
 {
     let line = physical_at(bytes, at);
     line.ended && line.end > at && bytes[line.end - 1] == b'\\'
@@ -31,7 +31,7 @@ fn after_help_text(bytes: &[u8], after: LineStart) -> LineStart
     requires within { after.at ≤ length bytes.now }
     requires small { length bytes.now ≤ MAX_TREE_BYTES }
     requires few { after.number ≤ after.at + 1 }
-    ensures { IsHelpPassed bytes.now after true result }
+    ensures passed { IsHelpPassed bytes.now after true result }
 {
     let help = help_at(bytes, after.at);
     LineStart {
@@ -45,7 +45,7 @@ pub(crate) fn after_help(bytes: &[u8], after: LineStart, begins_help: bool) -> L
     requires within { after.at ≤ length bytes.now }
     requires small { length bytes.now ≤ MAX_TREE_BYTES }
     requires few { after.number ≤ after.at + 1 }
-    ensures { IsHelpPassed bytes.now after begins_help result }
+    ensures passed { IsHelpPassed bytes.now after begins_help result }
 {
     if begins_help {
         return after_help_text(bytes, after);
@@ -60,8 +60,8 @@ fn newline_count(text: &[u8]) -> usize
     text.iter().filter(|byte| **byte == b'\n').count()
 }
 
-/// Writes the new text of a logical line of `lines` physical lines between two places, whose joined text is `text`; where
-/// both are the same, the lines stay.
+/// Replaces the logical line between two places by the text `new` and as many newlines as it has; where `new` is its joined
+/// text `text`, its physical lines stay.
 ///
 /// # Errors
 ///
@@ -75,7 +75,7 @@ pub(crate) fn write_over(
     new: &[u8],
 ) -> Result<(), AllocError>
     requires original { out.old.original.value.items ≡ bytes.now }
-    requires behind { out.old.copied ≤ at }
+    requires copied { out.old.copied ≤ at }
     requires order { at < next }
     requires within { next ≤ length bytes.now }
     ensures original { OnOk result (out.new.original.value.items ≡ bytes.now) }

@@ -1,4 +1,4 @@
-//! What a line becomes, up to the files that it sources.
+//! The first step of a line: it is written, or sources files.
 ghost use Rattle.std.specs.Prelude.{◌≡◌, Bool, List, true, false, ◌||◌, not, nat_lt, length, IfOk, IfErr, Some, option_map};
 ghost use Rattle.std.specs.Str.{is_utf8};
 ghost use Rattle.kc_macros_model.specs.Limits.{max_text_bytes};
@@ -6,15 +6,15 @@ ghost use Rattle.kc_macros_model.specs.LineForms.{form_of, without_gaps};
 ghost use Rattle.kc_macros_model.specs.Programs.{Place as LinePlace, returns};
 ghost use Rattle.kc_macros_model.specs.ReadingStates.{ReadingState, progress, written_line};
 ghost use Rattle.kc_macros_model.specs.TreeExpansion.{SourceReader, choice_written, form_written, short_line, tokens_written, line_written};
-ghost use Rattle.kc_macros.specs.Variables.{bindings_of};
-ghost use Rattle.kc_macros.specs.Assigning.{operator_of};
+ghost use Rattle.kc_macros.specs.between.Variables.{bindings_of};
+ghost use Rattle.kc_macros.specs.between.AssignmentViews.{operator_of};
 ghost use Rattle.kc_macros.specs.Runs.{place_of, Runs, end_of};
-ghost use Rattle.kc_macros.specs.LineContents.{tokens_of};
-ghost use Rattle.kc_macros.specs.LineFormViews.{source_sort_of, form_view};
+ghost use Rattle.kc_macros.specs.between.LineContents.{tokens_of};
+ghost use Rattle.kc_macros.specs.between.LineFormViews.{source_sort_of, form_view};
 ghost use Rattle.kc_expansion.specs.TreeContents.{TreeContents};
 ghost use Rattle.kc_expansion.specs.between.KnownFiles.{KnownFiles};
 ghost use Rattle.kc_expansion.specs.between.Reads.{FileRun, file_run, Reads};
-ghost use Rattle.kc_expansion.specs.checker.Leads.{Steps};
+ghost use Rattle.kc_expansion.specs.checker.ProgramSteps.{Steps};
 ghost use Rattle.kc_expansion.specs.checker.ReadingViews.{with_lines, step_left, IsNoPath, IsNoSource, assigned_or_fault};
 
 use super::choice_names::ChoiceNames;
@@ -27,7 +27,7 @@ use kc_macros::{
 };
 use std::alloc::{AllocError, Global};
 
-/// The state that lines act on: the run, the variables, and the names of choices.
+/// The state that lines change: the run, the variables, and the names of choices.
 #[derive(Drop)]
 pub(crate) struct LineState<'a> {
     pub run: Run<'a>,
@@ -35,14 +35,14 @@ pub(crate) struct LineState<'a> {
     pub choices: ChoiceNames,
 }
 
-/// What a line becomes, and whether a help text follows it.
+/// The text that a line is written as, and whether a help text follows it.
 #[derive(Drop)]
 pub(crate) struct NewLine {
     pub text: Vec<u8>,
     pub begins_help: bool,
 }
 
-/// The tokens of a `source` line, which `source` it has, and its path as written.
+/// A `source` line: its tokens, its sort, and its path as the line has it.
 #[derive(Drop)]
 pub(crate) struct SourceLine {
     pub tokens: Vec<WrittenToken>,
@@ -50,7 +50,7 @@ pub(crate) struct SourceLine {
     pub given: Vec<u8>,
 }
 
-/// A line is written, or sources files first.
+/// The first step of a line: its text, or the files that have to be read first.
 #[derive(Drop)]
 pub(crate) enum LineStep {
     Written(NewLine),
@@ -88,7 +88,7 @@ fn assign_line(
     assign(&mut state.run, at, &mut state.bindings, assignment)
 }
 
-/// What a line that names a choice becomes: the first choice of a name loses it.
+/// The text of a line that names a choice: the first choice of a name loses it.
 fn choice_line(
     alloc: Global,
     choices: &mut ChoiceNames,
@@ -104,15 +104,15 @@ fn choice_line(
     without_choice_name(alloc, tokens)
 }
 
-/// What a line that sources no files becomes.
+/// The text of a line that sources no files, by its form.
 fn form_text(
     alloc: Global,
     choices: &mut ChoiceNames,
     tokens: &[WrittenToken],
     form: LineForm<'_>,
 ) -> Result<Vec<u8>, AllocError>
-    requires { IsNoSource (form_view form) }
-    ensures { IfOk result (λ t. (sub : SourceReader) (at : LinePlace) (s : ReadingState) → s.choices ≡ choices.old → form_written sub at (tokens_of tokens.now) (form_view form.entry) s ≡ returns (progress t.items (record s { choices = choices.new }))) }
+    requires no_source { IsNoSource (form_view form) }
+    ensures value { IfOk result (λ t. (sub : SourceReader) (at : LinePlace) (s : ReadingState) → s.choices ≡ choices.old → form_written sub at (tokens_of tokens.now) (form_view form.entry) s ≡ returns (progress t.items (record s { choices = choices.new }))) }
 {
     match form {
         LineForm::BarePrompt(text) => with_bare_prompt(alloc, tokens, text),
@@ -171,8 +171,8 @@ pub(crate) fn line_step(
     joined: bool,
     text: &[u8],
 ) -> Result<LineStep, Stop>
-    requires { (nat_lt max_text_bytes (length text.now) || not (is_utf8 text.now)) ≡ false }
-    ensures { (contents : TreeContents) (known : KnownFiles) (sub : SourceReader) (s : ReadingState)
+    requires may_change { (nat_lt max_text_bytes (length text.now) || not (is_utf8 text.now)) ≡ false }
+    ensures steps { (contents : TreeContents) (known : KnownFiles) (sub : SourceReader) (s : ReadingState)
         → Steps (file_run contents known state.old.run) (file_run contents known state.new.run) (line_written sub (place_of at.entry) joined text.now (with_lines state.old s)) (λ step. step_left sub (place_of at.entry) step (with_lines state.new s)) result }
 {
     match read_line(&mut state.run, at, &state.bindings, text)? {

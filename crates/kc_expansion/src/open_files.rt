@@ -11,7 +11,7 @@ pub(crate) struct OpenFiles<'a> {
     pub paths: &'a [&'a [u8]],
 }
 
-/// A path before others.
+/// Paths with one more at their front.
 pub(crate) fn with_path<'a>(
     alloc: Global,
     path: &'a [u8],

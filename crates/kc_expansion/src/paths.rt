@@ -1,4 +1,4 @@
-//! Paths of a tree's files.
+//! The paths of `source` lines.
 ghost use Rattle.std.specs.Prelude.{◌≡◌, ◌==◌, ◌&&◌, not, ◌++◌, ◌∷◌, decimal, IfOk, if◌then◌else◌};
 ghost use Rattle.std.specs.List.{list_any};
 ghost use Rattle.kc_macros_model.specs.PathPatterns.{is_pattern, is_wildcard};
@@ -52,7 +52,7 @@ fn folder_of(path: &[u8]) -> &[u8]
     &path[..end]
 }
 
-/// The path that a `source` means in a file; a relative one begins in the folder of the file.
+/// The path that a `source` of a file means; a relative one begins in the folder of the file.
 ///
 /// # Errors
 ///
@@ -73,7 +73,7 @@ pub(crate) fn path_meant(
     Vec::from_slice(alloc, given)
 }
 
-/// The name of the list of a line: the path of its file, `:` and its number.
+/// The name of the list of files that a line sources: the path of its file, `:` and its number.
 ///
 /// # Errors
 ///

@@ -1,4 +1,4 @@
-//! The files of patterns.
+//! The files that patterns of paths match.
 ghost use Rattle.std.specs.Prelude.{◌≡◌, ◌≢◌, ℕ, ◌<◌, ◌++◌, ◌∷◌, [], IfOk, IfSome, IfNone, OnOk, filter, length, map, slice_index, if◌then◌else◌};
 ghost use Rattle.kc_macros_model.specs.Programs.{Place, list_folder, does};
 ghost use Rattle.kc_macros_model.specs.Worlds.{returned};
@@ -11,7 +11,7 @@ ghost use Rattle.kc_expansion.specs.checker.PatternRuns.{found_of, slashed, IsCu
 
 use super::files::TreeFiles;
 use super::limits::MAX_LISTED_NAMES;
-use super::matching::matches_name;
+use super::name_matches::matches_name;
 use super::paths::is_pattern;
 use super::store::Store;
 use std::alloc::{AllocError, Global};
@@ -41,7 +41,7 @@ impl From<AllocError> for PatternStop {
     }
 }
 
-/// A text after another.
+/// A text with another after it.
 fn joined(alloc: Global, front: &[u8], back: &[u8]) -> Result<Vec<u8>, AllocError>
     ensures { IfOk result (λ text. text.items ≡ front.now ++ back.now) }
 {
@@ -50,7 +50,7 @@ fn joined(alloc: Global, front: &[u8], back: &[u8]) -> Result<Vec<u8>, AllocErro
     Ok(text)
 }
 
-/// Adds the names that match a piece, as paths below a folder.
+/// Appends the names that match a piece, as paths in a folder.
 fn push_matching(
     alloc: Global,
     names: &[Vec<u8>],
@@ -69,7 +69,7 @@ fn push_matching(
     Ok(())
 }
 
-/// Lists a folder, and adds its names that match a piece.
+/// Lists a folder, and appends those of its names that match a piece, as paths.
 fn push_listed<F: TreeFiles>(
     alloc: Global,
     store: &mut Store,
@@ -95,7 +95,7 @@ fn push_listed<F: TreeFiles>(
     Ok(())
 }
 
-/// Adds the paths of a piece in a folder; a piece that is no pattern is taken as it is.
+/// Appends the paths that a piece matches in a folder; a piece that is no pattern is taken as a name, and nothing is listed.
 fn push_paths<F: TreeFiles>(
     alloc: Global,
     store: &mut Store,
@@ -118,7 +118,7 @@ fn push_paths<F: TreeFiles>(
     Ok(())
 }
 
-/// The paths of a piece in some folders.
+/// The paths that a piece matches in some folders.
 fn paths_in_folders<F: TreeFiles>(
     alloc: Global,
     store: &mut Store,
@@ -156,22 +156,22 @@ fn place_of_slash(path: &[u8]) -> Option<usize>
     None
 }
 
-/// A path, cut at its first slash.
+/// A path, cut at its first slash: the piece before it and the rest after it.
 #[derive(Clone, Copy)]
 struct CutPath<'a> {
     piece: &'a [u8],
-    behind: &'a [u8],
+    tail: &'a [u8],
 }
 
 /// Cuts a path at its first slash, if it has one.
 fn cut_at_slash(path: &[u8]) -> Option<CutPath<'_>>
-    ensures some { IfSome result (λ c. IsCut path.now c.piece.now c.behind.now) }
+    ensures some { IfSome result (λ c. IsCut path.now c.piece.now c.tail.now) }
     ensures none { IfNone result (path_pieces path.now ≡ path.now ∷ []) }
 {
     match place_of_slash(path) {
         Some(at) => Some(CutPath {
             piece: &path[..at],
-            behind: &path[at + 1..],
+            tail: &path[at + 1..],
         }),
         None => None,
     }
@@ -242,12 +242,12 @@ fn matching_paths<F: TreeFiles>(
             Ok(folders) => found = folders,
             Err(stop) => return Err(stop),
         }
-        rest = cut.behind;
+        rest = cut.tail;
     }
     paths_in_folders(alloc, store, files, rest, &found.paths, found.listed)
 }
 
-/// Adds a path if it can be read.
+/// Appends a path where `readable` is true.
 fn push_if(
     alloc: Global,
     readable: bool,
@@ -263,7 +263,7 @@ fn push_if(
     Ok(())
 }
 
-/// Those paths that can be read.
+/// Those of some paths whose files can be read.
 pub(crate) fn readable_paths<F: TreeFiles>(
     alloc: Global,
     store: &mut Store,

@@ -6,7 +6,7 @@ ghost use Rattle.kc_expansion.specs.checker.SameLines.{MayStay};
 
 use super::help_words::begins_help;
 use super::limits::MAX_LINE_BYTES;
-use super::matching::is_utf8;
+use super::name_matches::is_utf8;
 use kc_macros::is_copied;
 
 /// The line after which most help texts begin.
@@ -20,7 +20,7 @@ fn is_refused(text: &[u8]) -> bool
 }
 
 /// Whether a help text follows a line that stays as it is: one without macros, one that is too long, or one that isn't
-/// UTF-8; `None` where the line may change.
+/// UTF-8. `None` where the line may change.
 pub(crate) fn stays(text: &[u8]) -> Option<bool>
     ensures { MayStay text.now result }
 {

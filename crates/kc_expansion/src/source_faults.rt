@@ -12,7 +12,7 @@ use super::limits::{MAX_FILES, MAX_OPEN_FILES, MAX_TREE_BYTES};
 use kc_macros_model::MacroKind;
 use std::rc::Rc;
 
-/// How many files and bytes were read.
+/// How many files and bytes of a tree were read.
 #[derive(Clone, Copy)]
 pub(crate) struct ReadCounts {
     pub files: usize,
@@ -20,11 +20,11 @@ pub(crate) struct ReadCounts {
 }
 
 impl ReadCounts {
-    /// The counts with a file of this many bytes more.
+    /// The counts after one more file of `bytes` bytes.
     pub(crate) fn with(self, bytes: usize) -> ReadCounts
         requires files { self.files < MAX_FILES }
         requires bytes { self.bytes + bytes ≤ MAX_TREE_BYTES }
-        ensures { result ≡ record { files = self.files + 1; bytes = self.bytes + bytes } }
+        ensures value { result ≡ record { files = self.files + 1; bytes = self.bytes + bytes } }
     {
         ReadCounts {
             files: self.files + 1,
@@ -40,21 +40,21 @@ fn is_same(one: &[u8], other: &[u8]) -> bool
     one == other
 }
 
-/// Whether a path is open.
+/// Whether the file of a path is open.
 fn is_open(open_files: &[&[u8]], path: &[u8]) -> bool
     ensures { result ≡ list_any (λ o. bytes_eq o.now path.now) open_files.now }
 {
     open_files.iter().any(|other| is_same(other, path))
 }
 
-/// Whether a file of this many bytes is one too many.
+/// Whether a file of `bytes` bytes is one too many, or has too many bytes.
 fn is_too_many(counts: ReadCounts, bytes: usize) -> bool
     ensures { result ≡ (nat_le max_files counts.files || nat_lt max_bytes (counts.bytes + bytes)) }
 {
     counts.files >= MAX_FILES || counts.bytes.saturating_add(bytes) > MAX_TREE_BYTES
 }
 
-/// The fault of a file of this many bytes that isn't open, where so many files are open within each other.
+/// The fault of a file of `size` bytes that isn't open, where `open_count` files are open within each other.
 fn size_fault(open_count: usize, counts: ReadCounts, size: usize) -> Option<MacroKind>
     ensures { result ≡ size_fault open_count counts.files (counts.bytes + size) }
 {
@@ -67,11 +67,11 @@ fn size_fault(open_count: usize, counts: ReadCounts, size: usize) -> Option<Macr
     None
 }
 
-/// The bytes of a file or a list that is read where these files are open, the last one first.
+/// The bytes of a file or a list, unless they may not be read; `open_files` are the paths of the open files, the last one first.
 ///
 /// # Errors
 ///
-/// The fault of a path that is open already or missing, or of a limit that is passed.
+/// The fault of a file that is open or missing, or of a limit that it passes.
 pub(crate) fn bytes_to_read(
     open_files: &[&[u8]],
     counts: ReadCounts,

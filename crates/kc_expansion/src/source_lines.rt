@@ -1,10 +1,10 @@
-//! The lines of lists of files.
+//! The lines of a list of files.
 ghost use Rattle.std.specs.Prelude.{◌≡◌, ◌++◌, ◌∷◌, [], OnOk, codes, if◌then◌else◌, ◌||◌, ◌==◌};
-ghost use Rattle.kc_macros_model.specs.Rewriting.{escaped_text, in_quotes_of};
+ghost use Rattle.kc_macros_model.specs.WrittenTokens.{escaped_text, in_quotes_of};
 
 use std::alloc::AllocError;
 
-/// Adds a byte, with a backslash before a backslash, a `$` and a `"`.
+/// Appends a byte, with a backslash before a backslash, a `$` and a `"`.
 fn push_escaped_byte(bytes: &mut Vec<u8>, byte: u8) -> Result<(), AllocError>
     ensures { OnOk result (bytes.new.items ≡ bytes.old.items ++ (if byte == 92 || (byte == 36) || (byte == 34) then 92 ∷ byte ∷ [] else byte ∷ [])) }
 {
@@ -15,7 +15,7 @@ fn push_escaped_byte(bytes: &mut Vec<u8>, byte: u8) -> Result<(), AllocError>
     Ok(())
 }
 
-/// Adds a text with its special bytes escaped.
+/// Appends a text, with a backslash before each backslash, each `$` and each `"`.
 fn push_escaped(bytes: &mut Vec<u8>, text: &[u8]) -> Result<(), AllocError>
     ensures { OnOk result (bytes.new.items ≡ bytes.old.items ++ escaped_text 34 text.now) }
 {
@@ -25,7 +25,7 @@ fn push_escaped(bytes: &mut Vec<u8>, text: &[u8]) -> Result<(), AllocError>
     Ok(())
 }
 
-/// Adds the line of a list that sources the file of a key.
+/// Appends a line that sources the file of a key.
 pub(crate) fn push_source_line(bytes: &mut Vec<u8>, key: &[u8]) -> Result<(), AllocError>
     ensures { OnOk result (bytes.new.items ≡ bytes.old.items ++ (codes "source " ++ (in_quotes_of 34 key.now ++ 10 ∷ []))) }
 {

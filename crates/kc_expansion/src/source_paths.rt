@@ -4,19 +4,19 @@ ghost use Rattle.kc_macros_model.specs.Worlds.{returned};
 ghost use Rattle.kc_macros_model.specs.PathPatterns.{readable_paths};
 ghost use Rattle.kc_macros_model.specs.TreeExpansion.{SourceReader, path_read};
 ghost use Rattle.kc_macros.specs.Runs.{place_of};
-ghost use Rattle.kc_macros.specs.LineFormViews.{source_sort_of};
+ghost use Rattle.kc_macros.specs.between.LineFormViews.{source_sort_of};
 ghost use Rattle.kc_expansion.specs.TextViews.{items_of, texts_of};
 ghost use Rattle.kc_expansion.specs.between.FileRuns.{Comes};
 ghost use Rattle.kc_expansion.specs.between.KnownFiles.{Grows};
 ghost use Rattle.kc_expansion.specs.checker.FileViews.{known_of};
-ghost use Rattle.kc_expansion.specs.checker.Leads.{Steps};
+ghost use Rattle.kc_expansion.specs.checker.ProgramSteps.{Steps};
 ghost use Rattle.kc_expansion.specs.checker.ReadingViews.{state_of, file_run_of, paths_left, pattern_followed};
 
 use super::faults::fault;
 use super::files::TreeFiles;
 use super::paths::is_pattern;
 use super::patterns::{Found, PatternStop, files_of_pattern, readable_paths};
-use super::reading::Reading;
+use super::reading_state::Reading;
 use super::store::Store;
 use kc_macros::{MacroKind, Place, SourceSort, Stop};
 use std::alloc::{AllocError, Global};
@@ -28,7 +28,7 @@ fn lacks_files(paths: &[Vec<u8>], optional: bool) -> bool
     paths.is_empty() && !optional
 }
 
-/// The files that a pattern has, each of which can be read; none is a fault, unless they may be missing.
+/// The readable files that a pattern matches; a pattern without files is a fault, unless they may be missing.
 fn pattern_paths<F: TreeFiles>(
     reading: &mut Reading<'_>,
     files: &mut F,
@@ -57,7 +57,7 @@ fn pattern_paths<F: TreeFiles>(
     }
 }
 
-/// A path alone, if it can be read.
+/// A list of one path, or of none where its file can't be read.
 fn path_if_readable<F: TreeFiles>(
     alloc: Global,
     store: &mut Store,

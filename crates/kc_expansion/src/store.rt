@@ -1,4 +1,4 @@
-//! The store of what was read of a tree: each path is opened at most once, and each folder listed at most once.
+//! The store of the files and folders of a tree: each path is opened at most once, and each folder listed at most once.
 ghost use Rattle.std.specs.Prelude.{◌≡◌, [], ◌≢◌, None, Some, IfOk, is_some, option_map};
 ghost use Rattle.kc_tree_model.specs.Keywords.{keyword_in_table};
 ghost use Rattle.kc_macros_model.specs.Worlds.{World};
@@ -14,7 +14,7 @@ use kc_value::Seed;
 use std::alloc::{AllocError, Global};
 use std::rc::Rc;
 
-/// What was read of paths and folders, and room for the bytes that are read at once.
+/// The files that were read, the folders that were listed, and room for the bytes that are read at once.
 #[derive(Drop)]
 pub(crate) struct Store {
     files: FileTable,
@@ -22,7 +22,7 @@ pub(crate) struct Store {
     block: [u8; MAX_BLOCK_BYTES],
 }
 
-/// The same as what was read, without a copy of its bytes.
+/// The reading of a file once more; its bytes are shared.
 fn shared(read: &FileRead) -> Result<FileRead, AllocError>
     ensures { IfOk result (λ copy. file_of copy ≡ file_of read.now) }
 {
@@ -33,7 +33,7 @@ fn shared(read: &FileRead) -> Result<FileRead, AllocError>
     }
 }
 
-/// Whether a file isn't missing.
+/// Whether the file of a reading isn't missing.
 fn is_read(read: &FileRead) -> bool
     ensures { result ≡ is_read (file_of read.now) }
 {
@@ -45,7 +45,7 @@ fn is_read(read: &FileRead) -> bool
 }
 
 impl Store {
-    /// Nothing was read; paths are hashed by this seed.
+    /// A store without files and folders; `seed` will hash their paths.
     pub(crate) fn new(alloc: Global, seed: Seed) -> Store
         ensures files { result.files ≡ [] }
         ensures folders { result.folders ≡ [] }
@@ -57,7 +57,7 @@ impl Store {
         }
     }
 
-    /// What is read of the file of a path, which is opened only the first time.
+    /// The reading of the file of a path, which is opened only the first time.
     ///
     /// # Errors
     ///
@@ -107,8 +107,8 @@ impl Store {
 
     /// The names in a folder that was listed; `None` where there are more than may be listed.
     pub(crate) fn names_in(&self, folder: &[u8]) -> Option<&[Vec<u8>]>
-        requires { keyword_in_table self.now.folders folder.now ≢ None }
-        ensures { keyword_in_table self.now.folders folder.now ≡ Some (folder_of_items (option_map (λ ns. ns.now) result)) }
+        requires listed { keyword_in_table self.now.folders folder.now ≢ None }
+        ensures value { keyword_in_table self.now.folders folder.now ≡ Some (folder_of_items (option_map (λ ns. ns.now) result)) }
     {
         match self.folders.get(folder)? {
             Some(names) => Some(names.as_slice()),

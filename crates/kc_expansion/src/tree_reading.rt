@@ -6,11 +6,11 @@ ghost use Rattle.kc_macros_model.specs.Limits.{max_text_bytes};
 ghost use Rattle.kc_macros_model.specs.ReadingStates.{progress, written_line};
 ghost use Rattle.kc_macros_model.specs.TreeExpansion.{one_file, file_list, path_read, source_followed, line_written, list_read, lines_read};
 ghost use Rattle.kc_macros.specs.Runs.{place_of, end_of};
-ghost use Rattle.kc_macros.specs.LineContents.{tokens_of};
-ghost use Rattle.kc_macros.specs.LineFormViews.{source_sort_of};
+ghost use Rattle.kc_macros.specs.between.LineContents.{tokens_of};
+ghost use Rattle.kc_macros.specs.between.LineFormViews.{source_sort_of};
 ghost use Rattle.kc_expansion.specs.TextViews.{items_of};
 ghost use Rattle.kc_expansion.specs.between.Reads.{Reads};
-ghost use Rattle.kc_expansion.specs.checker.Leads.{Steps};
+ghost use Rattle.kc_expansion.specs.checker.ProgramSteps.{Steps};
 ghost use Rattle.kc_expansion.specs.checker.ReadingViews.{state_of, file_run_of, reader_of, lines_left, IsWrittenTo};
 ghost use Rattle.kc_expansion.specs.checker.WrittenViews.{text_up_to};
 
@@ -22,7 +22,7 @@ use super::line_places::{LineStart, after_help, is_continued_at, write_over};
 use super::line_steps::{LineStep, NewLine, SourceLine, line_step, short_line};
 use super::open_files::{OpenFiles, with_path};
 use super::paths::{has_bracket, list_name, path_meant};
-use super::reading::Reading;
+use super::reading_state::Reading;
 use super::same_lines::stays;
 use super::source_faults::bytes_to_read;
 use super::source_lines::push_source_line;
@@ -32,7 +32,7 @@ use kc_lines::logical_at;
 use kc_macros::{Place, SourceSort, Stop, line_bytes, source_line};
 use std::rc::Rc;
 
-/// Reads the file of a path; returns the key of its text.
+/// Reads the file of a path with all that it sources; returns the key of its expanded text.
 #[cycle(reading)]
 fn read_source<F: TreeFiles>(
     reading: &mut Reading<'_>,
@@ -41,8 +41,8 @@ fn read_source<F: TreeFiles>(
     at: Place<'_>,
     path: &[u8],
 ) -> Result<Vec<u8>, Stop>
-    requires { length opened.now.paths.now ≤ MAX_OPEN_FILES }
-    ensures { Reads (file_run_of (F.contents files.old) reading.old) (file_run_of (F.contents files.new) reading.new) (reader_of opened.now (place_of at.entry) (one_file path.now) (state_of reading.old)) (end_of (λ key. progress key.items (state_of reading.new)) result) }
+    requires few { length opened.now.paths.now ≤ MAX_OPEN_FILES }
+    ensures reads { Reads (file_run_of (F.contents files.old) reading.old) (file_run_of (F.contents files.new) reading.new) (reader_of opened.now (place_of at.entry) (one_file path.now) (state_of reading.old)) (end_of (λ key. progress key.items (state_of reading.new)) result) }
 {
     let read = reading.store.file(reading.alloc, files, path)?;
     let bytes = match bytes_to_read(opened.paths, reading.counts, path, read) {
@@ -69,8 +69,8 @@ fn read_list<F: TreeFiles>(
     name: &[u8],
     paths: &[Vec<u8>],
 ) -> Result<Vec<u8>, Stop>
-    requires { length opened.now.paths.now ≤ MAX_OPEN_FILES }
-    ensures { Reads (file_run_of (F.contents files.old) reading.old) (file_run_of (F.contents files.new) reading.new) (reader_of opened.now (place_of at.entry) (file_list name.now (items_of paths.now)) (state_of reading.old)) (end_of (λ key. progress key.items (state_of reading.new)) result) }
+    requires few { length opened.now.paths.now ≤ MAX_OPEN_FILES }
+    ensures reads { Reads (file_run_of (F.contents files.old) reading.old) (file_run_of (F.contents files.new) reading.new) (reader_of opened.now (place_of at.entry) (file_list name.now (items_of paths.now)) (state_of reading.old)) (end_of (λ key. progress key.items (state_of reading.new)) result) }
 {
     let empty = FileRead::Whole(Rc::new(reading.alloc, Vec::new(reading.alloc))?);
     if let Err(kind) = bytes_to_read(opened.paths, reading.counts, name, empty) {
@@ -99,8 +99,8 @@ fn list_lines<F: TreeFiles>(
     at: Place<'_>,
     paths: &[Vec<u8>],
 ) -> Result<Vec<u8>, Stop>
-    requires { length opened.now.paths.now ≤ MAX_OPEN_FILES }
-    ensures { Reads (file_run_of (F.contents files.old) reading.old) (file_run_of (F.contents files.new) reading.new) (list_read (reader_of opened.now) (place_of at.entry) (items_of paths.now) (state_of reading.old)) (end_of (λ text. progress text.items (state_of reading.new)) result) }
+    requires few { length opened.now.paths.now ≤ MAX_OPEN_FILES }
+    ensures reads { Reads (file_run_of (F.contents files.old) reading.old) (file_run_of (F.contents files.new) reading.new) (list_read (reader_of opened.now) (place_of at.entry) (items_of paths.now) (state_of reading.old)) (end_of (λ text. progress text.items (state_of reading.new)) result) }
 {
     let mut text = Vec::new(reading.alloc);
     'paths: for path in paths {
@@ -110,7 +110,7 @@ fn list_lines<F: TreeFiles>(
     Ok(text)
 }
 
-/// Reads what a `source` line of this path reads; returns the key of its text.
+/// Reads the file or the files that a `source` of this path and sort means; returns the key of the expanded text.
 #[cycle(reading)]
 fn read_path<F: TreeFiles>(
     reading: &mut Reading<'_>,
@@ -120,8 +120,8 @@ fn read_path<F: TreeFiles>(
     sort: SourceSort,
     path: &[u8],
 ) -> Result<Vec<u8>, Stop>
-    requires { length opened.now.paths.now ≤ MAX_OPEN_FILES }
-    ensures { Reads (file_run_of (F.contents files.old) reading.old) (file_run_of (F.contents files.new) reading.new) (path_read (reader_of opened.now) (place_of at.entry) (source_sort_of sort) path.now (state_of reading.old)) (end_of (λ key. progress key.items (state_of reading.new)) result) }
+    requires few { length opened.now.paths.now ≤ MAX_OPEN_FILES }
+    ensures reads { Reads (file_run_of (F.contents files.old) reading.old) (file_run_of (F.contents files.new) reading.new) (path_read (reader_of opened.now) (place_of at.entry) (source_sort_of sort) path.now (state_of reading.old)) (end_of (λ key. progress key.items (state_of reading.new)) result) }
 {
     match paths_to_read(reading, files, at, sort, path)? {
         Some(paths) => {
@@ -132,7 +132,7 @@ fn read_path<F: TreeFiles>(
     }
 }
 
-/// Follows a `source` line; returns the line that sources what was read. A line whose path has a `[` stays.
+/// Follows a `source` line; returns the line that sources the expanded text instead. A line whose path has a `[` stays.
 #[cycle(reading)]
 fn follow_source<F: TreeFiles>(
     reading: &mut Reading<'_>,
@@ -141,8 +141,8 @@ fn follow_source<F: TreeFiles>(
     at: Place<'_>,
     line: &SourceLine,
 ) -> Result<Vec<u8>, Stop>
-    requires { length opened.now.paths.now ≤ MAX_OPEN_FILES }
-    ensures { Reads (file_run_of (F.contents files.old) reading.old) (file_run_of (F.contents files.new) reading.new) (source_followed (reader_of opened.now) (place_of at.entry) (tokens_of line.now.tokens.items) (source_sort_of line.now.sort) (Some line.now.given.items) (state_of reading.old)) (end_of (λ text. progress text.items (state_of reading.new)) result) }
+    requires few { length opened.now.paths.now ≤ MAX_OPEN_FILES }
+    ensures reads { Reads (file_run_of (F.contents files.old) reading.old) (file_run_of (F.contents files.new) reading.new) (source_followed (reader_of opened.now) (place_of at.entry) (tokens_of line.now.tokens.items) (source_sort_of line.now.sort) (Some line.now.given.items) (state_of reading.old)) (end_of (λ text. progress text.items (state_of reading.new)) result) }
 {
     let path = path_meant(reading.alloc, line.sort.relative, at.file, &line.given)?;
     if has_bracket(&path) {
@@ -164,7 +164,7 @@ fn write_line<F: TreeFiles>(
 ) -> Result<NewLine, Stop>
     requires few { length opened.now.paths.now ≤ MAX_OPEN_FILES }
     requires may_change { (nat_lt max_text_bytes (length text.now) || not (is_utf8 text.now)) ≡ false }
-    ensures { Reads (file_run_of (F.contents files.old) reading.old) (file_run_of (F.contents files.new) reading.new) (line_written (reader_of opened.now) (place_of at.entry) joined text.now (state_of reading.old)) (end_of (λ l. written_line l.text.items l.begins_help (state_of reading.new)) result) }
+    ensures reads { Reads (file_run_of (F.contents files.old) reading.old) (file_run_of (F.contents files.new) reading.new) (line_written (reader_of opened.now) (place_of at.entry) joined text.now (state_of reading.old)) (end_of (λ l. written_line l.text.items l.begins_help (state_of reading.new)) result) }
 {
     match line_step(&mut reading.lines, at, joined, text)? {
         LineStep::Written(line) => Ok(line),
@@ -212,7 +212,7 @@ fn next_line<F: TreeFiles>(
     Ok(after_help(bytes, after, new.begins_help))
 }
 
-/// Writes the lines of a file with these bytes.
+/// Reads the lines of a file with these bytes, and all that they source; returns its expanded text.
 #[cycle(reading)]
 pub(crate) fn read_lines<F: TreeFiles>(
     reading: &mut Reading<'_>,
@@ -223,7 +223,7 @@ pub(crate) fn read_lines<F: TreeFiles>(
 ) -> Result<Rc<Vec<u8>>, Stop>
     requires few { length opened.now.paths.now ≤ MAX_OPEN_FILES }
     requires small { length bytes.value.items ≤ MAX_TREE_BYTES }
-    ensures { Reads (file_run_of (F.contents files.old) reading.old) (file_run_of (F.contents files.new) reading.new) (lines_read (reader_of opened.now) file.now 0 1 (split_at_newlines bytes.value.items) (state_of reading.old)) (end_of (λ text. progress text.value.items (state_of reading.new)) result) }
+    ensures reads { Reads (file_run_of (F.contents files.old) reading.old) (file_run_of (F.contents files.new) reading.new) (lines_read (reader_of opened.now) file.now 0 1 (split_at_newlines bytes.value.items) (state_of reading.old)) (end_of (λ text. progress text.value.items (state_of reading.new)) result) }
 {
     let mut out = WrittenFile::new(reading.alloc, bytes.clone()?);
     let mut start = LineStart { at: 0, number: 1 };

@@ -1,11 +1,10 @@
-//! What the lines of a file become.
+//! The text of a file with some of its lines replaced.
 ghost use Rattle.std.specs.Prelude.{◌≡◌, ◌≤◌, ◌++◌, [], OnOk, length, replicate};
 
 use std::alloc::{AllocError, Global};
 use std::rc::Rc;
 
-/// What the lines of a file become: its own bytes, but for the lines that were replaced. Nothing is copied before the first
-/// line that is replaced.
+/// The text of a file: its own bytes, but for the lines that were replaced. Nothing is copied before the first of those.
 #[derive(Drop)]
 pub(crate) struct WrittenFile {
     alloc: Global,
@@ -16,7 +15,7 @@ pub(crate) struct WrittenFile {
     ghost untouched: { copied ≡ 0 → written.items ≡ [] },
 }
 
-/// Adds newlines.
+/// Appends newlines.
 fn push_newlines(bytes: &mut Vec<u8>, count: usize) -> Result<(), AllocError>
     ensures { OnOk result (bytes.new.items ≡ bytes.old.items ++ replicate count 10) }
 {
@@ -58,7 +57,7 @@ impl WrittenFile {
         text: &[u8],
         newlines: usize,
     ) -> Result<(), AllocError>
-        requires behind { self.old.copied ≤ at }
+        requires copied { self.old.copied ≤ at }
         requires order { at < next }
         requires within { next ≤ length self.old.original.value.items }
         ensures same { self.new.original ≡ self.old.original }

@@ -1,14 +1,18 @@
 -- The `$` between quotes.
-use Rattle.std.proofs.Common.{◌≡◌, ℕ, suc, ◌+◌, ◌<◌, ◌||◌, Bool, true, false, ltb, eqb, cond, List, [], ◌∷◌, ◌++◌, length, Option, Some, None, refl, ap, sym, ◌∙◌, arith}
+use Rattle.std.proofs.Common.{◌≡◌, ℕ, suc, ◌+◌, ◌<◌, Bool, true, false, ltb, eqb, cond, List, [], ◌∷◌, ◌++◌, length, Option, Some, None, refl, ap, sym, ◌∙◌, append_assoc, length-append, arith}
 use Rattle.std.specs.Prelude.{position, option_map}
 use Rattle.std.specs.List.{list_any, position_or_len}
-use Rattle.std.proofs.lemmas.Bool.{le-ltb, lt-ltb, or_parts}
+use Rattle.std.proofs.lemmas.Bool.{le-ltb, lt-ltb, ltb-true, or_parts, eqb-true}
 use Rattle.kc_value.proofs.ClosingSteps.{further}
 use Rattle.kc_value.specs.Quoted.{IsBody, none, plain, pair}
 use Rattle.kc_expr.specs.declared.language.Language.{Language}
 use Rattle.kc_expr.specs.declared.language.Language.TheVariants.{Strict, Linux}
 use Rattle.kc_expr.specs.Token.{bare_dollar, dollar_left_out}
 use Rattle.kc_expr.specs.TokenGrammar.{HasDollarsInPairs, empty, other, paired, HasDollarsOf}
+
+-- the place of the first `$`, or the length
+abbrev dollar_place : List ℕ → ℕ
+dollar_place xs = position_or_len (λ c. eqb c 36) xs
 
 -- no place where no byte passes
 no_place : (p : ℕ → Bool) (xs : List ℕ) → list_any p xs ≡ false → position_or_len p xs ≡ length xs
@@ -73,6 +77,82 @@ bare_body quote body means rest (plain {c = c} {bs = bs} {cs = cs} q s p) h =
 bare_body quote body means rest (pair {c = c} {bs = bs} {cs = cs} p) h =
     paired (bare_body quote bs cs rest p (none_under (bare_dollar false (bs ++ rest)) (none_under (option_map suc (bare_dollar false (bs ++ rest))) h)))
 
+-- the first `$` after those that are allowed
+bare_first : (front rest : List ℕ) → HasDollarsInPairs front → bare_dollar false (front ++ 36 ∷ rest) ≡ Some (length front)
+bare_first front rest empty = refl
+bare_first front rest (other {c = c} {bs = bs} d s p) = rw (d, s) (ap (option_map suc) (bare_first bs rest p))
+bare_first front rest (paired {c = c} {bs = bs} p) = ap (λ o. option_map suc (option_map suc o)) (bare_first bs rest p)
+
+place_first : (front rest : List ℕ) → list_any (λ c. eqb c 36) front ≡ false → dollar_place (front ++ 36 ∷ rest) ≡ length front
+place_first [] rest h = refl
+place_first (c ∷ cs) rest h = let (f, r) = or_parts (eqb c 36) (list_any (λ c. eqb c 36) cs) h in rw f (omega (arith, place_first cs rest r))
+
+-- a body, its first `$` that is left out, and what is before it
+pub record IsFirstDollar (language : Language) (body : List ℕ) (place : ℕ) : Type 0 where
+  pub front : List ℕ
+  pub back : List ℕ
+  pub parts : body ≡ front ++ 36 ∷ back
+  pub is_place : place ≡ length front
+  pub dollars : HasDollarsOf language front
+
+some_under : (o : Option ℕ) (k : ℕ) → option_map suc o ≡ Some k → (m : ℕ) × (o ≡ Some m) × (k ≡ suc m)
+some_under None k h = cc
+some_under (Some m) k h = (m, refl, cc)
+
+first_at : (k : ℕ) → Some 0 ≡ Some k → k ≡ 0
+first_at k h = cc
+
+dollar_first : (language : Language) (c k : ℕ) (bs : List ℕ) → HasDollarsOf language [] → eqb c 36 ≡ true → k ≡ 0 → IsFirstDollar language (c ∷ bs) k
+dollar_first language c k bs h d e = record { front = []; back = bs; parts = ap (λ x. x ∷ bs) (eqb-true c 36 d); is_place = e; dollars = h }
+
+bare_found : (quote : ℕ) (body means : List ℕ) (k : ℕ) → eqb quote 36 ≡ false → IsBody quote body means → bare_dollar false (body ++ quote ∷ []) ≡ Some k
+    → IsFirstDollar Linux body k
+bare_found quote body means k q none h = let g : None ≡ Some k = rw q at h in cc
+bare_found quote body means k q (plain {c = c} {bs = bs} {cs = cs} n s p) h = by_dollar (eqb c 36) refl (rw s at h) (λ m e. bare_found quote bs cs m q p e)
+  where
+    by_dollar : (t : Bool) → eqb c 36 ≡ t → cond t (Some 0) (option_map suc (bare_dollar false (bs ++ quote ∷ []))) ≡ Some k
+        → ((m : ℕ) → bare_dollar false (bs ++ quote ∷ []) ≡ Some m → IsFirstDollar Linux bs m) → IsFirstDollar Linux (c ∷ bs) k
+    by_dollar true d g ih = dollar_first Linux c k bs empty d (first_at k g)
+    by_dollar false d g ih =
+        let (m, e, l) = some_under (bare_dollar false (bs ++ quote ∷ [])) k g in
+        let f = ih m e in
+        record { front = c ∷ f.front; back = f.back; parts = ap (λ x. c ∷ x) f.parts; is_place = l ∙ ap suc f.is_place; dollars = other d s f.dollars }
+bare_found quote body means k q (pair {c = c} {bs = bs} {cs = cs} p) h =
+    let (m, e, l) = some_under (option_map suc (bare_dollar false (bs ++ quote ∷ []))) k h in
+    let (i, g, j) = some_under (bare_dollar false (bs ++ quote ∷ [])) m e in
+    let f = bare_found quote bs cs i q p g in
+    let place = l ∙ ap suc (j ∙ ap suc f.is_place) in
+    record { front = 92 ∷ c ∷ f.front; back = f.back; parts = ap (λ x. 92 ∷ c ∷ x) f.parts; is_place = place; dollars = paired f.dollars }
+
+place_more : (c : ℕ) (bs more : List ℕ) → eqb c 36 ≡ false → IsFirstDollar Strict bs (dollar_place more)
+    → IsFirstDollar Strict (c ∷ bs) (dollar_place (c ∷ more))
+place_more c bs more d f = record {
+  front = c ∷ f.front;
+  back = f.back;
+  parts = ap (λ x. c ∷ x) f.parts;
+  is_place = rw d (omega (arith, f.is_place));
+  dollars = rw d f.dollars;
+}
+
+place_found : (quote : ℕ) (body : List ℕ) → eqb quote 36 ≡ false → dollar_place (body ++ quote ∷ []) < length (body ++ quote ∷ [])
+    → IsFirstDollar Strict body (dollar_place (body ++ quote ∷ []))
+place_found quote [] q h = let g = rw q at h in absurd (omega (arith, g))
+place_found quote (c ∷ bs) q h = by_dollar (eqb c 36) refl (λ l. place_found quote bs q l)
+  where
+    by_dollar : (t : Bool) → eqb c 36 ≡ t
+        → (dollar_place (bs ++ quote ∷ []) < length (bs ++ quote ∷ []) → IsFirstDollar Strict bs (dollar_place (bs ++ quote ∷ [])))
+        → IsFirstDollar Strict (c ∷ bs) (dollar_place (c ∷ (bs ++ quote ∷ [])))
+    by_dollar true d ih = dollar_first Strict c _ bs refl d (rw d refl)
+    by_dollar false d ih = let l = rw d at h in place_more c bs (bs ++ quote ∷ []) d (ih (omega (arith, l)))
+
+at_place : (p : ℕ → Bool) (xs : List ℕ) (k : ℕ) → position p xs ≡ Some k → (position_or_len p xs < length xs) × (position_or_len p xs ≡ k)
+at_place p xs k h = by_test (ltb (position_or_len p xs) (length xs)) refl h
+  where
+    by_test : (t : Bool) → ltb (position_or_len p xs) (length xs) ≡ t → cond t (Some (position_or_len p xs)) None ≡ Some k
+        → (position_or_len p xs < length xs) × (position_or_len p xs ≡ k)
+    by_test true e g = (ltb-true _ _ e, cc)
+    by_test false e g = cc
+
 -- between two quotes, which are neither `$` nor a backslash
 module _ (q : ℕ) (body : List ℕ) (dollar : eqb q 36 ≡ false) (slash : eqb q 92 ≡ false) where
   pub none_left_out : (language : Language) → HasDollarsOf language body → dollar_left_out language (q ∷ (body ++ q ∷ [])) ≡ None
@@ -83,7 +163,8 @@ module _ (q : ℕ) (body : List ℕ) (dollar : eqb q 36 ≡ false) (slash : eqb 
       let last : bare_dollar false (q ∷ []) ≡ None = rw dollar refl in
       rw (dollar, slash) (ap (option_map suc) (bare_none body (q ∷ []) h last))
 
-  pub dollars_between : (language : Language) (means : List ℕ) → IsBody q body means → dollar_left_out language (q ∷ (body ++ q ∷ [])) ≡ None → HasDollarsOf language body
+  pub dollars_between : (language : Language) (means : List ℕ) → IsBody q body means → dollar_left_out language (q ∷ (body ++ q ∷ [])) ≡ None
+      → HasDollarsOf language body
   dollars_between Strict means b h =
       let clean = none_any (λ c. eqb c 36) (q ∷ (body ++ q ∷ [])) (list_any (λ c. eqb c 36) (q ∷ (body ++ q ∷ []))) refl h in
       let (f, r) = or_parts (eqb q 36) (list_any (λ c. eqb c 36) (body ++ q ∷ [])) clean in
@@ -91,6 +172,29 @@ module _ (q : ℕ) (body : List ℕ) (dollar : eqb q 36 ≡ false) (slash : eqb 
   dollars_between Linux means b h =
       let g = rw (dollar, slash) at h in
       bare_body q body means (q ∷ []) b (none_under (bare_dollar false (body ++ q ∷ [])) g)
+
+  pub left_out_first : (language : Language) (front back : List ℕ) → body ≡ front ++ 36 ∷ back → HasDollarsOf language front
+      → dollar_left_out language (q ∷ (body ++ q ∷ [])) ≡ Some (suc (length front))
+  left_out_first Strict front back e h =
+      let text : List ℕ = front ++ 36 ∷ (back ++ q ∷ []) in
+      let whole : body ++ q ∷ [] ≡ text = ap (λ x. x ++ q ∷ []) e ∙ append_assoc front (36 ∷ back) (q ∷ []) in
+      let place : dollar_place (q ∷ text) ≡ suc (length front) = rw dollar (omega (arith, place_first front (back ++ q ∷ []) h)) in
+      let there : ltb (dollar_place (q ∷ text)) (length (q ∷ text)) ≡ true = lt-ltb _ _ (omega (arith, place, length-append front (36 ∷ (back ++ q ∷ [])))) in
+      ap (λ x. position (λ c. eqb c 36) (q ∷ x)) whole ∙ ap (λ t. cond t (Some (dollar_place (q ∷ text))) None) there ∙ ap Some place
+  left_out_first Linux front back e h =
+      let whole : body ++ q ∷ [] ≡ front ++ 36 ∷ (back ++ q ∷ []) = ap (λ x. x ++ q ∷ []) e ∙ append_assoc front (36 ∷ back) (q ∷ []) in
+      ap (λ x. bare_dollar false (q ∷ x)) whole ∙ rw (dollar, slash) (ap (option_map suc) (bare_first front (back ++ q ∷ []) h))
+
+  pub first_left_out : (language : Language) (means : List ℕ) (k : ℕ) → IsBody q body means → dollar_left_out language (q ∷ (body ++ q ∷ [])) ≡ Some k
+      → (m : ℕ) × (k ≡ suc m) × IsFirstDollar language body m
+  first_left_out Strict means k b h =
+      let (l, e) = at_place (λ c. eqb c 36) (q ∷ (body ++ q ∷ [])) k h in
+      let before = rw dollar at l in
+      let one : dollar_place (q ∷ (body ++ q ∷ [])) ≡ suc (dollar_place (body ++ q ∷ [])) = rw dollar (omega arith) in
+      (dollar_place (body ++ q ∷ []), sym e ∙ one, place_found q body dollar (omega (arith, before)))
+  first_left_out Linux means k b h =
+      let (m, e, l) = some_under (bare_dollar false (body ++ q ∷ [])) k (rw (dollar, slash) at h) in
+      (m, l, bare_found q body means m dollar b e)
 
 -- one byte on, after a backslash or not
 further_more : (n : ℕ) (o : Option ℕ) → further n (option_map suc o) ≡ further (n + 1) o

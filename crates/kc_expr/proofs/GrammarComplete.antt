@@ -8,7 +8,7 @@ use Rattle.kc_expr.specs.Expr.{named, quoted, Expr, Operand, alone, related, neg
 use Rattle.kc_expr.specs.Grammar.{Level, ors, ands, factor, IsExpr, one_and, more_ors, one_factor, more_ands, operand, relation, negation, parentheses, Read, on_read, chain, is_and, is_or, read_ands, read_ors, closed, right_operand, after_operand, operand_of_lexeme, operand_of_kind, constant_or, quoted_text, read_factor, read_to_end, read_expr}
 use Rattle.kc_expr.proofs.GrammarLaws.{Reads, ands_sound, factor_sound}
 
-abbrev is_relation : TokenKind → Bool
+abbrev pub is_relation : TokenKind → Bool
 is_relation (Relation op) = true
 is_relation k = false
 
@@ -18,13 +18,16 @@ Stops p [] = Unit {0}
 Stops p (t ∷ ts) = p t.kind ≡ false
 
 -- a chain doesn't depend on its bound
-module _ (is_joint : TokenKind → Bool) (join : Expr → Expr → Expr) (part : List Lexeme → Read) (short : (ts : List Lexeme) (r : Expr × List Lexeme) → part ts ≡ Ok r → length r.1 ≤ length ts) where
-  same_read : (q : Read) (ts : List Lexeme) (n m : ℕ) (a : Expr) → ((r : Expr × List Lexeme) → q ≡ Ok r → length r.1 ≤ length ts) → ((a : Expr) (us : List Lexeme) → length us ≤ length ts → chain is_joint join part n a us ≡ chain is_joint join part m a us)
+module _ (is_joint : TokenKind → Bool) (join : Expr → Expr → Expr) (part : List Lexeme → Read) (short : (ts : List Lexeme) (r : Expr × List Lexeme)
+    → part ts ≡ Ok r → length r.1 ≤ length ts) where
+  same_read : (q : Read) (ts : List Lexeme) (n m : ℕ) (a : Expr) → ((r : Expr × List Lexeme) → q ≡ Ok r → length r.1 ≤ length ts)
+      → ((a : Expr) (us : List Lexeme) → length us ≤ length ts → chain is_joint join part n a us ≡ chain is_joint join part m a us)
       → on_read q (λ r. chain is_joint join part n (join a r.0) r.1) ≡ on_read q (λ r. chain is_joint join part m (join a r.0) r.1)
   same_read (Err k) ts n m a s ih = refl
   same_read (Ok r) ts n m a s ih = ih (join a r.0) r.1 (s r refl)
 
-  same_at : (b : Bool) (t : Lexeme) (ts : List Lexeme) (n m : ℕ) (a : Expr) → ((a : Expr) (us : List Lexeme) → length us ≤ length ts → chain is_joint join part n a us ≡ chain is_joint join part m a us)
+  same_at : (b : Bool) (t : Lexeme) (ts : List Lexeme) (n m : ℕ) (a : Expr)
+      → ((a : Expr) (us : List Lexeme) → length us ≤ length ts → chain is_joint join part n a us ≡ chain is_joint join part m a us)
       → elim b as (λ _. Read) [ true ↦ on_read (part ts) (λ r. chain is_joint join part n (join a r.0) r.1) | false ↦ Ok (a, t ∷ ts) ]
       ≡ elim b as (λ _. Read) [ true ↦ on_read (part ts) (λ r. chain is_joint join part m (join a r.0) r.1) | false ↦ Ok (a, t ∷ ts) ]
   same_at false t ts n m a ih = refl
@@ -45,8 +48,10 @@ module _ (is_joint : TokenKind → Bool) (join : Expr → Expr → Expr) (part :
   chain_stops (suc n) a (t ∷ ts) s = rw (s, chain) refl
 
   -- one link more
-  pub chain_links : (a b : Expr) (o : Lexeme) (us rest : List Lexeme) → is_joint o.kind ≡ true → part (us ++ rest) ≡ Ok (b, rest) → chain is_joint join part (length (o ∷ (us ++ rest))) a (o ∷ (us ++ rest)) ≡ chain is_joint join part (length rest) (join a b) rest
-  chain_links a b o us rest e p = rw (e, chain) (ap (λ q. on_read q (λ r. chain is_joint join part (length (us ++ rest)) (join a r.0) r.1)) p ∙ chain_same (length (us ++ rest)) (length rest) (join a b) rest (omega (arith, length-append us rest)) (omega arith))
+  pub chain_links : (a b : Expr) (o : Lexeme) (us rest : List Lexeme) → is_joint o.kind ≡ true → part (us ++ rest) ≡ Ok (b, rest)
+      → chain is_joint join part (length (o ∷ (us ++ rest))) a (o ∷ (us ++ rest)) ≡ chain is_joint join part (length rest) (join a b) rest
+  chain_links a b o us rest e p = rw (e, chain) (ap (λ q. on_read q (λ r. chain is_joint join part (length (us ++ rest)) (join a r.0) r.1)) p
+      ∙ chain_same (length (us ++ rest)) (length rest) (join a b) rest (omega (arith, length-append us rest)) (omega arith))
 
 shorter : (l : Level) (d : ℕ) (ts : List Lexeme) (r : Expr × List Lexeme) → Reads l d ts r → length r.1 ≤ length ts
 shorter l d ts r s = omega (arith, ap length s.1, length-append s.0 r.1)
@@ -59,18 +64,30 @@ ands_short d ts r h = shorter ands d ts r (ands_sound d (read_factor d) (factor_
 
 -- what is claimed of each level
 abbrev pub Claim : Level → ℕ → List Lexeme → Expr → Type 0
-Claim ors d front e = (rest : List Lexeme) → Stops is_relation rest → Stops is_and rest → read_ors (read_factor d) (front ++ rest) ≡ chain is_or either (read_ands (read_factor d)) (length rest) e rest
-Claim ands d front e = (rest : List Lexeme) → Stops is_relation rest → read_ands (read_factor d) (front ++ rest) ≡ chain is_and both (read_factor d) (length rest) e rest
+Claim ors d front e = (rest : List Lexeme) → Stops is_relation rest → Stops is_and rest → read_ors (read_factor d) (front ++ rest)
+    ≡ chain is_or either (read_ands (read_factor d)) (length rest) e rest
+Claim ands d front e = (rest : List Lexeme) → Stops is_relation rest → read_ands (read_factor d) (front ++ rest)
+    ≡ chain is_and both (read_factor d) (length rest) e rest
 Claim factor d front e = (rest : List Lexeme) → Stops is_relation rest → read_factor d (front ++ rest) ≡ Ok (e, rest)
 
-whole_ands : (d : ℕ) (front : List Lexeme) (e : Expr) → Claim ands d front e → (rest : List Lexeme) → Stops is_relation rest → Stops is_and rest → read_ands (read_factor d) (front ++ rest) ≡ Ok (e, rest)
+whole_ands : (d : ℕ) (front : List Lexeme) (e : Expr) → Claim ands d front e → (rest : List Lexeme) → Stops is_relation rest → Stops is_and rest
+    → read_ands (read_factor d) (front ++ rest) ≡ Ok (e, rest)
 whole_ands d front e c rest s a = c rest s ∙ chain_stops is_and both (read_factor d) (factor_short d) (length rest) e rest a
 
-behind_none : (a : Operand) (rest : List Lexeme) → Stops is_relation rest → after_operand a rest ≡ Ok (alone a, rest)
+pub behind_none : (a : Operand) (rest : List Lexeme) → Stops is_relation rest → after_operand a rest ≡ Ok (alone a, rest)
 behind_none a [] s = refl
 behind_none a (t ∷ ts) s = none_at t.kind t ts s
   where
-    none_at : (k : TokenKind) (t : Lexeme) (ts : List Lexeme) → is_relation k ≡ false → elim k as (λ _. Read) [ Relation op ↦ right_operand (related op a) ts | Word ↦ Ok (alone a, t ∷ ts) | Quoted ↦ Ok (alone a, t ∷ ts) | Not ↦ Ok (alone a, t ∷ ts) | And ↦ Ok (alone a, t ∷ ts) | Or ↦ Ok (alone a, t ∷ ts) | Open ↦ Ok (alone a, t ∷ ts) | Close ↦ Ok (alone a, t ∷ ts) ] ≡ Ok (alone a, t ∷ ts)
+    none_at : (k : TokenKind) (t : Lexeme) (ts : List Lexeme) → is_relation k ≡ false → elim k as (λ _. Read) [
+      | Relation op ↦ right_operand (related op a) ts
+      | Word ↦ Ok (alone a, t ∷ ts)
+      | Quoted ↦ Ok (alone a, t ∷ ts)
+      | Not ↦ Ok (alone a, t ∷ ts)
+      | And ↦ Ok (alone a, t ∷ ts)
+      | Or ↦ Ok (alone a, t ∷ ts)
+      | Open ↦ Ok (alone a, t ∷ ts)
+      | Close ↦ Ok (alone a, t ∷ ts)
+    ] ≡ Ok (alone a, t ∷ ts)
     none_at (Relation op) t ts s = cc
     none_at Word t ts s = refl
     none_at Quoted t ts s = refl
@@ -81,7 +98,8 @@ behind_none a (t ∷ ts) s = none_at t.kind t ts s
     none_at Close t ts s = refl
 
 -- an operand at the front
-operand_at : (k : TokenKind) (d : ℕ) (t : Lexeme) (a : Operand) (ts : List Lexeme) → t.kind ≡ k → operand_of_kind k t.text ≡ Some a → read_factor d (t ∷ ts) ≡ after_operand a ts
+operand_at : (k : TokenKind) (d : ℕ) (t : Lexeme) (a : Operand) (ts : List Lexeme) → t.kind ≡ k → operand_of_kind k t.text ≡ Some a
+    → read_factor d (t ∷ ts) ≡ after_operand a ts
 operand_at Word zero t a ts e h = let q : constant_or named t.text ≡ a = cc in rw (e, read_factor) (ap (λ a. after_operand a ts) q)
 operand_at Word (suc d) t a ts e h = let q : constant_or named t.text ≡ a = cc in rw (e, read_factor) (ap (λ a. after_operand a ts) q)
 operand_at Quoted zero t a ts e h = let q : constant_or quoted (quoted_text t.text) ≡ a = cc in rw (e, read_factor) (ap (λ a. after_operand a ts) q)
@@ -93,13 +111,15 @@ operand_at Or d t a ts e h = cc
 operand_at Open d t a ts e h = cc
 operand_at Close d t a ts e h = cc
 
-operand_read : (d : ℕ) (t : Lexeme) (a : Operand) (ts : List Lexeme) → operand_of_lexeme t ≡ Some a → read_factor d (t ∷ ts) ≡ after_operand a ts
+pub operand_read : (d : ℕ) (t : Lexeme) (a : Operand) (ts : List Lexeme) → operand_of_lexeme t ≡ Some a → read_factor d (t ∷ ts) ≡ after_operand a ts
 operand_read d t a ts h = operand_at t.kind d t a ts refl h
 
-relation_read : (d : ℕ) (t r u : Lexeme) (a b : Operand) (op : Relop) (rest : List Lexeme) → operand_of_lexeme t ≡ Some a → r.kind ≡ Relation op → operand_of_lexeme u ≡ Some b → read_factor d (t ∷ r ∷ u ∷ rest) ≡ Ok (related op a b, rest)
+pub relation_read : (d : ℕ) (t r u : Lexeme) (a b : Operand) (op : Relop) (rest : List Lexeme) → operand_of_lexeme t ≡ Some a → r.kind ≡ Relation op
+    → operand_of_lexeme u ≡ Some b → read_factor d (t ∷ r ∷ u ∷ rest) ≡ Ok (related op a b, rest)
 relation_read d t r u a b op rest e f g = operand_read d t a (r ∷ u ∷ rest) e ∙ rw (f, after_operand) (rw (g, right_operand) refl)
 
-parens_read : (d : ℕ) (o c : Lexeme) (ts : List Lexeme) (e : Expr) (rest : List Lexeme) → o.kind ≡ Open → c.kind ≡ Close → Claim ors d ts e → read_factor (suc d) ((o ∷ (ts ++ c ∷ [])) ++ rest) ≡ Ok (e, rest)
+parens_read : (d : ℕ) (o c : Lexeme) (ts : List Lexeme) (e : Expr) (rest : List Lexeme) → o.kind ≡ Open → c.kind ≡ Close → Claim ors d ts e
+    → read_factor (suc d) ((o ∷ (ts ++ c ∷ [])) ++ rest) ≡ Ok (e, rest)
 parens_read d o c ts e rest f g h =
     let inner : read_ors (read_factor d) ((ts ++ c ∷ []) ++ rest) ≡ Ok (e, c ∷ rest) =
     ap (read_ors (read_factor d)) (append_assoc ts (c ∷ []) rest) ∙ h (c ∷ rest) (rw g refl) (rw g refl)
@@ -108,15 +128,18 @@ parens_read d o c ts e rest f g h =
 
 pub complete : (l : Level) (d : ℕ) (front : List Lexeme) (e : Expr) → IsExpr l d front e → Claim l d front e
 complete ors d front e (one_and x) = λ rest s a.
-    ap (λ r. on_read r (λ r. chain is_or either (read_ands (read_factor d)) (length (front ++ rest)) r.0 r.1)) (whole_ands d front e (complete ands d front e x) rest s a)
-    ∙ chain_same is_or either (read_ands (read_factor d)) (ands_short d) (length (front ++ rest)) (length rest) e rest (omega (arith, length-append front rest)) (omega arith)
+    ap (λ r. on_read r (λ r. chain is_or either (read_ands (read_factor d)) (length (front ++ rest)) r.0 r.1))
+    (whole_ands d front e (complete ands d front e x) rest s a)
+    ∙ chain_same is_or either (read_ands (read_factor d)) (ands_short d) (length (front ++ rest)) (length rest) e rest (omega (arith, length-append front rest))
+    (omega arith)
 complete ors d front e (more_ors {ts = ts} {us = us} o {a = a} {b = b} x f z eq) = λ rest s n.
     ap (λ vs. read_ors (read_factor d) (vs ++ rest)) eq ∙ ap (read_ors (read_factor d)) (append_assoc ts (o ∷ us) rest)
     ∙ complete ors d ts a x (o ∷ (us ++ rest)) (rw f refl) (rw f refl)
     ∙ chain_links is_or either (read_ands (read_factor d)) (ands_short d) a b o us rest (rw f refl) (whole_ands d us b (complete ands d us b z) rest s n)
 complete ands d front e (one_factor x) = λ rest s.
     ap (λ r. on_read r (λ r. chain is_and both (read_factor d) (length (front ++ rest)) r.0 r.1)) (complete factor d front e x rest s)
-    ∙ chain_same is_and both (read_factor d) (factor_short d) (length (front ++ rest)) (length rest) e rest (omega (arith, length-append front rest)) (omega arith)
+    ∙ chain_same is_and both (read_factor d) (factor_short d) (length (front ++ rest)) (length rest) e rest (omega (arith, length-append front rest))
+    (omega arith)
 complete ands d front e (more_ands {ts = ts} {us = us} o {a = a} {b = b} x f z eq) = λ rest s.
     ap (λ vs. read_ands (read_factor d) (vs ++ rest)) eq ∙ ap (read_ands (read_factor d)) (append_assoc ts (o ∷ us) rest)
     ∙ complete ands d ts a x (o ∷ (us ++ rest)) (rw f refl)
@@ -130,7 +153,12 @@ complete factor (suc d) front (negated e) (negation {ts = ts} t f x eq) = λ res
 complete factor (suc d) front e (parentheses {ts = ts} o c f x g eq) = λ rest s.
     ap (λ vs. read_factor (suc d) (vs ++ rest)) eq ∙ parens_read d o c ts e rest f g (complete ors d ts e x)
 
+-- an expression is read to its end
+pub expr_read : (d : ℕ) (ts : List Lexeme) (e : Expr) → IsExpr ors d ts e → read_ors (read_factor d) ts ≡ Ok (e, [])
+expr_read d ts e x = ap (read_ors (read_factor d)) (sym (append-nil ts)) ∙ complete ors d ts e x [] tt tt
+    ∙ chain_stops is_or either (read_ands (read_factor d)) (ands_short d) 0 e [] tt
+
 -- whatever is in the grammar is read, and as that expression
 pub expr_complete : (ts : List Lexeme) (e : Expr) → IsExpr ors 64 ts e → read_expr ts ≡ Ok e
 unfolding read_expr
-expr_complete ts e x = ap read_to_end (ap (read_ors (read_factor 64)) (sym (append-nil ts)) ∙ complete ors 64 ts e x [] tt tt ∙ chain_stops is_or either (read_ands (read_factor 64)) (ands_short 64) 0 e [] tt)
+expr_complete ts e x = ap read_to_end (expr_read 64 ts e x)

@@ -18,7 +18,7 @@ pub on_ok : (r : Read) (f : Expr × List Lexeme → Read) (y : Expr × List Lexe
 on_ok (Ok x) f y e = (x, refl, e)
 on_ok (Err k) f y e = cc
 
-and_kind : (k : TokenKind) → is_and k ≡ true → k ≡ And
+pub and_kind : (k : TokenKind) → is_and k ≡ true → k ≡ And
 and_kind And e = refl
 and_kind Word e = cc
 and_kind Quoted e = cc
@@ -28,7 +28,7 @@ and_kind Or e = cc
 and_kind Open e = cc
 and_kind Close e = cc
 
-or_kind : (k : TokenKind) → is_or k ≡ true → k ≡ Or
+pub or_kind : (k : TokenKind) → is_or k ≡ true → k ≡ Or
 or_kind Or e = refl
 or_kind Word e = cc
 or_kind Quoted e = cc
@@ -41,37 +41,53 @@ or_kind Close e = cc
 -- a chain keeps what every longer front keeps
 module _ (l m : Level) (d : ℕ) (is_joint : TokenKind → Bool) (join : Expr → Expr → Expr) (part : List Lexeme → Read)
     (sound : (ts : List Lexeme) (r : Expr × List Lexeme) → part ts ≡ Ok r → Reads m d ts r)
-    (more : (ts us all : List Lexeme) (o : Lexeme) (a b : Expr) → IsExpr l d ts a → is_joint o.kind ≡ true → IsExpr m d us b → all ≡ ts ++ o ∷ us → IsExpr l d all (join a b)) where
-  chain_at : (b : Bool) (n : ℕ) (all front ts : List Lexeme) (t : Lexeme) (a : Expr) (r : Expr × List Lexeme) → is_joint t.kind ≡ b → all ≡ front ++ t ∷ ts → IsExpr l d front a
+    (more : (ts us all : List Lexeme) (o : Lexeme) (a b : Expr) → IsExpr l d ts a → is_joint o.kind ≡ true → IsExpr m d us b → all ≡ ts ++ o ∷ us
+    → IsExpr l d all (join a b)) where
+  chain_at : (b : Bool) (n : ℕ) (all front ts : List Lexeme) (t : Lexeme) (a : Expr) (r : Expr × List Lexeme) → is_joint t.kind ≡ b → all ≡ front ++ t ∷ ts
+      → IsExpr l d front a
       → ((all front ts : List Lexeme) (a : Expr) → all ≡ front ++ ts → IsExpr l d front a → chain is_joint join part n a ts ≡ Ok r → Reads l d all r)
       → elim b as (λ _. Read) [ true ↦ on_read (part ts) (λ r. chain is_joint join part n (join a r.0) r.1) | false ↦ Ok (a, t ∷ ts) ] ≡ Ok r → Reads l d all r
   chain_at false n all front ts t a r f e x ih h = let q : (a, t ∷ ts) ≡ r = cc in subst (λ (r : Expr × List Lexeme). Reads l d all r) q (front, e, x)
   chain_at true n all front ts t a r f e x ih h =
       let (y, p, k) = on_ok (part ts) (λ r. chain is_joint join part n (join a r.0) r.1) r h in
       let (us, eq, z) = sound ts y p in
-      ih all (front ++ t ∷ us) y.1 (join a y.0) (e ∙ ap (λ vs. front ++ t ∷ vs) eq ∙ sym (append_assoc front (t ∷ us) y.1)) (more front us (front ++ t ∷ us) t a y.0 x f z refl) k
+      ih all (front ++ t ∷ us) y.1 (join a y.0) (e ∙ ap (λ vs. front ++ t ∷ vs) eq ∙ sym (append_assoc front (t ∷ us) y.1))
+      (more front us (front ++ t ∷ us) t a y.0 x f z refl) k
 
-  pub chain_sound : (n : ℕ) (all front ts : List Lexeme) (a : Expr) (r : Expr × List Lexeme) → all ≡ front ++ ts → IsExpr l d front a → chain is_joint join part n a ts ≡ Ok r → Reads l d all r
+  pub chain_sound : (n : ℕ) (all front ts : List Lexeme) (a : Expr) (r : Expr × List Lexeme) → all ≡ front ++ ts → IsExpr l d front a
+      → chain is_joint join part n a ts ≡ Ok r → Reads l d all r
   chain_sound zero all front ts a r e x h = let q : (a, ts) ≡ r = cc in subst (λ (r : Expr × List Lexeme). Reads l d all r) q (front, e, x)
   chain_sound (suc n) all front [] a r e x h = let q : (a, []) ≡ r = cc in subst (λ (r : Expr × List Lexeme). Reads l d all r) q (front, e, x)
-  chain_sound (suc n) all front (t ∷ ts) a r e x h = chain_at (is_joint t.kind) n all front ts t a r refl e x (λ all front ts a e x h. chain_sound n all front ts a r e x h) h
+  chain_sound (suc n) all front (t ∷ ts) a r e x h = chain_at (is_joint t.kind) n all front ts t a r refl e x
+      (λ all front ts a e x h. chain_sound n all front ts a r e x h) h
 
 module _ (d : ℕ) (part : List Lexeme → Read) (sound : (ts : List Lexeme) (r : Expr × List Lexeme) → part ts ≡ Ok r → Reads factor d ts r) where
   pub ands_sound : (ts : List Lexeme) (r : Expr × List Lexeme) → read_ands part ts ≡ Ok r → Reads ands d ts r
   ands_sound ts r h =
       let (y, p, k) = on_ok (part ts) (λ r. chain is_and both part (length ts) r.0 r.1) r h in
       let (front, eq, z) = sound ts y p in
-      chain_sound ands factor d is_and both part sound (λ ts us all o a b x f z e. more_ands o x (and_kind o.kind f) z e) (length ts) ts front y.1 y.0 r eq (one_factor z) k
+      chain_sound ands factor d is_and both part sound (λ ts us all o a b x f z e. more_ands o x (and_kind o.kind f) z e) (length ts) ts front y.1 y.0 r eq
+      (one_factor z) k
 
   pub ors_sound : (ts : List Lexeme) (r : Expr × List Lexeme) → read_ors part ts ≡ Ok r → Reads ors d ts r
   ors_sound ts r h =
       let (y, p, k) = on_ok (read_ands part ts) (λ r. chain is_or either (read_ands part) (length ts) r.0 r.1) r h in
       let (front, eq, z) = ands_sound ts y p in
-      chain_sound ors ands d is_or either (read_ands part) ands_sound (λ ts us all o a b x f z e. more_ors o x (or_kind o.kind f) z e) (length ts) ts front y.1 y.0 r eq (one_and z) k
+      chain_sound ors ands d is_or either (read_ands part) ands_sound (λ ts us all o a b x f z e. more_ors o x (or_kind o.kind f) z e)
+      (length ts) ts front y.1 y.0 r eq (one_and z) k
 
 -- past the greatest depth nothing is read
 beyond_at : (k : TokenKind) (ts : List Lexeme) (t : Lexeme) (r : Expr × List Lexeme) → (past_depth_limit ts ≡ Ok r → ⊥)
-    → elim k as (λ _. Read) [ Not ↦ past_depth_limit ts | Open ↦ past_depth_limit ts | Word ↦ Err (TooDeep, t ∷ ts) | Quoted ↦ Err (TooDeep, t ∷ ts) | Relation op ↦ Err (Malformed, t ∷ ts) | And ↦ Err (Malformed, t ∷ ts) | Or ↦ Err (Malformed, t ∷ ts) | Close ↦ Err (Malformed, t ∷ ts) ] ≡ Ok r → ⊥
+    → elim k as (λ _. Read) [
+      | Not ↦ past_depth_limit ts
+      | Open ↦ past_depth_limit ts
+      | Word ↦ Err (TooDeep, t ∷ ts)
+      | Quoted ↦ Err (TooDeep, t ∷ ts)
+      | Relation op ↦ Err (Malformed, t ∷ ts)
+      | And ↦ Err (Malformed, t ∷ ts)
+      | Or ↦ Err (Malformed, t ∷ ts)
+      | Close ↦ Err (Malformed, t ∷ ts)
+    ] ≡ Ok r → ⊥
 beyond_at Not ts t r ih h = ih h
 beyond_at Open ts t r ih h = ih h
 beyond_at Word ts t r ih h = cc
@@ -96,14 +112,26 @@ module _ (d : ℕ) (t : Lexeme) (a : Operand) (is : operand_of_lexeme t ≡ Some
   right_at : (o : Option Operand) (op : _) (u v : Lexeme) (ts : List Lexeme) (r : Expr × List Lexeme) → u.kind ≡ Relation op → operand_of_lexeme v ≡ o
       → elim o as (λ _. Read) [ Some b ↦ Ok (related op a b, ts) | None ↦ Err (Malformed, v ∷ ts) ] ≡ Ok r → Reads factor d (t ∷ u ∷ v ∷ ts) r
   right_at None op u v ts r e f h = cc
-  right_at (Some b) op u v ts r e f h = let q : (related op a b, ts) ≡ r = cc in subst (λ (r : Expr × List Lexeme). Reads factor d (t ∷ u ∷ v ∷ ts) r) q (t ∷ u ∷ v ∷ [], refl, relation t u v op is e f refl)
+  right_at (Some b) op u v ts r e f h = let q : (related op a b, ts) ≡ r = cc in
+      subst (λ (r : Expr × List Lexeme). Reads factor d (t ∷ u ∷ v ∷ ts) r) q (t ∷ u ∷ v ∷ [], refl, relation t u v op is e f refl)
 
-  right_sound : (op : _) (u : Lexeme) (ts : List Lexeme) (r : Expr × List Lexeme) → u.kind ≡ Relation op → right_operand (related op a) ts ≡ Ok r → Reads factor d (t ∷ u ∷ ts) r
+  right_sound : (op : _) (u : Lexeme) (ts : List Lexeme) (r : Expr × List Lexeme) → u.kind ≡ Relation op → right_operand (related op a) ts ≡ Ok r
+      → Reads factor d (t ∷ u ∷ ts) r
   right_sound op u [] r e h = cc
   right_sound op u (v ∷ ts) r e h = right_at (operand_of_lexeme v) op u v ts r e refl h
 
   after_at : (k : TokenKind) (u : Lexeme) (ts : List Lexeme) (r : Expr × List Lexeme) → u.kind ≡ k
-      → elim k as (λ _. Read) [ Relation op ↦ right_operand (related op a) ts | Word ↦ Ok (alone a, u ∷ ts) | Quoted ↦ Ok (alone a, u ∷ ts) | Not ↦ Ok (alone a, u ∷ ts) | And ↦ Ok (alone a, u ∷ ts) | Or ↦ Ok (alone a, u ∷ ts) | Open ↦ Ok (alone a, u ∷ ts) | Close ↦ Ok (alone a, u ∷ ts) ] ≡ Ok r → Reads factor d (t ∷ u ∷ ts) r
+      → elim k as (λ _. Read) [
+        | Relation op ↦ right_operand (related op a) ts
+        | Word ↦ Ok (alone a, u ∷ ts)
+        | Quoted ↦ Ok (alone a, u ∷ ts)
+        | Not ↦ Ok (alone a, u ∷ ts)
+        | And ↦ Ok (alone a, u ∷ ts)
+        | Or ↦ Ok (alone a, u ∷ ts)
+        | Open ↦ Ok (alone a, u ∷ ts)
+        | Close ↦ Ok (alone a, u ∷ ts)
+      ]
+      ≡ Ok r → Reads factor d (t ∷ u ∷ ts) r
   after_at (Relation op) u ts r e h = right_sound op u ts r e h
   after_at Word u ts r e h = single (u ∷ ts) r h
   after_at Quoted u ts r e h = single (u ∷ ts) r h
@@ -117,20 +145,22 @@ module _ (d : ℕ) (t : Lexeme) (a : Operand) (is : operand_of_lexeme t ≡ Some
   after_sound [] r h = single [] r h
   after_sound (u ∷ ts) r h = after_at u.kind u ts r refl h
 
-word_is : (t : Lexeme) → t.kind ≡ Word → operand_of_lexeme t ≡ Some (constant_or named t.text)
+pub word_is : (t : Lexeme) → t.kind ≡ Word → operand_of_lexeme t ≡ Some (constant_or named t.text)
 word_is t e = rw (e, operand_of_lexeme) refl
 
-quoted_is : (t : Lexeme) → t.kind ≡ Quoted → operand_of_lexeme t ≡ Some (constant_or quoted (quoted_text t.text))
+pub quoted_is : (t : Lexeme) → t.kind ≡ Quoted → operand_of_lexeme t ≡ Some (constant_or quoted (quoted_text t.text))
 quoted_is t e = rw (e, operand_of_lexeme) refl
 
-negation_sound : (d : ℕ) (t : Lexeme) (ts : List Lexeme) (r : Expr × List Lexeme) → t.kind ≡ Not → ((r : Expr × List Lexeme) → read_factor d ts ≡ Ok r → Reads factor d ts r) → on_read (read_factor d ts) (λ r. Ok (negated r.0, r.1)) ≡ Ok r → Reads factor (suc d) (t ∷ ts) r
+negation_sound : (d : ℕ) (t : Lexeme) (ts : List Lexeme) (r : Expr × List Lexeme) → t.kind ≡ Not
+    → ((r : Expr × List Lexeme) → read_factor d ts ≡ Ok r → Reads factor d ts r) → on_read (read_factor d ts) (λ r. Ok (negated r.0, r.1)) ≡ Ok r
+    → Reads factor (suc d) (t ∷ ts) r
 negation_sound d t ts r e ih h =
     let (y, p, k) = on_ok (read_factor d ts) (λ r. Ok (negated r.0, r.1)) r h in
     let (front, eq, z) = ih y p in
     let q : (negated y.0, y.1) ≡ r = cc in
     subst (λ (r : Expr × List Lexeme). Reads factor (suc d) (t ∷ ts) r) q (t ∷ front, ap (λ vs. t ∷ vs) eq, negation t e z refl)
 
-close_kind : (k : TokenKind) → is_close k ≡ true → k ≡ Close
+pub close_kind : (k : TokenKind) → is_close k ≡ true → k ≡ Close
 close_kind Close e = refl
 close_kind Or e = cc
 close_kind Word e = cc
@@ -140,19 +170,35 @@ close_kind Not e = cc
 close_kind And e = cc
 close_kind Open e = cc
 
-closed_at : (b : Bool) (d : ℕ) (t c : Lexeme) (x : Expr) (ts us front : List Lexeme) (r : Expr × List Lexeme) → t.kind ≡ Open → is_close c.kind ≡ b → ts ≡ front ++ c ∷ us → IsExpr ors d front x
+closed_at : (b : Bool) (d : ℕ) (t c : Lexeme) (x : Expr) (ts us front : List Lexeme) (r : Expr × List Lexeme) → t.kind ≡ Open → is_close c.kind ≡ b
+    → ts ≡ front ++ c ∷ us → IsExpr ors d front x
     → cond {A = Read} b (Ok (x, us)) (Err (Malformed, c ∷ us)) ≡ Ok r → Reads factor (suc d) (t ∷ ts) r
 closed_at false d t c x ts us front r e f g z h = cc
 closed_at true d t c x ts us front r e f g z h =
     let q : (x, us) ≡ r = cc in
-    subst (λ (r : Expr × List Lexeme). Reads factor (suc d) (t ∷ ts) r) q (t ∷ (front ++ c ∷ []), ap (λ vs. t ∷ vs) (g ∙ sym (append_assoc front (c ∷ []) us)), parentheses t c e z (close_kind c.kind f) refl)
+    subst (λ (r : Expr × List Lexeme). Reads factor (suc d) (t ∷ ts) r) q (
+      t ∷ (front ++ c ∷ []),
+      ap (λ vs. t ∷ vs) (g ∙ sym (append_assoc front (c ∷ []) us)),
+      parentheses t c e z (close_kind c.kind f) refl,
+    )
 
-closed_sound : (d : ℕ) (t : Lexeme) (ts : List Lexeme) (y r : Expr × List Lexeme) → t.kind ≡ Open → Reads ors d ts y → closed y ≡ Ok r → Reads factor (suc d) (t ∷ ts) r
+closed_sound : (d : ℕ) (t : Lexeme) (ts : List Lexeme) (y r : Expr × List Lexeme) → t.kind ≡ Open → Reads ors d ts y → closed y ≡ Ok r
+    → Reads factor (suc d) (t ∷ ts) r
 closed_sound d t ts (x, []) r e s h = cc
 closed_sound d t ts (x, c ∷ us) r e s h = closed_at (is_close c.kind) d t c x ts us s.0 r e refl s.1 s.2 h
 
 zero_at : (k : TokenKind) (t : Lexeme) (ts : List Lexeme) (r : Expr × List Lexeme) → t.kind ≡ k
-    → elim k as (λ _. Read) [ Not ↦ past_depth_limit ts | Open ↦ past_depth_limit ts | Word ↦ after_operand (constant_or named t.text) ts | Quoted ↦ after_operand (constant_or quoted (quoted_text t.text)) ts | Relation op ↦ Err (Malformed, t ∷ ts) | And ↦ Err (Malformed, t ∷ ts) | Or ↦ Err (Malformed, t ∷ ts) | Close ↦ Err (Malformed, t ∷ ts) ] ≡ Ok r → Reads factor 0 (t ∷ ts) r
+    → elim k as (λ _. Read) [
+      | Not ↦ past_depth_limit ts
+      | Open ↦ past_depth_limit ts
+      | Word ↦ after_operand (constant_or named t.text) ts
+      | Quoted ↦ after_operand (constant_or quoted (quoted_text t.text)) ts
+      | Relation op ↦ Err (Malformed, t ∷ ts)
+      | And ↦ Err (Malformed, t ∷ ts)
+      | Or ↦
+          Err (Malformed, t ∷ ts)
+      | Close ↦ Err (Malformed, t ∷ ts)
+    ] ≡ Ok r → Reads factor 0 (t ∷ ts) r
 zero_at Not t ts r e h = absurd (beyond_none ts r h)
 zero_at Open t ts r e h = absurd (beyond_none ts r h)
 zero_at Word t ts r e h = after_sound 0 t (constant_or named t.text) (word_is t e) ts r h
@@ -162,8 +208,20 @@ zero_at And t ts r e h = cc
 zero_at Or t ts r e h = cc
 zero_at Close t ts r e h = cc
 
-suc_at : (k : TokenKind) (d : ℕ) (t : Lexeme) (ts : List Lexeme) (r : Expr × List Lexeme) → t.kind ≡ k → ((ts : List Lexeme) (r : Expr × List Lexeme) → read_factor d ts ≡ Ok r → Reads factor d ts r)
-    → elim k as (λ _. Read) [ Not ↦ on_read (read_factor d ts) (λ r. Ok (negated r.0, r.1)) | Open ↦ on_read (read_ors (read_factor d) ts) closed | Word ↦ after_operand (constant_or named t.text) ts | Quoted ↦ after_operand (constant_or quoted (quoted_text t.text)) ts | Relation op ↦ Err (Malformed, t ∷ ts) | And ↦ Err (Malformed, t ∷ ts) | Or ↦ Err (Malformed, t ∷ ts) | Close ↦ Err (Malformed, t ∷ ts) ] ≡ Ok r → Reads factor (suc d) (t ∷ ts) r
+suc_at : (k : TokenKind) (d : ℕ) (t : Lexeme) (ts : List Lexeme) (r : Expr × List Lexeme) → t.kind ≡ k
+    → ((ts : List Lexeme) (r : Expr × List Lexeme) → read_factor d ts ≡ Ok r → Reads factor d ts r)
+    → elim k as (λ _. Read) [
+      | Not ↦ on_read (read_factor d ts) (λ r. Ok (negated r.0, r.1))
+      | Open ↦ on_read (read_ors (read_factor d) ts) closed
+      | Word ↦ after_operand (constant_or named t.text) ts
+      | Quoted ↦ after_operand (constant_or quoted (quoted_text t.text)) ts
+      | Relation op ↦
+          Err (Malformed, t ∷ ts)
+      | And ↦ Err (Malformed, t ∷ ts)
+      | Or ↦ Err (Malformed, t ∷ ts)
+      | Close ↦ Err (Malformed, t ∷ ts)
+    ] ≡ Ok r
+    → Reads factor (suc d) (t ∷ ts) r
 suc_at Not d t ts r e ih h = negation_sound d t ts r e (ih ts) h
 suc_at Open d t ts r e ih h =
     let (y, p, k) = on_ok (read_ors (read_factor d) ts) closed r h in
@@ -182,7 +240,7 @@ factor_sound (suc d) [] r h = cc
 factor_sound zero (t ∷ ts) r h = zero_at t.kind t ts r refl h
 factor_sound (suc d) (t ∷ ts) r h = suc_at t.kind d t ts r refl (factor_sound d) h
 
-whole_ok : (r : Read) (e : Expr) → read_to_end r ≡ Ok e → r ≡ Ok (e, [])
+pub whole_ok : (r : Read) (e : Expr) → read_to_end r ≡ Ok e → r ≡ Ok (e, [])
 whole_ok (Err k) e h = cc
 whole_ok (Ok (x, [])) e h = let q : x ≡ e = cc in ap (λ y. ok (y, [])) q
 whole_ok (Ok (x, t ∷ ts)) e h = cc

@@ -7,7 +7,8 @@ use Rattle.std.proofs.Math.Seq.{take-append_seam}
 pub kept_after : {X : Type 0} (old xs : List X) (x : X) → take (length old) xs ≡ old → take (length old) (xs ++ x ∷ []) ≡ old
 kept_after old xs x e =
     let parts : xs ≡ old ++ drop (length old) xs = sym (take-append-drop (length old) xs) ∙ ap (λ ys. ys ++ drop (length old) xs) e in
-    ap (take (length old)) (ap (λ ys. ys ++ x ∷ []) parts ∙ append_assoc old (drop (length old) xs) (x ∷ [])) ∙ take-append_seam old (drop (length old) xs ++ x ∷ [])
+    ap (take (length old)) (ap (λ ys. ys ++ x ∷ []) parts ∙ append_assoc old (drop (length old) xs) (x ∷ []))
+    ∙ take-append_seam old (drop (length old) xs ++ x ∷ [])
 
 -- what is kept of what was kept
 pub kept_through : {X : Type 0} (old mid xs : List X) → take (length old) mid ≡ old → take (length mid) xs ≡ mid → take (length old) xs ≡ old

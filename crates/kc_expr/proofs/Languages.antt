@@ -1,8 +1,5 @@
 -- Lines that two languages read alike.
-use Rattle.std.proofs.Common.{◌≡◌, ℕ, zero, suc, ◌+◌, pred, ◌<◌, Bool, true, false, ltb, eqb, cond, List, [], ◌∷◌, length, take, Option, Some, None, Result, Ok, Err, refl, ap, sym, ◌∙◌, subst, arith}
-use Rattle.std.specs.Prelude.{position, option_map}
-use Rattle.std.specs.List.{list_any, position_or_len}
-use Rattle.std.proofs.lemmas.Bool.{or_parts}
+use Rattle.std.proofs.Common.{◌≡◌, ℕ, zero, suc, ◌+◌, pred, Bool, true, false, List, [], ◌∷◌, take, Option, Some, None, Result, Ok, Err, refl, ap, sym, ◌∙◌, subst}
 use Rattle.kc_value.specs.Quoted.{closing}
 use Rattle.kc_expr.specs.declared.fault.ExprFault.{ExprFault}
 use Rattle.kc_expr.specs.declared.language.Language.{Language}
@@ -12,7 +9,7 @@ use Rattle.kc_expr.specs.declared.token.NextToken.TheVariants.{White, Comment, T
 use Rattle.kc_expr.specs.declared.token.TokenKind.{TokenKind}
 use Rattle.kc_expr.specs.declared.token.TokenKind.TheVariants.{Quoted}
 use Rattle.kc_expr.specs.Grammar.{is_quote}
-use Rattle.kc_expr.specs.Token.{Lexeme, with_front, next_token, quoted_up_to, quoted_or_left_out, bare_dollar, dollar_left_out, lexemes_from}
+use Rattle.kc_expr.specs.Token.{Lexeme, with_front, next_token, quoted_up_to, quoted_or_left_out, dollar_left_out, lexemes_from}
 use Rattle.kc_expr.proofs.Dollars.{bare_of_none}
 use Rattle.kc_expr.proofs.TokenLaws.{lead_quoted}
 use Rattle.kc_expr.proofs.TokenTexts.{front_ok}
@@ -22,7 +19,8 @@ abbrev after : Language → ℕ → List ℕ → ℕ → NextToken → Result (L
 after language b bs at x = elim x as (λ _. Result (List Lexeme) ExprFault) [
   | White ↦ lexemes_from language 0 (at + 1) bs
   | Comment ↦ Ok []
-  | Token kind len ↦ with_front (record { kind = kind; start = at; stop = at + len; text = take len (b ∷ bs) } ∷ []) (lexemes_from language (pred len) (at + 1) bs)
+  | Token kind len ↦ with_front (record { kind = kind; start = at; stop = at + len; text = take len (b ∷ bs) } ∷ [])
+      (lexemes_from language (pred len) (at + 1) bs)
   | Fault kind ahead ↦ Err (record { offset = at + ahead; kind = kind })
 ]
 
@@ -38,8 +36,10 @@ AllKinds Good [] = Unit {0}
 AllKinds Good (t ∷ ts) = Good t.kind × AllKinds Good ts
 
 -- where each such token is read alike, so is a line of them
-module _ (l m : Language) (Good : TokenKind → Type 0) (alike : (b : ℕ) (bs : List ℕ) (x : NextToken) → IsGood Good x → next_token l (b ∷ bs) ≡ x → next_token m (b ∷ bs) ≡ x) where
-  lead_alike : (b : ℕ) (bs : List ℕ) (at : ℕ) (x : NextToken) (ts : List Lexeme) → AllKinds Good ts → next_token l (b ∷ bs) ≡ x → ((skip n : ℕ) (us : List Lexeme) → AllKinds Good us → lexemes_from l skip n bs ≡ Ok us → lexemes_from m skip n bs ≡ Ok us)
+module _ (l m : Language) (Good : TokenKind → Type 0) (alike : (b : ℕ) (bs : List ℕ) (x : NextToken) → IsGood Good x → next_token l (b ∷ bs) ≡ x
+    → next_token m (b ∷ bs) ≡ x) where
+  lead_alike : (b : ℕ) (bs : List ℕ) (at : ℕ) (x : NextToken) (ts : List Lexeme) → AllKinds Good ts → next_token l (b ∷ bs) ≡ x
+      → ((skip n : ℕ) (us : List Lexeme) → AllKinds Good us → lexemes_from l skip n bs ≡ Ok us → lexemes_from m skip n bs ≡ Ok us)
       → after l b bs at x ≡ Ok ts → lexemes_from m 0 at (b ∷ bs) ≡ Ok ts
   lead_alike b bs at White ts good e ih h = ap (after m b bs at) (alike b bs White tt e) ∙ ih 0 (at + 1) ts good h
   lead_alike b bs at Comment ts good e ih h = ap (after m b bs at) (alike b bs Comment tt e) ∙ h
@@ -50,7 +50,8 @@ module _ (l m : Language) (Good : TokenKind → Type 0) (alike : (b : ℕ) (bs :
       ap (after m b bs at) (alike b bs (Token kind len) goods.0 e) ∙ ap (with_front (p ∷ [])) (ih (pred len) (at + 1) us goods.1 r) ∙ ap Ok q
   lead_alike b bs at (Fault kind ahead) ts good e ih h = cc
 
-  pub line_alike : (skip at : ℕ) (bytes : List ℕ) (ts : List Lexeme) → AllKinds Good ts → lexemes_from l skip at bytes ≡ Ok ts → lexemes_from m skip at bytes ≡ Ok ts
+  pub line_alike : (skip at : ℕ) (bytes : List ℕ) (ts : List Lexeme) → AllKinds Good ts → lexemes_from l skip at bytes ≡ Ok ts
+      → lexemes_from m skip at bytes ≡ Ok ts
   line_alike skip at [] ts good h = h
   line_alike (suc skip) at (b ∷ bs) ts good h = line_alike skip (at + 1) bs ts good h
   line_alike zero at (b ∷ bs) ts good h = lead_alike b bs at (next_token l (b ∷ bs)) ts good refl (λ skip n us g e. line_alike skip n bs us g e) h
@@ -81,7 +82,8 @@ no_closed l bytes None (Token kind len) g h = cc
 no_closed l bytes None (Fault kind ahead) g h = g
 no_closed l bytes (Some n) x g h = no_quoted (n + 1) (dollar_left_out l (take (n + 1) bytes)) x g h
 
-pub unquoted_line : (l m : Language) (skip at : ℕ) (bytes : List ℕ) (ts : List Lexeme) → AllKinds IsUnquoted ts → lexemes_from l skip at bytes ≡ Ok ts → lexemes_from m skip at bytes ≡ Ok ts
+pub unquoted_line : (l m : Language) (skip at : ℕ) (bytes : List ℕ) (ts : List Lexeme) → AllKinds IsUnquoted ts → lexemes_from l skip at bytes ≡ Ok ts
+    → lexemes_from m skip at bytes ≡ Ok ts
 unquoted_line l m = line_alike l m IsUnquoted (λ b bs x good e. by_quote b bs x (is_quote b) good e refl)
   where
     by_quote : (b : ℕ) (bs : List ℕ) (x : NextToken) (t : Bool) → IsGood IsUnquoted x → next_token l (b ∷ bs) ≡ x → is_quote b ≡ t → next_token m (b ∷ bs) ≡ x
@@ -89,7 +91,8 @@ unquoted_line l m = line_alike l m IsUnquoted (λ b bs x good e. by_quote b bs x
     by_quote b bs x true good e q = absurd (no_closed l (b ∷ bs) (closing b false bs) x good (sym (lead_quoted l b bs q) ∙ e))
 
 -- a quoted text without a `$` is one of Linux
-no_dollar_of : (n : ℕ) (o p : Option ℕ) (x : NextToken) → (o ≡ None → p ≡ None) → IsGood (λ _. Unit {0}) x → quoted_or_left_out n o ≡ x → quoted_or_left_out n p ≡ x
+no_dollar_of : (n : ℕ) (o p : Option ℕ) (x : NextToken) → (o ≡ None → p ≡ None) → IsGood (λ _. Unit {0}) x → quoted_or_left_out n o ≡ x
+    → quoted_or_left_out n p ≡ x
 no_dollar_of n None p x f g h = ap (quoted_or_left_out n) (f refl) ∙ h
 no_dollar_of n (Some k) p White f g h = cc
 no_dollar_of n (Some k) p Comment f g h = cc
@@ -98,15 +101,18 @@ no_dollar_of n (Some k) p (Fault kind ahead) f g h = absurd g
 
 closed_in_linux : (bytes : List ℕ) (o : Option ℕ) (x : NextToken) → IsGood (λ _. Unit {0}) x → quoted_up_to Strict bytes o ≡ x → quoted_up_to Linux bytes o ≡ x
 closed_in_linux bytes None x g h = h
-closed_in_linux bytes (Some n) x g h = no_dollar_of (n + 1) (dollar_left_out Strict (take (n + 1) bytes)) (dollar_left_out Linux (take (n + 1) bytes)) x (bare_of_none (take (n + 1) bytes)) g h
+closed_in_linux bytes (Some n) x g h = no_dollar_of (n + 1) (dollar_left_out Strict (take (n + 1) bytes)) (dollar_left_out Linux (take (n + 1) bytes)) x
+    (bare_of_none (take (n + 1) bytes)) g h
 
 all_kinds : (ts : List Lexeme) → AllKinds (λ _. Unit {0}) ts
 all_kinds [] = tt
 all_kinds (t ∷ ts) = (tt, all_kinds ts)
 
 pub strict_in_linux : (skip at : ℕ) (bytes : List ℕ) (ts : List Lexeme) → lexemes_from Strict skip at bytes ≡ Ok ts → lexemes_from Linux skip at bytes ≡ Ok ts
-strict_in_linux skip at bytes ts h = line_alike Strict Linux (λ _. Unit {0}) (λ b bs x good e. by_quote b bs x (is_quote b) good e refl) skip at bytes ts (all_kinds ts) h
+strict_in_linux skip at bytes ts h = line_alike Strict Linux (λ _. Unit {0}) (λ b bs x good e. by_quote b bs x (is_quote b) good e refl) skip at bytes ts
+    (all_kinds ts) h
   where
-    by_quote : (b : ℕ) (bs : List ℕ) (x : NextToken) (t : Bool) → IsGood (λ _. Unit {0}) x → next_token Strict (b ∷ bs) ≡ x → is_quote b ≡ t → next_token Linux (b ∷ bs) ≡ x
+    by_quote : (b : ℕ) (bs : List ℕ) (x : NextToken) (t : Bool) → IsGood (λ _. Unit {0}) x → next_token Strict (b ∷ bs) ≡ x → is_quote b ≡ t
+        → next_token Linux (b ∷ bs) ≡ x
     by_quote b bs x false good e q = unquoted_alike Linux Strict b bs q ∙ e
     by_quote b bs x true good e q = lead_quoted Linux b bs q ∙ closed_in_linux (b ∷ bs) (closing b false bs) x good (sym (lead_quoted Strict b bs q) ∙ e)

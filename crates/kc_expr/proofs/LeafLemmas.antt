@@ -18,12 +18,14 @@ pub quote_ascii : (c : ℕ) → is_quote c ≡ true → c < 128
 quote_ascii c h = grind (arith, nat_tests)
 
 -- the tokens from a place on
-pub lexeme_at : (ts : List CodeToken) (at : ℕ) (d : CodeToken) → at < length ts → drop at (lexemes_of ts) ≡ lexeme_of (get_or ts at d) ∷ drop (suc at) (lexemes_of ts)
+pub lexeme_at : (ts : List CodeToken) (at : ℕ) (d : CodeToken) → at < length ts → drop at (lexemes_of ts)
+    ≡ lexeme_of (get_or ts at d) ∷ drop (suc at) (lexemes_of ts)
 lexeme_at [] at d h = absurd (omega arith)
 lexeme_at (t ∷ ts) zero d h = refl
 lexeme_at (t ∷ ts) (suc at) d h = lexeme_at ts at d (omega arith)
 
-pub operand_at : (ts : List CodeToken) (at : ℕ) (d : CodeToken) (k : TokenKind) → at < length ts → (get_or ts at d).kind ≡ k → first_operand (drop at (lexemes_of ts)) ≡ operand_of_kind k (get_or ts at d).text.now
+pub operand_at : (ts : List CodeToken) (at : ℕ) (d : CodeToken) (k : TokenKind) → at < length ts → (get_or ts at d).kind ≡ k
+    → first_operand (drop at (lexemes_of ts)) ≡ operand_of_kind k (get_or ts at d).text.now
 operand_at ts at d k h e = ap first_operand (lexeme_at ts at d h) ∙ ap (λ k. operand_of_kind k (get_or ts at d).text.now) e
 
 other_kind : (k : TokenKind) (text : List ℕ) → (k ≡ Word → ⊥) → (k ≡ Quoted → ⊥) → operand_of_kind k text ≡ None
@@ -36,7 +38,8 @@ other_kind Or text w q = refl
 other_kind Open text w q = refl
 other_kind Close text w q = refl
 
-pub no_operand_at : (ts : List CodeToken) (at : ℕ) (d : CodeToken) → at < length ts → ((get_or ts at d).kind ≡ Word → ⊥) → ((get_or ts at d).kind ≡ Quoted → ⊥) → first_operand (drop at (lexemes_of ts)) ≡ None
+pub no_operand_at : (ts : List CodeToken) (at : ℕ) (d : CodeToken) → at < length ts → ((get_or ts at d).kind ≡ Word → ⊥) → ((get_or ts at d).kind ≡ Quoted → ⊥)
+    → first_operand (drop at (lexemes_of ts)) ≡ None
 no_operand_at ts at d h w q = ap first_operand (lexeme_at ts at d h) ∙ other_kind (get_or ts at d).kind (get_or ts at d).text.now w q
 
 pub nothing_at : (ts : List CodeToken) (at : ℕ) → length ts ≤ at → drop at (lexemes_of ts) ≡ []
@@ -46,7 +49,8 @@ nothing_at (t ∷ ts) zero h = absurd (omega arith)
 nothing_at (t ∷ ts) (suc at) h = nothing_at ts at (omega arith)
 
 -- `m` in a condition
-pub m_condition : (condition : Bool) (leaf : Leaf) (names texts : List (List ℕ)) → condition ≡ true → is_m leaf ≡ true → as_condition condition (alone (operand_of names texts leaf)) ≡ both (alone (constant M)) (alone (named modules))
+pub m_condition : (condition : Bool) (leaf : Leaf) (names texts : List (List ℕ)) → condition ≡ true → is_m leaf ≡ true
+    → as_condition condition (alone (operand_of names texts leaf)) ≡ both (alone (constant M)) (alone (named modules))
 m_condition condition (Constant M) names texts e h = rw e refl
 m_condition condition (Constant N) names texts e h = cc
 m_condition condition (Constant Y) names texts e h = cc

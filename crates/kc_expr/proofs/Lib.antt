@@ -1,5 +1,9 @@
+pub mod Beginnings
 pub mod CutLaws
 pub mod Dollars
+pub mod FactorOutcomes
+pub mod FaultLaws
+pub mod FirstFaults
 pub mod GrammarComplete
 pub mod GrammarLaws
 pub mod KeptLists
@@ -10,11 +14,13 @@ pub mod NamesInLemmas
 pub mod NameLemmas
 pub mod NamesRead
 pub mod NodeLemmas
+pub mod Outcomes
 pub mod ParseSteps
 pub mod Places
 pub mod ReaderSteps
 pub mod ReadingLemmas
 pub mod StoreLemmas
+pub mod TokenFronts
 pub mod TokenLaws
 pub mod TokenPlaces
 pub mod TokenTexts

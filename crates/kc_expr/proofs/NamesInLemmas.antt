@@ -32,11 +32,13 @@ not_alone names texts es (Either i j) h = refl
 not_alone names texts es (Shown i) h = refl
 
 -- the operand of an arena's expression, by its node
-module _ (a : Exprs) (s : Store) (i index : ℕ) (found : Node) (view : exprs_in s ≡ a) (same : index ≡ i) (sound : IsSound s) (within : i < length a.nodes) (here : found ≡ get_or s.nodes.items index some_node) where
+module _ (a : Exprs) (s : Store) (i index : ℕ) (found : Node) (view : exprs_in s ≡ a) (same : index ≡ i) (sound : IsSound s) (within : i < length a.nodes)
+    (here : found ≡ get_or s.nodes.items index some_node) where
   stood : (n : Node) → found ≡ n → operand_alone (node_expr a i) ≡ operand_alone (expr_of (stored_names s) s.texts.items (exprs_in s).nodes n)
   stood n e =
       let h : index < length s.nodes.items = rw same (within_nodes a s i view within) in
-      ap (λ (x : Exprs). operand_alone (node_expr x i)) (sym view) ∙ ap (λ k. operand_alone (node_expr (exprs_in s) k)) (sym same) ∙ ap operand_alone (node_of s index found n sound h here e)
+      ap (λ (x : Exprs). operand_alone (node_expr x i)) (sym view) ∙ ap (λ k. operand_alone (node_expr (exprs_in s) k)) (sym same)
+      ∙ ap operand_alone (node_of s index found n sound h here e)
 
   pub operand_is : (leaf : Leaf) → found ≡ Alone leaf → operand_alone (node_expr a i) ≡ Some (operand_of (stored_names s) s.texts.items leaf)
   operand_is leaf e = stood (Alone leaf) e
@@ -88,15 +90,18 @@ found_map f (x ∷ xs) y zero l e = (x, (0, omega arith, refl), e)
 found_map f (x ∷ xs) y (suc k) l e = let (j, c, q) = found_map f xs y k (omega arith) e in (j, Contains-append_right (x ∷ []) xs j c, q)
 
 -- what was met is what is in the expression
-module _ (names : List (List ℕ)) (distinct : AreDistinct names) (found : List ℕ) (e : Expr) (met : map (λ i. slice_index_or names i []) found ≡ names_in_reverse e) (held : All (λ i. i < length names) found) (i : ℕ) where
+module _ (names : List (List ℕ)) (distinct : AreDistinct names) (found : List ℕ) (e : Expr) (met : map (λ i. slice_index_or names i []) found
+    ≡ names_in_reverse e) (held : All (λ i. i < length names) found) (i : ℕ) where
   pub met_in : Contains found i → (i < length names) × Contains (names_in e) (slice_index_or names i [])
   met_in c =
-      let inside : Contains (names_in_reverse e) (slice_index_or names i []) = subst (λ xs. Contains xs (slice_index_or names i [])) met (contained_map (λ i. slice_index_or names i []) found i c) in
+      let inside : Contains (names_in_reverse e) (slice_index_or names i []) =
+      subst (λ xs. Contains xs (slice_index_or names i [])) met (contained_map (λ i. slice_index_or names i []) found i c) in
       (All-contains (λ i. i < length names) found i held c, from_words (slice_index_or names i []) e inside)
 
   pub in_met : (i < length names) × Contains (names_in e) (slice_index_or names i []) → Contains found i
   in_met h =
-      let inside : Contains (map (λ i. slice_index_or names i []) found) (slice_index_or names i []) = subst (λ xs. Contains xs (slice_index_or names i [])) (sym met) (to_words (slice_index_or names i []) e h.1) in
+      let inside : Contains (map (λ i. slice_index_or names i []) found) (slice_index_or names i []) =
+      subst (λ xs. Contains xs (slice_index_or names i [])) (sym met) (to_words (slice_index_or names i []) e h.1) in
       let (j, c, q) = found_map (λ i. slice_index_or names i []) found (slice_index_or names i []) inside.0 inside.1 inside.2 in
       subst (Contains found) (distinct j i (All-contains (λ i. i < length names) found j held c) h.0 q) c
 
@@ -105,14 +110,16 @@ none_held P xs e = rw e (search rules)
 
 -- what was met is kept through sorting and taking out repeats, and it is what callers see
 module _ (a : Exprs) (s : Store) (view : exprs_in s ≡ a) (id index : ℕ) (same : index ≡ id) (sound : IsSound s) (none found sorted last : List ℕ)
-    (empty : none ≡ []) (met : map (λ i. slice_index_or (stored_names s) i []) found ≡ map (λ i. slice_index_or (stored_names s) i []) none ++ names_in_reverse (node_expr (exprs_in s) index))
+    (empty : none ≡ []) (met : map (λ i. slice_index_or (stored_names s) i []) found ≡ map (λ i. slice_index_or (stored_names s) i []) none ++ names_in_reverse
+    (node_expr (exprs_in s) index))
     (held : All (λ i. i < length (stored_names s)) none → All (λ i. i < length (stored_names s)) found)
     (permuted : IsPermutation found sorted) (kept : last ≡ dedup eqb sorted) (i : ℕ) where
   pub reported_in : Contains last i → (i < length a.names) × Contains (names_in (node_expr a id)) (slice_index_or a.names i [])
   reported_in c =
       let met_all = met ∙ ap (λ xs. map (λ i. slice_index_or (stored_names s) i []) xs ++ names_in_reverse (node_expr (exprs_in s) index)) empty in
       let all = held (none_held (λ i. i < length (stored_names s)) none empty) in
-      let inside = Contains-permutation sorted found i (IsPermutation-sym found sorted permuted) (Contains-from_dedup eqb sorted i (subst (λ xs. Contains xs i) kept c)) in
+      let inside = Contains-permutation sorted found i (IsPermutation-sym found sorted permuted)
+      (Contains-from_dedup eqb sorted i (subst (λ xs. Contains xs i) kept c)) in
       let r = met_in (stored_names s) sound.distinct found (node_expr (exprs_in s) index) met_all all i inside in
       subst (λ (x : Exprs). (i < length x.names) × Contains (names_in (node_expr x id)) (slice_index_or x.names i [])) view
       (subst (λ (k : ℕ). (i < length (stored_names s)) × Contains (names_in (node_expr (exprs_in s) k)) (slice_index_or (stored_names s) i [])) same r)
@@ -121,7 +128,8 @@ module _ (a : Exprs) (s : Store) (view : exprs_in s ≡ a) (id index : ℕ) (sam
   in_reported h =
       let met_all = met ∙ ap (λ xs. map (λ i. slice_index_or (stored_names s) i []) xs ++ names_in_reverse (node_expr (exprs_in s) index)) empty in
       let all = held (none_held (λ i. i < length (stored_names s)) none empty) in
-      let here = subst (λ (k : ℕ). (i < length (stored_names s)) × Contains (names_in (node_expr (exprs_in s) k)) (slice_index_or (stored_names s) i [])) (sym same)
+      let here = subst (λ (k : ℕ). (i < length (stored_names s)) × Contains (names_in (node_expr (exprs_in s) k)) (slice_index_or (stored_names s) i []))
+      (sym same)
       (subst (λ (x : Exprs). (i < length x.names) × Contains (names_in (node_expr x id)) (slice_index_or x.names i [])) (sym view) h) in
       let inside = in_met (stored_names s) sound.distinct found (node_expr (exprs_in s) index) met_all all i here in
       subst (λ xs. Contains xs i) (sym kept) (Contains-dedup_nat sorted i (Contains-permutation found sorted i permuted inside))

@@ -65,8 +65,10 @@ tri_or_assoc M Y Y = refl
 pub ors_start : (greatest left right : Tri) → greatest ≡ right → tri_or greatest left ≡ tri_or left right
 ors_start greatest left right e = rw e (tri_or_comm right left)
 
-pub ors_more : (new greatest found left right here all : Tri) → new ≡ tri_or greatest found → found ≡ right → here ≡ tri_or left right → tri_or greatest here ≡ all → tri_or new left ≡ all
-ors_more new greatest found left right here all e f h k = rw (e, f) (tri_or_assoc greatest right left ∙ ap (tri_or greatest) (tri_or_comm right left) ∙ ap (tri_or greatest) (sym h) ∙ k)
+pub ors_more : (new greatest found left right here all : Tri) → new ≡ tri_or greatest found → found ≡ right → here ≡ tri_or left right
+    → tri_or greatest here ≡ all → tri_or new left ≡ all
+ors_more new greatest found left right here all e f h k = rw (e, f) (tri_or_assoc greatest right left ∙ ap (tri_or greatest) (tri_or_comm right left)
+    ∙ ap (tri_or greatest) (sym h) ∙ k)
 
 pub or_of : (r a b x y : Tri) → r ≡ tri_or a b → a ≡ x → b ≡ y → r ≡ tri_or x y
 or_of r a b x y e f g = cc
@@ -74,17 +76,20 @@ or_of r a b x y e f g = cc
 pub chain_start : (least left right : Tri) → least ≡ right → tri_and least left ≡ tri_and left right
 chain_start least left right e = rw e (tri_and_comm right left)
 
-pub chain_more : (new least found left right here all : Tri) → new ≡ tri_and least found → found ≡ right → here ≡ tri_and left right → tri_and least here ≡ all → tri_and new left ≡ all
+pub chain_more : (new least found left right here all : Tri) → new ≡ tri_and least found → found ≡ right → here ≡ tri_and left right → tri_and least here ≡ all
+    → tri_and new left ≡ all
 chain_more new least found left right here all e f h k = rw (e, f) (chained least left right ∙ ap (tri_and least) (sym h) ∙ k)
 
 module _ (names texts : List (List ℕ)) where
   -- the nodes before are kept
   pub kept : (es : List Expr) (ns : List Node) (i : ℕ) → i < length es → at (exprs_after names texts es ns) i ≡ at es i
   kept es [] i h = refl
-  kept es (n ∷ ns) i h = kept (es ++ expr_of names texts es n ∷ []) ns i (omega (arith, length-append es (expr_of names texts es n ∷ []))) ∙ get_or_append_left es (expr_of names texts es n ∷ []) (alone (constant N)) i h
+  kept es (n ∷ ns) i h = kept (es ++ expr_of names texts es n ∷ []) ns i (omega (arith, length-append es (expr_of names texts es n ∷ [])))
+      ∙ get_or_append_left es (expr_of names texts es n ∷ []) (alone (constant N)) i h
 
   -- a node over expressions that are kept is the same expression
-  same_over : (es fs : List Expr) (x y k : ℕ) (n : Node) → NodeFits x y k n → ((i : ℕ) → i < k → at fs i ≡ at es i) → expr_of names texts es n ≡ expr_of names texts fs n
+  same_over : (es fs : List Expr) (x y k : ℕ) (n : Node) → NodeFits x y k n → ((i : ℕ) → i < k → at fs i ≡ at es i)
+      → expr_of names texts es n ≡ expr_of names texts fs n
   same_over es fs x y k (Alone a) h e = refl
   same_over es fs x y k (Related op a b) h e = refl
   same_over es fs x y k (Negated i) h e = ap negated (sym (e i h))
@@ -92,7 +97,9 @@ module _ (names texts : List (List ℕ)) where
   same_over es fs x y k (Either i j) h e = ap (λ a. either a (at es j)) (sym (e i h.0)) ∙ ap (either (at fs i)) (sym (e j h.1))
   same_over es fs x y k (Shown i) h e = ap shown (sym (e i h))
 
-  pub step_at : (x y : ℕ) (es : List Expr) (ns : List Node) (i at_i : ℕ) → at_i ≡ length es + i → ((k m : ℕ) → m ≡ length es + k → k < length ns → NodeFits x y m (get_or ns k some_node)) → i < length ns → at (exprs_after names texts es ns) at_i ≡ expr_of names texts (exprs_after names texts es ns) (get_or ns i some_node)
+  pub step_at : (x y : ℕ) (es : List Expr) (ns : List Node) (i at_i : ℕ) → at_i ≡ length es + i
+      → ((k m : ℕ) → m ≡ length es + k → k < length ns → NodeFits x y m (get_or ns k some_node)) → i < length ns
+      → at (exprs_after names texts es ns) at_i ≡ expr_of names texts (exprs_after names texts es ns) (get_or ns i some_node)
   step_at x y es [] i at_i p f h = absurd (omega arith)
   step_at x y es (n ∷ ns) zero at_i p f h =
       let more : List Expr = es ++ expr_of names texts es n ∷ [] in
@@ -101,35 +108,45 @@ module _ (names texts : List (List ℕ)) where
       let fits : NodeFits x y (length es) n = f 0 (length es) (omega arith) (omega arith) in
       let seam : at more (length es) ≡ expr_of names texts es n = get_or-append_seam es (expr_of names texts es n) [] (alone (constant N)) in
       ap (at (exprs_after names texts more ns)) here ∙ kept more ns (length es) (omega (arith, len)) ∙ seam
-      ∙ same_over es (exprs_after names texts more ns) x y (length es) n fits (λ i l. kept more ns i (omega (arith, len)) ∙ get_or_append_left es (expr_of names texts es n ∷ []) (alone (constant N)) i l)
+      ∙ same_over es (exprs_after names texts more ns) x y (length es) n fits (λ i l. kept more ns i (omega (arith, len))
+      ∙ get_or_append_left es (expr_of names texts es n ∷ []) (alone (constant N)) i l)
   step_at x y es (n ∷ ns) (suc i) at_i p f h =
       let more : List Expr = es ++ expr_of names texts es n ∷ [] in
       let len : length more ≡ length es + 1 = length-append es (expr_of names texts es n ∷ []) in
       step_at x y more ns i at_i (omega (arith, len)) (λ k m e l. f (suc k) m (omega (arith, len)) (omega arith)) (omega arith)
 
   -- the expression that the node at a place represents
-  pub node_at : (x y : ℕ) (ns : List Node) (i : ℕ) → AreNodes x y ns → i < length ns → at (exprs_of names texts ns) i ≡ expr_of names texts (exprs_of names texts ns) (get_or ns i some_node)
+  pub node_at : (x y : ℕ) (ns : List Node) (i : ℕ) → AreNodes x y ns → i < length ns → at (exprs_of names texts ns) i
+      ≡ expr_of names texts (exprs_of names texts ns) (get_or ns i some_node)
   node_at x y ns i f h = step_at x y [] ns i i (omega arith) (λ k m e l. let g : k ≡ m = omega arith in rw (← g) (f k l)) h
 
-  pub at_node : (x y : ℕ) (ns : List Node) (i : ℕ) (n : Node) → AreNodes x y ns → i < length ns → get_or ns i some_node ≡ n → at (exprs_of names texts ns) i ≡ expr_of names texts (exprs_of names texts ns) n
+  pub at_node : (x y : ℕ) (ns : List Node) (i : ℕ) (n : Node) → AreNodes x y ns → i < length ns → get_or ns i some_node ≡ n
+      → at (exprs_of names texts ns) i ≡ expr_of names texts (exprs_of names texts ns) n
   at_node x y ns i n f h e = node_at x y ns i f h ∙ ap (expr_of names texts (exprs_of names texts ns)) e
 
   pub length-exprs : (es : List Expr) (ns : List Node) → length (exprs_after names texts es ns) ≡ length es + length ns
   length-exprs es [] = omega arith
   length-exprs es (n ∷ ns) = length-exprs (es ++ expr_of names texts es n ∷ []) ns ∙ omega (arith, length-append es (expr_of names texts es n ∷ []))
 
-  pub exprs-push : (es : List Expr) (ns : List Node) (n : Node) → exprs_after names texts es (ns ++ n ∷ []) ≡ exprs_after names texts es ns ++ expr_of names texts (exprs_after names texts es ns) n ∷ []
+  pub exprs-push : (es : List Expr) (ns : List Node) (n : Node) → exprs_after names texts es (ns ++ n ∷ [])
+      ≡ exprs_after names texts es ns ++ expr_of names texts (exprs_after names texts es ns) n ∷ []
   exprs-push es [] n = refl
   exprs-push es (m ∷ ns) n = exprs-push (es ++ expr_of names texts es m ∷ []) ns n
 
   -- what an arena with one node more shows
-  pub grows_by : (ns : List Node) (n : Node) → Grows (record { names = names; nodes = exprs_of names texts ns }) (record { names = names; nodes = exprs_of names texts (ns ++ n ∷ []) })
+  pub grows_by : (ns : List Node) (n : Node) → Grows (record { names = names; nodes = exprs_of names texts ns })
+      (record { names = names; nodes = exprs_of names texts (ns ++ n ∷ []) })
   grows_by ns n = record {
     names = take-length names;
-    nodes = rw (exprs-push [] ns n, take-append-le (length (exprs_of names texts ns)) (exprs_of names texts ns) (expr_of names texts (exprs_of names texts ns) n ∷ []) (omega arith)) (take-length (exprs_of names texts ns));
+    nodes = rw (
+      exprs-push [] ns n,
+      take-append-le (length (exprs_of names texts ns)) (exprs_of names texts ns)
+          (expr_of names texts (exprs_of names texts ns) n ∷ []) (omega arith),
+    ) (take-length (exprs_of names texts ns));
   }
 
-  pub represents_last : (ns : List Node) (n : Node) (id : ℕ) → id ≡ length ns → Represents (record { names = names; nodes = exprs_of names texts (ns ++ n ∷ []) }) id (expr_of names texts (exprs_of names texts ns) n)
+  pub represents_last : (ns : List Node) (n : Node) (id : ℕ) → id ≡ length ns
+      → Represents (record { names = names; nodes = exprs_of names texts (ns ++ n ∷ []) }) id (expr_of names texts (exprs_of names texts ns) n)
   represents_last ns n id e =
       let es : List Expr = exprs_of names texts ns in
       let last : Expr = expr_of names texts es n in

@@ -38,7 +38,8 @@ as_either true a b = refl
 as_either false a b = refl
 
 -- a refusal passes on where its fault does
-pub refused_on : (all : List Lexeme) (read more : Read) (e : ExprFault) → ((f : ExprKind × List Lexeme) → read ≡ Err f → more ≡ Err f) → IsRefused all read e → IsRefused all more e
+pub refused_on : (all : List Lexeme) (read more : Read) (e : ExprFault) → ((f : ExprKind × List Lexeme) → read ≡ Err f → more ≡ Err f) → IsRefused all read e
+    → IsRefused all more e
 refused_on all read more e h (inl m) = inl m
 refused_on all read more e h (inr (f, r, q)) = inr (f, h f r, q)
 
@@ -46,7 +47,8 @@ pub refused_by : (all : List Lexeme) (read more : Read) (e : ExprFault) → more
 refused_by all read more e h x = refused_on all read more e (λ f r. h ∙ r) x
 
 -- so does all that is answered
-pub parses_by : (s : Store) (all : List Lexeme) (condition : Bool) (at : ℕ) (read more : Read) (r : Result (ℕ × ℕ) ExprFault) → more ≡ read → Parses s all condition at read r → Parses s all condition at more r
+pub parses_by : (s : Store) (all : List Lexeme) (condition : Bool) (at : ℕ) (read more : Read) (r : Result (ℕ × ℕ) ExprFault) → more ≡ read
+    → Parses s all condition at read r → Parses s all condition at more r
 parses_by s all condition at read more (Err e) h p = refused_by all read more e h p
 parses_by s all condition at read more (Ok r) h p = record { expr = p.expr; reads = h ∙ p.reads; forward = p.forward; within = p.within; stands = p.stands }
 
@@ -75,7 +77,8 @@ kind_within all at k e = kind_by all at k e (cases_lt at (length all))
 found_none : {X : Type 0} (f : X → Operand) (o : Option X) (us : List Lexeme) → option_map f o ≡ first_operand us → o ≡ None → first_operand us ≡ None
 found_none f o us e n = sym e ∙ ap (option_map f) n
 
-found_some : {X : Type 0} (f : X → Operand) (o : Option X) (x : X) (us : List Lexeme) → option_map f o ≡ first_operand us → o ≡ Some x → first_operand us ≡ Some (f x)
+found_some : {X : Type 0} (f : X → Operand) (o : Option X) (x : X) (us : List Lexeme) → option_map f o ≡ first_operand us → o ≡ Some x
+    → first_operand us ≡ Some (f x)
 found_some f o x us e n = sym e ∙ ap (option_map f) n
 
 module _ {X : Type 0} (f : X → Operand) (o : Option X) (all : List Lexeme) (at : ℕ) (found : option_map f o ≡ first_operand (drop at all)) where
@@ -83,28 +86,34 @@ module _ {X : Type 0} (f : X → Operand) (o : Option X) (all : List Lexeme) (at
   relation_missing e n q = inr ((Malformed, drop at all), operand_none (drop at all) (found_none f o (drop at all) found n), q)
 
   module _ (x : X) (is : o ≡ Some x) where
-    pub relation_alone : (s : Store) (condition : Bool) (id : ℕ) → first_relation (drop (at + 1) all) ≡ None → Represents (exprs_in s) id (as_condition condition (alone (f x))) → IsParsed s all condition at (operand_read (drop at all)) id (at + 1)
+    pub relation_alone : (s : Store) (condition : Bool) (id : ℕ) → first_relation (drop (at + 1) all) ≡ None
+        → Represents (exprs_in s) id (as_condition condition (alone (f x))) → IsParsed s all condition at (operand_read (drop at all)) id (at + 1)
     relation_alone s condition id n h = record {
       expr = alone (f x);
-      reads = operand_alone (drop at all) (f x) (found_some f o x (drop at all) found is) (sym (ap first_relation (drop_one at all)) ∙ n) ∙ ap (λ us. Ok (alone (f x), us)) (sym (drop_one at all));
+      reads = operand_alone (drop at all) (f x) (found_some f o x (drop at all) found is) (sym (ap first_relation (drop_one at all)) ∙ n)
+          ∙ ap (λ us. Ok (alone (f x), us)) (sym (drop_one at all));
       forward = omega arith;
       within = operand_within all at (f x) (found_some f o x (drop at all) found is);
       stands = h;
     }
 
-    module _ (op : Relop) (relates : first_relation (drop (at + 1) all) ≡ Some op) {Y : Type 0} (g : Y → Operand) (p : Option Y) (right : option_map g p ≡ first_operand (drop (at + 2) all)) where
+    module _ (op : Relop) (relates : first_relation (drop (at + 1) all) ≡ Some op) {Y : Type 0} (g : Y → Operand) (p : Option Y)
+        (right : option_map g p ≡ first_operand (drop (at + 2) all)) where
       pub relation_unfinished : (e : ExprFault) → p ≡ None → e ≡ fault_of all (Malformed, drop (at + 2) all) → IsRefused all (operand_read (drop at all)) e
       relation_unfinished e n q = inr (
         (Malformed, drop (at + 2) all),
-        operand_no_right (drop at all) (f x) op (found_some f o x (drop at all) found is) (sym (ap first_relation (drop_one at all)) ∙ relates) (sym (ap first_operand (drop_two at all)) ∙ found_none g p (drop (at + 2) all) right n)
+        operand_no_right (drop at all) (f x) op (found_some f o x (drop at all) found is) (sym (ap first_relation (drop_one at all)) ∙ relates)
+            (sym (ap first_operand (drop_two at all)) ∙ found_none g p (drop (at + 2) all) right n)
             ∙ ap (λ us. Err (Malformed, us)) (sym (drop_two at all)),
         q,
       )
 
-      pub relation_whole : (y : Y) → p ≡ Some y → (s : Store) (condition : Bool) (id : ℕ) (a : Operand) → a ≡ f x → Represents (exprs_in s) id (related op a (g y)) → IsParsed s all condition at (operand_read (drop at all)) id (at + 3)
+      pub relation_whole : (y : Y) → p ≡ Some y → (s : Store) (condition : Bool) (id : ℕ) (a : Operand) → a ≡ f x
+          → Represents (exprs_in s) id (related op a (g y)) → IsParsed s all condition at (operand_read (drop at all)) id (at + 3)
       relation_whole y q s condition id a same h = record {
         expr = related op (f x) (g y);
-        reads = operand_related (drop at all) (f x) (g y) op (found_some f o x (drop at all) found is) (sym (ap first_relation (drop_one at all)) ∙ relates) (sym (ap first_operand (drop_two at all)) ∙ found_some g p y (drop (at + 2) all) right q)
+        reads = operand_related (drop at all) (f x) (g y) op (found_some f o x (drop at all) found is) (sym (ap first_relation (drop_one at all)) ∙ relates)
+            (sym (ap first_operand (drop_two at all)) ∙ found_some g p y (drop (at + 2) all) right q)
             ∙ ap (λ us. Ok (related op (f x) (g y), us)) (sym (drop_three at all));
         forward = omega arith;
         within = omega (arith, operand_within all (at + 2) (g y) (found_some g p y (drop (at + 2) all) right q));
@@ -113,23 +122,35 @@ module _ {X : Type 0} (f : X → Operand) (o : Option X) (all : List Lexeme) (at
 
 -- a factor, by its first token
 module _ (all : List Lexeme) (condition : Bool) (at : ℕ) where
-  pub factor_is_operand : (d : ℕ) → (first_kind (drop at all) ≡ Some Not → ⊥) → (first_kind (drop at all) ≡ Some Open → ⊥) → factor_read d (drop at all) ≡ operand_read (drop at all)
+  pub factor_is_operand : (d : ℕ) → (first_kind (drop at all) ≡ Some Not → ⊥) → (first_kind (drop at all) ≡ Some Open → ⊥)
+      → factor_read d (drop at all) ≡ operand_read (drop at all)
   factor_is_operand d n o = factor_operand d (drop at all) n o
 
-  pub factor_beyond : (d : ℕ) (e : ExprFault) → d ≡ 0 → (first_kind (drop at all) ≡ Some Not) ⊎ (first_kind (drop at all) ≡ Some Open) → MeetsFault all (past_depth_limit (drop (at + 1) all)) e → IsRefused all (factor_read d (drop at all)) e
-  factor_beyond d e z o (f, r, q) = inr (f, ap (λ d. factor_read d (drop at all)) z ∙ factor_too_deep (drop at all) o ∙ ap past_depth_limit (sym (drop_one at all)) ∙ r, q)
+  pub factor_beyond : (d : ℕ) (e : ExprFault) → d ≡ 0 → (first_kind (drop at all) ≡ Some Not) ⊎ (first_kind (drop at all) ≡ Some Open)
+      → MeetsFault all (past_depth_limit (drop (at + 1) all)) e → IsRefused all (factor_read d (drop at all)) e
+  factor_beyond d e z o (f, r, q) = inr (
+    f,
+    ap (λ d. factor_read d (drop at all)) z ∙ factor_too_deep (drop at all) o
+        ∙ ap past_depth_limit (sym (drop_one at all)) ∙ r,
+    q,
+  )
 
   module _ (d n : ℕ) (deep : d ≡ suc n) where
     not_step : first_kind (drop at all) ≡ Some Not → factor_read d (drop at all) ≡ on_read (factor_read n (drop (at + 1) all)) (λ r. Ok (negated r.0, r.1))
-    not_step k = ap (λ d. factor_read d (drop at all)) deep ∙ factor_not n (drop at all) k ∙ ap (λ us. on_read (factor_read n us) (λ r. Ok (negated r.0, r.1))) (sym (drop_one at all))
+    not_step k = ap (λ d. factor_read d (drop at all)) deep ∙ factor_not n (drop at all) k ∙ ap (λ us. on_read (factor_read n us) (λ r. Ok (negated r.0, r.1)))
+        (sym (drop_one at all))
 
     open_step : first_kind (drop at all) ≡ Some Open → factor_read d (drop at all) ≡ on_read (ors_read n (drop (at + 1) all)) closed
     open_step k = ap (λ d. factor_read d (drop at all)) deep ∙ factor_open n (drop at all) k ∙ ap (λ us. on_read (ors_read n us) closed) (sym (drop_one at all))
 
-    pub not_fails : first_kind (drop at all) ≡ Some Not → (e : ExprFault) → IsRefused all (factor_read n (drop (at + 1) all)) e → IsRefused all (factor_read d (drop at all)) e
-    not_fails k e h = refused_on all (factor_read n (drop (at + 1) all)) (factor_read d (drop at all)) e (λ f r. not_step k ∙ ap (λ q. on_read q (λ r. Ok (negated r.0, r.1))) r) h
+    pub not_fails : first_kind (drop at all) ≡ Some Not → (e : ExprFault) → IsRefused all (factor_read n (drop (at + 1) all)) e
+        → IsRefused all (factor_read d (drop at all)) e
+    not_fails k e h = refused_on all (factor_read n (drop (at + 1) all)) (factor_read d (drop at all)) e
+        (λ f r. not_step k ∙ ap (λ q. on_read q (λ r. Ok (negated r.0, r.1))) r) h
 
-    pub not_parsed : first_kind (drop at all) ≡ Some Not → (old new : Store) (part next id : ℕ) → IsParsed old all condition (at + 1) (factor_read n (drop (at + 1) all)) part next → Represents (exprs_in new) id (negated (node_expr (exprs_in old) part)) → IsParsed new all condition at (factor_read d (drop at all)) id next
+    pub not_parsed : first_kind (drop at all) ≡ Some Not → (old new : Store) (part next id : ℕ) → IsParsed old all condition (at + 1)
+        (factor_read n (drop (at + 1) all)) part next → Represents (exprs_in new) id (negated (node_expr (exprs_in old) part))
+        → IsParsed new all condition at (factor_read d (drop at all)) id next
     not_parsed k old new part next id p h = record {
       expr = negated p.expr;
       reads = not_step k ∙ ap (λ q. on_read q (λ r. Ok (negated r.0, r.1))) p.reads;
@@ -138,13 +159,23 @@ module _ (all : List Lexeme) (condition : Bool) (at : ℕ) where
       stands = subst (Represents (exprs_in new) id) (ap negated p.stands.is ∙ as_negated condition p.expr) h;
     }
 
-    pub open_fails : first_kind (drop at all) ≡ Some Open → (e : ExprFault) → IsRefused all (ors_read n (drop (at + 1) all)) e → IsRefused all (factor_read d (drop at all)) e
+    pub open_fails : first_kind (drop at all) ≡ Some Open → (e : ExprFault) → IsRefused all (ors_read n (drop (at + 1) all)) e
+        → IsRefused all (factor_read d (drop at all)) e
     open_fails k e h = refused_on all (ors_read n (drop (at + 1) all)) (factor_read d (drop at all)) e (λ f r. open_step k ∙ ap (λ q. on_read q closed) r) h
 
-    pub open_unclosed : first_kind (drop at all) ≡ Some Open → (s : Store) (inside next : ℕ) → IsParsed s all condition (at + 1) (ors_read n (drop (at + 1) all)) inside next → (first_kind (drop next all) ≡ Some Close → ⊥) → (e : ExprFault) → e ≡ fault_of all (Malformed, drop next all) → IsRefused all (factor_read d (drop at all)) e
-    open_unclosed k s inside next p c e q = inr ((Malformed, drop next all), open_step k ∙ ap (λ q. on_read q closed) p.reads ∙ closed_not p.expr (drop next all) c, q)
+    pub open_unclosed : first_kind (drop at all) ≡ Some Open → (s : Store) (inside next : ℕ) → IsParsed s all condition (at + 1)
+        (ors_read n (drop (at + 1) all)) inside next → (first_kind (drop next all) ≡ Some Close → ⊥) → (e : ExprFault)
+        → e ≡ fault_of all (Malformed, drop next all) → IsRefused all (factor_read d (drop at all)) e
+    open_unclosed k s inside next p c e q = inr (
+      (Malformed, drop next all),
+      open_step k ∙ ap (λ q. on_read q closed) p.reads
+          ∙ closed_not p.expr (drop next all) c,
+      q,
+    )
 
-    pub open_parsed : first_kind (drop at all) ≡ Some Open → (s : Store) (inside next : ℕ) → IsParsed s all condition (at + 1) (ors_read n (drop (at + 1) all)) inside next → first_kind (drop next all) ≡ Some Close → IsParsed s all condition at (factor_read d (drop at all)) inside (next + 1)
+    pub open_parsed : first_kind (drop at all) ≡ Some Open → (s : Store) (inside next : ℕ) → IsParsed s all condition (at + 1)
+        (ors_read n (drop (at + 1) all)) inside next → first_kind (drop next all) ≡ Some Close → IsParsed s all condition at
+        (factor_read d (drop at all)) inside (next + 1)
     open_parsed k s inside next p c = record {
       expr = p.expr;
       reads = open_step k ∙ ap (λ q. on_read q closed) p.reads ∙ closed_ok p.expr (drop next all) c ∙ ap (λ us. Ok (p.expr, us)) (sym (drop_one next all));
@@ -154,7 +185,8 @@ module _ (all : List Lexeme) (condition : Bool) (at : ℕ) where
     }
 
 -- what is read of a chain so far
-pub record IsChained (on : ℕ → Expr → List Lexeme → Read) (whole : ℕ → List Lexeme → Read) (s : Store) (all : List Lexeme) (condition : Bool) (at d id next : ℕ) : Type 0 where
+pub record IsChained (on : ℕ → Expr → List Lexeme → Read) (whole : ℕ → List Lexeme → Read) (s : Store) (all : List Lexeme) (condition : Bool)
+    (at d id next : ℕ) : Type 0 where
   pub expr : Expr
   pub reads : whole d (drop at all) ≡ on d expr (drop next all)
   pub forward : at ≤ next
@@ -165,7 +197,8 @@ pub record IsChained (on : ℕ → Expr → List Lexeme → Read) (whole : ℕ �
 module _ (part whole : ℕ → List Lexeme → Read) (on : ℕ → Expr → List Lexeme → Read) (kind : TokenKind) (joined : Expr → Expr → Expr)
     (first_fails : (d : ℕ) (us : List Lexeme) (f : ExprKind × List Lexeme) → part d us ≡ Err f → whole d us ≡ Err f)
     (first : (d : ℕ) (us ws : List Lexeme) (e : Expr) → part d us ≡ Ok (e, ws) → whole d us ≡ on d e ws)
-    (link_fails : (d : ℕ) (us : List Lexeme) (e : Expr) (f : ExprKind × List Lexeme) → first_kind us ≡ Some kind → part d (drop 1 us) ≡ Err f → on d e us ≡ Err f)
+    (link_fails : (d : ℕ) (us : List Lexeme) (e : Expr) (f : ExprKind × List Lexeme) → first_kind us ≡ Some kind → part d (drop 1 us) ≡ Err f
+    → on d e us ≡ Err f)
     (link : (d : ℕ) (us ws : List Lexeme) (e b : Expr) → first_kind us ≡ Some kind → part d (drop 1 us) ≡ Ok (b, ws) → on d e us ≡ on d (joined e b) ws)
     (ends : (d : ℕ) (us : List Lexeme) (e : Expr) → (first_kind us ≡ Some kind → ⊥) → on d e us ≡ Ok (e, us))
     (as_joined : (c : Bool) (a b : Expr) → joined (as_condition c a) (as_condition c b) ≡ as_condition c (joined a b))
@@ -182,10 +215,13 @@ module _ (part whole : ℕ → List Lexeme → Read) (on : ℕ → Expr → List
     stands = p.stands;
   }
 
-  pub chain_fails : (s : Store) (left next : ℕ) → IsChained on whole s all condition at d left next → first_kind (drop next all) ≡ Some kind → (e : ExprFault) → IsRefused all (part d (drop (next + 1) all)) e → IsRefused all (whole d (drop at all)) e
-  chain_fails s left next c k e h = refused_on all (part d (drop (next + 1) all)) (whole d (drop at all)) e (λ f r. c.reads ∙ link_fails d (drop next all) c.expr f k (ap (part d) (sym (drop_one next all)) ∙ r)) h
+  pub chain_fails : (s : Store) (left next : ℕ) → IsChained on whole s all condition at d left next → first_kind (drop next all) ≡ Some kind → (e : ExprFault)
+      → IsRefused all (part d (drop (next + 1) all)) e → IsRefused all (whole d (drop at all)) e
+  chain_fails s left next c k e h = refused_on all (part d (drop (next + 1) all)) (whole d (drop at all)) e
+      (λ f r. c.reads ∙ link_fails d (drop next all) c.expr f k (ap (part d) (sym (drop_one next all)) ∙ r)) h
 
-  pub chain_goes_on : (s0 s1 s2 : Store) (left next right after id : ℕ) → IsChained on whole s0 all condition at d left next → first_kind (drop next all) ≡ Some kind → IsSound s0 → Extends s0 s1 → IsParsed s1 all condition (next + 1) (part d (drop (next + 1) all)) right after
+  pub chain_goes_on : (s0 s1 s2 : Store) (left next right after id : ℕ) → IsChained on whole s0 all condition at d left next
+      → first_kind (drop next all) ≡ Some kind → IsSound s0 → Extends s0 s1 → IsParsed s1 all condition (next + 1) (part d (drop (next + 1) all)) right after
       → Represents (exprs_in s2) id (joined (node_expr (exprs_in s1) left) (node_expr (exprs_in s1) right)) → IsChained on whole s2 all condition at d id after
   chain_goes_on s0 s1 s2 left next right after id c k sound x p h =
       let kept = represents_later s0 s1 left (as_condition condition c.expr) sound x c.stands in
@@ -194,10 +230,12 @@ module _ (part whole : ℕ → List Lexeme → Read) (on : ℕ → Expr → List
         reads = c.reads ∙ link d (drop next all) (drop after all) c.expr p.expr k (ap (part d) (sym (drop_one next all)) ∙ p.reads);
         forward = omega (arith, c.forward, p.forward);
         within = p.within;
-        stands = subst (Represents (exprs_in s2) id) (ap (λ v. joined v (node_expr (exprs_in s1) right)) kept.is ∙ ap (joined (as_condition condition c.expr)) p.stands.is ∙ as_joined condition c.expr p.expr) h;
+        stands = subst (Represents (exprs_in s2) id) (ap (λ v. joined v (node_expr (exprs_in s1) right)) kept.is
+            ∙ ap (joined (as_condition condition c.expr)) p.stands.is ∙ as_joined condition c.expr p.expr) h;
       }
 
-  pub chain_ends : (s : Store) (id next : ℕ) → IsChained on whole s all condition at d id next → (first_kind (drop next all) ≡ Some kind → ⊥) → IsParsed s all condition at (whole d (drop at all)) id next
+  pub chain_ends : (s : Store) (id next : ℕ) → IsChained on whole s all condition at d id next → (first_kind (drop next all) ≡ Some kind → ⊥)
+      → IsParsed s all condition at (whole d (drop at all)) id next
   chain_ends s id next c n = record {
     expr = c.expr;
     reads = c.reads ∙ ends d (drop next all) c.expr n;
@@ -212,8 +250,14 @@ module _ (all : List Lexeme) (condition : Bool) (at d : ℕ) where
   whole_refused e (inl m) = inl m
   whole_refused e (inr (f, r, q)) = inr (f, whole_fails d (drop at all) f r, q)
 
-  pub whole_too_long : (s : Store) (id next : ℕ) → IsParsed s all condition at (ors_read d (drop at all)) id next → 0 < length (drop next all) → (e : ExprFault) → e ≡ fault_of all (Malformed, drop next all) → IsRefusedToEnd all (read_all_tokens d (drop at all)) e
+  pub whole_too_long : (s : Store) (id next : ℕ) → IsParsed s all condition at (ors_read d (drop at all)) id next → 0 < length (drop next all) → (e : ExprFault)
+      → e ≡ fault_of all (Malformed, drop next all) → IsRefusedToEnd all (read_all_tokens d (drop at all)) e
   whole_too_long s id next p l e q = inr ((Malformed, drop next all), whole_left d (drop at all) (drop next all) p.expr p.reads l, q)
 
-  pub whole_parsed : (s : Store) (id next : ℕ) → IsParsed s all condition at (ors_read d (drop at all)) id next → length all ≤ next → IsParsedToEnd s condition (read_all_tokens d (drop at all)) id
-  whole_parsed s id next p l = record { expr = p.expr; reads = whole_ok d (drop at all) (drop next all) p.expr p.reads (drop_of_length-le all l); stands = p.stands }
+  pub whole_parsed : (s : Store) (id next : ℕ) → IsParsed s all condition at (ors_read d (drop at all)) id next → length all ≤ next
+      → IsParsedToEnd s condition (read_all_tokens d (drop at all)) id
+  whole_parsed s id next p l = record {
+    expr = p.expr;
+    reads = whole_ok d (drop at all) (drop next all) p.expr p.reads (drop_of_length-le all l);
+    stands = p.stands;
+  }

@@ -25,18 +25,21 @@ at_place t i y o e f = rw (e, f) refl
 pub place_at : (names : List (List ℕ)) (i : ℕ) → AreDistinct names → i < length names → index_of_name (get_or names i []) names ≡ Some i
 place_at [] i d h = absurd (omega arith)
 place_at (n ∷ ns) zero d h = rw (same_bytes n) refl
-place_at (n ∷ ns) (suc i) d h = at_place (bytes_eq (get_or ns i []) n) i n (index_of_name (get_or ns i []) ns) (other_bytes (get_or ns i []) n (λ e. omega (arith, d zero (suc i) (omega arith) h (sym e)))) (place_at ns i (tail_distinct n ns d) (omega arith))
+place_at (n ∷ ns) (suc i) d h = at_place (bytes_eq (get_or ns i []) n) i n (index_of_name (get_or ns i []) ns)
+    (other_bytes (get_or ns i []) n (λ e. omega (arith, d zero (suc i) (omega arith) h (sym e)))) (place_at ns i (tail_distinct n ns d) (omega arith))
 
 -- a name that is held at a place is found there
 pub place_of_held : (names : List (List ℕ)) (i : ℕ) (x : List ℕ) → AreDistinct names → i < length names → get_or names i [] ≡ x → index_of_name x names ≡ Some i
 place_of_held names i x d h e = ap (λ y. index_of_name y names) (sym e) ∙ place_at names i d h
 
-pub seen_at : (names : List (List ℕ)) (i : ℕ) (symbol_values : ℕ → Option SymbolValue) → AreDistinct names → i < length names → environment_of names symbol_values (get_or names i []) ≡ symbol_values i
+pub seen_at : (names : List (List ℕ)) (i : ℕ) (symbol_values : ℕ → Option SymbolValue) → AreDistinct names → i < length names
+    → environment_of names symbol_values (get_or names i []) ≡ symbol_values i
 seen_at names i symbol_values d h = ap (option_and_then symbol_values) (place_at names i d h)
 
 -- names that are held under keys
 module _ {K : Type 0} (name : K → List ℕ) (x : List ℕ) where
-  place_by : (b : Bool) (n m : ℕ) (o : Option ℕ) → o ≡ cond (ltb n m) (Some n) None → cond b (Some 0) (option_map suc o) ≡ cond (ltb (cond (not b) (1 + n) 0) (suc m)) (Some (cond (not b) (1 + n) 0)) None
+  place_by : (b : Bool) (n m : ℕ) (o : Option ℕ) → o ≡ cond (ltb n m) (Some n) None → cond b (Some 0) (option_map suc o)
+      ≡ cond (ltb (cond (not b) (1 + n) 0) (suc m)) (Some (cond (not b) (1 + n) 0)) None
   place_by true n m o e = let t : ltb 0 (suc m) ≡ true = lt-ltb _ _ (omega arith) in rw t refl
   place_by false n m o e = rw e (by_test (ltb n m) refl)
     where
@@ -47,17 +50,21 @@ module _ {K : Type 0} (name : K → List ℕ) (x : List ℕ) where
   -- the place of a name is that of its key
   pub place-position : (ks : List K) → index_of_name x (map name ks) ≡ position (λ k. bytes_eq x (name k)) ks
   place-position [] = refl
-  place-position (k ∷ ks) = place_by (bytes_eq x (name k)) (position_or_len (λ k. bytes_eq x (name k)) ks) (length ks) (index_of_name x (map name ks)) (place-position ks)
+  place-position (k ∷ ks) = place_by (bytes_eq x (name k)) (position_or_len (λ k. bytes_eq x (name k)) ks) (length ks) (index_of_name x (map name ks))
+      (place-position ks)
 
-  held_by : (b : Bool) (n : ℕ) (o : Option ℕ) (r : Bool) → (r ≡ true → o ≡ Some n) → (b || r) ≡ true → cond b (Some 0) (option_map suc o) ≡ Some (cond (not b) (1 + n) 0)
+  held_by : (b : Bool) (n : ℕ) (o : Option ℕ) (r : Bool) → (r ≡ true → o ≡ Some n) → (b || r) ≡ true
+      → cond b (Some 0) (option_map suc o) ≡ Some (cond (not b) (1 + n) 0)
   held_by true n o r f h = refl
   held_by false n o r f h = rw (f h) (ap Some (omega arith))
 
   held : (ks : List K) → list_any (λ k. bytes_eq x (name k)) ks ≡ true → index_of_name x (map name ks) ≡ Some (position_or_len (λ k. bytes_eq x (name k)) ks)
   held [] h = cc
-  held (k ∷ ks) h = held_by (bytes_eq x (name k)) (position_or_len (λ k. bytes_eq x (name k)) ks) (index_of_name x (map name ks)) (list_any (λ k. bytes_eq x (name k)) ks) (held ks) h
+  held (k ∷ ks) h = held_by (bytes_eq x (name k)) (position_or_len (λ k. bytes_eq x (name k)) ks) (index_of_name x (map name ks))
+      (list_any (λ k. bytes_eq x (name k)) ks) (held ks) h
 
-  new_last : (v : K) → name v ≡ x → (ks : List K) → list_any (λ k. bytes_eq x (name k)) ks ≡ false → index_of_name x (map name (ks ++ v ∷ [])) ≡ Some (position_or_len (λ k. bytes_eq x (name k)) ks)
+  new_last : (v : K) → name v ≡ x → (ks : List K) → list_any (λ k. bytes_eq x (name k)) ks ≡ false → index_of_name x (map name (ks ++ v ∷ []))
+      ≡ Some (position_or_len (λ k. bytes_eq x (name k)) ks)
   new_last v e [] h = rw e (let t = same_bytes x in rw t refl)
   new_last v e (k ∷ ks) h =
       let (f, r) = or_parts (bytes_eq x (name k)) (list_any (λ k. bytes_eq x (name k)) ks) h in
@@ -88,10 +95,12 @@ module _ {K : Type 0} (name : K → List ℕ) (x : List ℕ) where
       by_places (inr a) (inr b) = omega (arith, length-append names (x ∷ []))
 
   -- an appended name is found at the place that the set has for it
-  pub place_pushed : (v : K) → name v ≡ x → (ks : List K) → index_of_name x (map name (cond (list_any (λ k. bytes_eq x (name k)) ks) ks (ks ++ v ∷ []))) ≡ Some (position_or_len (λ k. bytes_eq x (name k)) ks)
+  pub place_pushed : (v : K) → name v ≡ x → (ks : List K) → index_of_name x (map name (cond (list_any (λ k. bytes_eq x (name k)) ks) ks (ks ++ v ∷ [])))
+      ≡ Some (position_or_len (λ k. bytes_eq x (name k)) ks)
   place_pushed v e ks = by_any (list_any (λ k. bytes_eq x (name k)) ks) refl
     where
-      by_any : (b : Bool) → list_any (λ k. bytes_eq x (name k)) ks ≡ b → index_of_name x (map name (cond b ks (ks ++ v ∷ []))) ≡ Some (position_or_len (λ k. bytes_eq x (name k)) ks)
+      by_any : (b : Bool) → list_any (λ k. bytes_eq x (name k)) ks ≡ b → index_of_name x (map name (cond b ks (ks ++ v ∷ [])))
+          ≡ Some (position_or_len (λ k. bytes_eq x (name k)) ks)
       by_any true h = held ks h
       by_any false h = new_last v e ks h
 
@@ -105,7 +114,8 @@ module _ {K : Type 0} (name : K → List ℕ) (x : List ℕ) where
   has_place (k ∷ ks) = some_by (bytes_eq x (name k)) (index_of_name x (map name ks)) (list_any (λ k. bytes_eq x (name k)) ks) (has_place ks)
 
   -- it comes after the others, unless it is there
-  pub names_pushed : (v : K) → name v ≡ x → (ks : List K) → map name (cond (list_any (λ k. bytes_eq x (name k)) ks) ks (ks ++ v ∷ [])) ≡ with_name x (map name ks)
+  pub names_pushed : (v : K) → name v ≡ x → (ks : List K) → map name (cond (list_any (λ k. bytes_eq x (name k)) ks) ks (ks ++ v ∷ []))
+      ≡ with_name x (map name ks)
   names_pushed v e ks = by_any (list_any (λ k. bytes_eq x (name k)) ks) (has_place ks)
     where
       by_any : (b : Bool) → is_some (index_of_name x (map name ks)) ≡ b → map name (cond b ks (ks ++ v ∷ [])) ≡ with_name x (map name ks)
@@ -113,7 +123,8 @@ module _ {K : Type 0} (name : K → List ℕ) (x : List ℕ) where
       by_any false h = rw (h, map-append, e) refl
 
   -- and no name is then held twice
-  pub distinct_pushed : (v : K) → name v ≡ x → (ks : List K) → AreDistinct (map name ks) → AreDistinct (map name (cond (list_any (λ k. bytes_eq x (name k)) ks) ks (ks ++ v ∷ [])))
+  pub distinct_pushed : (v : K) → name v ≡ x → (ks : List K) → AreDistinct (map name ks) → AreDistinct
+      (map name (cond (list_any (λ k. bytes_eq x (name k)) ks) ks (ks ++ v ∷ [])))
   distinct_pushed v e ks d = by_any (list_any (λ k. bytes_eq x (name k)) ks) refl
     where
       by_any : (b : Bool) → list_any (λ k. bytes_eq x (name k)) ks ≡ b → AreDistinct (map name (cond b ks (ks ++ v ∷ [])))
@@ -128,7 +139,8 @@ place_tail (Some j) i e = (j, refl, cc)
 first_place : (i : ℕ) → Some 0 ≡ Some i → i ≡ 0
 first_place i e = cc
 
-there_by : (b : Bool) (x n : List ℕ) (ns : List (List ℕ)) (i : ℕ) → ((j : ℕ) → index_of_name x ns ≡ Some j → (j < length ns) × (get_or ns j [] ≡ x)) → bytes_eq x n ≡ b → cond b (Some 0) (option_map suc (index_of_name x ns)) ≡ Some i → (i < length (n ∷ ns)) × (get_or (n ∷ ns) i [] ≡ x)
+there_by : (b : Bool) (x n : List ℕ) (ns : List (List ℕ)) (i : ℕ) → ((j : ℕ) → index_of_name x ns ≡ Some j → (j < length ns) × (get_or ns j [] ≡ x))
+    → bytes_eq x n ≡ b → cond b (Some 0) (option_map suc (index_of_name x ns)) ≡ Some i → (i < length (n ∷ ns)) × (get_or (n ∷ ns) i [] ≡ x)
 there_by true x n ns i ih f g = let z = first_place i g in (omega (arith, z), rw z (sym ((bytes_eq-Decides x n).0 f)))
 there_by false x n ns i ih f g = let (j, h, e) = place_tail (index_of_name x ns) i g in let r = ih j h in (omega (arith, r.0, e), rw e r.1)
 

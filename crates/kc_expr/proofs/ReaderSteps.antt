@@ -15,17 +15,56 @@ pub drop_one : {X : Type 0} (at : ℕ) (xs : List X) → drop (at + 1) xs ≡ dr
 drop_one at xs = sym (drop-drop 1 at xs)
 
 -- what is read after a kind
-abbrev beyond_kind : TokenKind → Lexeme → List Lexeme → Read
-beyond_kind k t ts = elim k as (λ _. Read) [ Not ↦ past_depth_limit ts | Open ↦ past_depth_limit ts | Word ↦ Err (TooDeep, t ∷ ts) | Quoted ↦ Err (TooDeep, t ∷ ts) | Relation op ↦ Err (Malformed, t ∷ ts) | And ↦ Err (Malformed, t ∷ ts) | Or ↦ Err (Malformed, t ∷ ts) | Close ↦ Err (Malformed, t ∷ ts) ]
+abbrev pub beyond_kind : TokenKind → Lexeme → List Lexeme → Read
+beyond_kind k t ts = elim k as (λ _. Read) [
+  | Not ↦ past_depth_limit ts
+  | Open ↦ past_depth_limit ts
+  | Word ↦ Err (TooDeep, t ∷ ts)
+  | Quoted ↦ Err (TooDeep, t ∷ ts)
+  | Relation op ↦ Err (Malformed, t ∷ ts)
+  | And ↦ Err (Malformed, t ∷ ts)
+  | Or ↦ Err (Malformed, t ∷ ts)
+  | Close ↦
+      Err (Malformed, t ∷ ts)
+]
 
 abbrev behind_kind : Operand → TokenKind → Lexeme → List Lexeme → Read
-behind_kind a k t ts = elim k as (λ _. Read) [ Relation op ↦ right_operand (related op a) ts | Word ↦ Ok (alone a, t ∷ ts) | Quoted ↦ Ok (alone a, t ∷ ts) | Not ↦ Ok (alone a, t ∷ ts) | And ↦ Ok (alone a, t ∷ ts) | Or ↦ Ok (alone a, t ∷ ts) | Open ↦ Ok (alone a, t ∷ ts) | Close ↦ Ok (alone a, t ∷ ts) ]
+behind_kind a k t ts = elim k as (λ _. Read) [
+  | Relation op ↦ right_operand (related op a) ts
+  | Word ↦ Ok (alone a, t ∷ ts)
+  | Quoted ↦ Ok (alone a, t ∷ ts)
+  | Not ↦ Ok (alone a, t ∷ ts)
+  | And ↦ Ok (alone a, t ∷ ts)
+  | Or ↦ Ok (alone a, t ∷ ts)
+  | Open ↦ Ok (alone a, t ∷ ts)
+  | Close ↦ Ok (alone a, t ∷ ts)
+]
 
-abbrev zero_kind : TokenKind → Lexeme → List Lexeme → Read
-zero_kind k t ts = elim k as (λ _. Read) [ Not ↦ past_depth_limit ts | Open ↦ past_depth_limit ts | Word ↦ after_operand (constant_or named t.text) ts | Quoted ↦ after_operand (constant_or quoted (quoted_text t.text)) ts | Relation op ↦ Err (Malformed, t ∷ ts) | And ↦ Err (Malformed, t ∷ ts) | Or ↦ Err (Malformed, t ∷ ts) | Close ↦ Err (Malformed, t ∷ ts) ]
+abbrev pub zero_kind : TokenKind → Lexeme → List Lexeme → Read
+zero_kind k t ts = elim k as (λ _. Read) [
+  | Not ↦ past_depth_limit ts
+  | Open ↦ past_depth_limit ts
+  | Word ↦ after_operand (constant_or named t.text) ts
+  | Quoted ↦ after_operand (constant_or quoted (quoted_text t.text)) ts
+  | Relation op ↦ Err (Malformed, t ∷ ts)
+  | And ↦ Err (Malformed, t ∷ ts)
+  | Or ↦
+      Err (Malformed, t ∷ ts)
+  | Close ↦ Err (Malformed, t ∷ ts)
+]
 
-abbrev suc_kind : ℕ → TokenKind → Lexeme → List Lexeme → Read
-suc_kind d k t ts = elim k as (λ _. Read) [ Not ↦ on_read (read_factor d ts) (λ r. Ok (negated r.0, r.1)) | Open ↦ on_read (read_ors (read_factor d) ts) closed | Word ↦ after_operand (constant_or named t.text) ts | Quoted ↦ after_operand (constant_or quoted (quoted_text t.text)) ts | Relation op ↦ Err (Malformed, t ∷ ts) | And ↦ Err (Malformed, t ∷ ts) | Or ↦ Err (Malformed, t ∷ ts) | Close ↦ Err (Malformed, t ∷ ts) ]
+abbrev pub suc_kind : ℕ → TokenKind → Lexeme → List Lexeme → Read
+suc_kind d k t ts = elim k as (λ _. Read) [
+  | Not ↦ on_read (read_factor d ts) (λ r. Ok (negated r.0, r.1))
+  | Open ↦ on_read (read_ors (read_factor d) ts) closed
+  | Word ↦ after_operand (constant_or named t.text) ts
+  | Quoted ↦ after_operand (constant_or quoted (quoted_text t.text)) ts
+  | Relation op ↦
+      Err (Malformed, t ∷ ts)
+  | And ↦ Err (Malformed, t ∷ ts)
+  | Or ↦ Err (Malformed, t ∷ ts)
+  | Close ↦ Err (Malformed, t ∷ ts)
+]
 
 -- past the greatest depth
 module _ (us : List Lexeme) where
@@ -44,7 +83,8 @@ beyond_symbol [] (inr e) = cc
 beyond_symbol (t ∷ ts) (inl e) = let k : t.kind ≡ Word = cc in ap (λ k. beyond_kind k t ts) k
 beyond_symbol (t ∷ ts) (inr e) = let k : t.kind ≡ Quoted = cc in ap (λ k. beyond_kind k t ts) k
 
-beyond_by : (k : TokenKind) (t : Lexeme) (ts : List Lexeme) → t.kind ≡ k → ((Some k ≡ Some Not) ⊎ (Some k ≡ Some Open) → ⊥) → ((Some k ≡ Some Word) ⊎ (Some k ≡ Some Quoted) → ⊥) → past_depth_limit (t ∷ ts) ≡ Err (Malformed, t ∷ ts)
+beyond_by : (k : TokenKind) (t : Lexeme) (ts : List Lexeme) → t.kind ≡ k → ((Some k ≡ Some Not) ⊎ (Some k ≡ Some Open) → ⊥)
+    → ((Some k ≡ Some Word) ⊎ (Some k ≡ Some Quoted) → ⊥) → past_depth_limit (t ∷ ts) ≡ Err (Malformed, t ∷ ts)
 beyond_by Not t ts e n s = absurd (n (inl refl))
 beyond_by Open t ts e n s = absurd (n (inr refl))
 beyond_by Word t ts e n s = absurd (s (inl refl))
@@ -54,7 +94,8 @@ beyond_by And t ts e n s = ap (λ k. beyond_kind k t ts) e
 beyond_by Or t ts e n s = ap (λ k. beyond_kind k t ts) e
 beyond_by Close t ts e n s = ap (λ k. beyond_kind k t ts) e
 
-pub beyond_other : (us : List Lexeme) → ((first_kind us ≡ Some Not) ⊎ (first_kind us ≡ Some Open) → ⊥) → ((first_kind us ≡ Some Word) ⊎ (first_kind us ≡ Some Quoted) → ⊥) → past_depth_limit us ≡ Err (Malformed, us)
+pub beyond_other : (us : List Lexeme) → ((first_kind us ≡ Some Not) ⊎ (first_kind us ≡ Some Open) → ⊥)
+    → ((first_kind us ≡ Some Word) ⊎ (first_kind us ≡ Some Quoted) → ⊥) → past_depth_limit us ≡ Err (Malformed, us)
 beyond_other [] n s = refl
 beyond_other (t ∷ ts) n s = beyond_by t.kind t ts refl n s
 
@@ -110,14 +151,17 @@ unfolding operand_read
 operand_then [] a h = cc
 operand_then (t ∷ ts) a h = ap (λ o. operand_else o t ts) h
 
-pub operand_no_right : (us : List Lexeme) (a : Operand) (op : Relop) → first_operand us ≡ Some a → first_relation (drop 1 us) ≡ Some op → first_operand (drop 1 (drop 1 us)) ≡ None → operand_read us ≡ Err (Malformed, drop 1 (drop 1 us))
+pub operand_no_right : (us : List Lexeme) (a : Operand) (op : Relop) → first_operand us ≡ Some a → first_relation (drop 1 us) ≡ Some op
+    → first_operand (drop 1 (drop 1 us)) ≡ None → operand_read us ≡ Err (Malformed, drop 1 (drop 1 us))
 operand_no_right us a op h r n = operand_then us a h ∙ after_relation a op (drop 1 us) r ∙ right_none (related op a) (drop 1 (drop 1 us)) n
 
-pub operand_related : (us : List Lexeme) (a b : Operand) (op : Relop) → first_operand us ≡ Some a → first_relation (drop 1 us) ≡ Some op → first_operand (drop 1 (drop 1 us)) ≡ Some b → operand_read us ≡ Ok (related op a b, drop 1 (drop 1 (drop 1 us)))
+pub operand_related : (us : List Lexeme) (a b : Operand) (op : Relop) → first_operand us ≡ Some a → first_relation (drop 1 us) ≡ Some op
+    → first_operand (drop 1 (drop 1 us)) ≡ Some b → operand_read us ≡ Ok (related op a b, drop 1 (drop 1 (drop 1 us)))
 operand_related us a b op h r n = operand_then us a h ∙ after_relation a op (drop 1 us) r ∙ right_some (related op a) b (drop 1 (drop 1 us)) n
 
 -- a factor, by its first token
-factor_by : (d : ℕ) (k : TokenKind) (t : Lexeme) (ts : List Lexeme) → t.kind ≡ k → (Some k ≡ Some Not → ⊥) → (Some k ≡ Some Open → ⊥) → read_factor d (t ∷ ts) ≡ operand_else (operand_of_kind k t.text) t ts
+factor_by : (d : ℕ) (k : TokenKind) (t : Lexeme) (ts : List Lexeme) → t.kind ≡ k → (Some k ≡ Some Not → ⊥) → (Some k ≡ Some Open → ⊥)
+    → read_factor d (t ∷ ts) ≡ operand_else (operand_of_kind k t.text) t ts
 factor_by d Not t ts e n o = absurd (n refl)
 factor_by d Open t ts e n o = absurd (o refl)
 factor_by zero Word t ts e n o = ap (λ k. zero_kind k t ts) e
@@ -146,7 +190,8 @@ factor_too_deep [] (inr e) = cc
 factor_too_deep (t ∷ ts) (inl e) = let k : t.kind ≡ Not = cc in ap (λ k. zero_kind k t ts) k
 factor_too_deep (t ∷ ts) (inr e) = let k : t.kind ≡ Open = cc in ap (λ k. zero_kind k t ts) k
 
-pub factor_not : (d : ℕ) (us : List Lexeme) → first_kind us ≡ Some Not → factor_read (suc d) us ≡ on_read (factor_read d (drop 1 us)) (λ r. Ok (negated r.0, r.1))
+pub factor_not : (d : ℕ) (us : List Lexeme) → first_kind us ≡ Some Not → factor_read (suc d) us ≡ on_read (factor_read d (drop 1 us))
+    (λ r. Ok (negated r.0, r.1))
 unfolding factor_read
 factor_not d [] e = cc
 factor_not d (t ∷ ts) e = let k : t.kind ≡ Not = cc in ap (λ k. suc_kind d k t ts) k
@@ -211,12 +256,15 @@ ands_first d us ws e h =
     ap (λ q. on_read q (λ r. chain is_and both (read_factor d) (length us) r.0 r.1)) h
     ∙ chain_same is_and both (read_factor d) (factor_short d) (length us) (length ws) e ws (factor_short d us (e, ws) h) (omega arith)
 
-pub ands_link_fails : (d : ℕ) (us : List Lexeme) (e : Expr) (f : ExprKind × List Lexeme) → first_kind us ≡ Some And → factor_read d (drop 1 us) ≡ Err f → ands_on d e us ≡ Err f
+pub ands_link_fails : (d : ℕ) (us : List Lexeme) (e : Expr) (f : ExprKind × List Lexeme) → first_kind us ≡ Some And → factor_read d (drop 1 us) ≡ Err f
+    → ands_on d e us ≡ Err f
 unfolding factor_read ands_on
 ands_link_fails d [] e f k h = cc
-ands_link_fails d (t ∷ ts) e f k h = let q : t.kind ≡ And = cc in rw (q, chain) (ap (λ q. on_read q (λ r. chain is_and both (read_factor d) (length ts) (both e r.0) r.1)) h)
+ands_link_fails d (t ∷ ts) e f k h = let q : t.kind ≡ And = cc in rw (q, chain)
+    (ap (λ q. on_read q (λ r. chain is_and both (read_factor d) (length ts) (both e r.0) r.1)) h)
 
-pub ands_link : (d : ℕ) (us ws : List Lexeme) (e b : Expr) → first_kind us ≡ Some And → factor_read d (drop 1 us) ≡ Ok (b, ws) → ands_on d e us ≡ ands_on d (both e b) ws
+pub ands_link : (d : ℕ) (us ws : List Lexeme) (e b : Expr) → first_kind us ≡ Some And → factor_read d (drop 1 us) ≡ Ok (b, ws)
+    → ands_on d e us ≡ ands_on d (both e b) ws
 unfolding factor_read ands_on
 ands_link d [] ws e b k h = cc
 ands_link d (t ∷ ts) ws e b k h =
@@ -242,12 +290,15 @@ ors_first d us ws e h =
     ap (λ q. on_read q (λ r. chain is_or either (read_ands (read_factor d)) (length us) r.0 r.1)) h
     ∙ chain_same is_or either (read_ands (read_factor d)) (ands_short d) (length us) (length ws) e ws (ands_short d us (e, ws) h) (omega arith)
 
-pub ors_link_fails : (d : ℕ) (us : List Lexeme) (e : Expr) (f : ExprKind × List Lexeme) → first_kind us ≡ Some Or → ands_read d (drop 1 us) ≡ Err f → ors_on d e us ≡ Err f
+pub ors_link_fails : (d : ℕ) (us : List Lexeme) (e : Expr) (f : ExprKind × List Lexeme) → first_kind us ≡ Some Or → ands_read d (drop 1 us) ≡ Err f
+    → ors_on d e us ≡ Err f
 unfolding ands_read ors_on
 ors_link_fails d [] e f k h = cc
-ors_link_fails d (t ∷ ts) e f k h = let q : t.kind ≡ Or = cc in rw (q, chain) (ap (λ q. on_read q (λ r. chain is_or either (read_ands (read_factor d)) (length ts) (either e r.0) r.1)) h)
+ors_link_fails d (t ∷ ts) e f k h = let q : t.kind ≡ Or = cc in rw (q, chain)
+    (ap (λ q. on_read q (λ r. chain is_or either (read_ands (read_factor d)) (length ts) (either e r.0) r.1)) h)
 
-pub ors_link : (d : ℕ) (us ws : List Lexeme) (e b : Expr) → first_kind us ≡ Some Or → ands_read d (drop 1 us) ≡ Ok (b, ws) → ors_on d e us ≡ ors_on d (either e b) ws
+pub ors_link : (d : ℕ) (us ws : List Lexeme) (e b : Expr) → first_kind us ≡ Some Or → ands_read d (drop 1 us) ≡ Ok (b, ws)
+    → ors_on d e us ≡ ors_on d (either e b) ws
 unfolding ands_read ors_on
 ors_link d [] ws e b k h = cc
 ors_link d (t ∷ ts) ws e b k h =

@@ -13,6 +13,7 @@ use Rattle.kc_expr.specs.checker.Parsing.{read_all_tokens, IsParsedToEnd, IsRefu
 use Rattle.kc_expr.specs.between.ParseResults.{expr_tokens, expr_end, ReadsExpr, RefusesExpr}
 use Rattle.kc_expr.specs.checker.Store.{exprs_in}
 use Rattle.kc_expr.specs.Token.{Lexeme, lexemes_of, lexeme_of}
+use Rattle.kc_expr.proofs.FirstFaults.{first_fault}
 use Rattle.kc_expr.proofs.GrammarComplete.{expr_complete}
 use Rattle.kc_expr.proofs.GrammarLaws.{expr_sound}
 use Rattle.kc_expr.proofs.ReaderSteps.{whole_expr}
@@ -27,7 +28,8 @@ lexemes-drop (suc n) (t ∷ ts) = lexemes-drop n ts
 pub tail_pieces : (ts : List CodeToken) (at : ℕ) → lexemes_of (take (length ts - at) (drop at ts)) ≡ drop at (lexemes_of ts)
 tail_pieces ts at = ap lexemes_of (rw (← length-drop at ts) (take-length (drop at ts))) ∙ lexemes-drop at ts
 
-extent_by : (b : Bool) (t : Lexeme) (us : List Lexeme) → take (length (extent us)) us ≡ extent us → take (length (cond b (t ∷ []) (t ∷ extent us))) (t ∷ us) ≡ cond b (t ∷ []) (t ∷ extent us)
+extent_by : (b : Bool) (t : Lexeme) (us : List Lexeme) → take (length (extent us)) us ≡ extent us → take (length (cond b (t ∷ []) (t ∷ extent us))) (t ∷ us)
+    ≡ cond b (t ∷ []) (t ∷ extent us)
 extent_by true t us ih = refl
 extent_by false t us ih = ap (λ vs. t ∷ vs) ih
 
@@ -38,7 +40,8 @@ extent_front (t ∷ []) = refl
 extent_front (t ∷ u ∷ ts) = extent_by ((is_operand_kind t.kind || is_close t.kind) && is_operand_kind u.kind) t (u ∷ ts) (extent_front (u ∷ ts))
 
 -- `&tokens[..end]`, and its tokens from the place on
-pub front_pieces : (ts : List CodeToken) (at end : ℕ) → end ≡ expr_end (lexemes_of ts) at → lexemes_of (take end ts) ≡ take (expr_end (lexemes_of ts) at) (lexemes_of ts)
+pub front_pieces : (ts : List CodeToken) (at end : ℕ) → end ≡ expr_end (lexemes_of ts) at → lexemes_of (take end ts)
+    ≡ take (expr_end (lexemes_of ts) at) (lexemes_of ts)
 front_pieces ts at end e = sym (take-map lexeme_of end ts) ∙ ap (λ n. take n (lexemes_of ts)) e
 
 pub middle_pieces : (ts : List CodeToken) (at end : ℕ) → end ≡ expr_end (lexemes_of ts) at → drop at (lexemes_of (take end ts)) ≡ expr_tokens (lexemes_of ts) at
@@ -49,18 +52,21 @@ middle_pieces ts at end e =
 
 -- from the results over a line's front to those over the line
 module _ (ts line : List CodeToken) (at end : ℕ) (is_line : line ≡ take end ts) (is_end : end ≡ expr_end (lexemes_of ts) at) where
-  pub line_read : (s : Store) (condition : Bool) (id : ℕ) → IsParsedToEnd s condition (read_all_tokens 64 (drop at (lexemes_of line))) id → ReadsExpr (exprs_in s) id condition (expr_tokens (lexemes_of ts) at)
+  pub line_read : (s : Store) (condition : Bool) (id : ℕ) → IsParsedToEnd s condition (read_all_tokens 64 (drop at (lexemes_of line))) id
+      → ReadsExpr (exprs_in s) id condition (expr_tokens (lexemes_of ts) at)
   line_read s condition id p =
       let middle = ap (λ l. drop at (lexemes_of l)) is_line ∙ middle_pieces ts at end is_end in
       let reads = sym (whole_expr (expr_tokens (lexemes_of ts) at)) ∙ ap (read_all_tokens 64) (sym middle) ∙ p.reads in
-      record { expr = p.expr; in_grammar = expr_sound (expr_tokens (lexemes_of ts) at) p.expr reads; reads = reads; stands = p.stands }
+      record { expr = p.expr; in_grammar = expr_sound (expr_tokens (lexemes_of ts) at) p.expr reads; stands = p.stands }
 
   not_in : (f : ExprKind × List Lexeme) → read_expr (expr_tokens (lexemes_of ts) at) ≡ Err f → (x : Expr) → IsExpr ors 64 (expr_tokens (lexemes_of ts) at) x → ⊥
   not_in f r x g = let k = expr_complete (expr_tokens (lexemes_of ts) at) x g in cc
 
-  pub line_refused : (e : ExprFault) → IsRefusedToEnd (lexemes_of line) (read_all_tokens 64 (drop at (lexemes_of line))) e → (e.kind ≡ OutOfMemory) ⊎ RefusesExpr (lexemes_of ts) at e
+  pub line_refused : (e : ExprFault) → IsRefusedToEnd (lexemes_of line) (read_all_tokens 64 (drop at (lexemes_of line))) e
+      → (e.kind ≡ OutOfMemory) ⊎ RefusesExpr (lexemes_of ts) at e
   line_refused e (inl m) = inl m
   line_refused e (inr (f, r, q)) =
       let middle = ap (λ l. drop at (lexemes_of l)) is_line ∙ middle_pieces ts at end is_end in
       let reads = sym (whole_expr (expr_tokens (lexemes_of ts) at)) ∙ ap (read_all_tokens 64) (sym middle) ∙ r in
-      inr (record { not_in_grammar = not_in f reads; fault = f; reads = reads; placed = q ∙ ap (λ all. fault_of all f) (ap lexemes_of is_line ∙ front_pieces ts at end is_end) })
+      let placed = q ∙ ap (λ all. fault_of all f) (ap lexemes_of is_line ∙ front_pieces ts at end is_end) in
+      inr (record { not_in_grammar = not_in f reads; fault = f; first = first_fault (expr_tokens (lexemes_of ts) at) f reads; placed = placed })

@@ -17,10 +17,13 @@ use Rattle.kc_expr.specs.checker.Store.{stored_names, exprs_in, IsSound, Extends
 use Rattle.kc_expr.proofs.NodeLemmas.{at_node, nodes_push, represents_last, length-exprs}
 
 -- the expression that a node represents, by its form
-pub node_of : (s : Store) (i : ℕ) (found n : Node) → IsSound s → i < length s.nodes.items → found ≡ get_or s.nodes.items i some_node → found ≡ n → node_expr (exprs_in s) i ≡ expr_of (stored_names s) s.texts.items (exprs_in s).nodes n
-node_of s i found n sound h e f = at_node (stored_names s) s.texts.items (length (stored_names s)) (length s.texts.items) s.nodes.items i n sound.nodes h (sym e ∙ f)
+pub node_of : (s : Store) (i : ℕ) (found n : Node) → IsSound s → i < length s.nodes.items → found ≡ get_or s.nodes.items i some_node → found ≡ n
+    → node_expr (exprs_in s) i ≡ expr_of (stored_names s) s.texts.items (exprs_in s).nodes n
+node_of s i found n sound h e f = at_node (stored_names s) s.texts.items (length (stored_names s)) (length s.texts.items) s.nodes.items i n sound.nodes h
+    (sym e ∙ f)
 
-pub fits_at : (s : Store) (i : ℕ) (found n : Node) → IsSound s → i < length s.nodes.items → found ≡ get_or s.nodes.items i some_node → found ≡ n → NodeFits (length (stored_names s)) (length s.texts.items) i n
+pub fits_at : (s : Store) (i : ℕ) (found n : Node) → IsSound s → i < length s.nodes.items → found ≡ get_or s.nodes.items i some_node → found ≡ n
+    → NodeFits (length (stored_names s)) (length s.texts.items) i n
 fits_at s i found n sound h e f = subst (NodeFits (length (stored_names s)) (length s.texts.items) i) (sym e ∙ f) (sound.nodes i h)
 
 prefix_parts : {X : Type 0} (xs ys : List X) → take (length xs) ys ≡ xs → ys ≡ xs ++ drop (length xs) ys
@@ -35,7 +38,8 @@ kept_get xs ys i d e h = ap (λ zs. get_or zs i d) (prefix_parts xs ys e) ∙ ge
 
 prefix_trans : {X : Type 0} (xs ys zs : List X) → take (length xs) ys ≡ xs → take (length ys) zs ≡ ys → take (length xs) zs ≡ xs
 prefix_trans xs ys zs e f =
-    ap (take (length xs)) (prefix_parts ys zs f ∙ ap (λ vs. vs ++ drop (length ys) zs) (prefix_parts xs ys e) ∙ append_assoc xs (drop (length xs) ys) (drop (length ys) zs))
+    ap (take (length xs)) (prefix_parts ys zs f ∙ ap (λ vs. vs ++ drop (length ys) zs) (prefix_parts xs ys e)
+    ∙ append_assoc xs (drop (length xs) ys) (drop (length ys) zs))
     ∙ take-append_seam xs (drop (length xs) ys ++ drop (length ys) zs)
 
 prefix_map : {X Y : Type 0} (f : X → Y) (xs ys : List X) → take (length xs) ys ≡ xs → take (length (map f xs)) (map f ys) ≡ map f xs
@@ -68,7 +72,8 @@ module _ (names texts more_names more_texts : List (List ℕ)) (n : take (length
 
   expr_kept : (es : List Expr) (k : ℕ) (m : Node) → NodeFits (length names) (length texts) k m → expr_of more_names more_texts es m ≡ expr_of names texts es m
   expr_kept es k (Alone a) h = ap alone (operand_kept a h)
-  expr_kept es k (Related op a b) h = ap (λ x. related op x (operand_of more_names more_texts b)) (operand_kept a h.0) ∙ ap (related op (operand_of names texts a)) (operand_kept b h.1)
+  expr_kept es k (Related op a b) h = ap (λ x. related op x (operand_of more_names more_texts b)) (operand_kept a h.0)
+      ∙ ap (related op (operand_of names texts a)) (operand_kept b h.1)
   expr_kept es k (Negated i) h = refl
   expr_kept es k (Both i j) h = refl
   expr_kept es k (Either i j) h = refl
@@ -82,12 +87,14 @@ module _ (names texts more_names more_texts : List (List ℕ)) (n : take (length
   fits_kept k (Either i j) h = h
   fits_kept k (Shown i) h = h
 
-  exprs_kept : (es : List Expr) (ns : List Node) → ((k m : ℕ) → m ≡ length es + k → k < length ns → NodeFits (length names) (length texts) m (get_or ns k some_node)) → exprs_after more_names more_texts es ns ≡ exprs_after names texts es ns
+  exprs_kept : (es : List Expr) (ns : List Node) → ((k m : ℕ) → m ≡ length es + k → k < length ns → NodeFits (length names) (length texts) m
+      (get_or ns k some_node)) → exprs_after more_names more_texts es ns ≡ exprs_after names texts es ns
   exprs_kept es [] f = refl
   exprs_kept es (m ∷ ms) f =
       let here = expr_kept es (length es) m (f 0 (length es) (omega arith) (omega arith)) in
       ap (λ x. exprs_after more_names more_texts (es ++ x ∷ []) ms) here
-      ∙ exprs_kept (es ++ expr_of names texts es m ∷ []) ms (λ k j e l. f (suc k) j (omega (arith, e, length-append es (expr_of names texts es m ∷ []))) (omega arith))
+      ∙ exprs_kept (es ++ expr_of names texts es m ∷ []) ms (λ k j e l. f (suc k) j (omega (arith, e, length-append es (expr_of names texts es m ∷ [])))
+      (omega arith))
 
 module _ (names texts : List (List ℕ)) where
   exprs-append : (es : List Expr) (ns ms : List Node) → exprs_after names texts es (ns ++ ms) ≡ exprs_after names texts (exprs_after names texts es ns) ms
@@ -107,13 +114,15 @@ grows old new sound e =
     let names_kept = prefix_map string_bytes old.names.keys new.names.keys e.names in
     let more = drop (length old.nodes.items) new.nodes.items in
     let same : exprs_of (stored_names new) new.texts.items old.nodes.items ≡ exprs_of (stored_names old) old.texts.items old.nodes.items =
-    exprs_kept (stored_names old) old.texts.items (stored_names new) new.texts.items names_kept e.texts [] old.nodes.items (λ k m q l. let g : k ≡ m = omega arith in rw (← g) (sound.nodes k l)) in
+    exprs_kept (stored_names old) old.texts.items (stored_names new) new.texts.items names_kept e.texts [] old.nodes.items
+    (λ k m q l. let g : k ≡ m = omega arith in rw (← g) (sound.nodes k l)) in
     let es = exprs_of (stored_names old) old.texts.items old.nodes.items in
     let (rest, f) = behind (stored_names new) new.texts.items es more in
     record {
       names = names_kept;
       nodes = ap (λ ns. take (length es) (exprs_of (stored_names new) new.texts.items ns)) (prefix_parts old.nodes.items new.nodes.items e.nodes)
-          ∙ ap (take (length es)) (exprs-append (stored_names new) new.texts.items [] old.nodes.items more ∙ ap (λ fs. exprs_after (stored_names new) new.texts.items fs more) same ∙ f)
+          ∙ ap (take (length es)) (exprs-append (stored_names new) new.texts.items [] old.nodes.items more
+          ∙ ap (λ fs. exprs_after (stored_names new) new.texts.items fs more) same ∙ f)
           ∙ take-append_seam es rest;
     }
 
@@ -128,7 +137,8 @@ pub represents_later : (old new : Store) (id : ℕ) (e : Expr) → IsSound old �
 represents_later old new id e sound x s = represents_on (exprs_in old) (exprs_in new) id e (grows old new sound x) s
 
 -- one node more
-module _ (old new : Store) (node : Node) (sound : IsSound old) (nodes : new.nodes.items ≡ old.nodes.items ++ node ∷ []) (names : new.names.keys ≡ old.names.keys) (texts : new.texts.items ≡ old.texts.items) where
+module _ (old new : Store) (node : Node) (sound : IsSound old) (nodes : new.nodes.items ≡ old.nodes.items ++ node ∷ [])
+    (names : new.names.keys ≡ old.names.keys) (texts : new.texts.items ≡ old.texts.items) where
   pub push_extends : Extends old new
   push_extends = record {
     names = rw names (take-length old.names.keys);
@@ -144,7 +154,8 @@ module _ (old new : Store) (node : Node) (sound : IsSound old) (nodes : new.node
     few_nodes = rw nodes (omega (arith, few, length-append old.nodes.items (node ∷ [])));
   }
 
-  pub push_represents : (id : ℕ) → id ≡ length old.nodes.items → Represents (exprs_in new) id (expr_of (stored_names old) old.texts.items (exprs_in old).nodes node)
+  pub push_represents : (id : ℕ) → id ≡ length old.nodes.items → Represents (exprs_in new) id
+      (expr_of (stored_names old) old.texts.items (exprs_in old).nodes node)
   push_represents id e = rw (nodes, names, texts) (represents_last (stored_names old) old.texts.items old.nodes.items node id e)
 
 -- the nodes of a store are as many as its expressions
@@ -156,20 +167,26 @@ pub within_nodes : (a : Exprs) (s : Store) (i : ℕ) → exprs_in s ≡ a → i 
 within_nodes a s i e h = omega (arith, h, ap (λ (x : Exprs). length x.nodes) e, length-nodes s)
 
 -- names and texts that come after keep a store sound
-pub sound_on : (old new : Store) → IsSound old → Extends old new → new.nodes.items ≡ old.nodes.items → AreDistinct (stored_names new) → length new.names.keys ≤ 2 ^ 32 → IsSound new
+pub sound_on : (old new : Store) → IsSound old → Extends old new → new.nodes.items ≡ old.nodes.items → AreDistinct (stored_names new)
+    → length new.names.keys ≤ 2 ^ 32 → IsSound new
 sound_on old new sound e same d few = record {
-  nodes = rw same (λ k l. fits_kept (stored_names old) old.texts.items (stored_names new) new.texts.items (prefix_map string_bytes old.names.keys new.names.keys e.names) e.texts k (get_or old.nodes.items k some_node) (sound.nodes k l));
+  nodes = rw same (λ k l. fits_kept (stored_names old) old.texts.items (stored_names new) new.texts.items
+      (prefix_map string_bytes old.names.keys new.names.keys e.names) e.texts k (get_or old.nodes.items k some_node) (sound.nodes k l));
   distinct = d;
   few_names = few;
   few_nodes = rw same sound.few_nodes;
 }
 
 -- an operand stays what it was
-pub operand_on : (old new : Store) (a : Leaf) → Extends old new → LeafFits (length (stored_names old)) (length old.texts.items) a → operand_of (stored_names new) new.texts.items a ≡ operand_of (stored_names old) old.texts.items a
-operand_on old new a e h = operand_kept (stored_names old) old.texts.items (stored_names new) new.texts.items (prefix_map string_bytes old.names.keys new.names.keys e.names) e.texts a h
+pub operand_on : (old new : Store) (a : Leaf) → Extends old new → LeafFits (length (stored_names old)) (length old.texts.items) a
+    → operand_of (stored_names new) new.texts.items a ≡ operand_of (stored_names old) old.texts.items a
+operand_on old new a e h = operand_kept (stored_names old) old.texts.items (stored_names new) new.texts.items
+    (prefix_map string_bytes old.names.keys new.names.keys e.names) e.texts a h
 
-pub leaf_on : (old new : Store) (a : Leaf) → Extends old new → LeafFits (length (stored_names old)) (length old.texts.items) a → LeafFits (length (stored_names new)) (length new.texts.items) a
-leaf_on old new a e h = leaf_kept (stored_names old) old.texts.items (stored_names new) new.texts.items (prefix_map string_bytes old.names.keys new.names.keys e.names) e.texts a h
+pub leaf_on : (old new : Store) (a : Leaf) → Extends old new → LeafFits (length (stored_names old)) (length old.texts.items) a
+    → LeafFits (length (stored_names new)) (length new.texts.items) a
+leaf_on old new a e h = leaf_kept (stored_names old) old.texts.items (stored_names new) new.texts.items
+    (prefix_map string_bytes old.names.keys new.names.keys e.names) e.texts a h
 
 -- a node stays one
 pub node_on : (old new : Store) (i : ℕ) → Extends old new → i < length old.nodes.items → i < length new.nodes.items

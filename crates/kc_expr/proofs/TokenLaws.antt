@@ -1,15 +1,14 @@
 -- The tokens of a line are those of the token language.
-use Rattle.std.proofs.Common.{◌≡◌, ℕ, suc, ◌+◌, ◌<◌, ◌≤◌, ◌⊎◌, inl, inr, Bool, true, false, ltb, eqb, cond, List, [], ◌∷◌, ◌++◌, length, take, drop, get_or, Some, None, Ok, refl, ap, sym, ◌∙◌, subst, append_assoc, length-append, arith}
-use Rattle.std.specs.Prelude.{take_while, position}
-use Rattle.std.specs.List.{list_all, list_any, position_or_len}
-use Rattle.std.proofs.lemmas.Bool.{le-ltb, and_parts, or_cases, or_parts, eqb-true}
+use Rattle.std.proofs.Common.{◌≡◌, ℕ, suc, ◌+◌, ◌<◌, ◌≤◌, ◌⊎◌, inl, inr, Bool, true, false, eqb, cond, List, [], ◌∷◌, ◌++◌, length, take, drop, get_or, Some, None, Ok, refl, ap, sym, ◌∙◌, subst, append_assoc, length-append, arith}
+use Rattle.std.specs.Prelude.{take_while}
+use Rattle.std.specs.List.{list_all}
+use Rattle.std.proofs.lemmas.Bool.{and_parts, or_cases, eqb-true}
 use Rattle.std.proofs.lemmas.Bool.Decides.{nat_tests}
 use Rattle.std.proofs.lemmas.List.Sums.{take_while-cons}
 use Rattle.std.proofs.Math.Seq.{take-append_seam, drop-append_seam}
 use Rattle.kc_value.specs.Quoted.{closing}
 use Rattle.kc_value.proofs.QuotedLaws.{body_closes}
 use Rattle.kc_expr.specs.declared.language.Language.{Language}
-use Rattle.kc_expr.specs.declared.language.Language.TheVariants.{Strict, Linux}
 use Rattle.kc_expr.specs.declared.token.NextToken.TheVariants.{White, Comment, Token}
 use Rattle.kc_expr.specs.declared.token.Relop.TheVariants.{Equal, NotEqual, Less, Greater, LessEqual, GreaterEqual}
 use Rattle.kc_expr.specs.declared.token.TokenKind.{TokenKind}
@@ -40,7 +39,8 @@ pub run_all : (bs : List ℕ) → list_all is_word_byte (take_while is_word_byte
 run_all [] = refl
 run_all (b ∷ bs) = rw take_while-cons (by_test (is_word_byte b) refl (run_all bs))
   where
-    by_test : (t : Bool) → is_word_byte b ≡ t → list_all is_word_byte (take_while is_word_byte bs) ≡ true → list_all is_word_byte (cond t (b ∷ take_while is_word_byte bs) []) ≡ true
+    by_test : (t : Bool) → is_word_byte b ≡ t → list_all is_word_byte (take_while is_word_byte bs) ≡ true
+        → list_all is_word_byte (cond t (b ∷ take_while is_word_byte bs) []) ≡ true
     by_test true e h = rw e h
     by_test false e h = refl
 
@@ -55,16 +55,19 @@ pub run_front : (bs : List ℕ) → bs ≡ take_while is_word_byte bs ++ drop (l
 run_front [] = refl
 run_front (b ∷ bs) = rw take_while-cons (by_test (is_word_byte b) (run_front bs))
   where
-    by_test : (t : Bool) → bs ≡ take_while is_word_byte bs ++ drop (length (take_while is_word_byte bs)) bs → b ∷ bs ≡ cond t (b ∷ take_while is_word_byte bs) [] ++ drop (length (cond t (b ∷ take_while is_word_byte bs) [])) (b ∷ bs)
+    by_test : (t : Bool) → bs ≡ take_while is_word_byte bs ++ drop (length (take_while is_word_byte bs)) bs
+        → b ∷ bs ≡ cond t (b ∷ take_while is_word_byte bs) [] ++ drop (length (cond t (b ∷ take_while is_word_byte bs) [])) (b ∷ bs)
     by_test true h = ap (λ xs. b ∷ xs) h
     by_test false h = refl
 
 -- the token at the front, where the language has one there
-lead_word : (language : Language) (c : ℕ) (bs : List ℕ) → is_word_byte c ≡ true → next_token language (c ∷ bs) ≡ Token Word (length (take_while is_word_byte (c ∷ bs)))
+lead_word : (language : Language) (c : ℕ) (bs : List ℕ) → is_word_byte c ≡ true → next_token language (c ∷ bs)
+    ≡ Token Word (length (take_while is_word_byte (c ∷ bs)))
 unfolding next_token
 lead_word language c bs h = let a = word_no_white c h in let b = word_no_hash c h in rw (a, b, h) refl
 
-pub lead_quoted : (language : Language) (q : ℕ) (bs : List ℕ) → is_quote q ≡ true → next_token language (q ∷ bs) ≡ quoted_up_to language (q ∷ bs) (closing q false bs)
+pub lead_quoted : (language : Language) (q : ℕ) (bs : List ℕ) → is_quote q ≡ true → next_token language (q ∷ bs)
+    ≡ quoted_up_to language (q ∷ bs) (closing q false bs)
 unfolding next_token
 lead_quoted language q bs h = by_sort (quote_is q h)
   where
@@ -86,7 +89,7 @@ quote_no_slash q h = by_sort (quote_is q h)
     by_sort (inl e) = rw e refl
     by_sort (inr e) = rw e refl
 
-quoted_lead : (language : Language) (text rest : List ℕ) → IsQuotedToken language text → next_token language (text ++ rest) ≡ Token Quoted (length text)
+pub quoted_lead : (language : Language) (text rest : List ℕ) → IsQuotedToken language text → next_token language (text ++ rest) ≡ Token Quoted (length text)
 quoted_lead language text rest t =
     let (slash, dollar, word) = quote_facts t.quote t.sort in
     let whole : List ℕ = t.quote ∷ (t.body ++ t.quote ∷ []) in
@@ -94,7 +97,8 @@ quoted_lead language text rest t =
     ap (closing t.quote false) (append_assoc t.body (t.quote ∷ []) rest) ∙ body_closes t.quote t.body t.means rest slash t.is_body in
     let size : suc (length t.body) + 1 ≡ length whole = omega (arith, length-append t.body (t.quote ∷ [])) in
     let none : dollar_left_out language (take (suc (length t.body) + 1) (whole ++ rest)) ≡ None =
-    ap (λ n. dollar_left_out language (take n (whole ++ rest))) size ∙ ap (dollar_left_out language) (take-append_seam whole rest) ∙ none_left_out t.quote t.body dollar (quote_no_slash t.quote t.sort) language t.dollars in
+    ap (λ n. dollar_left_out language (take n (whole ++ rest))) size ∙ ap (dollar_left_out language) (take-append_seam whole rest)
+    ∙ none_left_out t.quote t.body dollar (quote_no_slash t.quote t.sort) language t.dollars in
     let lead : next_token language (whole ++ rest) ≡ Token Quoted (length whole) =
     lead_quoted language t.quote ((t.body ++ t.quote ∷ []) ++ rest) t.sort
     ∙ ap (quoted_up_to language (whole ++ rest)) close
@@ -103,15 +107,18 @@ quoted_lead language text rest t =
     subst (λ x. next_token language (x ++ rest) ≡ Token Quoted (length x)) (sym t.parts) lead
 
 -- where no longer operator fits, the second byte is another
-second_by : (language : Language) (a c : ℕ) (cs : List ℕ) (b : Bool) (k : TokenKind) → IsToken language k (a ∷ 61 ∷ []) → IsLongest language (a ∷ []) (a ∷ c ∷ cs) → eqb c 61 ≡ b → b ≡ false
+second_by : (language : Language) (a c : ℕ) (cs : List ℕ) (b : Bool) (k : TokenKind) → IsToken language k (a ∷ 61 ∷ [])
+    → IsLongest language (a ∷ []) (a ∷ c ∷ cs) → eqb c 61 ≡ b → b ≡ false
 second_by language a c cs false k is long e = refl
 second_by language a c cs true k is long e = absurd (let l = long k (a ∷ 61 ∷ []) cs (ap (λ d. a ∷ d ∷ cs) (eqb-true c 61 e)) is in omega (arith, l))
 
-second : (language : Language) (a : ℕ) (rest : List ℕ) (k : TokenKind) → IsToken language k (a ∷ 61 ∷ []) → IsLongest language (a ∷ []) (a ∷ rest) → eqb (get_or rest 0 0) 61 ≡ false
+second : (language : Language) (a : ℕ) (rest : List ℕ) (k : TokenKind) → IsToken language k (a ∷ 61 ∷ []) → IsLongest language (a ∷ []) (a ∷ rest)
+    → eqb (get_or rest 0 0) 61 ≡ false
 second language a [] k is long = refl
 second language a (c ∷ cs) k is long = second_by language a c cs (eqb c 61) k is long refl
 
-operator_lead : (language : Language) (k : TokenKind) (rest : List ℕ) → (k ≡ Word → ⊥) → (k ≡ Quoted → ⊥) → (text : List ℕ) → IsToken language k text → IsLongest language text (text ++ rest) → next_token language (text ++ rest) ≡ Token k (length text)
+operator_lead : (language : Language) (k : TokenKind) (rest : List ℕ) → (k ≡ Word → ⊥) → (k ≡ Quoted → ⊥) → (text : List ℕ) → IsToken language k text
+    → IsLongest language text (text ++ rest) → next_token language (text ++ rest) ≡ Token k (length text)
 unfolding next_token
 operator_lead language Word rest w q text is long = absurd (w refl)
 operator_lead language Quoted rest w q text is long = absurd (q refl)
@@ -133,7 +140,8 @@ operator_lead language Not rest w q text is long =
     let f = second language 33 rest (Relation NotEqual) refl (subst (λ x. IsLongest language x (x ++ rest)) is long) in
     rw is (rw f refl)
 
-word_lead : (language : Language) (text rest : List ℕ) → IsToken language Word text → IsLongest language text (text ++ rest) → next_token language (text ++ rest) ≡ Token Word (length text)
+word_lead : (language : Language) (text rest : List ℕ) → IsToken language Word text → IsLongest language text (text ++ rest)
+    → next_token language (text ++ rest) ≡ Token Word (length text)
 word_lead language [] rest is long = absurd (omega (arith, is.0))
 word_lead language (c ∷ cs) rest is long =
     let (w, r) = and_parts (is_word_byte c) (list_all is_word_byte cs) is.1 in
@@ -143,7 +151,8 @@ word_lead language (c ∷ cs) rest is long =
     let down = front_run (c ∷ cs) rest is.1 in
     lead_word language c (cs ++ rest) w ∙ ap (Token Word) (let q : length run ≡ length (c ∷ cs) = omega (arith, up, down) in q)
 
-token_lead : (language : Language) (k : TokenKind) (text rest : List ℕ) → IsToken language k text → IsLongest language text (text ++ rest) → next_token language (text ++ rest) ≡ Token k (length text)
+token_lead : (language : Language) (k : TokenKind) (text rest : List ℕ) → IsToken language k text → IsLongest language text (text ++ rest)
+    → next_token language (text ++ rest) ≡ Token k (length text)
 token_lead language Word text rest is long = word_lead language text rest is long
 token_lead language Quoted text rest is long = quoted_lead language text rest is
 token_lead language (Relation op) text rest is long = operator_lead language (Relation op) rest (λ e. cc) (λ e. cc) text is long
@@ -170,18 +179,32 @@ first_byte language Or text is = (124, 124 ∷ [], is)
 first_byte language Open text is = (40, [], is)
 first_byte language Close text is = (41, [], is)
 
--- one token read
-token_read : (language : Language) (at c : ℕ) (cs rest : List ℕ) (k : TokenKind) (s t : ℕ) (ps : List Lexeme) → s ≡ at → t ≡ at + suc (length cs) → next_token language (c ∷ (cs ++ rest)) ≡ Token k (suc (length cs)) → lexemes_from language 0 t rest ≡ Ok ps
-    → lexemes_from language 0 at (c ∷ (cs ++ rest)) ≡ Ok (record { kind = k; start = s; stop = t; text = c ∷ cs } ∷ ps)
-token_read language at c cs rest k s t ps e f lead h =
-    lexemes_token language at c (cs ++ rest) k (length cs) lead
-    ∙ ap (λ x. with_front (record { kind = k; start = at; stop = at + suc (length cs); text = c ∷ x } ∷ []) (lexemes_from language 0 (at + suc (length cs)) (drop (length cs) (cs ++ rest)))) (take-append_seam cs rest)
-    ∙ ap (λ x. with_front (record { kind = k; start = at; stop = at + suc (length cs); text = c ∷ cs } ∷ []) (lexemes_from language 0 (at + suc (length cs)) x)) (drop-append_seam cs rest)
-    ∙ ap (λ n. with_front (record { kind = k; start = at; stop = n; text = c ∷ cs } ∷ []) (lexemes_from language 0 n rest)) (sym f)
-    ∙ ap (with_front (record { kind = k; start = at; stop = t; text = c ∷ cs } ∷ [])) h
-    ∙ ap (λ n. Ok (record { kind = k; start = n; stop = t; text = c ∷ cs } ∷ ps)) (sym e)
+-- the token of a text at a place
+abbrev pub token_at : ℕ → TokenKind → List ℕ → Lexeme
+token_at at kind text = record { kind = kind; start = at; stop = at + length text; text = text }
 
-white_lead : (language : Language) (c : ℕ) (bs : List ℕ) → is_white_byte c ≡ true → next_token language (c ∷ bs) ≡ White
+-- what is read, where a token and a rest follow
+abbrev pub AreRead : Language → ℕ → TokenKind → (text rest : List ℕ) → Type 0
+AreRead language at kind text rest =
+    lexemes_from language 0 at (text ++ rest) ≡ with_front (token_at at kind text ∷ []) (lexemes_from language 0 (at + length text) rest)
+
+pub token_read : (language : Language) (at : ℕ) (kind : TokenKind) (text rest : List ℕ) → IsToken language kind text → IsLongest language text (text ++ rest)
+    → AreRead language at kind text rest
+token_read language at kind text rest is long = by_first (first_byte language kind text is)
+  where
+    by_first : (c : ℕ) × (cs : List ℕ) × (text ≡ c ∷ cs) → AreRead language at kind text rest
+    by_first (c, cs, e) =
+        let begins : text ++ rest ≡ c ∷ (cs ++ rest) = ap (λ x. x ++ rest) e in
+        let lead : next_token language (c ∷ (cs ++ rest)) ≡ Token kind (suc (length cs)) =
+        sym (ap (next_token language) begins) ∙ token_lead language kind text rest is long ∙ ap (Token kind) (ap length e) in
+        let after = lexemes_from language 0 (at + suc (length cs)) (drop (length cs) (cs ++ rest)) in
+        let read : AreRead language at kind (c ∷ cs) rest =
+        lexemes_token language at c (cs ++ rest) kind (length cs) lead
+        ∙ ap (λ x. with_front (record { kind = kind; start = at; stop = at + suc (length cs); text = c ∷ x } ∷ []) after) (take-append_seam cs rest)
+        ∙ ap (λ x. with_front (token_at at kind (c ∷ cs) ∷ []) (lexemes_from language 0 (at + suc (length cs)) x)) (drop-append_seam cs rest) in
+        subst (λ x. AreRead language at kind x rest) (sym e) read
+
+pub white_lead : (language : Language) (c : ℕ) (bs : List ℕ) → is_white_byte c ≡ true → next_token language (c ∷ bs) ≡ White
 unfolding next_token
 white_lead language c bs h = rw h refl
 
@@ -193,14 +216,12 @@ hash_lead language bs = refl
 pub cut_read : (language : Language) (at : ℕ) (bytes : List ℕ) (ps : List Lexeme) → IsCut language at bytes ps → lexemes_from language 0 at bytes ≡ Ok ps
 cut_read language at bytes ps ends = refl
 cut_read language at bytes ps (comment {bytes = bs}) = lexemes_comment language at 35 bs (hash_lead language bs)
-cut_read language at bytes ps (white {c = c} {bytes = bs} h x) = lexemes_white language at c bs (white_lead language c bs h) ∙ cut_read language (at + 1) bs ps x
-cut_read language at bytes ps (token {ps = qs} p rest parts is long start stop x) = by_first (first_byte language p.kind p.text is) (cut_read language p.stop rest qs x)
-  where
-    by_first : (c : ℕ) × (cs : List ℕ) × (p.text ≡ c ∷ cs) → lexemes_from language 0 p.stop rest ≡ Ok qs → lexemes_from language 0 at bytes ≡ Ok (p ∷ qs)
-    by_first (c, cs, e) h =
-        let lead : next_token language (c ∷ (cs ++ rest)) ≡ Token p.kind (suc (length cs)) =
-        subst (λ x. next_token language (x ++ rest) ≡ Token p.kind (length x)) e (token_lead language p.kind p.text rest is (subst (IsLongest language p.text) parts long)) in
-        let stops : p.stop ≡ at + suc (length cs) = stop ∙ ap (λ x. at + length x) e in
-        ap (lexemes_from language 0 at) (parts ∙ ap (λ x. x ++ rest) e)
-        ∙ token_read language at c cs rest p.kind p.start p.stop qs start stops lead h
-        ∙ ap (λ x. Ok (record { kind = p.kind; start = p.start; stop = p.stop; text = x } ∷ qs)) (sym e)
+cut_read language at bytes ps (white {c = c} {bytes = bs} h x) = lexemes_white language at c bs (white_lead language c bs h)
+    ∙ cut_read language (at + 1) bs ps x
+cut_read language at bytes ps (token {ps = qs} p rest parts is long start stop x) =
+    let read = token_read language at p.kind p.text rest is (subst (IsLongest language p.text) parts long) in
+    let starts : token_at at p.kind p.text ≡ record p { stop = at + length p.text } = ap (λ n. record p { start = n; stop = at + length p.text }) (sym start) in
+    let piece : token_at at p.kind p.text ≡ p = starts ∙ ap (λ n. record p { stop = n }) (sym stop) in
+    let more : lexemes_from language 0 (at + length p.text) rest ≡ Ok qs =
+    ap (λ n. lexemes_from language 0 n rest) (sym stop) ∙ cut_read language p.stop rest qs x in
+    ap (lexemes_from language 0 at) parts ∙ read ∙ ap (with_front (token_at at p.kind p.text ∷ [])) more ∙ ap (λ y. Ok (y ∷ qs)) piece

@@ -27,16 +27,19 @@ module _ (ts : List CodeToken) (at : ℕ) where
   pub no_relation_at : length ts ≤ at → first_relation (drop at (lexemes_of ts)) ≡ None
   no_relation_at h = ap first_relation (nothing_at ts at h)
 
-  pub start_at : (kind : ExprKind) (d : CodeToken) → at < length ts → fault_of (lexemes_of ts) (kind, drop at (lexemes_of ts)) ≡ record { offset = (get_or ts at d).start; kind = kind }
+  pub start_at : (kind : ExprKind) (d : CodeToken) → at < length ts → fault_of (lexemes_of ts) (kind, drop at (lexemes_of ts))
+      ≡ record { offset = (get_or ts at d).start; kind = kind }
   start_at kind d h = ap (λ us. fault_of (lexemes_of ts) (kind, us)) (lexeme_at ts at d h)
 
-  pub after_all : (kind : ExprKind) → length ts ≤ at → fault_of (lexemes_of ts) (kind, drop at (lexemes_of ts)) ≡ record { offset = end_of (lexemes_of ts); kind = kind }
+  pub after_all : (kind : ExprKind) → length ts ≤ at → fault_of (lexemes_of ts) (kind, drop at (lexemes_of ts))
+      ≡ record { offset = end_of (lexemes_of ts); kind = kind }
   after_all kind h = ap (λ us. fault_of (lexemes_of ts) (kind, us)) (nothing_at ts at h)
 
 pub end_last : (ts : List CodeToken) (d : CodeToken) → 0 < length ts → end_of (lexemes_of ts) ≡ (get_or ts (length ts - 1) d).end
 end_last [] d h = absurd (omega arith)
 end_last (t ∷ []) d h = refl
-end_last (t ∷ u ∷ ts) d h = end_last (u ∷ ts) d (omega arith) ∙ ap (λ i. (get_or (t ∷ u ∷ ts) i d).end) (let q : suc (length (u ∷ ts) - 1) ≡ length (t ∷ u ∷ ts) - 1 = omega arith in q)
+end_last (t ∷ u ∷ ts) d h = end_last (u ∷ ts) d (omega arith) ∙ ap (λ i. (get_or (t ∷ u ∷ ts) i d).end)
+    (let q : suc (length (u ∷ ts) - 1) ≡ length (t ∷ u ∷ ts) - 1 = omega arith in q)
 
 pub end_none : (ts : List CodeToken) → length ts ≡ 0 → end_of (lexemes_of ts) ≡ 0
 end_none [] h = refl
@@ -47,7 +50,8 @@ some_left zero h = cc
 some_left (suc n) h = omega arith
 
 -- one token more of an expression's extent
-extent_two : (t u : Lexeme) (ts : List Lexeme) (b : Bool) → ((is_operand_kind t.kind || is_close t.kind) && is_operand_kind u.kind) ≡ b → extent (t ∷ u ∷ ts) ≡ cond b (t ∷ []) (t ∷ extent (u ∷ ts))
+extent_two : (t u : Lexeme) (ts : List Lexeme) (b : Bool) → ((is_operand_kind t.kind || is_close t.kind) && is_operand_kind u.kind) ≡ b
+    → extent (t ∷ u ∷ ts) ≡ cond b (t ∷ []) (t ∷ extent (u ∷ ts))
 extent_two t u ts b e = ap (λ b. cond b (t ∷ []) (t ∷ extent (u ∷ ts))) e
 
 module _ (ts : List CodeToken) (i : ℕ) (d : CodeToken) (first : 1 ≤ i) (here : i < length ts) where
@@ -56,13 +60,15 @@ module _ (ts : List CodeToken) (i : ℕ) (d : CodeToken) (first : 1 ≤ i) (here
       lexeme_at ts (i - 1) d (omega arith)
       ∙ ap (λ us. lexeme_of (get_or ts (i - 1) d) ∷ us) (ap (λ n. drop n (lexemes_of ts)) (let q : suc (i - 1) ≡ i = omega arith in q) ∙ lexeme_at ts i d here)
 
-  pub extent_goes_on : ((is_operand_kind (get_or ts (i - 1) d).kind || is_close (get_or ts (i - 1) d).kind) && is_operand_kind (get_or ts i d).kind) ≡ false → length (extent (drop (i - 1) (lexemes_of ts))) ≡ suc (length (extent (drop i (lexemes_of ts))))
+  pub extent_goes_on : ((is_operand_kind (get_or ts (i - 1) d).kind || is_close (get_or ts (i - 1) d).kind) && is_operand_kind (get_or ts i d).kind) ≡ false
+      → length (extent (drop (i - 1) (lexemes_of ts))) ≡ suc (length (extent (drop i (lexemes_of ts))))
   extent_goes_on e =
       ap (λ us. length (extent us)) two_at
       ∙ ap length (extent_two (lexeme_of (get_or ts (i - 1) d)) (lexeme_of (get_or ts i d)) (drop (suc i) (lexemes_of ts)) false e)
       ∙ ap (λ us. suc (length (extent us))) (sym (lexeme_at ts i d here))
 
-  pub extent_stops : ((is_operand_kind (get_or ts (i - 1) d).kind || is_close (get_or ts (i - 1) d).kind) && is_operand_kind (get_or ts i d).kind) ≡ true → length (extent (drop (i - 1) (lexemes_of ts))) ≡ 1
+  pub extent_stops : ((is_operand_kind (get_or ts (i - 1) d).kind || is_close (get_or ts (i - 1) d).kind) && is_operand_kind (get_or ts i d).kind) ≡ true
+      → length (extent (drop (i - 1) (lexemes_of ts))) ≡ 1
   extent_stops e =
       ap (λ us. length (extent us)) two_at
       ∙ ap length (extent_two (lexeme_of (get_or ts (i - 1) d)) (lexeme_of (get_or ts i d)) (drop (suc i) (lexemes_of ts)) true e)
@@ -73,7 +79,8 @@ extent_none (t ∷ ts) h = absurd (omega (arith, h))
 
 pub extent_last : (ts : List CodeToken) (d : CodeToken) → 0 < length ts → length (extent (drop (length ts - 1) (lexemes_of ts))) ≡ 1
 extent_last ts d h =
-    ap (λ us. length (extent us)) (lexeme_at ts (length ts - 1) d (omega arith) ∙ ap (λ us. lexeme_of (get_or ts (length ts - 1) d) ∷ us) (nothing_at ts (suc (length ts - 1)) (omega arith)))
+    ap (λ us. length (extent us)) (lexeme_at ts (length ts - 1) d (omega arith) ∙ ap (λ us. lexeme_of (get_or ts (length ts - 1) d) ∷ us)
+    (nothing_at ts (suc (length ts - 1)) (omega arith)))
 
 relation_not : (k : TokenKind) → ((op : Relop) → k ≡ Relation op → ⊥) → relation_of k ≡ None
 relation_not (Relation op) n = absurd (n op refl)
@@ -92,13 +99,15 @@ pub some_token : CodeToken
 some_token = record { kind = Word; start = 0; end = 0; text = record { ref_ptr = (0, 0); now = [] } }
 
 -- the place after a token is at most the number of tokens
-stood_by : (ts : List CodeToken) (at : ℕ) (k : TokenKind) → first_kind (drop at (lexemes_of ts)) ≡ Some k → (at < length ts) ⊎ (length ts ≤ at) → at + 1 ≤ length ts
+stood_by : (ts : List CodeToken) (at : ℕ) (k : TokenKind) → first_kind (drop at (lexemes_of ts)) ≡ Some k → (at < length ts) ⊎ (length ts ≤ at)
+    → at + 1 ≤ length ts
 stood_by ts at k e (inl h) = omega arith
 stood_by ts at k e (inr h) = absurd (no_kind_at ts at k h e)
 
 pub stood_within : (ts : List CodeToken) (at : ℕ) (k : TokenKind) → first_kind (drop at (lexemes_of ts)) ≡ Some k → at + 1 ≤ length ts
 stood_within ts at k e = stood_by ts at k e (cases_lt at (length ts))
 
-pub opened_within : (ts : List CodeToken) (at : ℕ) → (first_kind (drop at (lexemes_of ts)) ≡ Some Not) ⊎ (first_kind (drop at (lexemes_of ts)) ≡ Some Open) → at + 1 ≤ length ts
+pub opened_within : (ts : List CodeToken) (at : ℕ) → (first_kind (drop at (lexemes_of ts)) ≡ Some Not) ⊎ (first_kind (drop at (lexemes_of ts)) ≡ Some Open)
+    → at + 1 ≤ length ts
 opened_within ts at (inl e) = stood_within ts at Not e
 opened_within ts at (inr e) = stood_within ts at Open e

@@ -11,16 +11,20 @@ abbrev pub AllTexts : (List ℕ → Type 0) → List Lexeme → Type 0
 AllTexts P [] = Unit {0}
 AllTexts P (t ∷ ts) = P t.text × AllTexts P ts
 
-pub front_ok : (p : Lexeme) (r : Result (List Lexeme) ExprFault) (ts : List Lexeme) → with_front (p ∷ []) r ≡ Ok ts → (us : List Lexeme) × (r ≡ Ok us) × (p ∷ us ≡ ts)
+pub front_ok : (p : Lexeme) (r : Result (List Lexeme) ExprFault) (ts : List Lexeme) → with_front (p ∷ []) r ≡ Ok ts
+    → (us : List Lexeme) × (r ≡ Ok us) × (p ∷ us ≡ ts)
 front_ok p (Ok us) ts h = (us, refl, cc)
 front_ok p (Err e) ts h = cc
 
-module _ (language : Language) (P : List ℕ → Type 0) (front : (n : ℕ) (xs : List ℕ) → P xs → P (take n xs)) (behind : (x : ℕ) (xs : List ℕ) → P (x ∷ xs) → P xs) where
-  texts_of_lead : (b : ℕ) (bs : List ℕ) (at : ℕ) (x : NextToken) (ts : List Lexeme) → P (b ∷ bs) → ((skip n : ℕ) (us : List Lexeme) → lexemes_from language skip n bs ≡ Ok us → AllTexts P us)
+module _ (language : Language) (P : List ℕ → Type 0) (front : (n : ℕ) (xs : List ℕ) → P xs → P (take n xs))
+    (behind : (x : ℕ) (xs : List ℕ) → P (x ∷ xs) → P xs) where
+  texts_of_lead : (b : ℕ) (bs : List ℕ) (at : ℕ) (x : NextToken) (ts : List Lexeme) → P (b ∷ bs)
+      → ((skip n : ℕ) (us : List Lexeme) → lexemes_from language skip n bs ≡ Ok us → AllTexts P us)
       → elim x as (λ _. Result (List Lexeme) ExprFault) [
         | White ↦ lexemes_from language 0 (at + 1) bs
         | Comment ↦ Ok []
-        | Token kind len ↦ with_front (record { kind = kind; start = at; stop = at + len; text = take len (b ∷ bs) } ∷ []) (lexemes_from language (pred len) (at + 1) bs)
+        | Token kind len ↦ with_front (record { kind = kind; start = at; stop = at + len; text = take len (b ∷ bs) } ∷ [])
+            (lexemes_from language (pred len) (at + 1) bs)
         | Fault kind ahead ↦ Err (record { offset = at + ahead; kind = kind })
       ] ≡ Ok ts → AllTexts P ts
   texts_of_lead b bs at White ts p ih h = ih 0 (at + 1) ts h
@@ -36,4 +40,5 @@ module _ (language : Language) (P : List ℕ → Type 0) (front : (n : ℕ) (xs 
   texts_of_line skip at [] [] p h = tt
   texts_of_line skip at [] (t ∷ ts) p h = cc
   texts_of_line (suc skip) at (b ∷ bs) ts p h = texts_of_line skip (at + 1) bs ts (behind b bs p) h
-  texts_of_line zero at (b ∷ bs) ts p h = texts_of_lead b bs at (next_token language (b ∷ bs)) ts p (λ skip n us e. texts_of_line skip n bs us (behind b bs p) e) h
+  texts_of_line zero at (b ∷ bs) ts p h = texts_of_lead b bs at (next_token language (b ∷ bs)) ts p
+      (λ skip n us e. texts_of_line skip n bs us (behind b bs p) e) h

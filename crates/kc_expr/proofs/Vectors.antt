@@ -1,5 +1,5 @@
 -- Some lines, expressions and values, computed.
-use Rattle.std.proofs.Common.{◌≡◌, ℕ, List, [], ◌∷◌, refl, Some, None, Ok, Err, cond, Result}
+use Rattle.std.proofs.Common.{◌≡◌, ℕ, List, [], ◌∷◌, refl, ap, arith, Some, None, Ok, Err, cond, Result}
 use Rattle.std.specs.Prelude.{codes, bytes_eq}
 use Rattle.kc_value.specs.declared.tri.Tri.TheVariants.{N, M, Y}
 use Rattle.kc_value.specs.declared.value.Kind.TheVariants.{Tristate, Text, Int, Hex}
@@ -9,6 +9,10 @@ use Rattle.kc_expr.specs.declared.token.TokenKind.TheVariants.{Word, Quoted}
 use Rattle.kc_expr.specs.declared.fault.ExprKind.TheVariants.{BadToken, UnclosedQuote, LeftOut}
 use Rattle.kc_expr.specs.declared.language.Language.TheVariants.{Strict, Linux}
 use Rattle.kc_expr.specs.Token.{lexemes_from, next_token, Lexeme}
+use Rattle.kc_expr.specs.TokenGrammar.{IsFirstFault}
+use Rattle.kc_expr.specs.declared.fault.ExprFault.{ExprFault}
+use Rattle.kc_expr.proofs.CutLaws.{read_fault}
+use Rattle.kc_expr.proofs.FaultLaws.{one_fault}
 use Rattle.std.proofs.Common.{length}
 use Rattle.kc_expr.specs.declared.fault.ExprKind.{ExprKind}
 use Rattle.kc_expr.specs.declared.fault.ExprKind.TheVariants.{Malformed}
@@ -44,7 +48,8 @@ unfolding names int_text hex_text loose_number
 text_compares_with_a_number = refl
 
 -- a line of a word and a quoted text, and a comment
-words_quotes_comment : lexemes_from Strict 0 0 (codes "bool \"a b\" # x") ≡ Ok (record { kind = Word; start = 0; stop = 4; text = codes "bool" } ∷ record { kind = Quoted; start = 5; stop = 10; text = codes "\"a b\"" } ∷ [])
+words_quotes_comment : lexemes_from Strict 0 0 (codes "bool \"a b\" # x")
+    ≡ Ok (record { kind = Word; start = 0; stop = 4; text = codes "bool" } ∷ record { kind = Quoted; start = 5; stop = 10; text = codes "\"a b\"" } ∷ [])
 unfolding next_token
 words_quotes_comment = refl
 
@@ -57,7 +62,12 @@ unfolding next_token
 dollar_is_left_out = refl
 
 -- in quotes a pair of a backslash and a `$` is read in the language of Linux alone, and any other `$` in none
-dollar_in_a_pair : lexemes_from Linux 0 0 (codes "a \"b\\$\"") ≡ Ok (record { kind = Word; start = 0; stop = 1; text = codes "a" } ∷ record { kind = Quoted; start = 2; stop = 7; text = codes "\"b\\$\"" } ∷ [])
+dollar_in_a_pair : lexemes_from Linux 0 0 (codes "a \"b\\$\"") ≡ Ok (record { kind = Word; start = 0; stop = 1; text = codes "a" } ∷ record {
+  kind = Quoted;
+  start = 2;
+  stop = 7;
+  text = codes "\"b\\$\"";
+} ∷ [])
 unfolding next_token
 dollar_in_a_pair = refl
 
@@ -77,6 +87,18 @@ bare_dollar_in_linux : lexemes_from Linux 0 0 (codes "a $b") ≡ Err (record { o
 unfolding next_token
 bare_dollar_in_linux = refl
 
+-- the first fault of a line, by the token language, and one that comes after it
+unclosed_quote_is_first : IsFirstFault Strict 0 (codes "a \"b") (record { offset = 2; kind = UnclosedQuote })
+unclosed_quote_is_first = read_fault Strict 4 0 (codes "a \"b") _ (omega arith) quote_is_not_closed
+
+dollar_between_quotes_is_first : IsFirstFault Strict 0 (codes "a \"b\\$\"") (record { offset = 5; kind = LeftOut })
+dollar_between_quotes_is_first = read_fault Strict 7 0 (codes "a \"b\\$\"") _ (omega arith) dollar_in_a_pair_is_left_out
+
+later_fault_is_not_first : IsFirstFault Linux 0 (codes "a $b") (record { offset = 3; kind = LeftOut }) → ⊥
+later_fault_is_not_first h =
+    let same = one_fault Linux (codes "a $b") _ _ (read_fault Linux 4 0 (codes "a $b") _ (omega arith) bare_dollar_in_linux) h in
+    omega (arith, ap (λ (f : ExprFault). f.offset) same)
+
 -- the expression of a text
 pieces : List ℕ → List Lexeme
 pieces text = elim (lexemes_from Strict 0 0 text) [ Ok ps ↦ ps | Err e ↦ [] ]
@@ -84,7 +106,8 @@ pieces text = elim (lexemes_from Strict 0 0 text) [ Ok ps ↦ ps | Err e ↦ [] 
 read : List ℕ → Result Expr (ExprKind × ℕ)
 read text = elim (read_expr (extent (pieces text))) [ Ok e ↦ Ok e | Err f ↦ Err (f.0, length f.1) ]
 
-reads_up_to_the_next_word : read (codes "!A = B && (C || D) if X") ≡ Ok (both (negated (related Equal (named (codes "A")) (named (codes "B")))) (either (word (codes "C")) (word (codes "D"))))
+reads_up_to_the_next_word : read (codes "!A = B && (C || D) if X") ≡ Ok
+    (both (negated (related Equal (named (codes "A")) (named (codes "B")))) (either (word (codes "C")) (word (codes "D"))))
 unfolding next_token word read pieces read_expr
 reads_up_to_the_next_word = refl
 
@@ -92,6 +115,7 @@ relations_do_not_chain : read (codes "A = B = C") ≡ Err (Malformed, 2)
 unfolding next_token read pieces read_expr
 relations_do_not_chain = refl
 
-ands_bind_tighter_than_ors : read (codes "A && B || C && D || E") ≡ Ok (either (either (both (word (codes "A")) (word (codes "B"))) (both (word (codes "C")) (word (codes "D")))) (word (codes "E")))
+ands_bind_tighter_than_ors : read (codes "A && B || C && D || E") ≡ Ok
+    (either (either (both (word (codes "A")) (word (codes "B"))) (both (word (codes "C")) (word (codes "D")))) (word (codes "E")))
 unfolding next_token word read pieces read_expr
 ands_bind_tighter_than_ors = refl

@@ -63,9 +63,11 @@ module _ (exprs : Exprs) (last : ℕ) (before : List Bool) (old : List ℕ) wher
   }
 
   -- the node was walked
-  pub walk_ends : (at : ℕ) (walked : List Bool) (ids : List ℕ) → IsWalking exprs last before old at walked ids → is_visited walked at ≡ true → HasVisited exprs last before walked old ids
+  pub walk_ends : (at : ℕ) (walked : List Bool) (ids : List ℕ) → IsWalking exprs last before old at walked ids → is_visited walked at ≡ true
+      → HasVisited exprs last before walked old ids
   walk_ends at walked ids h w =
-      let same : (p : List ℕ → Bool) → passes_some_name exprs p ids ≡ whole_of p = λ p. sym (or_same (passes_some_name exprs p ids) (mentions p (node_expr exprs at)) (h.found at p (omega arith) w)) ∙ h.exact p in
+      let same : (p : List ℕ → Bool) → passes_some_name exprs p ids ≡ whole_of p =
+      λ p. sym (or_same (passes_some_name exprs p ids) (mentions p (node_expr exprs at)) (h.found at p (omega arith) w)) ∙ h.exact p in
       record {
         room = h.room;
         walked = last_walked (cases_lt at last);
@@ -95,7 +97,12 @@ module _ (exprs : Exprs) (last : ℕ) (before : List Bool) (old : List ℕ) wher
         set_kept_by (inr n) = set_there node n ∙ w
 
     -- further down, where all that is walked below this node is found
-    pub walk_down : (next : ℕ) (now : List Bool) (more : List ℕ) → next < at → length now ≡ length walked → is_visited now at ≡ true → ((node : ℕ) → is_visited walked node ≡ true → is_visited now node ≡ true) → ((node : ℕ) → at < node → is_visited now node ≡ is_visited walked node) → ((p : List ℕ → Bool) → (passes_some_name exprs p more || mentions p (node_expr exprs next)) ≡ (passes_some_name exprs p ids || mentions p (node_expr exprs at))) → ((node : ℕ) (p : List ℕ → Bool) → node < at → is_visited now node ≡ true → mentions p (node_expr exprs node) ≡ true → passes_some_name exprs p more ≡ true) → IsWalking exprs last before old next now more
+    pub walk_down : (next : ℕ) (now : List Bool) (more : List ℕ) → next < at → length now ≡ length walked → is_visited now at ≡ true
+        → ((node : ℕ) → is_visited walked node ≡ true → is_visited now node ≡ true) → ((node : ℕ) → at < node → is_visited now node ≡ is_visited walked node)
+        → ((p : List ℕ → Bool) → (passes_some_name exprs p more || mentions p (node_expr exprs next))
+        ≡ (passes_some_name exprs p ids || mentions p (node_expr exprs at)))
+        → ((node : ℕ) (p : List ℕ → Bool) → node < at → is_visited now node ≡ true → mentions p (node_expr exprs node) ≡ true
+        → passes_some_name exprs p more ≡ true) → IsWalking exprs last before old next now more
     walk_down next now more less room here kept above exact found = record {
       below = omega (arith, h.below);
       room = room ∙ h.room;
@@ -111,17 +118,21 @@ module _ (exprs : Exprs) (last : ℕ) (before : List Bool) (old : List ℕ) wher
         begun_by (inl l) = kept last (h.begun l)
         begun_by (inr l) = let e : at ≡ last = omega (arith, h.below) in rw (← e) here
 
-        whole_by : (node : ℕ) (p : List ℕ → Bool) → node ≤ last → is_visited now node ≡ true → mentions p (node_expr exprs node) ≡ true → (node < at) ⊎ (at ≤ node) → (at < node) ⊎ (node ≤ at) → whole_of p ≡ true
+        whole_by : (node : ℕ) (p : List ℕ → Bool) → node ≤ last → is_visited now node ≡ true → mentions p (node_expr exprs node) ≡ true
+            → (node < at) ⊎ (at ≤ node) → (at < node) ⊎ (node ≤ at) → whole_of p ≡ true
         whole_by node p l w m (inl b) _ = sym (exact p ∙ h.exact p) ∙ or_left _ _ (found node p b w m)
         whole_by node p l w m (inr b) (inl a) = h.whole node p l (sym (above node a) ∙ w) m
-        whole_by node p l w m (inr b) (inr a) = let e : node ≡ at = omega (arith, a, b) in sym (h.exact p) ∙ or_right _ _ (ap (λ n. mentions p (node_expr exprs n)) (sym e) ∙ m)
+        whole_by node p l w m (inr b) (inr a) = let e : node ≡ at = omega (arith, a, b) in sym (h.exact p)
+            ∙ or_right _ _ (ap (λ n. mentions p (node_expr exprs n)) (sym e) ∙ m)
 
     -- what is found below this node
-    found_before : (node : ℕ) (p : List ℕ → Bool) → node < at → is_visited (slice_set walked at true) node ≡ true → mentions p (node_expr exprs node) ≡ true → passes_some_name exprs p ids ≡ true
+    found_before : (node : ℕ) (p : List ℕ → Bool) → node < at → is_visited (slice_set walked at true) node ≡ true → mentions p (node_expr exprs node) ≡ true
+        → passes_some_name exprs p ids ≡ true
     found_before node p l w m = h.found node p (omega (arith, l)) (sym (set_there node (λ e. absurd (omega (arith, l, e)))) ∙ w) m
 
     -- the names of this node are pushed after the others
-    pub walk_met : (more : List ℕ) → ((p : List ℕ → Bool) → passes_some_name exprs p more ≡ (passes_some_name exprs p ids || mentions p (node_expr exprs at))) → HasVisited exprs last before (slice_set walked at true) old more
+    pub walk_met : (more : List ℕ) → ((p : List ℕ → Bool) → passes_some_name exprs p more ≡ (passes_some_name exprs p ids || mentions p (node_expr exprs at)))
+        → HasVisited exprs last before (slice_set walked at true) old more
     walk_met more exact =
         let same : (p : List ℕ → Bool) → passes_some_name exprs p more ≡ whole_of p = λ p. exact p ∙ h.exact p in
         record {
@@ -137,28 +148,43 @@ module _ (exprs : Exprs) (last : ℕ) (before : List Bool) (old : List ℕ) wher
         walked_by (inl l) = set_kept last (h.begun l)
         walked_by (inr l) = let e : at ≡ last = omega (arith, h.below) in rw (← e) set_here
 
-        found_by : (node : ℕ) (p : List ℕ → Bool) → node ≤ last → is_visited (slice_set walked at true) node ≡ true → mentions p (node_expr exprs node) ≡ true → (node ≡ at) ⊎ (node ≢ at) → passes_some_name exprs p more ≡ true
+        found_by : (node : ℕ) (p : List ℕ → Bool) → node ≤ last → is_visited (slice_set walked at true) node ≡ true → mentions p (node_expr exprs node) ≡ true
+            → (node ≡ at) ⊎ (node ≢ at) → passes_some_name exprs p more ≡ true
         found_by node p l w m (inl e) = exact p ∙ or_right _ _ (ap (λ n. mentions p (node_expr exprs n)) (sym e) ∙ m)
         found_by node p l w m (inr n) = exact p ∙ h.exact p ∙ h.whole node p l (sym (set_there node n) ∙ w) m
 
     -- a node of one part
-    pub walk_one : (part : ℕ) → part < at → ((p : List ℕ → Bool) → mentions p (node_expr exprs at) ≡ mentions p (node_expr exprs part)) → IsWalking exprs last before old part (slice_set walked at true) ids
-    walk_one part less e = walk_down part (slice_set walked at true) ids less (length-set walked at true) set_here set_kept (λ node l. set_there node (λ f. absurd (omega (arith, l, f)))) (λ p. ap (λ t. passes_some_name exprs p ids || t) (sym (e p))) found_before
+    pub walk_one : (part : ℕ) → part < at → ((p : List ℕ → Bool) → mentions p (node_expr exprs at) ≡ mentions p (node_expr exprs part))
+        → IsWalking exprs last before old part (slice_set walked at true) ids
+    walk_one part less e = walk_down part (slice_set walked at true) ids less (length-set walked at true) set_here set_kept
+        (λ node l. set_there node (λ f. absurd (omega (arith, l, f)))) (λ p. ap (λ t. passes_some_name exprs p ids || t) (sym (e p))) found_before
 
     -- a node of two parts, of which the right one is walked
-    pub walk_two : (left right : ℕ) (now : List Bool) (more : List ℕ) → left < at → right < at → ((p : List ℕ → Bool) → mentions p (node_expr exprs at) ≡ (mentions p (node_expr exprs left) || mentions p (node_expr exprs right))) → HasVisited exprs right (slice_set walked at true) now ids more → IsWalking exprs last before old left now more
-    walk_two left right now more l r e g = walk_down left now more l (g.room ∙ length-set walked at true) (g.above at r ∙ set_here) (λ node w. g.kept node (set_kept node w)) (λ node b. g.above node (omega (arith, r, b)) ∙ set_there node (λ f. absurd (omega (arith, b, f)))) exact (λ node p b w m. found_by node p b w m (cases_lt right node))
+    pub walk_two : (left right : ℕ) (now : List Bool) (more : List ℕ) → left < at → right < at
+        → ((p : List ℕ → Bool) → mentions p (node_expr exprs at) ≡ (mentions p (node_expr exprs left) || mentions p (node_expr exprs right)))
+        → HasVisited exprs right (slice_set walked at true) now ids more → IsWalking exprs last before old left now more
+    walk_two left right now more l r e g = walk_down left now more l (g.room ∙ length-set walked at true) (g.above at r ∙ set_here)
+        (λ node w. g.kept node (set_kept node w)) (λ node b. g.above node (omega (arith, r, b)) ∙ set_there node (λ f. absurd (omega (arith, b, f)))) exact
+        (λ node p b w m. found_by node p b w m (cases_lt right node))
       where
-        exact : (p : List ℕ → Bool) → (passes_some_name exprs p more || mentions p (node_expr exprs left)) ≡ (passes_some_name exprs p ids || mentions p (node_expr exprs at))
-        exact p = ap (λ t. t || mentions p (node_expr exprs left)) (g.exact p) ∙ or_assoc (passes_some_name exprs p ids) (mentions p (node_expr exprs right)) (mentions p (node_expr exprs left)) ∙ ap (λ t. passes_some_name exprs p ids || t) (or_comm (mentions p (node_expr exprs right)) (mentions p (node_expr exprs left)) ∙ sym (e p))
+        exact : (p : List ℕ → Bool) → (passes_some_name exprs p more || mentions p (node_expr exprs left))
+            ≡ (passes_some_name exprs p ids || mentions p (node_expr exprs at))
+        exact p = ap (λ t. t || mentions p (node_expr exprs left)) (g.exact p) ∙ or_assoc (passes_some_name exprs p ids) (mentions p (node_expr exprs right))
+            (mentions p (node_expr exprs left)) ∙ ap (λ t. passes_some_name exprs p ids || t)
+            (or_comm (mentions p (node_expr exprs right)) (mentions p (node_expr exprs left)) ∙ sym (e p))
 
-        found_by : (node : ℕ) (p : List ℕ → Bool) → node < at → is_visited now node ≡ true → mentions p (node_expr exprs node) ≡ true → (right < node) ⊎ (node ≤ right) → passes_some_name exprs p more ≡ true
+        found_by : (node : ℕ) (p : List ℕ → Bool) → node < at → is_visited now node ≡ true → mentions p (node_expr exprs node) ≡ true
+            → (right < node) ⊎ (node ≤ right) → passes_some_name exprs p more ≡ true
         found_by node p b w m (inl a) = g.exact p ∙ or_left _ _ (found_before node p b (sym (g.above node a) ∙ w) m)
         found_by node p b w m (inr a) = g.found node p a w m
 
 -- names that are pushed after others
-pub some_pushed : (exprs : Exprs) (p : List ℕ → Bool) (old new : List ℕ) (more : List (List ℕ)) → map (λ i. slice_index_or exprs.names i []) new ≡ map (λ i. slice_index_or exprs.names i []) old ++ more → passes_some_name exprs p new ≡ (passes_some_name exprs p old || list_any p more)
+pub some_pushed : (exprs : Exprs) (p : List ℕ → Bool) (old new : List ℕ) (more : List (List ℕ)) → map (λ i. slice_index_or exprs.names i []) new
+    ≡ map (λ i. slice_index_or exprs.names i []) old ++ more → passes_some_name exprs p new ≡ (passes_some_name exprs p old || list_any p more)
 some_pushed exprs p old new more e = ap (list_any p) e ∙ list_any-append p (map (λ i. slice_index_or exprs.names i []) old) more
 
-pub both_pushed : (exprs : Exprs) (p : List ℕ → Bool) (old mid new : List ℕ) (a b : List (List ℕ)) → map (λ i. slice_index_or exprs.names i []) mid ≡ map (λ i. slice_index_or exprs.names i []) old ++ a → map (λ i. slice_index_or exprs.names i []) new ≡ map (λ i. slice_index_or exprs.names i []) mid ++ b → passes_some_name exprs p new ≡ (passes_some_name exprs p old || list_any p (a ++ b))
-both_pushed exprs p old mid new a b e f = some_pushed exprs p mid new b f ∙ ap (λ t. t || list_any p b) (some_pushed exprs p old mid a e) ∙ or_assoc (passes_some_name exprs p old) (list_any p a) (list_any p b) ∙ ap (λ t. passes_some_name exprs p old || t) (sym (list_any-append p a b))
+pub both_pushed : (exprs : Exprs) (p : List ℕ → Bool) (old mid new : List ℕ) (a b : List (List ℕ)) → map (λ i. slice_index_or exprs.names i []) mid
+    ≡ map (λ i. slice_index_or exprs.names i []) old ++ a → map (λ i. slice_index_or exprs.names i []) new ≡ map (λ i. slice_index_or exprs.names i []) mid ++ b
+    → passes_some_name exprs p new ≡ (passes_some_name exprs p old || list_any p (a ++ b))
+both_pushed exprs p old mid new a b e f = some_pushed exprs p mid new b f ∙ ap (λ t. t || list_any p b) (some_pushed exprs p old mid a e)
+    ∙ or_assoc (passes_some_name exprs p old) (list_any p a) (list_any p b) ∙ ap (λ t. passes_some_name exprs p old || t) (sym (list_any-append p a b))

@@ -22,4 +22,5 @@ pub entry_says : (at : ℕ) (table : List ℕ) → says_all at table ≡ true �
 unfolding says_all
 entry_says at [] h i l = absurd (omega arith)
 entry_says at (b ∷ bs) h zero l = (parts _ _ _ h).0 ∙ ap is_word_byte (let q : at ≡ at + 0 = omega arith in q)
-entry_says at (b ∷ bs) h (suc i) l = entry_says (at + 1) bs (parts _ _ _ h).1 i (omega arith) ∙ ap is_word_byte (let q : (at + 1) + i ≡ at + suc i = omega arith in q)
+entry_says at (b ∷ bs) h (suc i) l = entry_says (at + 1) bs (parts _ _ _ h).1 i (omega arith) ∙ ap is_word_byte
+    (let q : (at + 1) + i ≡ at + suc i = omega arith in q)

@@ -86,6 +86,19 @@ extent [] = []
 extent (t ∷ []) = t ∷ []
 extent (t ∷ u ∷ ts) = if (is_operand_kind t.kind || is_close t.kind) && is_operand_kind u.kind then t ∷ [] else t ∷ extent (u ∷ ts)
 
+-- the byte after the last token
+abbrev pub end_of : List Lexeme → ℕ
+end_of [] = 0
+end_of (t ∷ []) = t.stop
+end_of (t ∷ u ∷ ts) = end_of (u ∷ ts)
+
+-- a fault's place is the first remaining token, or the end of the tokens if none remains
+abbrev pub fault_of : List Lexeme → ExprKind × List Lexeme → ExprFault
+fault_of all (kind, []) = record { offset = end_of all; kind = kind }
+fault_of all (kind, t ∷ ts) = record { offset = t.start; kind = kind }
+
+-- The functions from here on compute what the grammar and the first fault say, by the laws `reading_is_the_grammar` and `reading_finds_the_first_fault`.
+
 -- The result of a parser: an expression and the remaining tokens, or a fault and the tokens from its place on.
 abbrev pub Read : Type 0
 Read = Result (Expr × List Lexeme) (ExprKind × List Lexeme)
@@ -171,14 +184,3 @@ read_to_end (Ok r) = elim r.1 [ [] ↦ Ok r.0 | t ∷ ts ↦ Err (Malformed, t �
 -- the expression that tokens are, or its fault
 unfoldable pub read_expr : List Lexeme → Result Expr (ExprKind × List Lexeme)
 read_expr ts = read_to_end (read_ors (read_factor MAX_EXPR_DEPTH) ts)
-
--- the byte after the last token
-abbrev pub end_of : List Lexeme → ℕ
-end_of [] = 0
-end_of (t ∷ []) = t.stop
-end_of (t ∷ u ∷ ts) = end_of (u ∷ ts)
-
--- a fault's place is the first remaining token, or the end of the tokens if none remains
-abbrev pub fault_of : List Lexeme → ExprKind × List Lexeme → ExprFault
-fault_of all (kind, []) = record { offset = end_of all; kind = kind }
-fault_of all (kind, t ∷ ts) = record { offset = t.start; kind = kind }

@@ -1,4 +1,5 @@
 pub mod Expr
+pub mod ExprFaults
 pub mod FaultNames
 pub mod Grammar
 pub mod Lookup

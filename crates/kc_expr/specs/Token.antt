@@ -27,6 +27,16 @@ is_white_byte c = c == 9 || (c == 11) || (c == 12) || (c == 13) || (c == 32)
 abbrev pub is_word_byte : ℕ → Bool
 is_word_byte c = (nat_le 65 c && nat_le c 90) || (nat_le 97 c && nat_le c 122) || (nat_le 48 c && nat_le c 57) || (c == 95) || (c == 45) || (c == 46) || (c == 47)
 
+-- a token of the code as the definitions see it
+abbrev pub lexeme_of : CodeToken → Lexeme
+lexeme_of t = record { kind = t.kind; start = t.start; stop = t.end; text = t.text.now }
+
+-- tokens of the code as the definitions see them
+abbrev pub lexemes_of : List CodeToken → List Lexeme
+lexemes_of ts = map lexeme_of ts
+
+-- The definitions from here on compute what the grammar of TokenGrammar says of a line, by the laws `tokens_are_the_language` and `token_faults_are_first_faults`.
+
 -- the place of the first `$` that stands in no pair of a backslash and a character
 abbrev pub bare_dollar : Bool → List ℕ → Option ℕ
 bare_dollar escaped [] = None
@@ -91,11 +101,3 @@ lexemes_from language zero at (b ∷ bs) = elim (next_token language (b ∷ bs))
   | Token kind len ↦ with_front (record { kind = kind; start = at; stop = at + len; text = take len (b ∷ bs) } ∷ []) (lexemes_from language (pred len) (at + 1) bs)
   | Fault kind ahead ↦ Err (record { offset = at + ahead; kind = kind })
 ]
-
--- a token of the code as the definitions see it
-abbrev pub lexeme_of : CodeToken → Lexeme
-lexeme_of t = record { kind = t.kind; start = t.start; stop = t.end; text = t.text.now }
-
--- tokens of the code as the definitions see them
-abbrev pub lexemes_of : List CodeToken → List Lexeme
-lexemes_of ts = map lexeme_of ts

@@ -1,7 +1,9 @@
 -- The token language, apart from how a line is scanned ("Menu dependencies").
-use Rattle.std.specs.Prelude.{◌≡◌, ℕ, ◌+◌, ◌<◌, ◌≤◌, true, false, ◌==◌, List, [], ◌∷◌, ◌++◌, length}
+use Rattle.std.specs.Prelude.{◌≡◌, ℕ, ◌+◌, ◌<◌, ◌≤◌, true, false, ◌==◌, List, [], ◌∷◌, ◌++◌, length, codes}
 use Rattle.std.specs.List.{list_all, list_any}
 use Rattle.kc_value.specs.Quoted.{IsBody}
+use Rattle.kc_expr.specs.declared.fault.ExprFault.{ExprFault}
+use Rattle.kc_expr.specs.declared.fault.ExprKind.TheVariants.{BadToken, UnclosedQuote, LeftOut}
 use Rattle.kc_expr.specs.declared.language.Language.{Language}
 use Rattle.kc_expr.specs.declared.language.Language.TheVariants.{Strict, Linux}
 use Rattle.kc_expr.specs.declared.token.Relop.{Relop}
@@ -13,12 +15,7 @@ use Rattle.kc_expr.specs.Token.{Lexeme, is_white_byte, is_word_byte}
 
 -- the spelling of a relation ("Menu dependencies")
 abbrev pub relation_text : Relop → List ℕ
-relation_text Equal = 61 ∷ []
-relation_text NotEqual = 33 ∷ 61 ∷ []
-relation_text Less = 60 ∷ []
-relation_text Greater = 62 ∷ []
-relation_text LessEqual = 60 ∷ 61 ∷ []
-relation_text GreaterEqual = 62 ∷ 61 ∷ []
+relation_text op = elim op [ Equal ↦ codes "=" | NotEqual ↦ codes "!=" | Less ↦ codes "<" | Greater ↦ codes ">" | LessEqual ↦ codes "<=" | GreaterEqual ↦ codes ">=" ]
 
 -- a body in which each `$` stands in a pair of a backslash and a character
 pub data HasDollarsInPairs : List ℕ → Type 0 where
@@ -46,11 +43,11 @@ abbrev pub IsToken : Language → TokenKind → List ℕ → Type 0
 IsToken language Word text = (0 < length text) × (list_all is_word_byte text ≡ true)
 IsToken language Quoted text = IsQuotedToken language text
 IsToken language (Relation op) text = text ≡ relation_text op
-IsToken language Not text = text ≡ 33 ∷ []
-IsToken language And text = text ≡ 38 ∷ 38 ∷ []
-IsToken language Or text = text ≡ 124 ∷ 124 ∷ []
-IsToken language Open text = text ≡ 40 ∷ []
-IsToken language Close text = text ≡ 41 ∷ []
+IsToken language Not text = text ≡ codes "!"
+IsToken language And text = text ≡ codes "&&"
+IsToken language Or text = text ≡ codes "||"
+IsToken language Open text = text ≡ codes "("
+IsToken language Close text = text ≡ codes ")"
 
 -- no longer front of the bytes is a token
 abbrev pub IsLongest : Language → List ℕ → List ℕ → Type 0
@@ -62,3 +59,20 @@ pub data IsCut (language : Language) : ℕ → List ℕ → List Lexeme → Type
   comment : {at : ℕ} {bytes : List ℕ} → IsCut language at (35 ∷ bytes) []
   white : {at c : ℕ} {bytes : List ℕ} {ps : List Lexeme} → is_white_byte c ≡ true → IsCut language (at + 1) bytes ps → IsCut language at (c ∷ bytes) ps
   token : {at : ℕ} {bytes : List ℕ} {ps : List Lexeme} (p : Lexeme) (rest : List ℕ) → bytes ≡ p.text ++ rest → IsToken language p.kind p.text → IsLongest language p.text bytes → p.start ≡ at → p.stop ≡ at + length p.text → IsCut language p.stop rest ps → IsCut language at bytes (p ∷ ps)
+
+-- no white byte, comment or token begins at a byte
+abbrev pub NothingBegins : Language → ℕ → List ℕ → Type 0
+NothingBegins language c bytes = (is_white_byte c ≡ false) × ((c == 35) ≡ false) × ((kind : TokenKind) (text rest : List ℕ) → c ∷ bytes ≡ text ++ rest → IsToken language kind text → ⊥)
+
+-- the fault of a byte at which nothing begins: a `$`; a quote that is never closed; the first `$` between quotes that is left out; any other byte
+pub data IsFaultAt (language : Language) (at : ℕ) : List ℕ → ExprFault → Type 0 where
+  dollar : {bytes : List ℕ} → IsFaultAt language at (36 ∷ bytes) (record { offset = at; kind = LeftOut })
+  unclosed : {quote : ℕ} {bytes : List ℕ} → is_quote quote ≡ true → ((body means rest : List ℕ) → IsBody quote body means → bytes ≡ body ++ quote ∷ rest → ⊥) → IsFaultAt language at (quote ∷ bytes) (record { offset = at; kind = UnclosedQuote })
+  dollar_between : {quote : ℕ} (front back means rest : List ℕ) → is_quote quote ≡ true → IsBody quote (front ++ 36 ∷ back) means → HasDollarsOf language front → IsFaultAt language at (quote ∷ ((front ++ 36 ∷ back) ++ quote ∷ rest)) (record { offset = at + 1 + length front; kind = LeftOut })
+  other_byte : {c : ℕ} {bytes : List ℕ} → (c == 36) ≡ false → is_quote c ≡ false → IsFaultAt language at (c ∷ bytes) (record { offset = at; kind = BadToken })
+
+-- a line from a place on is white bytes and tokens, each the longest that fits, up to a byte at which nothing begins, and this is its fault
+pub data IsFirstFault (language : Language) : ℕ → List ℕ → ExprFault → Type 0 where
+  here : {at c : ℕ} {bytes : List ℕ} {fault : ExprFault} → NothingBegins language c bytes → IsFaultAt language at (c ∷ bytes) fault → IsFirstFault language at (c ∷ bytes) fault
+  after_white : {at c : ℕ} {bytes : List ℕ} {fault : ExprFault} → is_white_byte c ≡ true → IsFirstFault language (at + 1) bytes fault → IsFirstFault language at (c ∷ bytes) fault
+  after_token : {at : ℕ} {fault : ExprFault} (kind : TokenKind) (text rest : List ℕ) → IsToken language kind text → IsLongest language text (text ++ rest) → IsFirstFault language (at + length text) rest fault → IsFirstFault language at (text ++ rest) fault

@@ -2,6 +2,5 @@ pub mod Arena
 pub mod Names
 pub mod Operand
 pub mod ParseResults
-pub mod Results
 pub mod ReverseNames
 pub mod Visits

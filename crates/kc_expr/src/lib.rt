@@ -22,7 +22,10 @@ pub use arena::Arena;
 pub use fault::{ExprFault, ExprKind};
 pub use ids::{ExprId, NameId};
 pub use language::Language;
-pub use laws::{linux_reads_strict_lines, reading_is_the_grammar, tokens_are_the_language};
+pub use laws::{
+    each_line_has_one_reading, linux_reads_strict_lines, reading_is_the_grammar,
+    token_faults_are_first_faults, tokens_are_the_language,
+};
 pub use lookup::{Looked, Lookup};
 pub use operand::Operand;
 pub use quoted::quoted_text;

@@ -1,9 +1,9 @@
 //! Words, quoted texts and operators of a line.
-ghost use Rattle.std.specs.Prelude.{◌≡◌, ◌<◌, ◌≤◌, ◌⊎◌, true, false, length, take, IfSome, IfErr, OnOk, OnErr, position, take_while, ◌==◌, ◌-◌, slice_index, [], ◌∷◌};
+ghost use Rattle.std.specs.Prelude.{◌≡◌, ◌<◌, ◌≤◌, ◌⊎◌, true, false, length, take, IfSome, IfOk, IfErr, OnOk, OnErr, position, take_while, ◌==◌, ◌-◌, slice_index, [], ◌∷◌};
 ghost use Rattle.kc_expr.specs.declared.fault.ExprKind.TheVariants.{OutOfMemory};
 ghost use Rattle.kc_expr.specs.Token.{is_white_byte, is_word_byte, bare_dollar, dollar_left_out, next_token, next_quoted, next_operator, lexemes_from, lexemes_of};
 ghost use Rattle.kc_expr.specs.checker.Leads.{Reaches};
-ghost use Rattle.kc_expr.specs.between.Results.{Returns};
+ghost use Rattle.kc_expr.specs.TokenGrammar.{IsCut, IsFirstFault};
 ghost use Rattle.kc_expr.specs.Token.{with_front};
 
 use super::fault::{ExprFault, ExprKind};
@@ -189,9 +189,10 @@ fn token_at_front(language: Language, bytes: &[u8]) -> NextToken
     }
 }
 
-/// The tokens of a line, up to a comment.
+/// The tokens of a line, up to a comment, or its first fault.
 pub fn tokens(alloc: Global, language: Language, line: &str) -> Result<Vec<Token<'_>>, ExprFault>
-    ensures { Returns (λ v. lexemes_of v.items) result (lexemes_from language 0 0 line.now) }
+    ensures ok { IfOk result (λ v. IsCut language 0 line.now (lexemes_of v.items)) }
+    ensures fault { IfErr result (λ e. (e.kind ≡ OutOfMemory) ⊎ IsFirstFault language 0 line.now e) }
 {
     let mut found = Vec::new(alloc);
     push_tokens(language, line, &mut found)?;

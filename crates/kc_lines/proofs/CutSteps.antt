@@ -44,16 +44,20 @@ line_at_end bytes at h none =
     let c = cut_at_end (drop at bytes) (omega (arith, length-drop at bytes)) (λ k l. is_false (get_or (drop at bytes) k 0 == 10) (none k (omega arith) l)) in
     record {
       whole = whole_end c;
-      lines = rw (c, drop-length bytes) (ap (λ t. record { text = t; ended = false } ∷ []) (sym (ap (λ k. take k (drop at bytes)) (sym (length-drop at bytes)) ∙ take-length (drop at bytes))));
+      lines = rw (c, drop-length bytes) (ap (λ t. record { text = t; ended = false } ∷ [])
+          (sym (ap (λ k. take k (drop at bytes)) (sym (length-drop at bytes)) ∙ take-length (drop at bytes))));
       start = omega arith;
       end = omega arith;
       forward = omega arith;
       within = omega arith;
     }
   where
-    whole_end : split_at_newlines (drop at bytes) ≡ record { text = drop at bytes; ended = false } ∷ [] → split_at_newlines (drop at bytes) ≡ record { text = take (length bytes - at) (drop at bytes); ended = false } ∷ split_at_newlines (drop (length bytes) bytes)
+    whole_end : split_at_newlines (drop at bytes) ≡ record { text = drop at bytes; ended = false } ∷ []
+        → split_at_newlines (drop at bytes) ≡ record { text = take (length bytes - at) (drop at bytes); ended = false } ∷ split_at_newlines
+        (drop (length bytes) bytes)
     whole_end c =
-        c ∙ ap (λ t. record { text = t; ended = false } ∷ []) (sym (ap (λ k. take k (drop at bytes)) (sym (length-drop at bytes)) ∙ take-length (drop at bytes)))
+        c ∙ ap (λ t. record { text = t; ended = false } ∷ []) (sym (ap (λ k. take k (drop at bytes)) (sym (length-drop at bytes))
+        ∙ take-length (drop at bytes)))
         ∙ ap (λ ls. record { text = take (length bytes - at) (drop at bytes); ended = false } ∷ ls) (sym (ap split_at_newlines (drop-length bytes)))
 
 -- the last byte of the line that a newline ends, and the line without it
@@ -75,7 +79,8 @@ no_return zero rest h none = refl
 no_return (suc n) rest h none =
     rw (last_of (suc n) rest (omega arith) h) (is_false (get_or rest (suc n - 1) 0 == 13) (λ e. none (omega arith) (grind (arith, nat_tests))))
 
-module _ (bytes : List ℕ) (at n : ℕ) (h : n < length (drop at bytes)) (before : Nowhere (Passes (is_byte 10) (drop at bytes)) 0 n) (here : Passes (is_byte 10) (drop at bytes) n) where
+module _ (bytes : List ℕ) (at n : ℕ) (h : n < length (drop at bytes)) (before : Nowhere (Passes (is_byte 10) (drop at bytes)) 0 n)
+    (here : Passes (is_byte 10) (drop at bytes) n) where
   at_newline : split_at_newlines (drop at bytes) ≡ record { text = take n (drop at bytes); ended = true } ∷ split_at_newlines (drop (at + n + 1) bytes)
   at_newline =
       let behind : drop (suc n) (drop at bytes) ≡ drop (at + n + 1) bytes = rw drop-drop (ap (λ k. drop k bytes) (omega arith)) in
@@ -83,8 +88,10 @@ module _ (bytes : List ℕ) (at n : ℕ) (h : n < length (drop at bytes)) (befor
       ∙ ap (λ t. record { text = take n (drop at bytes); ended = true } ∷ split_at_newlines t) behind
 
   -- with its carriage return
-  at_newline_whole : split_at_newlines (drop at bytes) ≡ record { text = take (at + n + 1 - 1 - at) (drop at bytes); ended = true } ∷ split_at_newlines (drop (at + n + 1) bytes)
-  at_newline_whole = at_newline ∙ ap (λ k. record { text = take k (drop at bytes); ended = true } ∷ split_at_newlines (drop (at + n + 1) bytes)) (let k : n ≡ at + n + 1 - 1 - at = omega arith in k)
+  at_newline_whole : split_at_newlines (drop at bytes) ≡ record { text = take (at + n + 1 - 1 - at) (drop at bytes); ended = true } ∷ split_at_newlines
+      (drop (at + n + 1) bytes)
+  at_newline_whole = at_newline ∙ ap (λ k. record { text = take k (drop at bytes); ended = true } ∷ split_at_newlines (drop (at + n + 1) bytes))
+      (let k : n ≡ at + n + 1 - 1 - at = omega arith in k)
 
   pub line_returned : 0 < n → get_or (drop at bytes) (n - 1) 0 ≡ 13 → IsLineAt bytes at (record { end = at + n - 1; next = at + n + 1; ended = true })
   line_returned p e =
@@ -92,7 +99,9 @@ module _ (bytes : List ℕ) (at n : ℕ) (h : n < length (drop at bytes)) (befor
       let w : (last_byte (take n (drop at bytes)) == 13) ≡ true = ap (λ x. x == 13) l in
       record {
         whole = at_newline_whole;
-        lines = ap (map without_return) at_newline ∙ ap (λ t. t ∷ physical_lines (drop (at + n + 1) bytes)) (returned (take n (drop at bytes)) w ∙ ap (λ t. record { text = t; ended = true }) (without_last_of n (drop at bytes) (omega arith) ∙ ap (λ k. take k (drop at bytes)) (omega arith)));
+        lines = ap (map without_return) at_newline ∙ ap (λ t. t ∷ physical_lines (drop (at + n + 1) bytes))
+            (returned (take n (drop at bytes)) w ∙ ap (λ t. record { text = t; ended = true }) (without_last_of n (drop at bytes) (omega arith)
+            ∙ ap (λ k. take k (drop at bytes)) (omega arith)));
         start = omega arith;
         end = omega arith;
         forward = omega arith;
@@ -104,7 +113,8 @@ module _ (bytes : List ℕ) (at n : ℕ) (h : n < length (drop at bytes)) (befor
       let w = no_return n (drop at bytes) (omega arith) none in
       record {
         whole = at_newline_whole;
-        lines = ap (map without_return) at_newline ∙ ap (λ t. t ∷ physical_lines (drop (at + n + 1) bytes)) (kept (take n (drop at bytes)) w ∙ ap (λ t. record { text = t; ended = true }) (ap (λ k. take k (drop at bytes)) (omega arith)));
+        lines = ap (map without_return) at_newline ∙ ap (λ t. t ∷ physical_lines (drop (at + n + 1) bytes))
+            (kept (take n (drop at bytes)) w ∙ ap (λ t. record { text = t; ended = true }) (ap (λ k. take k (drop at bytes)) (omega arith)));
         start = omega arith;
         end = omega arith;
         forward = omega arith;

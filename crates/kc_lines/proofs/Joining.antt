@@ -47,7 +47,8 @@ without_last_is bytes begin end h s =
 pub drop_one_more : (n : ℕ) (l : Seen) (ls all : List Seen) → l ∷ ls ≡ drop n all → ls ≡ drop (n + 1) all
 drop_one_more n l ls all e = ap (drop 1) e ∙ drop-drop 1 n all
 
-module _ (bytes : List ℕ) (at begin : ℕ) (text : List ℕ) (lines : ℕ) (p : PhysicalLine) (so_far : AreJoined bytes at begin text lines) (h : begin < length bytes) (l : IsLineAt bytes begin p) where
+module _ (bytes : List ℕ) (at begin : ℕ) (text : List ℕ) (lines : ℕ) (p : PhysicalLine) (so_far : AreJoined bytes at begin text lines)
+    (h : begin < length bytes) (l : IsLineAt bytes begin p) where
   pub joined_stops : is_continued (line_of bytes begin p) ≡ false → IsLogicalAt bytes at (text ++ slice_range bytes begin p.end) p.next (lines + 1)
   joined_stops e =
       let ls = physical_lines (drop p.next bytes) in
@@ -57,7 +58,8 @@ module _ (bytes : List ℕ) (at begin : ℕ) (text : List ℕ) (lines : ℕ) (p 
         text_is = sym (ap (λ t. text ++ t) (ap joined_bytes l.lines ∙ joined_alone (line_of bytes begin p) ls e)) ∙ so_far.text_is;
         lines_are = omega arith;
         rest = drop_one_more lines (line_of bytes begin p) ls (physical_lines (drop at bytes)) (sym l.lines ∙ so_far.rest);
-        whole = drop_one_more lines (whole_line bytes begin p) (split_at_newlines (drop p.next bytes)) (split_at_newlines (drop at bytes)) (sym l.whole ∙ so_far.whole);
+        whole = drop_one_more lines (whole_line bytes begin p) (split_at_newlines (drop p.next bytes)) (split_at_newlines (drop at bytes))
+            (sym l.whole ∙ so_far.whole);
         forward = omega arith;
         within = l.within;
         few = omega arith;
@@ -77,7 +79,8 @@ module _ (bytes : List ℕ) (at begin : ℕ) (text : List ℕ) (lines : ℕ) (p 
         at_end = λ m. let k : continuation_count (physical_lines (drop begin bytes)) ≡ 0 = ap continuation_count
             (l.lines ∙ ap (λ r. line_of bytes begin p ∷ physical_lines r) (ap (λ j. drop j bytes) m ∙ drop-length bytes)) in omega arith;
         rest = drop_one_more lines (line_of bytes begin p) ls (physical_lines (drop at bytes)) (sym l.lines ∙ so_far.rest);
-        whole = drop_one_more lines (whole_line bytes begin p) (split_at_newlines (drop p.next bytes)) (split_at_newlines (drop at bytes)) (sym l.whole ∙ so_far.whole);
+        whole = drop_one_more lines (whole_line bytes begin p) (split_at_newlines (drop p.next bytes)) (split_at_newlines (drop at bytes))
+            (sym l.whole ∙ so_far.whole);
         within = l.within;
         few = omega arith;
       }
@@ -104,7 +107,9 @@ logical_after (suc behind) (suc help) n [] = refl
 logical_after (suc behind) help n (l ∷ ls) = logical_after behind help (n + 1) ls ∙ ap (λ k. logical_lines_from 0 help k (drop behind ls)) (omega arith)
 
 logical_front : (n : ℕ) (ls : List Seen) → 0 < length ls
-    → logical_lines_from 0 0 n ls ≡ record { number = n; text = joined_bytes ls; help = false } ∷ logical_lines_from 0 (cond (begins_help (joined_bytes ls)) (help_line_count (drop (suc (continuation_count ls)) ls)) 0) (n + suc (continuation_count ls)) (drop (suc (continuation_count ls)) ls)
+    → logical_lines_from 0 0 n ls ≡ record { number = n; text = joined_bytes ls; help = false } ∷ logical_lines_from 0
+    (cond (begins_help (joined_bytes ls)) (help_line_count (drop (suc (continuation_count ls)) ls)) 0) (n + suc (continuation_count ls))
+    (drop (suc (continuation_count ls)) ls)
 logical_front n [] h = absurd (omega arith)
 logical_front n (l ∷ ls) h =
     ap (λ r. record { number = n; text = joined_bytes (l ∷ ls); help = false } ∷ r)

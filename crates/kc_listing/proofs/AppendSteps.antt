@@ -45,7 +45,8 @@ pub grows_same : (e : Exprs) → Grows e e
 grows_same e = record { names = take-length e.names; nodes = take-length e.nodes }
 
 -- more expressions and texts
-pub lists_grown : (old new : Exprs) (symbols numbers : List ℕ) (texts ts texts2 : List (List ℕ)) (lines : List CodeLine) (groups : List CodeGroup) (read : List Group)
+pub lists_grown : (old new : Exprs) (symbols numbers : List ℕ) (texts ts texts2 : List (List ℕ)) (lines : List CodeLine) (groups : List CodeGroup)
+    (read : List Group)
     → Grows old new → texts2 ≡ texts ++ ts
     → RepresentsLists old symbols numbers texts lines groups read → RepresentsLists new symbols numbers texts2 lines groups read
 lists_grown old new symbols numbers texts ts texts2 lines groups read grows e h = record {
@@ -56,7 +57,8 @@ lists_grown old new symbols numbers texts ts texts2 lines groups read grows e h 
 }
 
 -- more expressions, and other tables of the same names
-pub lists_names : (old new : Exprs) (symbols numbers symbols2 numbers2 : List ℕ) (texts : List (List ℕ)) (lines : List CodeLine) (groups : List CodeGroup) (read : List Group)
+pub lists_names : (old new : Exprs) (symbols numbers symbols2 numbers2 : List ℕ) (texts : List (List ℕ)) (lines : List CodeLine) (groups : List CodeGroup)
+    (read : List Group)
     → Grows old new → HasNames new symbols2 numbers2 (names_defined read)
     → RepresentsLists old symbols numbers texts lines groups read → RepresentsLists new symbols2 numbers2 texts lines groups read
 lists_names old new symbols numbers symbols2 numbers2 texts lines groups read grows has h =
@@ -64,7 +66,8 @@ lists_names old new symbols numbers symbols2 numbers2 texts lines groups read gr
     record { names = has; held = k.held; groups_are = k.groups_are }
 
 -- a group after the others, perhaps with a new name
-pub lists_pushed : (old new : Exprs) (symbols numbers symbols2 numbers2 : List ℕ) (ns texts : List (List ℕ)) (lines : List CodeLine) (groups groups2 : List CodeGroup) (read : List Group) (file line n : ℕ) (what : CodeWhat) (m : GroupHead)
+pub lists_pushed : (old new : Exprs) (symbols numbers symbols2 numbers2 : List ℕ) (ns texts : List (List ℕ)) (lines : List CodeLine)
+    (groups groups2 : List CodeGroup) (read : List Group) (file line n : ℕ) (what : CodeWhat) (m : GroupHead)
     → Grows old new
     → n ≡ length lines → groups2 ≡ groups ++ record { file = file; line = line; head = what; attributes = n } ∷ []
     → RepresentsLists old symbols numbers texts lines groups read → names_defined (with_group (at_line file line) m read) ≡ names_defined read ++ ns
@@ -108,7 +111,8 @@ pub same_names : (file line : ℕ) (m : GroupHead) (read : List Group) → from_
 same_names file line m read e = rw e (sym (append-nil (names_defined read)))
 
 -- a group that defines nothing
-pub lists_put_same : (e : Exprs) (symbols numbers : List ℕ) (texts : List (List ℕ)) (lines : List CodeLine) (groups groups2 : List CodeGroup) (read : List Group) (file line n : ℕ) (what : CodeWhat) (m : GroupHead)
+pub lists_put_same : (e : Exprs) (symbols numbers : List ℕ) (texts : List (List ℕ)) (lines : List CodeLine) (groups groups2 : List CodeGroup)
+    (read : List Group) (file line n : ℕ) (what : CodeWhat) (m : GroupHead)
     → n ≡ length lines → groups2 ≡ groups ++ record { file = file; line = line; head = what; attributes = n } ∷ []
     → RepresentsLists e symbols numbers texts lines groups read → from_head name_of_head m ≡ None
     → RepresentsHead e (names_defined read) texts what m
@@ -207,7 +211,8 @@ pub names_with : (file line : ℕ) (x : List ℕ) (read : List Group)
     → names_defined (with_group (at_line file line) (of_head (config x)) read) ≡ with_name x (names_defined read)
 names_with file line x read = ap (λ b. cond b (names_defined read) (names_defined read ++ x ∷ [])) (sym (place_among x read))
 
-pub lists_put_config : (old new : Exprs) (symbols numbers symbols2 numbers2 : List ℕ) (texts : List (List ℕ)) (lines : List CodeLine) (groups groups2 : List CodeGroup) (read : List Group) (file line n s : ℕ) (x : List ℕ)
+pub lists_put_config : (old new : Exprs) (symbols numbers symbols2 numbers2 : List ℕ) (texts : List (List ℕ)) (lines : List CodeLine)
+    (groups groups2 : List CodeGroup) (read : List Group) (file line n s : ℕ) (x : List ℕ)
     → Grows old new
     → n ≡ length lines → groups2 ≡ groups ++ record { file = file; line = line; head = codes.Config s; attributes = n } ∷ []
     → RepresentsLists old symbols numbers texts lines groups read
@@ -228,7 +233,8 @@ range_more xs x a h =
     ∙ take_all (length xs + 1 - a) (drop a xs ++ x ∷ []) (omega (arith, d, length-append (drop a xs) (x ∷ [])))
     ∙ ap (λ ys. ys ++ x ∷ []) (sym (take_all (length xs - a) (drop a xs) (omega (arith, d))))
 
-pub lists_attribute : (e : Exprs) (symbols numbers : List ℕ) (texts : List (List ℕ)) (lines lines2 : List CodeLine) (groups : List CodeGroup) (read : List Group) (l : CodeLine)
+pub lists_attribute : (e : Exprs) (symbols numbers : List ℕ) (texts : List (List ℕ)) (lines lines2 : List CodeLine) (groups : List CodeGroup)
+    (read : List Group) (l : CodeLine)
     → lines2 ≡ lines ++ l ∷ [] → LineNodesExist e l → RepresentsLists e symbols numbers texts lines groups read
     → RepresentsLists e symbols numbers texts lines2 groups (with_attribute l.number (attribute_in e l.attribute) read)
 lists_attribute e symbols numbers texts lines lines2 groups read l push held h = by_newest read (reverse groups) h.names h.groups_are refl
@@ -310,7 +316,8 @@ counted_grown r texts ts texts2 opened choices files bytes read e h = record {
   bytes_are = h.bytes_are;
 }
 
-module _ (r : FileSource) (texts : List (List ℕ)) (old : List OpenBlock) (choices files bytes : ℕ) (read : List Group) (file line : ℕ) (m : GroupHead) (h : IsCounted r texts old choices files bytes read) where
+module _ (r : FileSource) (texts : List (List ℕ)) (old : List OpenBlock) (choices files bytes : ℕ) (read : List Group) (file line : ℕ) (m : GroupHead)
+    (h : IsCounted r texts old choices files bytes read) where
   -- the end of a block
   pub counted_end : (new : List OpenBlock) (o : Option OpenBlock) → side_of m ≡ closing → old ≡ new ++ option_to_list o → IsSome o ↔ (0 < length old)
       → IsCounted r texts new choices files bytes (with_group (at_line file line) m read)
@@ -414,7 +421,8 @@ same_length : (b : Bool) (g k : Group) (gs : List Group) → length (cond b (g �
 same_length true g k gs = refl
 same_length false g k gs = refl
 
-pub counted_attribute : (r : FileSource) (texts : List (List ℕ)) (opened : List OpenBlock) (choices files bytes : ℕ) (read : List Group) (line : ℕ) (a : Attribute)
+pub counted_attribute : (r : FileSource) (texts : List (List ℕ)) (opened : List OpenBlock) (choices files bytes : ℕ) (read : List Group) (line : ℕ)
+    (a : Attribute)
     → IsCounted r texts opened choices files bytes read
     → IsCounted r texts opened choices files bytes (with_attribute line a read)
 counted_attribute r texts opened choices files bytes [] line a h = h

@@ -95,8 +95,10 @@ differ true e f = cc
 differ false e f = cc
 
 -- the names with a new one, whose number is stored in the table
-module _ (old new : Exprs) (symbols numbers padded : List ℕ) (names : List (List ℕ)) (x : List ℕ) (id number : ℕ) (grows : Grows old new) (place : index_of_name x new.names ≡ Some id) (within : id < length padded) (few : length padded ≤ length new.names)
-    (same : (j : ℕ) → get_or padded j 0 ≡ get_or numbers j 0) (is : number ≡ length symbols) (h : HasNames old symbols numbers names) (new_name : index_of_name x names ≡ None) where
+module _ (old new : Exprs) (symbols numbers padded : List ℕ) (names : List (List ℕ)) (x : List ℕ) (id number : ℕ) (grows : Grows old new)
+    (place : index_of_name x new.names ≡ Some id) (within : id < length padded) (few : length padded ≤ length new.names)
+    (same : (j : ℕ) → get_or padded j 0 ≡ get_or numbers j 0) (is : number ≡ length symbols) (h : HasNames old symbols numbers names)
+    (new_name : index_of_name x names ≡ None) where
   there : (id < length new.names) × (get_or new.names id [] ≡ x)
   there = place_there x new.names id place
 

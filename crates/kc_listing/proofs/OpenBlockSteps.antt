@@ -96,7 +96,8 @@ innermost_top texts (o ∷ os) [] h = absurd h
 innermost_top texts (opens.Block b l ∷ os) (g ∷ gs) h = rw h.0.0 (refl, h.0.1)
 innermost_top texts (opens.Source t ∷ os) (g ∷ gs) h = rw h.0.2 tt
 
-module _ (r : FileSource) (texts : List (List ℕ)) (opened : List OpenBlock) (choices files bytes : ℕ) (read : List Group) (h : IsCounted r texts opened choices files bytes read) where
+module _ (r : FileSource) (texts : List (List ℕ)) (opened : List OpenBlock) (choices files bytes : ℕ) (read : List Group)
+    (h : IsCounted r texts opened choices files bytes read) where
   pub choice_open : list_any is_choice opened ≡ in_choice read
   choice_open =
       list_any-IsPermutation is_choice opened (reverse opened) (IsPermutation-reverse opened) ∙ any_choice texts (reverse opened) (open_blocks 0 read) h.stack

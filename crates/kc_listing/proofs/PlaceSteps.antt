@@ -129,8 +129,10 @@ module _ (language : Language) (before : List Group) (k : Keyword) (ts : List Le
   pub reported_misplaced : is_left_out language before k ts ≡ false → is_allowed before k ≡ false → fault_before language before k ts ≡ Some Misplaced
   reported_misplaced a b = rw (a, b) refl
 
-  pub reported_stray : is_left_out language before k ts ≡ false → is_allowed before k ≡ true → is_stray_end before k ≡ true → fault_before language before k ts ≡ Some StrayEnd
+  pub reported_stray : is_left_out language before k ts ≡ false → is_allowed before k ≡ true → is_stray_end before k ≡ true
+      → fault_before language before k ts ≡ Some StrayEnd
   reported_stray a b c = rw (a, b, c) refl
 
-  pub reported_none : is_left_out language before k ts ≡ false → is_allowed before k ≡ true → is_stray_end before k ≡ false → fault_before language before k ts ≡ None
+  pub reported_none : is_left_out language before k ts ≡ false → is_allowed before k ≡ true → is_stray_end before k ≡ false
+      → fault_before language before k ts ≡ None
   reported_none a b c = rw (a, b, c) refl

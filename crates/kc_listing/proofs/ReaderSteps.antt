@@ -40,13 +40,15 @@ pub shown_of : (r : FileSource) (p : ReaderState) (read : List Group) → Descri
 unfolding Describes
 shown_of r p read d = d.shows
 
-module _ (r : FileSource) (sub : List ℕ → List Group → Outcome) (file : ℕ) (bytes : List ℕ) (at number : ℕ) (before : List Group) (text : List ℕ) (next lines : ℕ) (here : at < length bytes) (cut : IsLogicalAt bytes at text next lines) where
+module _ (r : FileSource) (sub : List ℕ → List Group → Outcome) (file : ℕ) (bytes : List ℕ) (at number : ℕ) (before : List Group) (text : List ℕ)
+    (next lines : ℕ) (here : at < length bytes) (cut : IsLogicalAt bytes at text next lines) where
   rest_of : Bool → List LogicalLine
   rest_of b = logical_lines_from 0 (cond b (help_line_count (physical_lines (drop next bytes))) 0) (number + lines) (physical_lines (drop next bytes))
 
   -- the line at the front, and the lines after it
   front : left_from sub r file bytes at number before
-      ≡ continue_after_line sub (read_lines sub r file (logical_lines_from 0 (cond (begins_help text) (help_line_count (physical_lines (drop next bytes))) 0) (number + lines) (physical_lines (drop next bytes)))) r (at_line file number) before (statement_on_line r.language before (line_here number text))
+      ≡ continue_after_line sub (read_lines sub r file (logical_lines_from 0 (cond (begins_help text) (help_line_count (physical_lines (drop next bytes))) 0)
+      (number + lines) (physical_lines (drop next bytes)))) r (at_line file number) before (statement_on_line r.language before (line_here number text))
   front = ap (λ ls. read_lines sub r file ls before) (logical_step bytes at number text next lines here cut)
 
   pub one_faulty : (new : ReaderState) (k : TreeKind) (f : TreeFault) → LineRead r file number text before new (Err k)
@@ -130,7 +132,8 @@ pub all_left : (r : FileSource) (sub : List ℕ → List Group → Outcome) (fil
 unfolding lines_of
 all_left r sub file bytes before l d = record { now = before; describes = d; left = refl }
 
-pub left_more : (r : FileSource) (sub : List ℕ → List Group → Outcome) (file : ℕ) (bytes : List ℕ) (before : List Group) (old new : ReaderState) (at number next lines : ℕ)
+pub left_more : (r : FileSource) (sub : List ℕ → List Group → Outcome) (file : ℕ) (bytes : List ℕ) (before : List Group) (old new : ReaderState)
+    (at number next lines : ℕ)
     → (l : IsLeft r sub file bytes before old at number)
     → IsOneRead r sub file bytes at number l.now new next lines → IsLeft r sub file bytes before new next (number + lines)
 left_more r sub file bytes before old new at number next lines l o = record { now = o.now; describes = o.describes; left = sym o.left ∙ l.left }
@@ -144,7 +147,8 @@ end_left : (r : FileSource) (sub : List ℕ → List Group → Outcome) (file : 
     → at ≤ length bytes → left_from sub r file bytes at number now ≡ at_file_end file now (innermost now)
 end_left r sub file bytes number at now a b = let e : at ≡ length bytes = omega arith in rw (e, drop-length bytes) refl
 
-pub file_ended : (r : FileSource) (sub : List ℕ → List Group → Outcome) (file : ℕ) (bytes : List ℕ) (before : List Group) (new : ReaderState) (at number : ℕ) (result : Result (Unit {0}) TreeFault)
+pub file_ended : (r : FileSource) (sub : List ℕ → List Group → Outcome) (file : ℕ) (bytes : List ℕ) (before : List Group) (new : ReaderState) (at number : ℕ)
+    (result : Result (Unit {0}) TreeFault)
     → length bytes ≤ at → at ≤ length bytes
     → (l : IsLeft r sub file bytes before new at number) → EndRead file l.now result → FileRead r (read_lines sub r file (lines_of bytes) before) new result
 file_ended r sub file bytes before new at number (Ok u) a b l h =
@@ -194,15 +198,18 @@ module _ (r : FileSource) (sub : List ℕ → List Group → Outcome) (file line
   source_done new (Err f) s n a = inl a
 
 -- the tests of a line's bytes
-pub too_long : (language : Language) (read : List Group) (number : ℕ) (help : Bool) (text : List ℕ) → nat_lt MAX_LINE_BYTES (length text) ≡ true → statement_on_line language read (record { number = number; text = text; help = help }) ≡ Err LineTooLong
+pub too_long : (language : Language) (read : List Group) (number : ℕ) (help : Bool) (text : List ℕ) → nat_lt MAX_LINE_BYTES (length text) ≡ true
+    → statement_on_line language read (record { number = number; text = text; help = help }) ≡ Err LineTooLong
 unfolding statement_on_line
 too_long language read number help text e = rw e refl
 
-pub no_text : (language : Language) (read : List Group) (number : ℕ) (help : Bool) (text : List ℕ) → nat_lt MAX_LINE_BYTES (length text) ≡ false → is_utf8 text ≡ false → statement_on_line language read (record { number = number; text = text; help = help }) ≡ Err NotUtf8
+pub no_text : (language : Language) (read : List Group) (number : ℕ) (help : Bool) (text : List ℕ) → nat_lt MAX_LINE_BYTES (length text) ≡ false
+    → is_utf8 text ≡ false → statement_on_line language read (record { number = number; text = text; help = help }) ≡ Err NotUtf8
 unfolding statement_on_line
 no_text language read number help text e u = rw (e, u) refl
 
-help_says : (language : Language) (read : List Group) (number : ℕ) (text : List ℕ) → nat_lt MAX_LINE_BYTES (length text) ≡ false → is_utf8 text ≡ true → statement_on_line language read (record { number = number; text = text; help = true }) ≡ Ok None
+help_says : (language : Language) (read : List Group) (number : ℕ) (text : List ℕ) → nat_lt MAX_LINE_BYTES (length text) ≡ false → is_utf8 text ≡ true
+    → statement_on_line language read (record { number = number; text = text; help = true }) ≡ Ok None
 unfolding statement_on_line
 help_says language read number text e u = rw (e, u) refl
 
@@ -215,7 +222,8 @@ help_one : (sub : List ℕ → List Group → Outcome) (r : FileSource) (read : 
 help_one sub r read file bytes begin n zero p h l e u = absurd (omega arith)
 help_one sub r read file bytes begin n (suc k) p h l e u =
     ap (λ ls. read_lines sub r file ls read) (help_step bytes begin n k p l)
-    ∙ ap (continue_after_line sub (read_lines sub r file (logical_lines_from 0 k (n + 1) (physical_lines (drop p.next bytes)))) r (at_line file n) read) (help_says r.language read n (slice_range bytes begin p.end) e u)
+    ∙ ap (continue_after_line sub (read_lines sub r file (logical_lines_from 0 k (n + 1) (physical_lines (drop p.next bytes)))) r (at_line file n) read)
+    (help_says r.language read n (slice_range bytes begin p.end) e u)
     ∙ ap (λ j. read_lines sub r file (logical_lines_from 0 j (n + 1) (physical_lines (drop p.next bytes))) read) (omega arith)
 
 -- `n` lines are indented so far
@@ -265,14 +273,17 @@ module _ (file : ℕ) (bytes : List ℕ) (at number columns begin lines : ℕ) (
           few = let f = l.forward in let g = h.few in omega arith;
         }
 
-    pub help_faulty : (kind : TreeKind) (f : TreeFault) → is_of_help columns (line_of bytes begin p) ≡ true → ((language : Language) (read : List Group) → statement_on_line language read (record { number = number + lines; text = slice_range bytes begin p.end; help = true }) ≡ Err kind)
+    pub help_faulty : (kind : TreeKind) (f : TreeFault) → is_of_help columns (line_of bytes begin p) ≡ true
+        → ((language : Language) (read : List Group) → statement_on_line language read
+        (record { number = number + lines; text = slice_range bytes begin p.end; help = true }) ≡ Err kind)
         → f ≡ fault_in file (number + lines) kind → HelpRead file bytes at number (indented columns bytes at) (Err f)
     help_faulty kind f i says e = inr (λ sub r read.
         h.is sub r read
         ∙ ap (λ k. read_lines sub r file (logical_lines_from 0 k (number + lines) (physical_lines (drop begin bytes))) read)
         (indented_one columns bytes begin p l i)
         ∙ ap (λ ls. read_lines sub r file ls read) (help_step bytes begin (number + lines) (indented columns bytes p.next) p l)
-        ∙ ap (continue_after_line sub (read_lines sub r file (logical_lines_from 0 (indented columns bytes p.next) (number + lines + 1) (physical_lines (drop p.next bytes)))) r (at_line file (number + lines)) read) (says r.language read)
+        ∙ ap (continue_after_line sub (read_lines sub r file (logical_lines_from 0 (indented columns bytes p.next) (number + lines + 1)
+        (physical_lines (drop p.next bytes)))) r (at_line file (number + lines)) read) (says r.language read)
         ∙ ap (λ t. record { read = read; fault = Some t }) (sym e))
 
 -- a whole help text by its indentation
@@ -335,7 +346,8 @@ module _ (r : FileSource) (before : List Group) (path : List ℕ) where
   unfolding source_fault
   source_many a b c d = rw (a, b, c, d) refl
 
-  pub source_large : is_in_list path (open_files r before) ≡ false → is_some (r.bytes path) ≡ true → nat_le MAX_OPEN_FILES (length (open_files r before)) ≡ false
+  pub source_large : is_in_list path (open_files r before) ≡ false → is_some (r.bytes path) ≡ true → nat_le MAX_OPEN_FILES
+      (length (open_files r before)) ≡ false
       → nat_le MAX_FILES (length (files_read r before)) ≡ false
       → nat_lt MAX_TREE_BYTES (sum_by (size_in r) (files_read r before) + size_in r path) ≡ true → source_fault r before path ≡ Some TooMany
   unfolding source_fault

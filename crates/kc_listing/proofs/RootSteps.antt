@@ -41,7 +41,8 @@ lists_of_nothing exprs symbols numbers texts lines groups e s n l g = record {
 }
 
 -- a new listing shows nothing
-pub nothing_shown : (l : Listing) → l.names.arena.names ≡ [] → l.names.symbols.items ≡ [] → l.names.numbers.items ≡ [] → l.lines.items ≡ [] → l.groups.items ≡ []
+pub nothing_shown : (l : Listing) → l.names.arena.names ≡ [] → l.names.symbols.items ≡ [] → l.names.numbers.items ≡ [] → l.lines.items ≡ []
+    → l.groups.items ≡ []
     → RepresentsListing l []
 unfolding RepresentsListing
 nothing_shown l e s n i g = lists_of_nothing l.names.arena l.names.symbols.items l.names.numbers.items l.texts.items l.lines.items l.groups.items e s n i g

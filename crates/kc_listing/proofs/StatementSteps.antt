@@ -43,7 +43,8 @@ pub attribute_fits : (before : List Group) (a : Attribute) → too_many_by_attri
 attribute_fits before a e = rw e refl
 
 -- the appended group has no path
-pub head_given : (r : FileSource) (file line : ℕ) (before : List Group) (h : Head) (new : ReaderState) (put : Result (Unit {0}) TreeKind) → path_of_head h ≡ None
+pub head_given : (r : FileSource) (file line : ℕ) (before : List Group) (h : Head) (new : ReaderState) (put : Result (Unit {0}) TreeKind)
+    → path_of_head h ≡ None
     → AppendsHead r file line before h new put
     → AppendsStatement r file line before (head h) new (no_path put)
 head_given r file line before h new (Ok u) n p = (p.0, n, p.1)
@@ -96,18 +97,22 @@ limited_by before given = given >>= λ s. unless (is_too_deep before s) TooDeep 
 
 module _ (language : Language) (before : List Group) (k : Keyword) (ts : List Lexeme) where
   pub statement_early : (kind : TreeKind) → fault_before language before k ts ≡ Some kind → statement_by_keyword language before k ts ≡ Err kind
-  statement_early kind e = early (is_left_out language before k ts) (not (is_allowed before k)) (is_stray_end before k) kind (limited_by before (statement_of k ts)) e
+  statement_early kind e = early (is_left_out language before k ts) (not (is_allowed before k)) (is_stray_end before k) kind
+      (limited_by before (statement_of k ts)) e
 
   statement_late : fault_before language before k ts ≡ None → statement_by_keyword language before k ts ≡ limited_by before (statement_of k ts)
   statement_late e = late (is_left_out language before k ts) (not (is_allowed before k)) (is_stray_end before k) (limited_by before (statement_of k ts)) e
 
-  pub statement_malformed : (kind : TreeKind) → fault_before language before k ts ≡ None → statement_of k ts ≡ Err kind → statement_by_keyword language before k ts ≡ Err kind
+  pub statement_malformed : (kind : TreeKind) → fault_before language before k ts ≡ None → statement_of k ts ≡ Err kind
+      → statement_by_keyword language before k ts ≡ Err kind
   statement_malformed kind e h = statement_late e ∙ ap (limited_by before) h
 
-  statement_limited : (s : Statement) (kind : TreeKind) → fault_before language before k ts ≡ None → statement_of k ts ≡ Ok s → limits before s ≡ Some kind → statement_by_keyword language before k ts ≡ Err kind
+  statement_limited : (s : Statement) (kind : TreeKind) → fault_before language before k ts ≡ None → statement_of k ts ≡ Ok s → limits before s ≡ Some kind
+      → statement_by_keyword language before k ts ≡ Err kind
   statement_limited s kind e h l = statement_late e ∙ ap (limited_by before) h ∙ limited (is_too_deep before s) (is_too_many before s) s kind l
 
-  statement_well : (s : Statement) → fault_before language before k ts ≡ None → statement_of k ts ≡ Ok s → limits before s ≡ None → statement_by_keyword language before k ts ≡ Ok (Some s)
+  statement_well : (s : Statement) → fault_before language before k ts ≡ None → statement_of k ts ≡ Ok s → limits before s ≡ None
+      → statement_by_keyword language before k ts ≡ Ok (Some s)
   statement_well s e h l = statement_late e ∙ ap (limited_by before) h ∙ unlimited (is_too_deep before s) (is_too_many before s) s l
 
 -- whether a help text follows
@@ -126,15 +131,18 @@ no_help_of_source k [] path h = refl
 no_help_of_source k (t ∷ ts) path h = refl
 
 -- what is given of a line whose form was read
-module _ (r : FileSource) (file line : ℕ) (language : Language) (before : List Group) (k : Keyword) (ts : List Lexeme) (s : Statement) (new : ReaderState) (early : fault_before language before k ts ≡ None) (form : statement_of k ts ≡ Ok s) where
-  pub source_given : (path : List ℕ) → AppendsStatement r file line before s new (Ok (Some path)) → IsSourceGiven r (statement_by_keyword language before k ts) (begins_with k ts) path before new
+module _ (r : FileSource) (file line : ℕ) (language : Language) (before : List Group) (k : Keyword) (ts : List Lexeme) (s : Statement) (new : ReaderState)
+    (early : fault_before language before k ts ≡ None) (form : statement_of k ts ≡ Ok s) where
+  pub source_given : (path : List ℕ) → AppendsStatement r file line before s new (Ok (Some path)) → IsSourceGiven r (statement_by_keyword language before k ts)
+      (begins_with k ts) path before new
   source_given path p = record {
     says = statement_well language before k ts s early form p.0 ∙ ap (λ t. Ok (Some t)) p.1;
     follows = no_help_of_source k ts path (form ∙ ap Ok p.1);
     describes = p.2;
   }
 
-  pub next_given : is_help_word (Some k) ≡ false → AppendsStatement r file line before s new (Ok None) → IsGiven r file line (statement_by_keyword language before k ts) (begins_with k ts) before false new
+  pub next_given : is_help_word (Some k) ≡ false → AppendsStatement r file line before s new (Ok None)
+      → IsGiven r file line (statement_by_keyword language before k ts) (begins_with k ts) before false new
   next_given n p = record {
     statement = Some s;
     says = statement_well language before k ts s early form p.0;
@@ -143,7 +151,8 @@ module _ (r : FileSource) (file line : ℕ) (language : Language) (before : List
     describes = p.2;
   }
 
-  pub help_given : is_help_word (Some k) ≡ true → AppendsStatement r file line before s new (Ok None) → IsGiven r file line (statement_by_keyword language before k ts) (begins_with k ts) before true new
+  pub help_given : is_help_word (Some k) ≡ true → AppendsStatement r file line before s new (Ok None)
+      → IsGiven r file line (statement_by_keyword language before k ts) (begins_with k ts) before true new
   help_given n p = record {
     statement = Some s;
     says = statement_well language before k ts s early form p.0;
@@ -152,23 +161,28 @@ module _ (r : FileSource) (file line : ℕ) (language : Language) (before : List
     describes = p.2;
   }
 
-  pub limit_given : (kind : TreeKind) → AppendsStatement r file line before s new (Err kind) → (kind ≡ OutOfMemory) ⊎ ((statement_by_keyword language before k ts ≡ Err kind) × RepresentsListing new.listing before)
+  pub limit_given : (kind : TreeKind) → AppendsStatement r file line before s new (Err kind) → (kind ≡ OutOfMemory)
+      ⊎ ((statement_by_keyword language before k ts ≡ Err kind) × RepresentsListing new.listing before)
   limit_given kind (inl m) = inl m
   limit_given kind (inr h) = inr (statement_limited language before k ts s kind early form h.0, h.1)
 
 -- the tokens of a line
-pub word_unknown : (language : Language) (before : List Group) (t : Lexeme) (ts : List Lexeme) → keyword_of t ≡ None → statement_of_tokens language before (t ∷ ts) ≡ Err UnknownStatement
+pub word_unknown : (language : Language) (before : List Group) (t : Lexeme) (ts : List Lexeme) → keyword_of t ≡ None
+    → statement_of_tokens language before (t ∷ ts) ≡ Err UnknownStatement
 word_unknown language before t ts e = ap (statement_by_word language before ts) e
 
-word_known : (language : Language) (before : List Group) (t : Lexeme) (ts : List Lexeme) (k : Keyword) → keyword_of t ≡ Some k → statement_of_tokens language before (t ∷ ts) ≡ statement_by_keyword language before k ts
+word_known : (language : Language) (before : List Group) (t : Lexeme) (ts : List Lexeme) (k : Keyword) → keyword_of t ≡ Some k
+    → statement_of_tokens language before (t ∷ ts) ≡ statement_by_keyword language before k ts
 word_known language before t ts k e = ap (statement_by_word language before ts) e
 
 help_known : (t : Lexeme) (ts : List Lexeme) (k : Keyword) → keyword_of t ≡ Some k → is_help (t ∷ ts) ≡ begins_with k ts
 help_known t [] k e = ap is_help_word e
 help_known t (u ∷ ts) k e = refl
 
-pub given_by_word : (r : FileSource) (file line : ℕ) (language : Language) (before : List Group) (t : Lexeme) (ts : List Lexeme) (k : Keyword) (new : ReaderState) (result : Result Step TreeKind) → keyword_of t ≡ Some k
-    → ReturnsStatementRead r file line (statement_by_keyword language before k ts) (begins_with k ts) before new result → ReturnsStatementRead r file line (statement_of_tokens language before (t ∷ ts)) (is_help (t ∷ ts)) before new result
+pub given_by_word : (r : FileSource) (file line : ℕ) (language : Language) (before : List Group) (t : Lexeme) (ts : List Lexeme) (k : Keyword)
+    (new : ReaderState) (result : Result Step TreeKind) → keyword_of t ≡ Some k
+    → ReturnsStatementRead r file line (statement_by_keyword language before k ts) (begins_with k ts) before new result
+    → ReturnsStatementRead r file line (statement_of_tokens language before (t ∷ ts)) (is_help (t ∷ ts)) before new result
 given_by_word r file line language before t ts k new result e g = rw (word_known language before t ts k e, help_known t ts k e) g
 
 -- tokens after none
@@ -182,12 +196,15 @@ unfolding file_source_of
 language_of_source f = refl
 
 -- the line
-gives_tokens : (language : Language) (before : List Group) (line : ℕ) (text : List ℕ) → nat_lt MAX_LINE_BYTES (length text) ≡ false → is_utf8 text ≡ true → statement_on_line language before (line_here line text) ≡ statement_or_fault language before (lexemes_from language 0 0 text)
+gives_tokens : (language : Language) (before : List Group) (line : ℕ) (text : List ℕ) → nat_lt MAX_LINE_BYTES (length text) ≡ false → is_utf8 text ≡ true
+    → statement_on_line language before (line_here line text) ≡ statement_or_fault language before (lexemes_from language 0 0 text)
 unfolding statement_on_line
 gives_tokens language before line text e u = rw (e, u) refl
 
-module _ (r : FileSource) (file line : ℕ) (before : List Group) (text : List ℕ) (new : ReaderState) (short : nat_lt MAX_LINE_BYTES (length text) ≡ false) (utf8 : is_utf8 text ≡ true) where
-  pub line_of_tokens : (ts : List Lexeme) (result : Result Step TreeKind) → lexemes_from r.language 0 0 text ≡ Ok ts → ReturnsStatementRead r file line (statement_of_tokens r.language before ts) (is_help ts) before new result → LineRead r file line text before new result
+module _ (r : FileSource) (file line : ℕ) (before : List Group) (text : List ℕ) (new : ReaderState) (short : nat_lt MAX_LINE_BYTES (length text) ≡ false)
+    (utf8 : is_utf8 text ≡ true) where
+  pub line_of_tokens : (ts : List Lexeme) (result : Result Step TreeKind) → lexemes_from r.language 0 0 text ≡ Ok ts
+      → ReturnsStatementRead r file line (statement_of_tokens r.language before ts) (is_help ts) before new result → LineRead r file line text before new result
   line_of_tokens ts (Ok Next) e g = record {
     statement = g.statement;
     says = gives_tokens r.language before line text short utf8 ∙ ap (statement_or_fault r.language before) e ∙ g.says;
@@ -211,6 +228,7 @@ module _ (r : FileSource) (file line : ℕ) (before : List Group) (text : List �
   line_of_tokens ts (Err kind) e (inr h) = inr (gives_tokens r.language before line text short utf8 ∙ ap (statement_or_fault r.language before) e ∙ h.0, h.1)
 
   -- the first fault of its tokens
-  pub line_of_fault : (f : ExprFault) (kind : TreeKind) → kind ≡ kind_of_fault f.kind → (f.kind ≡ expr_kinds.OutOfMemory) ⊎ (lexemes_from r.language 0 0 text ≡ Err f) → RepresentsListing new.listing before → LineRead r file line text before new (Err kind)
+  pub line_of_fault : (f : ExprFault) (kind : TreeKind) → kind ≡ kind_of_fault f.kind → (f.kind ≡ expr_kinds.OutOfMemory)
+      ⊎ (lexemes_from r.language 0 0 text ≡ Err f) → RepresentsListing new.listing before → LineRead r file line text before new (Err kind)
   line_of_fault f kind e (inl m) s = inl (e ∙ ap kind_of_fault m)
   line_of_fault f kind e (inr h) s = inr (gives_tokens r.language before line text short utf8 ∙ ap (statement_or_fault r.language before) h ∙ ap Err (sym e), s)

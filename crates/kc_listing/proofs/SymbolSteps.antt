@@ -38,7 +38,8 @@ got_last names x n e =
     slice_get-get_or (names ++ x ∷ []) n [] (omega (arith, length-append names (x ∷ [])))
     ∙ ap Some (get_or-append_right names (x ∷ []) (length names) n [] refl (omega arith) ∙ ap (λ k. get_or (x ∷ []) k []) z)
 
-module _ (e : Exprs) (symbols numbers : List ℕ) (names : List (List ℕ)) (x : List ℕ) (h : HasNames e symbols numbers names) (none : index_of_name x names ≡ None) where
+module _ (e : Exprs) (symbols numbers : List ℕ) (names : List (List ℕ)) (x : List ℕ) (h : HasNames e symbols numbers names)
+    (none : index_of_name x names ≡ None) where
   pub reported_full : 1000000 ≤ length symbols → is_full x names ≡ true
   reported_full l = full_is x names none ∙ limit_is (length names) (length symbols) (as_many_names e symbols numbers names h) l
 

@@ -9,19 +9,21 @@ use Rattle.std.specs.Option.{option_copied}
 use Rattle.std.specs.Map.{lookup}
 use Rattle.kc_macros_model.specs.Variables.{with_variable}
 use Rattle.kc_macros.specs.declared.variable.Variable.{Variable as CodeVariable}
-use Rattle.kc_macros.specs.Variables.{variable_of, entry_of, bindings_of}
+use Rattle.kc_macros.specs.between.Variables.{variable_of, entry_of, bindings_of}
 use Rattle.kc_macros.proofs.TableLemmas.{bytes_eq_turned}
-use Rattle.kc_macros.proofs.InsertLemmas.{inserted_at}
+use Rattle.kc_macros.proofs.EntryLemmas.{inserted_at}
 
 abbrev pub Entry : Type 0
 Entry = Vec ℕ Global × CodeVariable
 
-found_by : (b : Bool) (v : CodeVariable) (o : Option CodeVariable) → cond b (Some (variable_of v)) (option_map variable_of o) ≡ option_map variable_of (cond b (Some v) o)
+found_by : (b : Bool) (v : CodeVariable) (o : Option CodeVariable) → cond b (Some (variable_of v)) (option_map variable_of o)
+    ≡ option_map variable_of (cond b (Some v) o)
 found_by true v o = refl
 found_by false v o = refl
 
 -- a look-up by the bytes of a name
-pub find_variable : (name : List ℕ) (es : List Entry) → bindings_of (map entry_of es) name ≡ option_map variable_of (lookup (λ (k : Vec ℕ Global). bytes_eq name k.items) es)
+pub find_variable : (name : List ℕ) (es : List Entry) → bindings_of (map entry_of es) name ≡ option_map variable_of
+    (lookup (λ (k : Vec ℕ Global). bytes_eq name k.items) es)
 find_variable name [] = refl
 find_variable name (e ∷ es) =
     ap (λ b. cond b (Some (variable_of e.1)) (bindings_of (map entry_of es) name)) (bytes_eq_turned e.0.items name)
@@ -29,7 +31,8 @@ find_variable name (e ∷ es) =
     ∙ found_by (bytes_eq name e.0.items) e.1 (lookup (λ (k : Vec ℕ Global). bytes_eq name k.items) es)
 
 -- a variable more, in place of one of that name
-pub variable_bound : (es : List Entry) (k : Vec ℕ Global) (v : CodeVariable) → bindings_of (map entry_of (insert_entry (λ (a b : Vec ℕ Global). bytes_eq a.items b.items) es k v))
+pub variable_bound : (es : List Entry) (k : Vec ℕ Global) (v : CodeVariable)
+    → bindings_of (map entry_of (insert_entry (λ (a b : Vec ℕ Global). bytes_eq a.items b.items) es k v))
     ≡ with_variable k.items (variable_of v) (bindings_of (map entry_of es))
 variable_bound es k v = fun_ext (λ other. inserted_at variable_of k v other es)
 

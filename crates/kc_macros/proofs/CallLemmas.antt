@@ -17,7 +17,7 @@ use Rattle.kc_macros_model.specs.Worlds.{returned}
 use Rattle.kc_macros.specs.declared.stop.Stop.{Stop}
 use Rattle.kc_macros.specs.RunStates.{RunState}
 use Rattle.kc_macros.specs.Runs.{ends, end_of_stop, Runs}
-use Rattle.kc_macros.specs.checker.Leads.{Leads}
+use Rattle.kc_macros.specs.checker.ProgramSteps.{Leads}
 use Rattle.kc_macros.proofs.RunLemmas.{stops_early, runs_nothing}
 use Rattle.kc_macros.proofs.ProgramLemmas.{then_returns, then_then, then_same, runs_same, leads_same, leads_then, leads_on}
 
@@ -25,12 +25,15 @@ module _ (expand : List ℕ → Program Value) where
   pub pieces_at_first : (ps : List (List ℕ)) → piece_values expand ps ≡ pieces_left expand [] ps
   pieces_at_first ps = sym (then_returns (piece_values expand ps))
 
-  pub piece_left : (vs : List Value) (p : List ℕ) (ps : List (List ℕ)) → pieces_left expand vs (p ∷ ps) ≡ expand p >>= (λ v. pieces_left expand (vs ++ v ∷ []) ps)
+  pub piece_left : (vs : List Value) (p : List ℕ) (ps : List (List ℕ)) → pieces_left expand vs (p ∷ ps)
+      ≡ expand p >>= (λ v. pieces_left expand (vs ++ v ∷ []) ps)
   piece_left vs p ps =
       then_then (expand p) (λ v. piece_values expand ps >>= λ rest. returns (v ∷ rest)) (λ rest. returns (vs ++ rest))
-      ∙ then_same (expand p) (λ v. (piece_values expand ps >>= λ rest. returns (v ∷ rest)) >>= (λ rest. returns (vs ++ rest))) (λ v. pieces_left expand (vs ++ v ∷ []) ps)
+      ∙ then_same (expand p) (λ v. (piece_values expand ps >>= λ rest. returns (v ∷ rest)) >>= (λ rest. returns (vs ++ rest)))
+      (λ v. pieces_left expand (vs ++ v ∷ []) ps)
       (λ v. then_then (piece_values expand ps) (λ rest. returns (v ∷ rest)) (λ rest. returns (vs ++ rest))
-      ∙ then_same (piece_values expand ps) (λ rest. returns (vs ++ v ∷ rest)) (λ rest. returns ((vs ++ v ∷ []) ++ rest)) (λ rest. ap returns (sym (append_assoc vs (v ∷ []) rest))))
+      ∙ then_same (piece_values expand ps) (λ rest. returns (vs ++ v ∷ rest)) (λ rest. returns ((vs ++ v ∷ []) ++ rest))
+      (λ rest. ap returns (sym (append_assoc vs (v ∷ []) rest))))
 
   pub no_piece_left : (vs : List Value) → pieces_left expand vs [] ≡ returns vs
   no_piece_left vs = ap returns (append-nil vs)
@@ -43,12 +46,16 @@ module _ (sub : Expander) (at : Place) (b : Bindings) (names : List (List ℕ)) 
   argument_meant v h = ap (reference_value sub at b names args inside) h
 
   abbrev by_count : Bool → Program Value
-  by_count c = elim c [ true ↦ piece_values (sub names args) (pieces 0 inside) >>= call_value sub at b names | false ↦ fails (record { at = at; kind = Arguments; text = [] }) ]
+  by_count c = elim c [
+    | true ↦ piece_values (sub names args) (pieces 0 inside) >>= call_value sub at b names
+    | false ↦ fails (record { at = at; kind = Arguments; text = [] })
+  ]
 
   pub too_many_pieces : argument_of args inside ≡ None → max_pieces < length (pieces 0 inside) → meant ≡ fails (record { at = at; kind = Arguments; text = [] })
   too_many_pieces h k = ap (reference_value sub at b names args inside) h ∙ ap by_count (lt-leb (length (pieces 0 inside)) max_pieces k)
 
-  pub few_pieces : argument_of args inside ≡ None → length (pieces 0 inside) ≤ max_pieces → meant ≡ piece_values (sub names args) (pieces 0 inside) >>= call_value sub at b names
+  pub few_pieces : argument_of args inside ≡ None → length (pieces 0 inside) ≤ max_pieces → meant ≡ piece_values (sub names args)
+      (pieces 0 inside) >>= call_value sub at b names
   few_pieces h k = ap (reference_value sub at b names args inside) h ∙ ap by_count (le-leb (length (pieces 0 inside)) max_pieces k)
 
 -- the front of a row
@@ -60,18 +67,21 @@ module _ (sub : Expander) (at : Place) (names : List (List ℕ)) (name : List �
   abbrev by_recursion : Bool → Program Value
   by_recursion c = elim c [ true ↦ fails (record { at = at; kind = Recursion; text = name }) | false ↦ sub (name ∷ names) args text ]
 
-  pub is_recursive : is_recursion names name args ≡ true → named_value sub at names name args (Some (recursive text)) ≡ fails (record { at = at; kind = Recursion; text = name })
+  pub is_recursive : is_recursion names name args ≡ true → named_value sub at names name args (Some (recursive text))
+      ≡ fails (record { at = at; kind = Recursion; text = name })
   is_recursive h = ap by_recursion h
 
   pub is_not_recursive : is_recursion names name args ≡ false → named_value sub at names name args (Some (recursive text)) ≡ sub (name ∷ names) args text
   is_not_recursive h = ap by_recursion h
 
-any_of_texts : (name : List ℕ) (names : List (Bor (List ℕ))) → list_any (λ (n : Bor (List ℕ)). bytes_eq name n.now) names ≡ list_any (bytes_eq name) (texts_of names)
+any_of_texts : (name : List ℕ) (names : List (Bor (List ℕ))) → list_any (λ (n : Bor (List ℕ)). bytes_eq name n.now) names
+    ≡ list_any (bytes_eq name) (texts_of names)
 any_of_texts name [] = refl
 any_of_texts name (n ∷ ns) = ap (λ b. bytes_eq name n.now || b) (any_of_texts name ns)
 
 -- a variable without arguments, by the names that are open
-pub recursion_by : (names : List (Bor (List ℕ))) (name : List ℕ) (args : List Value) (b : Bool) → length args ≡ 0 → b ≡ list_any (λ (n : Bor (List ℕ)). bytes_eq name n.now) names → b ≡ is_recursion (texts_of names) name args
+pub recursion_by : (names : List (Bor (List ℕ))) (name : List ℕ) (args : List Value) (b : Bool) → length args ≡ 0
+    → b ≡ list_any (λ (n : Bor (List ℕ)). bytes_eq name n.now) names → b ≡ is_recursion (texts_of names) name args
 recursion_by names name [] b h e = e ∙ any_of_texts name names
 recursion_by names name (a ∷ args) b h e = absurd (omega (arith, h))
 
@@ -85,13 +95,16 @@ texts_length (t ∷ ts) = ap suc (texts_length ts)
 
 module _ (expand : List ℕ → Program Value) (first s : RunState) (whole : Program (List Value)) (vs : List Value) where
   -- a piece whose value isn't found
-  pub piece_stopped : (t : RunState) (p : List ℕ) (ps : List (List ℕ)) (stop : Stop) → Leads first whole s (pieces_left expand vs (p ∷ ps)) → Runs s t (expand p) (end_of_stop stop) → Runs first t whole (end_of_stop stop)
+  pub piece_stopped : (t : RunState) (p : List ℕ) (ps : List (List ℕ)) (stop : Stop) → Leads first whole s (pieces_left expand vs (p ∷ ps))
+      → Runs s t (expand p) (end_of_stop stop) → Runs first t whole (end_of_stop stop)
   piece_stopped t p ps stop a b =
-      a.leads t (end_of_stop stop) (runs_same s t (pieces_left expand vs (p ∷ ps)) (expand p >>= (λ v. pieces_left expand (vs ++ v ∷ []) ps)) (end_of_stop stop) (piece_left expand vs p ps)
+      a.leads t (end_of_stop stop) (runs_same s t (pieces_left expand vs (p ∷ ps)) (expand p >>= (λ v. pieces_left expand (vs ++ v ∷ []) ps)) (end_of_stop stop)
+      (piece_left expand vs p ps)
       (stops_early s t (expand p) (λ v. pieces_left expand (vs ++ v ∷ []) ps) stop b))
 
   -- a value more
-  pub piece_found : (t : RunState) (p : List ℕ) (ps : List (List ℕ)) (v : Value) (more : List Value) → more ≡ vs ++ v ∷ [] → Leads first whole s (pieces_left expand vs (p ∷ ps)) → Runs s t (expand p) (ends (returned v))
+  pub piece_found : (t : RunState) (p : List ℕ) (ps : List (List ℕ)) (v : Value) (more : List Value) → more ≡ vs ++ v ∷ []
+      → Leads first whole s (pieces_left expand vs (p ∷ ps)) → Runs s t (expand p) (ends (returned v))
       → Leads first whole t (pieces_left expand more ps)
   piece_found t p ps v more h a b =
       leads_then first s t whole (pieces_left expand vs (p ∷ ps)) (pieces_left expand more ps) a
@@ -103,11 +116,15 @@ module _ (expand : List ℕ → Program Value) (first s : RunState) (whole : Pro
 
   -- all values
   pub pieces_found : (ps : List (List ℕ)) → ps ≡ [] → Leads first whole s (pieces_left expand vs ps) → Runs first s whole (ends (returned vs))
-  pieces_found ps h a = a.leads s (ends (returned vs)) (runs_same s s (pieces_left expand vs ps) (returns vs) (ends (returned vs)) (ap (pieces_left expand vs) h ∙ no_piece_left expand vs) (runs_nothing s vs))
+  pieces_found ps h a = a.leads s (ends (returned vs)) (runs_same s s (pieces_left expand vs ps) (returns vs) (ends (returned vs))
+      (ap (pieces_left expand vs) h ∙ no_piece_left expand vs) (runs_nothing s vs))
 
 -- the first of the pieces that are left
-pub piece_front : (expand : List ℕ → Program Value) (first s : RunState) (whole : Program (List Value)) (vs : List Value) (ps : List (Bor (List ℕ))) (i : ℕ) (d : Bor (List ℕ)) → i < length ps
-    → Leads first whole s (pieces_left expand vs (texts_of (drop i ps))) → Leads first whole s (pieces_left expand vs ((get_or ps i d).now ∷ texts_of (drop (i + 1) ps)))
+pub piece_front : (expand : List ℕ → Program Value) (first s : RunState) (whole : Program (List Value)) (vs : List Value) (ps : List (Bor (List ℕ))) (i : ℕ)
+    (d : Bor (List ℕ)) → i < length ps
+    → Leads first whole s (pieces_left expand vs (texts_of (drop i ps)))
+    → Leads first whole s (pieces_left expand vs ((get_or ps i d).now ∷ texts_of (drop (i + 1) ps)))
 piece_front expand first s whole vs ps i d h a =
     leads_then first s s whole (pieces_left expand vs (texts_of (drop i ps))) (pieces_left expand vs ((get_or ps i d).now ∷ texts_of (drop (i + 1) ps))) a
-    (leads_same s (pieces_left expand vs (texts_of (drop i ps))) (pieces_left expand vs ((get_or ps i d).now ∷ texts_of (drop (i + 1) ps))) (ap (pieces_left expand vs) (at_drop_more texts_of ps i d h)))
+    (leads_same s (pieces_left expand vs (texts_of (drop i ps))) (pieces_left expand vs ((get_or ps i d).now ∷ texts_of (drop (i + 1) ps)))
+    (ap (pieces_left expand vs) (at_drop_more texts_of ps i d h)))

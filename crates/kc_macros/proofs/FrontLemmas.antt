@@ -5,11 +5,11 @@ use Rattle.std.proofs.lemmas.Bool.{eqb-true}
 use Rattle.std.specs.List.{list_any, prefix_len}
 use Rattle.kc_expr.specs.Token.{is_white_byte}
 use Rattle.kc_macros_model.specs.LineTokens.{LineToken, run, token_bytes, line_tokens, bytes_of_tokens}
-use Rattle.kc_macros_model.specs.Rewriting.{is_keyword, WrittenToken}
+use Rattle.kc_macros_model.specs.WrittenTokens.{is_keyword, WrittenToken}
 use Rattle.kc_macros_model.specs.Assignments.{Assigned, assigned, without_front, is_blank_byte, operator_at, assignment_to, is_gap_token, is_unknown, is_open_front}
 use Rattle.kc_macros.specs.checker.LineTexts.{first_token_of, has_token}
-use Rattle.kc_macros.proofs.RowLemmas.{row_of_tokens, tokens_first, token_fits, any_token}
-use Rattle.kc_macros.proofs.CutLemmas.{rest_is}
+use Rattle.kc_macros.proofs.LineTokenLemmas.{row_of_tokens, tokens_first, token_fits, any_token}
+use Rattle.kc_macros.proofs.PieceLemmas.{rest_is}
 
 -- an assignment without the blanks before its text
 abbrev pub without_blanks : Assigned → Assigned
@@ -17,9 +17,11 @@ without_blanks a = assigned a.operator (without_front is_blank_byte a.text)
 
 module _ (name after : List ℕ) where
   pub keyword_assigns_not : is_keyword name ≡ true → None ≡ assignment_to (run name) (line_tokens 0 after)
-  keyword_assigns_not e = sym (ap (λ b. cond b None (option_map without_blanks (operator_at (without_front is_white_byte (bytes_of_tokens (line_tokens 0 after)))))) e)
+  keyword_assigns_not e = sym (ap
+      (λ b. cond b None (option_map without_blanks (operator_at (without_front is_white_byte (bytes_of_tokens (line_tokens 0 after)))))) e)
 
-  pub assigns_by : is_keyword name ≡ false → (o : Option Assigned) → o ≡ operator_at (without_front is_white_byte after) → option_map without_blanks o ≡ assignment_to (run name) (line_tokens 0 after)
+  pub assigns_by : is_keyword name ≡ false → (o : Option Assigned) → o ≡ operator_at (without_front is_white_byte after)
+      → option_map without_blanks o ≡ assignment_to (run name) (line_tokens 0 after)
   assigns_by e o h =
       sym (ap (λ b. cond b None (option_map without_blanks (operator_at (without_front is_white_byte (bytes_of_tokens (line_tokens 0 after)))))) e
       ∙ ap (λ t. option_map without_blanks (operator_at (without_front is_white_byte t))) (row_of_tokens 0 after) ∙ ap (option_map without_blanks) (sym h))
@@ -39,7 +41,8 @@ token_by_front (c ∷ s) = by_test (token_by_front s) (is_white_byte c)
   where
     by_test : has_token s ≡ not (get_or (without_front is_white_byte s) 0 35 == 35) → (b : Bool)
         → cond b (has_token s) (not (c == 35)) ≡ not (get_or (drop (cond b (1 + prefix_len is_white_byte s) 0) (c ∷ s)) 0 35 == 35)
-    by_test ih true = ih ∙ ap (λ n. not (get_or (drop n (c ∷ s)) 0 35 == 35)) (let n : suc (prefix_len is_white_byte s) ≡ 1 + prefix_len is_white_byte s = omega arith in n)
+    by_test ih true = ih ∙ ap (λ n. not (get_or (drop n (c ∷ s)) 0 35 == 35)) (let n : suc (prefix_len is_white_byte s) ≡ 1 + prefix_len is_white_byte s =
+        omega arith in n)
     by_test ih false = refl
 
 module _ (s rest : List ℕ) (e : rest ≡ without_front is_white_byte s) where
@@ -61,9 +64,11 @@ module _ (s rest : List ℕ) (e : rest ≡ without_front is_white_byte s) where
       no_byte (c ∷ r) k = absurd (omega arith)
 
 -- whether the line may be another one without a token
-pub open_so : (may : Bool) (w : WrittenToken) (after : List ℕ) (r : Bool) → may ≡ true → is_unknown w ≡ true → r ≡ has_token after → r ≡ is_open_front may w (line_tokens 0 after)
+pub open_so : (may : Bool) (w : WrittenToken) (after : List ℕ) (r : Bool) → may ≡ true → is_unknown w ≡ true → r ≡ has_token after
+    → r ≡ is_open_front may w (line_tokens 0 after)
 open_so may w after r h k e =
-    e ∙ sym (any_token after) ∙ sym (ap (λ m. m && is_unknown w && list_any (λ t. not (is_gap_token t)) (line_tokens 0 after)) h ∙ ap (λ u. u && list_any (λ t. not (is_gap_token t)) (line_tokens 0 after)) k)
+    e ∙ sym (any_token after) ∙ sym (ap (λ m. m && is_unknown w && list_any (λ t. not (is_gap_token t)) (line_tokens 0 after)) h
+    ∙ ap (λ u. u && list_any (λ t. not (is_gap_token t)) (line_tokens 0 after)) k)
 
 pub none_of : (n : ℕ) (b : Bool) → b ≡ (n == 0) → b ≡ true → n ≡ 0
 none_of n b e h = eqb-true n 0 (sym e ∙ h)

@@ -6,7 +6,7 @@ use Rattle.kc_macros_model.specs.declared.fault.MacroNoticeKind.TheVariants.{Inf
 use Rattle.kc_macros_model.specs.Programs.{Place, Program, returns, fails}
 use Rattle.kc_macros_model.specs.Variables.{Value, is_number, is_environment_name, BuiltIn, filename, lineno, shell, info, warning_if, error_if}
 use Rattle.kc_macros_model.specs.Expansion.{fault, reported, asked_value, message_if, shell_value, built_in_value, other_value}
-use Rattle.kc_macros.specs.checker.BuiltIns.{arity_of, message_text, said}
+use Rattle.kc_macros.specs.checker.BuiltIns.{arity_of, message_text, message_value}
 
 pub no_element : {A : Type 0} (xs : List A) → length xs ≡ 0 → xs ≡ []
 no_element [] h = refl
@@ -21,18 +21,18 @@ two_elements [] x y h e f = absurd (omega arith)
 two_elements (z ∷ zs) x y h e f = ap (λ v. v ∷ zs) (sym e) ∙ ap (λ vs. x ∷ vs) (one_element zs y (omega arith) f)
 
 -- a message by its condition and its text
-message_said : (m : List ℕ → Program Value) (condition text : Value) → message_if m condition text ≡ said m (message_text condition text)
-message_said m None text = refl
-message_said m (Some condition) None = refl
-message_said m (Some condition) (Some text) = by_test (bytes_eq condition (codes "y"))
+message_by_text : (m : List ℕ → Program Value) (condition text : Value) → message_if m condition text ≡ message_value m (message_text condition text)
+message_by_text m None text = refl
+message_by_text m (Some condition) None = refl
+message_by_text m (Some condition) (Some text) = by_test (bytes_eq condition (codes "y"))
   where
-    by_test : (b : Bool) → cond b (m text) (returns (Some [])) ≡ said m (cond b (Some text) None)
+    by_test : (b : Bool) → cond b (m text) (returns (Some [])) ≡ message_value m (cond b (Some text) None)
     by_test true = refl
     by_test false = refl
 
-info_said : (m : List ℕ → Program Value) (text : Value) → message_if m (Some (codes "y")) text ≡ said m text
-info_said m None = refl
-info_said m (Some text) = refl
+info_value : (m : List ℕ → Program Value) (text : Value) → message_if m (Some (codes "y")) text ≡ message_value m text
+info_value m None = refl
+info_value m (Some text) = refl
 
 module _ (at : Place) (name : List ℕ) (args : List Value) where
   pub file_named : length args ≡ 0 → built_in_value at name filename args ≡ returns (Some at.file)
@@ -44,14 +44,16 @@ module _ (at : Place) (name : List ℕ) (args : List Value) where
   pub shell_called : (a : Value) → length args ≡ 1 → a ≡ get_or args 0 a → built_in_value at name shell args ≡ shell_value at a
   shell_called a h e = ap (built_in_value at name shell) (one_element args a h e)
 
-  pub info_called : (a : Value) → length args ≡ 1 → a ≡ get_or args 0 a → built_in_value at name info args ≡ said (reported at Info) a
-  info_called a h e = ap (built_in_value at name info) (one_element args a h e) ∙ info_said (reported at Info) a
+  pub info_called : (a : Value) → length args ≡ 1 → a ≡ get_or args 0 a → built_in_value at name info args ≡ message_value (reported at Info) a
+  info_called a h e = ap (built_in_value at name info) (one_element args a h e) ∙ info_value (reported at Info) a
 
-  pub warning_called : (a b : Value) → length args ≡ 2 → a ≡ get_or args 0 a → b ≡ get_or args 1 b → built_in_value at name warning_if args ≡ said (reported at Warning) (message_text a b)
-  warning_called a b h e f = ap (built_in_value at name warning_if) (two_elements args a b h e f) ∙ message_said (reported at Warning) a b
+  pub warning_called : (a b : Value) → length args ≡ 2 → a ≡ get_or args 0 a → b ≡ get_or args 1 b → built_in_value at name warning_if args
+      ≡ message_value (reported at Warning) (message_text a b)
+  warning_called a b h e f = ap (built_in_value at name warning_if) (two_elements args a b h e f) ∙ message_by_text (reported at Warning) a b
 
-  pub error_called : (a b : Value) → length args ≡ 2 → a ≡ get_or args 0 a → b ≡ get_or args 1 b → built_in_value at name error_if args ≡ said (fault at Error) (message_text a b)
-  error_called a b h e f = ap (built_in_value at name error_if) (two_elements args a b h e f) ∙ message_said (fault at Error) a b
+  pub error_called : (a b : Value) → length args ≡ 2 → a ≡ get_or args 0 a → b ≡ get_or args 1 b → built_in_value at name error_if args
+      ≡ message_value (fault at Error) (message_text a b)
+  error_called a b h e f = ap (built_in_value at name error_if) (two_elements args a b h e f) ∙ message_by_text (fault at Error) a b
 
   pub other_with_args : 0 < length args → other_value at name args ≡ fails (record { at = at; kind = Undefined; text = name })
   other_with_args h = by_args args h
@@ -61,20 +63,27 @@ module _ (at : Place) (name : List ℕ) (args : List Value) where
       by_args (x ∷ xs) h = refl
 
   pub number_ungiven : length args ≡ 0 → is_number name ≡ true → other_value at name args ≡ returns (Some [])
-  number_ungiven h n = ap (other_value at name) (no_element args h) ∙ ap (λ b. cond b (returns (Some [])) (cond (is_environment_name name) (asked_value at name) (fails (record { at = at; kind = Undefined; text = name })))) n
+  number_ungiven h n = ap (other_value at name) (no_element args h) ∙ ap (λ b. cond b (returns (Some []))
+      (cond (is_environment_name name) (asked_value at name) (fails (record { at = at; kind = Undefined; text = name })))) n
 
   pub name_asked : length args ≡ 0 → is_number name ≡ false → is_environment_name name ≡ true → other_value at name args ≡ asked_value at name
   name_asked h n e =
-      ap (other_value at name) (no_element args h) ∙ ap (λ b. cond b (returns (Some [])) (cond (is_environment_name name) (asked_value at name) (fails (record { at = at; kind = Undefined; text = name })))) n
+      ap (other_value at name) (no_element args h)
+      ∙ ap (λ b. cond b (returns (Some [])) (cond (is_environment_name name) (asked_value at name)
+      (fails (record { at = at; kind = Undefined; text = name })))) n
       ∙ ap (λ b. cond b (asked_value at name) (fails (record { at = at; kind = Undefined; text = name }))) e
 
-  pub name_undefined : length args ≡ 0 → is_number name ≡ false → is_environment_name name ≡ false → other_value at name args ≡ fails (record { at = at; kind = Undefined; text = name })
+  pub name_undefined : length args ≡ 0 → is_number name ≡ false → is_environment_name name ≡ false → other_value at name args
+      ≡ fails (record { at = at; kind = Undefined; text = name })
   name_undefined h n e =
-      ap (other_value at name) (no_element args h) ∙ ap (λ b. cond b (returns (Some [])) (cond (is_environment_name name) (asked_value at name) (fails (record { at = at; kind = Undefined; text = name })))) n
+      ap (other_value at name) (no_element args h)
+      ∙ ap (λ b. cond b (returns (Some [])) (cond (is_environment_name name) (asked_value at name)
+      (fails (record { at = at; kind = Undefined; text = name })))) n
       ∙ ap (λ b. cond b (asked_value at name) (fails (record { at = at; kind = Undefined; text = name }))) e
 
 -- another count of arguments
-pub wrong_count : (at : Place) (name : List ℕ) (f : BuiltIn) (args : List Value) → length args ≢ arity_of f → built_in_value at name f args ≡ fails (record { at = at; kind = Arguments; text = name })
+pub wrong_count : (at : Place) (name : List ℕ) (f : BuiltIn) (args : List Value) → length args ≢ arity_of f
+    → built_in_value at name f args ≡ fails (record { at = at; kind = Arguments; text = name })
 wrong_count at name filename [] h = absurd (h refl)
 wrong_count at name filename (a ∷ args) h = refl
 wrong_count at name lineno [] h = absurd (h refl)

@@ -31,7 +31,8 @@ module _ (p : ℕ → Bool) where
   all_more [] i h all here = absurd (omega arith)
   all_more (x ∷ xs) zero h all here = both_so (p x) true here refl
   all_more (x ∷ xs) (suc i) h all here =
-      ap (λ n. list_all p (take n (x ∷ xs))) (let e : suc i + 1 ≡ suc (i + 1) = omega arith in e) ∙ both_so (p x) (list_all p (take (i + 1) xs)) (first_of_both (p x) (list_all p (take i xs)) all) (all_more xs i (omega (arith, h)) (second_of_both (p x) (list_all p (take i xs)) all) here)
+      ap (λ n. list_all p (take n (x ∷ xs))) (let e : suc i + 1 ≡ suc (i + 1) = omega arith in e) ∙ both_so (p x) (list_all p (take (i + 1) xs))
+      (first_of_both (p x) (list_all p (take i xs)) all) (all_more xs i (omega (arith, h)) (second_of_both (p x) (list_all p (take i xs)) all) here)
 
   -- an element fails
   pub all_fails : (xs : List ℕ) (i : ℕ) → i < length xs → p (get_or xs i 0) ≡ false → list_all p xs ≡ false

@@ -8,7 +8,7 @@ use Rattle.kc_macros.specs.declared.stop.Stop.{Stop}
 use Rattle.kc_macros.specs.declared.stop.Stop.TheVariants as kinds
 use Rattle.kc_macros.specs.RunStates.{RunState}
 use Rattle.kc_macros.specs.Runs.{RunEnd, ends, end_of_stop, Runs, cut_short}
-use Rattle.kc_macros.specs.checker.Leads.{Leads, Steps}
+use Rattle.kc_macros.specs.checker.ProgramSteps.{Leads, Steps}
 use Rattle.kc_macros.proofs.RunLemmas.{then_runs}
 
 pub then_returns : {A : Type 0} (p : Program A) → p >>= returns ≡ p
@@ -41,10 +41,12 @@ pub leads_on : {A B : Type 0} (s t : RunState) (p : Program A) (f : A → Progra
 leads_on s t p f x a = record { leads = λ u e b. then_runs s t p f x u e a b }
 
 -- a step that stops
-pub steps_stopped : {A X : Type 0} (s t : RunState) (p : Program A) (next : X → Program A) (stop : Stop) (r : Result X Stop) → IsErrAnd r (λ e. e ≡ stop) → Runs s t p (end_of_stop stop) → Steps s t p next r
+pub steps_stopped : {A X : Type 0} (s t : RunState) (p : Program A) (next : X → Program A) (stop : Stop) (r : Result X Stop) → IsErrAnd r (λ e. e ≡ stop)
+    → Runs s t p (end_of_stop stop) → Steps s t p next r
 steps_stopped s t p next stop (Ok x) h a = absurd h
 steps_stopped s t p next stop (Err e) h a = subst (λ (x : Stop). Runs s t p (end_of_stop x)) (sym h) a
 
 -- a step for which memory ran out
-pub steps_out : {A X : Type 0} (s t : RunState) (p : Program A) (next : X → Program A) (r : Result X Stop) → IsErrAnd r (λ e. e ≡ kinds.OutOfMemory) → Steps s t p next r
+pub steps_out : {A X : Type 0} (s t : RunState) (p : Program A) (next : X → Program A) (r : Result X Stop) → IsErrAnd r (λ e. e ≡ kinds.OutOfMemory)
+    → Steps s t p next r
 steps_out s t p next r h = steps_stopped s t p next kinds.OutOfMemory r h cut_short

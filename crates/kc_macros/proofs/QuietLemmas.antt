@@ -14,15 +14,15 @@ use Rattle.kc_expr.specs.Token.{is_white_byte}
 use Rattle.kc_tree_model.specs.Limits.{is_in_list}
 use Rattle.kc_macros_model.specs.Programs.{Place, returns, ◌>>=◌}
 use Rattle.kc_macros_model.specs.Variables.{Bindings}
-use Rattle.kc_macros_model.specs.Rewriting.{body_of, joined_bodies, written_items}
+use Rattle.kc_macros_model.specs.WrittenTokens.{body_of, joined_bodies, written_items}
 use Rattle.kc_macros_model.specs.References.{Item, byte, escaped, item_bytes, first_item, items, is_unterminated}
 use Rattle.kc_macros_model.specs.LineTokens.{LineToken, gap, run, broken, quoted, other, token_bytes, extent, is_run_byte, run_token, quoted_token, first_token, line_tokens}
 use Rattle.kc_macros_model.specs.Assignments.{without_front}
 use Rattle.kc_macros_model.specs.LineForms.{prompt_words, source_words, help_words}
 use Rattle.kc_macros.specs.checker.Bodies.{has_dollar_or_backslash}
 use Rattle.kc_macros.specs.checker.QuietLines.{ends_acting, is_acting_word, may_begin_prompt, has_dollar_or_wide, IsQuiet}
-use Rattle.kc_macros.proofs.RowLemmas.{tokens_skip}
-use Rattle.kc_macros.proofs.CopiedLemmas.{has_dollar, all_terminated, either_false, first_plain, rest_plain, take_plain, first_is, white_dropped, ink_stays, quiet_front, quiet_by}
+use Rattle.kc_macros.proofs.LineTokenLemmas.{tokens_skip}
+use Rattle.kc_macros.proofs.CopiedLineLemmas.{has_dollar, all_terminated, either_false, first_plain, rest_plain, take_plain, first_is, white_dropped, ink_stays, quiet_front, quiet_by}
 
 -- the first item of a text without `$`, outside quotes, is its first byte
 one_byte : (c : ℕ) (s : List ℕ) → (c == 36) ≡ false → first_item false c s ≡ byte c
@@ -52,25 +52,31 @@ front_ink : (text : List ℕ) → is_white_byte (get_or (without_front is_white_
 front_ink [] = refl
 front_ink (c ∷ s) = by_test (front_ink s) (is_white_byte c) refl
   where
-    by_test : is_white_byte (get_or (without_front is_white_byte s) 0 0) ≡ false → (b : Bool) → is_white_byte c ≡ b → is_white_byte (get_or (without_front is_white_byte (c ∷ s)) 0 0) ≡ false
+    by_test : is_white_byte (get_or (without_front is_white_byte s) 0 0) ≡ false → (b : Bool) → is_white_byte c ≡ b
+        → is_white_byte (get_or (without_front is_white_byte (c ∷ s)) 0 0) ≡ false
     by_test ih true e = ap (λ x. is_white_byte (get_or x 0 0)) (white_dropped c s e) ∙ ih
     by_test ih false e = ap (λ x. is_white_byte (get_or x 0 0)) (ink_stays c s e) ∙ e
 
-module _ (c : ℕ) (s : List ℕ) (m : ℕ) (h : has_dollar (c ∷ s) ≡ false) (e : suc m ≡ length (take_while is_run_byte (c ∷ s))) (w : is_white_byte c ≡ false) (k : (c == 35) ≡ false) where
+module _ (c : ℕ) (s : List ℕ) (m : ℕ) (h : has_dollar (c ∷ s) ≡ false) (e : suc m ≡ length (take_while is_run_byte (c ∷ s))) (w : is_white_byte c ≡ false)
+    (k : (c == 35) ≡ false) where
   begins_run : is_run_byte c ≡ true
   begins_run = by_test (is_run_byte c) refl
     where
       by_test : (b : Bool) → is_run_byte c ≡ b → b ≡ true
       by_test true f = refl
-      by_test false f = absurd (let z : suc m ≡ 0 = e ∙ ap length (take_while-cons is_run_byte c s ∙ ap (λ t. cond t (c ∷ take_while is_run_byte s) []) f) in let y : ⊥ = cc in y)
+      by_test false f = absurd (let z : suc m ≡ 0 = e ∙ ap length (take_while-cons is_run_byte c s ∙ ap (λ t. cond t (c ∷ take_while is_run_byte s) []) f) in
+          let y : ⊥ = cc in y)
 
   abbrev word : List ℕ
   word = take (suc m) (c ∷ s)
 
   first_run : first_token c s ≡ run word
   first_run =
-      ap (λ x. cond x (gap (c ∷ [])) (cond (c == 35) (gap (c ∷ s)) (cond (is_run_byte c) (run_token (take (extent false (λ d. not (is_run_byte d)) 0 (c ∷ s)) (c ∷ s))) (after_run (c == 34 || (c == 39)))))) w
-      ∙ ap (λ x. cond x (gap (c ∷ s)) (cond (is_run_byte c) (run_token (take (extent false (λ d. not (is_run_byte d)) 0 (c ∷ s)) (c ∷ s))) (after_run (c == 34 || (c == 39))))) k
+      ap (λ x. cond x (gap (c ∷ []))
+      (cond (c == 35) (gap (c ∷ s)) (cond (is_run_byte c) (run_token (take (extent false (λ d. not (is_run_byte d)) 0 (c ∷ s)) (c ∷ s)))
+      (after_run (c == 34 || (c == 39)))))) w
+      ∙ ap (λ x. cond x (gap (c ∷ s)) (cond (is_run_byte c) (run_token (take (extent false (λ d. not (is_run_byte d)) 0 (c ∷ s)) (c ∷ s)))
+      (after_run (c == 34 || (c == 39))))) k
       ∙ ap (λ x. cond x (run_token (take (extent false (λ d. not (is_run_byte d)) 0 (c ∷ s)) (c ∷ s))) (after_run (c == 34 || (c == 39)))) begins_run
       ∙ ap (λ n. run_token (take n (c ∷ s))) (run_extent (c ∷ s) h ∙ sym e)
       ∙ ap (λ b. cond b (broken word) (run word)) (all_terminated false word (take_plain (suc m) (c ∷ s) h))
@@ -84,7 +90,8 @@ module _ (c : ℕ) (s : List ℕ) (m : ℕ) (h : has_dollar (c ∷ s) ≡ false)
       ∙ ap (λ ts. run word ∷ ts) (tokens_skip (length (take m s)) s ∙ ap (line_tokens 0) (drop_taken m s))
 
 -- the word at the front of a text without `$` is its first token
-word_at : (rest : List ℕ) (n : ℕ) → has_dollar rest ≡ false → n ≡ length (take_while is_run_byte rest) → n ≢ 0 → is_white_byte (get_or rest 0 0) ≡ false → (get_or rest 0 0 == 35) ≡ false
+word_at : (rest : List ℕ) (n : ℕ) → has_dollar rest ≡ false → n ≡ length (take_while is_run_byte rest) → n ≢ 0 → is_white_byte (get_or rest 0 0) ≡ false
+    → (get_or rest 0 0 == 35) ≡ false
     → line_tokens 0 rest ≡ run (take n rest) ∷ line_tokens 0 (drop n rest)
 word_at rest zero h e some w k = absurd (some refl)
 word_at [] (suc m) h e some w k = absurd (let z : suc m ≡ 0 = e in let y : ⊥ = cc in y)
@@ -99,7 +106,8 @@ pub rest_without_dollar : (text rest : List ℕ) → rest ≡ without_front is_w
 rest_without_dollar text rest e h = ap has_dollar e ∙ dropped_plain _ text h
 
 -- a line without `$` whose first word is quiet
-pub quiet_word : (text rest : List ℕ) (n : ℕ) (word after : List ℕ) → rest ≡ without_front is_white_byte text → has_dollar text ≡ false → n ≡ length (take_while is_run_byte rest) → n ≢ 0 → (get_or rest 0 0 == 35) ≡ false
+pub quiet_word : (text rest : List ℕ) (n : ℕ) (word after : List ℕ) → rest ≡ without_front is_white_byte text → has_dollar text ≡ false
+    → n ≡ length (take_while is_run_byte rest) → n ≢ 0 → (get_or rest 0 0 == 35) ≡ false
     → word ≡ take n rest → after ≡ drop n rest → IsQuiet (run word ∷ line_tokens 0 after) → IsQuiet (line_tokens 0 text)
 quiet_word text rest n word after e h len some k f g q =
     quiet_by text rest (run (take n rest)) (line_tokens 0 (drop n rest)) e
@@ -115,7 +123,8 @@ comment_quiet s = subst IsQuiet (sym (tokens_skip (length s) s ∙ ap (line_toke
 
 pub quiet_comment : (text rest : List ℕ) → rest ≡ without_front is_white_byte text → get_or rest 0 0 ≡ 35 → IsQuiet (line_tokens 0 text)
 quiet_comment text [] e h = absurd (let z : 0 ≡ 35 = h in let y : ⊥ = cc in y)
-quiet_comment text (c ∷ s) e h = quiet_front text (subst (λ x. IsQuiet (line_tokens 0 x)) e (subst (λ x. IsQuiet (line_tokens 0 (x ∷ s))) (sym h) (comment_quiet s)))
+quiet_comment text (c ∷ s) e h =
+    quiet_front text (subst (λ x. IsQuiet (line_tokens 0 x)) e (subst (λ x. IsQuiet (line_tokens 0 (x ∷ s))) (sym h) (comment_quiet s)))
 
 -- a word that fails a test which another passes is another
 other_word : (P : List ℕ → Bool) (v w : List ℕ) → P v ≡ true → P w ≡ false → bytes_eq v w ≡ false
@@ -166,7 +175,8 @@ pub narrow_is_utf8 : (text : List ℕ) → has_dollar_or_wide text ≡ false →
 narrow_is_utf8 text h = is_utf8-from_IsUtf8 text (IsUtf8-from_ascii text (IsAscii-from_all text (all_narrow text h)))
 
 -- bytes between quotes without `$` and `\` are written as they are
-pub plain_written : (at : Place) (b : Bindings) (quote : ℕ) (s : List ℕ) → has_dollar_or_backslash s ≡ false → written_items at b quote (items true 0 s) ≡ returns (body_of s s)
+pub plain_written : (at : Place) (b : Bindings) (quote : ℕ) (s : List ℕ) → has_dollar_or_backslash s ≡ false
+    → written_items at b quote (items true 0 s) ≡ returns (body_of s s)
 plain_written at b quote [] h = refl
 plain_written at b quote (c ∷ []) h =
     let e = either_false (c == 36) (c == 92) (either_false (c == 36 || (c == 92)) false h).0 in

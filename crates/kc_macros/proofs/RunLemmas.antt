@@ -26,8 +26,10 @@ joined o r = record { notices = o.notices ++ r.notices; questions = o.questions 
 
 after_joined : {A B : Type 0} (s : RunState) (o : Outcome A) (r : Outcome B) → after_outcome (after_outcome s o) r ≡ after_outcome s (joined o r)
 after_joined s o r =
-    ap (λ ns. let t : RunState = record s { left = r.left; notices = ns; questions = with_questions (with_questions s.questions o.questions) r.questions } in t) (append_assoc s.notices o.notices r.notices)
-    ∙ ap (λ qs. let t : RunState = record s { left = r.left; notices = s.notices ++ (o.notices ++ r.notices); questions = qs } in t) (sym (with_questions_append s.questions o.questions r.questions))
+    ap (λ ns. let t : RunState = record s { left = r.left; notices = ns; questions = with_questions (with_questions s.questions o.questions) r.questions } in t)
+    (append_assoc s.notices o.notices r.notices)
+    ∙ ap (λ qs. let t : RunState = record s { left = r.left; notices = s.notices ++ (o.notices ++ r.notices); questions = qs } in t)
+    (sym (with_questions_append s.questions o.questions r.questions))
 
 module _ {A B : Type 0} (w : World) (s : RunState) (p : Program A) (f : A → Program B) where
   abbrev first : Outcome A
@@ -64,7 +66,8 @@ same_answers w s t p e r = ap (λ (q : RunState). q.answers) r.state
 pub in_world : {A : Type 0} (w : World) (s t : RunState) (p : Program A) (e : Ending A) → HasAnswers w s.answers → Runs s t p (ends e) → RunsIn w s t p e
 in_world w s t p e h (ran f) = let r = f w h in record { state = r.0; ending = r.1 }
 
-pub in_each_world : {A : Type 0} (s t : RunState) (p : Program A) (e : Ending A) → ((w : World) → HasAnswers w s.answers → RunsIn w s t p e) → Runs s t p (ends e)
+pub in_each_world : {A : Type 0} (s t : RunState) (p : Program A) (e : Ending A) → ((w : World) → HasAnswers w s.answers → RunsIn w s t p e)
+    → Runs s t p (ends e)
 in_each_world s t p e f = ran (λ w h. ((f w h).state, (f w h).ending))
 
 module _ {A B : Type 0} (s t : RunState) (p : Program A) (f : A → Program B) where
@@ -79,28 +82,37 @@ module _ {A B : Type 0} (s t : RunState) (p : Program A) (f : A → Program B) w
 
   -- a program that stopped early
   pub stops_early : (stop : Stop) → Runs s t p (end_of_stop stop) → Runs s t (p >>= f) (end_of_stop stop)
-  stops_early (kinds.Fault g) a = in_each_world s t (p >>= f) (failed (fault_of g)) (λ w h. in_world_failed w s p f (fault_of g) t (in_world w s t p (failed (fault_of g)) h a))
+  stops_early (kinds.Fault g) a = in_each_world s t (p >>= f) (failed (fault_of g))
+      (λ w h. in_world_failed w s p f (fault_of g) t (in_world w s t p (failed (fault_of g)) h a))
   stops_early kinds.Unanswered a = in_each_world s t (p >>= f) stopped (λ w h. in_world_stopped w s p f t (in_world w s t p stopped h a))
   stops_early kinds.OutOfMemory a = cut_short
 
 -- a program that does nothing
 pub runs_nothing : {A : Type 0} (s : RunState) (x : A) → Runs s s (returns x) (ends (returned x))
-runs_nothing s x = in_each_world s s (returns x) (returned x) (λ w h. record { state = ap (λ ns. let t : RunState = record s { notices = ns } in t) (sym (append-nil s.notices)); ending = refl })
+runs_nothing s x = in_each_world s s (returns x) (returned x) (λ w h. record
+    { state = ap (λ ns. let t : RunState = record s { notices = ns } in t) (sym (append-nil s.notices)); ending = refl })
 
 -- a fault
 pub runs_fault : {A : Type 0} (s : RunState) (g : Fault) → Runs {A = A} s s (fails g) (ends (failed g))
-runs_fault s g = in_each_world s s (fails g) (failed g) (λ w h. record { state = ap (λ ns. let t : RunState = record s { notices = ns } in t) (sym (append-nil s.notices)); ending = refl })
+runs_fault s g = in_each_world s s (fails g) (failed g) (λ w h. record
+    { state = ap (λ ns. let t : RunState = record s { notices = ns } in t) (sym (append-nil s.notices)); ending = refl })
 
 pub runs_stop : {A : Type 0} (s : RunState) → Runs {A = A} s s stops (ends stopped)
-runs_stop s = in_each_world s s stops stopped (λ w h. record { state = ap (λ ns. let t : RunState = record s { notices = ns } in t) (sym (append-nil s.notices)); ending = refl })
+runs_stop s = in_each_world s s stops stopped (λ w h. record {
+  state = ap (λ ns. let t : RunState = record s { notices = ns } in t)
+      (sym (append-nil s.notices));
+  ending = refl;
+})
 
 -- memory ran out
-pub runs_out : {A X : Type 0} (s t : RunState) (p : Program A) (view : X → A) (r : Result X Stop) → IsErrAnd r (λ e. e ≡ kinds.OutOfMemory) → Runs s t p (end_of view r)
+pub runs_out : {A X : Type 0} (s t : RunState) (p : Program A) (view : X → A) (r : Result X Stop) → IsErrAnd r (λ e. e ≡ kinds.OutOfMemory)
+    → Runs s t p (end_of view r)
 runs_out s t p view (Ok x) h = absurd h
 runs_out s t p view (Err e) h = subst (λ (x : Stop). Runs s t p (end_of_stop x)) (sym h) cut_short
 
 -- a stop that is passed on
-pub passes_on : {A X : Type 0} (s t : RunState) (p : Program A) (view : X → A) (stop : Stop) (r : Result X Stop) → IsErrAnd r (λ e. e ≡ stop) → Runs s t p (end_of_stop stop) → Runs s t p (end_of view r)
+pub passes_on : {A X : Type 0} (s t : RunState) (p : Program A) (view : X → A) (stop : Stop) (r : Result X Stop) → IsErrAnd r (λ e. e ≡ stop)
+    → Runs s t p (end_of_stop stop) → Runs s t p (end_of view r)
 passes_on s t p view stop (Ok x) h a = absurd h
 passes_on s t p view stop (Err e) h a = subst (λ (x : Stop). Runs s t p (end_of_stop x)) (sym h) a
 

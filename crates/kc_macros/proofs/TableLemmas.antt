@@ -28,12 +28,14 @@ Entry = Vec ℕ Global × Option (Vec ℕ Global)
 abbrev pub answer_items : Option (Vec ℕ Global) → Answer
 answer_items a = option_map (λ (t : Vec ℕ Global). t.items) a
 
-found_by : (b : Bool) (e : Entry) (o : Option (Option (Vec ℕ Global))) → cond b (Some (answer_items e.1)) (option_map answer_items o) ≡ option_map answer_items (cond b (Some e.1) o)
+found_by : (b : Bool) (e : Entry) (o : Option (Option (Vec ℕ Global))) → cond b (Some (answer_items e.1)) (option_map answer_items o)
+    ≡ option_map answer_items (cond b (Some e.1) o)
 found_by true e o = refl
 found_by false e o = refl
 
 -- a look-up by the bytes of a question
-pub find_answer : (question : List ℕ) (es : List Entry) → keyword_in_table (map answer_of_entry es) question ≡ option_map answer_items (lookup (λ (k : Vec ℕ Global). bytes_eq question k.items) es)
+pub find_answer : (question : List ℕ) (es : List Entry) → keyword_in_table (map answer_of_entry es) question
+    ≡ option_map answer_items (lookup (λ (k : Vec ℕ Global). bytes_eq question k.items) es)
 find_answer question [] = refl
 find_answer question (e ∷ es) =
     ap (λ b. cond b (Some (answer_items e.1)) (keyword_in_table (map answer_of_entry es) question)) (bytes_eq_turned e.0.items question)
@@ -47,11 +49,14 @@ insert_absent [] k v h = refl
 insert_absent (e ∷ es) k v h = by_test (bytes_eq e.0.items k.items) (bytes_eq_turned k.items e.0.items) h (insert_absent es k v)
   where
     by_test : (b : Bool) → bytes_eq k.items e.0.items ≡ b → cond b (Some (answer_items e.1)) (keyword_in_table (map answer_of_entry es) k.items) ≡ None
-        → (keyword_in_table (map answer_of_entry es) k.items ≡ None → map answer_of_entry (insert_entry (λ (a b : Vec ℕ Global). bytes_eq a.items b.items) es k v) ≡ map answer_of_entry es ++ (k.items, answer_items v) ∷ [])
-        → map answer_of_entry (cond (bytes_eq k.items e.0.items) ((e.0, v) ∷ es) (e ∷ insert_entry (λ (a b : Vec ℕ Global). bytes_eq a.items b.items) es k v)) ≡ answer_of_entry e ∷ (map answer_of_entry es ++ (k.items, answer_items v) ∷ [])
+        → (keyword_in_table (map answer_of_entry es) k.items ≡ None → map answer_of_entry
+        (insert_entry (λ (a b : Vec ℕ Global). bytes_eq a.items b.items) es k v) ≡ map answer_of_entry es ++ (k.items, answer_items v) ∷ [])
+        → map answer_of_entry (cond (bytes_eq k.items e.0.items) ((e.0, v) ∷ es) (e ∷ insert_entry (λ (a b : Vec ℕ Global). bytes_eq a.items b.items) es k v))
+        ≡ answer_of_entry e ∷ (map answer_of_entry es ++ (k.items, answer_items v) ∷ [])
     by_test true e2 h ih = absurd (let z : ⊥ = cc in z)
     by_test false e2 h ih =
-        ap (λ b. map answer_of_entry (cond b ((e.0, v) ∷ es) (e ∷ insert_entry (λ (a b : Vec ℕ Global). bytes_eq a.items b.items) es k v))) e2 ∙ ap (λ xs. answer_of_entry e ∷ xs) (ih h)
+        ap (λ b. map answer_of_entry (cond b ((e.0, v) ∷ es) (e ∷ insert_entry (λ (a b : Vec ℕ Global). bytes_eq a.items b.items) es k v))) e2
+        ∙ ap (λ xs. answer_of_entry e ∷ xs) (ih h)
 
 pub take_entries : (n : ℕ) (es : List Entry) → map answer_of_entry (take n es) ≡ take n (map answer_of_entry es)
 take_entries zero es = refl
@@ -77,9 +82,11 @@ is_some_map f None = refl
 is_some_map f (Some x) = refl
 
 -- the questions of a table with one more, by whether it is there
-pub noted : {A : Type 0} (es : Recorded) (question : List ℕ) (f : A → Answer) (found : Option A) (b : Bool) → option_map f found ≡ keyword_in_table es question → is_some found ≡ b
+pub noted : {A : Type 0} (es : Recorded) (question : List ℕ) (f : A → Answer) (found : Option A) (b : Bool) → option_map f found ≡ keyword_in_table es question
+    → is_some found ≡ b
     → with_question (questions_of es) question ≡ cond b (questions_of es) (questions_of es ++ question ∷ [])
-noted es question f found b e h = ap (λ t. cond t (questions_of es) (questions_of es ++ question ∷ [])) (listed_is_found es question ∙ ap is_some (sym e) ∙ is_some_map f found ∙ h)
+noted es question f found b e h = ap (λ t. cond t (questions_of es) (questions_of es ++ question ∷ []))
+    (listed_is_found es question ∙ ap is_some (sym e) ∙ is_some_map f found ∙ h)
 
 pub questions_of_append : (es fs : Recorded) → questions_of (es ++ fs) ≡ questions_of es ++ questions_of fs
 questions_of_append [] fs = refl
@@ -90,7 +97,8 @@ questions_of_keys [] = refl
 questions_of_keys (e ∷ es) = ap (λ xs. e.0.items ∷ xs) (questions_of_keys es)
 
 -- the keys of the map, collected
-pub questions_collected : {E : Type 0} (r : Result (Vec (Vec ℕ Global) Global) E) (es : List Entry) (table : Recorded) → map answer_of_entry es ≡ table → IfOk r (λ qs. qs.items ≡ keys_of es)
+pub questions_collected : {E : Type 0} (r : Result (Vec (Vec ℕ Global) Global) E) (es : List Entry) (table : Recorded) → map answer_of_entry es ≡ table
+    → IfOk r (λ qs. qs.items ≡ keys_of es)
     → IfOk r (λ qs. map (λ (q : Vec ℕ Global). q.items) qs.items ≡ questions_of table)
 questions_collected (Ok qs) es table e h = ap (λ ks. map (λ (q : Vec ℕ Global). q.items) ks) h ∙ questions_of_keys es ∙ ap questions_of e
 questions_collected (Err x) es table e h = tt

@@ -8,7 +8,7 @@ use Rattle.kc_macros_model.specs.References.{Item, byte, escaped, reference, unt
 use Rattle.kc_macros_model.specs.ExpansionRules.{begins_reference}
 use Rattle.kc_macros_model.specs.LineTokens.{run, quoted, other, broken, extent, run_token, quoted_token}
 use Rattle.kc_macros.specs.checker.LineTexts.{first_item_of}
-use Rattle.kc_macros.proofs.CutLemmas.{rest_is}
+use Rattle.kc_macros.proofs.PieceLemmas.{rest_is}
 
 items_skip : (q : Bool) (n : ℕ) (s : List ℕ) → items q n s ≡ items q 0 (drop n s)
 items_skip q zero s = refl
@@ -18,7 +18,8 @@ items_skip q (suc n) (c ∷ s) = items_skip q n s
 extent_skip : (q : Bool) (ends : ℕ → Bool) (n : ℕ) (s : List ℕ) → n ≤ length s → extent q ends n s ≡ n + extent q ends 0 (drop n s)
 extent_skip q ends zero s h = let e : 0 + extent q ends 0 s ≡ extent q ends 0 s = omega arith in sym e
 extent_skip q ends (suc n) [] h = absurd (omega arith)
-extent_skip q ends (suc n) (c ∷ s) h = ap suc (extent_skip q ends n s (omega (arith, h))) ∙ (let e : suc (n + extent q ends 0 (drop n s)) ≡ suc n + extent q ends 0 (drop n s) = omega arith in e)
+extent_skip q ends (suc n) (c ∷ s) h = ap suc (extent_skip q ends n s (omega (arith, h)))
+    ∙ (let e : suc (n + extent q ends 0 (drop n s)) ≡ suc n + extent q ends 0 (drop n s) = omega arith in e)
 
 -- each item has a byte
 some_bytes : (i : Item) → length (item_bytes i) ≡ suc (pred (length (item_bytes i)))
@@ -28,14 +29,16 @@ some_bytes (reference inside) = refl
 some_bytes (unterminated rest) = refl
 
 -- the items of a text, and those after its first one
-pub items_first : (q : Bool) (s : List ℕ) (n : ℕ) → 0 < length s → n ≡ length (item_bytes (first_item_of q s)) → items q 0 s ≡ first_item_of q s ∷ items q 0 (drop n s)
+pub items_first : (q : Bool) (s : List ℕ) (n : ℕ) → 0 < length s → n ≡ length (item_bytes (first_item_of q s))
+    → items q 0 s ≡ first_item_of q s ∷ items q 0 (drop n s)
 items_first q [] n h e = absurd (omega arith)
 items_first q (c ∷ s) n h e =
     let i = first_item q c s in
     ap (λ is. i ∷ is) (items_skip q (pred (length (item_bytes i))) s ∙ ap (λ k. items q 0 (drop k (c ∷ s))) (sym (e ∙ some_bytes i)))
 
 -- the extent of a text whose first item doesn't end it
-pub extent_first : (q : Bool) (ends : ℕ → Bool) (s : List ℕ) (n : ℕ) → 0 < length s → n ≡ length (item_bytes (first_item_of q s)) → n ≤ length s → ends (get_or s 0 0) ≡ false
+pub extent_first : (q : Bool) (ends : ℕ → Bool) (s : List ℕ) (n : ℕ) → 0 < length s → n ≡ length (item_bytes (first_item_of q s)) → n ≤ length s
+    → ends (get_or s 0 0) ≡ false
     → extent q ends 0 s ≡ n + extent q ends 0 (drop n s)
 extent_first q ends [] n h e w f = absurd (omega arith)
 extent_first q ends (c ∷ s) n h e w f =
@@ -63,12 +66,14 @@ length_take (suc n) [] h = absurd (omega arith)
 length_take (suc n) (c ∷ s) h = ap suc (length_take n s (omega (arith, h)))
 
 module _ (q : Bool) (s : List ℕ) (begins : begins_reference s ≡ true) where
-  pub reference_length : (n : ℕ) → inside_length 0 (take (length s - 2) (drop 2 s)) ≡ Some n → n < length (take (length s - 2) (drop 2 s)) → n + 3 ≡ length (item_bytes (first_item_of q s))
+  pub reference_length : (n : ℕ) → inside_length 0 (take (length s - 2) (drop 2 s)) ≡ Some n → n < length (take (length s - 2) (drop 2 s))
+      → n + 3 ≡ length (item_bytes (first_item_of q s))
   reference_length n e h =
       let same = rest_is s 2 in
       let short : n ≤ length (drop 2 s) = omega (arith, h, ap length same) in
       sym (ap (λ i. length (item_bytes i)) (first_reference q s begins ∙ ap (reference_of (drop 2 s)) (ap (inside_length 0) (sym same) ∙ e))
-      ∙ (let a : suc (suc (length (take n (drop 2 s) ++ 41 ∷ []))) ≡ n + 3 = omega (arith, length-append (take n (drop 2 s)) (41 ∷ []), length_take n (drop 2 s) short) in a))
+      ∙ (let a : suc (suc (length (take n (drop 2 s) ++ 41 ∷ []))) ≡ n + 3 =
+      omega (arith, length-append (take n (drop 2 s)) (41 ∷ []), length_take n (drop 2 s) short) in a))
 
   pub unterminated_length : inside_length 0 (take (length s - 2) (drop 2 s)) ≡ None → 2 ≤ length s → length s ≡ length (item_bytes (first_item_of q s))
   unterminated_length e h =
@@ -76,7 +81,8 @@ module _ (q : Bool) (s : List ℕ) (begins : begins_reference s ≡ true) where
       ∙ (let a : suc (suc (length (drop 2 s))) ≡ length s = omega (arith, length-drop 2 s, h) in a))
 
   pub unterminated_by : (o : Option ℕ) → inside_length 0 (take (length s - 2) (drop 2 s)) ≡ o → is_unterminated (first_item_of q s) ≡ not (is_some o)
-  unterminated_by o e = ap is_unterminated (first_reference q s begins ∙ ap (reference_of (drop 2 s)) (ap (inside_length 0) (sym (rest_is s 2)) ∙ e)) ∙ by_case o
+  unterminated_by o e = ap is_unterminated (first_reference q s begins ∙ ap (reference_of (drop 2 s)) (ap (inside_length 0) (sym (rest_is s 2)) ∙ e))
+      ∙ by_case o
     where
       by_case : (o : Option ℕ) → is_unterminated (reference_of (drop 2 s) o) ≡ not (is_some o)
       by_case None = refl
@@ -91,7 +97,8 @@ and_true true = refl
 and_true false = refl
 
 -- the length of an item that is no reference, and that it ends
-pub plain_item : (q : Bool) (s : List ℕ) (b : Bool) → 0 < length s → begins_reference s ≡ false → b ≡ (q && (get_or s 0 0 == 92) && nat_lt 1 (length s)) → length (item_bytes (first_item_of q s)) ≡ cond b 2 1
+pub plain_item : (q : Bool) (s : List ℕ) (b : Bool) → 0 < length s → begins_reference s ≡ false → b ≡ (q && (get_or s 0 0 == 92) && nat_lt 1 (length s))
+    → length (item_bytes (first_item_of q s)) ≡ cond b 2 1
 plain_item q [] b h p e = absurd (omega arith)
 plain_item q (c ∷ []) b h p e = sym (ap (λ t. cond t 2 1) (e ∙ ap (λ t. q && (c == 92) && t) (le-ltb 1 1 (omega arith)) ∙ and_false (q && (c == 92))))
 plain_item q (c ∷ d ∷ s) b h p e =
@@ -106,14 +113,16 @@ plain_item q (c ∷ d ∷ s) b h p e =
 pub plain_ends : (q : Bool) (s : List ℕ) → 0 < length s → begins_reference s ≡ false → is_unterminated (first_item_of q s) ≡ false
 plain_ends q [] h p = refl
 plain_ends q (c ∷ []) h p = refl
-plain_ends q (c ∷ d ∷ s) h p = ap (λ t. is_unterminated (cond t (reference_of s (inside_length 0 s)) (cond (q && (c == 92)) (escaped d) (byte c)))) p ∙ by_test (q && (c == 92))
+plain_ends q (c ∷ d ∷ s) h p = ap (λ t. is_unterminated (cond t (reference_of s (inside_length 0 s)) (cond (q && (c == 92)) (escaped d) (byte c)))) p
+    ∙ by_test (q && (c == 92))
   where
     by_test : (t : Bool) → is_unterminated (cond t (escaped d) (byte c)) ≡ false
     by_test true = refl
     by_test false = refl
 
 -- whether an item doesn't end, by the first and those after it
-pub unterminated_later : (q : Bool) (s : List ℕ) (n : ℕ) → 0 < length s → n ≡ length (item_bytes (first_item_of q s)) → is_unterminated (first_item_of q s) ≡ false
+pub unterminated_later : (q : Bool) (s : List ℕ) (n : ℕ) → 0 < length s → n ≡ length (item_bytes (first_item_of q s))
+    → is_unterminated (first_item_of q s) ≡ false
     → list_any is_unterminated (items q 0 s) ≡ list_any is_unterminated (items q 0 (drop n s))
 unterminated_later q s n h e f = ap (list_any is_unterminated) (items_first q s n h e) ∙ ap (λ b. b || list_any is_unterminated (items q 0 (drop n s))) f
 
@@ -145,7 +154,8 @@ run_by s b h = ap (λ t. cond t (broken s) (run s)) h
 -- a quoted token by whether all its references end, and whether it does
 pub quoted_by : (n quote : ℕ) (s : List ℕ) (b d : Bool) → list_any is_unterminated (items true 0 (take n s)) ≡ b → nat_lt n (length s) ≡ d
     → quoted_token n quote s ≡ cond b (broken (quote ∷ s)) (cond d (quoted quote (take n s)) (other (quote ∷ s)))
-quoted_by n quote s b d h k = ap (λ t. cond t (broken (quote ∷ s)) (cond (nat_lt n (length s)) (quoted quote (take n s)) (other (quote ∷ s)))) h ∙ ap (λ t. cond b (broken (quote ∷ s)) (cond t (quoted quote (take n s)) (other (quote ∷ s)))) k
+quoted_by n quote s b d h k = ap (λ t. cond t (broken (quote ∷ s)) (cond (nat_lt n (length s)) (quoted quote (take n s)) (other (quote ∷ s)))) h
+    ∙ ap (λ t. cond b (broken (quote ∷ s)) (cond t (quoted quote (take n s)) (other (quote ∷ s)))) k
 
 pub whole_text : (s : List ℕ) (quote : ℕ) → slice_get s 0 ≡ Some quote → s ≡ quote ∷ drop 1 s
 whole_text [] quote h = absurd (let z : ⊥ = cc in z)
@@ -162,27 +172,34 @@ module _ (q : Bool) (rest : List ℕ) (n : ℕ) (some : 0 < length rest) (len : 
     pub later_within : length later ≤ length text
     later_within = omega (arith, later_length, within)
 
-    pub later_counted : ends (get_or rest 0 0) ≡ false → extent q ends 0 text ≡ (length text - length rest) + extent q ends 0 rest → extent q ends 0 text ≡ (length text - length later) + extent q ends 0 later
+    pub later_counted : ends (get_or rest 0 0) ≡ false → extent q ends 0 text ≡ (length text - length rest) + extent q ends 0 rest
+        → extent q ends 0 text ≡ (length text - length later) + extent q ends 0 later
     later_counted goes_on counted =
         let first = extent_first q ends rest n some len fits goes_on in
         let same : extent q ends 0 (drop n rest) ≡ extent q ends 0 later = ap (extent q ends 0) (sym (rest_is rest n)) in
         omega (arith, later_length, within, counted, first, same)
 
-  pub later_unterminated : (text : List ℕ) → is_unterminated (first_item_of q rest) ≡ false → list_any is_unterminated (items q 0 text) ≡ list_any is_unterminated (items q 0 rest)
+  pub later_unterminated : (text : List ℕ) → is_unterminated (first_item_of q rest) ≡ false → list_any is_unterminated (items q 0 text)
+      ≡ list_any is_unterminated (items q 0 rest)
       → list_any is_unterminated (items q 0 text) ≡ list_any is_unterminated (items q 0 later)
-  later_unterminated text goes_on same = same ∙ unterminated_later q rest n some len goes_on ∙ ap (λ s. list_any is_unterminated (items q 0 s)) (sym (rest_is rest n))
+  later_unterminated text goes_on same = same ∙ unterminated_later q rest n some len goes_on ∙ ap (λ s. list_any is_unterminated (items q 0 s))
+      (sym (rest_is rest n))
 
--- the same of any test of items
+-- whether an item of a text passes a test, by the first item and the rest
 module _ (p : Item → Bool) (q : Bool) (rest : List ℕ) (some : 0 < length rest) where
   pub item_here : p (first_item_of q rest) ≡ true → list_any p (items q 0 rest) ≡ true
-  item_here f = let n = length (item_bytes (first_item_of q rest)) in ap (list_any p) (items_first q rest n some refl) ∙ ap (λ b. b || list_any p (items q 0 (drop n rest))) f
+  item_here f = let n = length (item_bytes (first_item_of q rest)) in ap (list_any p) (items_first q rest n some refl)
+      ∙ ap (λ b. b || list_any p (items q 0 (drop n rest))) f
 
-  pub item_later : (n : ℕ) → n ≡ length (item_bytes (first_item_of q rest)) → p (first_item_of q rest) ≡ false → (text : List ℕ) → list_any p (items q 0 text) ≡ list_any p (items q 0 rest)
+  pub item_later : (n : ℕ) → n ≡ length (item_bytes (first_item_of q rest)) → p (first_item_of q rest) ≡ false → (text : List ℕ)
+      → list_any p (items q 0 text) ≡ list_any p (items q 0 rest)
       → list_any p (items q 0 text) ≡ list_any p (items q 0 (take (length rest - n) (drop n rest)))
   item_later n len f text same =
-      same ∙ ap (list_any p) (items_first q rest n some len) ∙ ap (λ b. b || list_any p (items q 0 (drop n rest))) f ∙ ap (λ s. list_any p (items q 0 s)) (sym (rest_is rest n))
+      same ∙ ap (list_any p) (items_first q rest n some len) ∙ ap (λ b. b || list_any p (items q 0 (drop n rest))) f
+      ∙ ap (λ s. list_any p (items q 0 s)) (sym (rest_is rest n))
 
-by_front : (s : List ℕ) (b : Bool) → begins_reference s ≡ b → (p : Item → Bool) → ((o : Option ℕ) → p (reference_of (drop 2 s) o) ≡ false) → (b ≡ true) → p (first_item_of false s) ≡ false
+by_front : (s : List ℕ) (b : Bool) → begins_reference s ≡ b → (p : Item → Bool) → ((o : Option ℕ) → p (reference_of (drop 2 s) o) ≡ false) → (b ≡ true)
+    → p (first_item_of false s) ≡ false
 by_front s b e p h t = ap p (first_reference false s (e ∙ t)) ∙ h (inside_length 0 (drop 2 s))
 
 -- a reference at the front is no plain `$`
@@ -203,8 +220,10 @@ no_reference_front [] h e = refl
 no_reference_front (c ∷ []) h e = refl
 no_reference_front (c ∷ d ∷ s) h e = ap (λ t. is_reference (cond t (reference_of s (inside_length 0 s)) (byte c))) e
 
-pub reference_by : (s : List ℕ) → begins_reference s ≡ true → (o : Option ℕ) → inside_length 0 (take (length s - 2) (drop 2 s)) ≡ o → is_reference (first_item_of false s) ≡ is_some o
-reference_by s begins o e = ap is_reference (first_reference false s begins ∙ ap (reference_of (drop 2 s)) (ap (inside_length 0) (sym (rest_is s 2)) ∙ e)) ∙ by_case o
+pub reference_by : (s : List ℕ) → begins_reference s ≡ true → (o : Option ℕ) → inside_length 0 (take (length s - 2) (drop 2 s)) ≡ o
+    → is_reference (first_item_of false s) ≡ is_some o
+reference_by s begins o e = ap is_reference (first_reference false s begins ∙ ap (reference_of (drop 2 s)) (ap (inside_length 0) (sym (rest_is s 2)) ∙ e))
+    ∙ by_case o
   where
     by_case : (o : Option ℕ) → is_reference (reference_of (drop 2 s) o) ≡ is_some o
     by_case None = refl
@@ -217,8 +236,10 @@ pair_front [] h p e = absurd (omega arith)
 pair_front (c ∷ []) h p e = absurd (omega (arith, two_of_pair (c == 92) 1 e))
 pair_front (c ∷ d ∷ s) h p e =
     let front : first_item_of true (c ∷ d ∷ s) ≡ escaped d =
-    ap (λ t. cond t (reference_of s (inside_length 0 s)) (cond (c == 92) (escaped d) (byte c))) p ∙ ap (λ t. cond t (escaped d) (byte c)) (first_so (c == 92) (nat_lt 1 (length (c ∷ d ∷ s))) e) in
-    items_first true (c ∷ d ∷ s) 2 h (sym (ap (λ i. length (item_bytes i)) front)) ∙ ap (λ i. i ∷ items true 0 s) front ∙ ap (λ t. escaped d ∷ items true 0 t) (sym (rest_is (c ∷ d ∷ s) 2))
+    ap (λ t. cond t (reference_of s (inside_length 0 s)) (cond (c == 92) (escaped d) (byte c))) p ∙ ap (λ t. cond t (escaped d) (byte c))
+    (first_so (c == 92) (nat_lt 1 (length (c ∷ d ∷ s))) e) in
+    items_first true (c ∷ d ∷ s) 2 h (sym (ap (λ i. length (item_bytes i)) front)) ∙ ap (λ i. i ∷ items true 0 s) front
+    ∙ ap (λ t. escaped d ∷ items true 0 t) (sym (rest_is (c ∷ d ∷ s) 2))
 
 pub byte_front : (s : List ℕ) → 0 < length s → begins_reference s ≡ false → (true && (get_or s 0 0 == 92) && nat_lt 1 (length s)) ≡ false
     → items true 0 s ≡ byte (get_or s 0 0) ∷ items true 0 (take (length s - 1) (drop 1 s))
@@ -228,4 +249,5 @@ byte_front (c ∷ d ∷ s) h p e =
     let none : (c == 92) ≡ false = sym (and_true (c == 92)) ∙ ap (λ t. (c == 92) && t) (sym (lt-ltb 1 (length (c ∷ d ∷ s)) (omega arith))) ∙ e in
     let front : first_item_of true (c ∷ d ∷ s) ≡ byte c =
     ap (λ t. cond t (reference_of s (inside_length 0 s)) (cond (c == 92) (escaped d) (byte c))) p ∙ ap (λ t. cond t (escaped d) (byte c)) none in
-    items_first true (c ∷ d ∷ s) 1 h (sym (ap (λ i. length (item_bytes i)) front)) ∙ ap (λ i. i ∷ items true 0 (d ∷ s)) front ∙ ap (λ t. byte c ∷ items true 0 t) (sym (rest_is (c ∷ d ∷ s) 1))
+    items_first true (c ∷ d ∷ s) 1 h (sym (ap (λ i. length (item_bytes i)) front)) ∙ ap (λ i. i ∷ items true 0 (d ∷ s)) front
+    ∙ ap (λ t. byte c ∷ items true 0 t) (sym (rest_is (c ∷ d ∷ s) 1))

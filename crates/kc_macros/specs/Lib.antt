@@ -1,10 +1,5 @@
-pub mod ReadAnswers
-pub mod Variables
-pub mod WrittenTokens
-pub mod LineContents
-pub mod LineFormViews
-pub mod CopiedLines
-pub mod Assigning
+pub mod between
+pub mod checker
 pub mod RunStates
 pub mod Runs
-pub mod checker
+pub mod ReadAnswers

@@ -14,7 +14,7 @@ ReadsToEnd after failed failed_after bytes (Some Read) = (length bytes ≤ max_a
 ReadsToEnd after failed failed_after bytes (Some TooLarge) = (max_answer_bytes < length bytes) × (failed_after ≡ failed)
 ReadsToEnd after failed failed_after bytes (Some kind) = ⊥
 
--- the end of a file that a fault cuts or not
+-- the end of a file: complete, or cut by the fault that ended its bytes early
 abbrev pub end_of_file : Option AnswersKind → FileEnd
 end_of_file None = complete
 end_of_file (Some kind) = cut_by kind
@@ -26,7 +26,7 @@ pub record AreRecorded (before after : Option (List ℕ)) (earlier recorded : Re
   pub ended : IsAtEnd after
   pub read : answers_read complete bytes earlier ≡ Ok recorded
 
--- the first fault of a file after other files, whose bytes were read as far as the reader gave them or a byte too many
+-- a file is refused by its first fault after other files; its bytes were read as far as the reader supplied them, or to a byte too many
 pub record IsRefused (before after : Option (List ℕ)) (failed failed_after : ℕ) (earlier : Recorded) (fault : AnswersFault) : Type 0 where
   pub bytes : List ℕ
   pub consumed : Consumes before after bytes

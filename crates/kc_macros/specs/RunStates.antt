@@ -6,7 +6,7 @@ use Rattle.kc_macros_model.specs.Programs.{Notice, Answer}
 use Rattle.kc_macros_model.specs.AnswerFiles.{Recorded}
 use Rattle.kc_macros_model.specs.Worlds.{Outcome}
 
--- the answers, whether all questions must be answered, the work that is left, the notices so far, and the questions without an answer so far
+-- the state of a run: the answers, whether each question must have one, the work that is left, the notices so far, and the questions without an answer so far
 pub record RunState : Type 0 where
   pub answers : Recorded
   pub all_answered : Bool
@@ -14,21 +14,23 @@ pub record RunState : Type 0 where
   pub notices : List Notice
   pub questions : List (List ℕ)
 
--- the questions of a table
+-- the questions of recorded answers
 abbrev pub questions_of : Recorded → List (List ℕ)
 questions_of es = map (λ (e : List ℕ × Answer). e.0) es
 
+-- the state of a run at its start
 abbrev pub run_at_start : Recorded → Bool → RunState
 run_at_start answers all_answered = record { answers = answers; all_answered = all_answered; left = max_work; notices = []; questions = [] }
 
 -- questions, each once in order of first sight, and one more
 abbrev pub with_question : List (List ℕ) → List ℕ → List (List ℕ)
-with_question seen question = if is_in_list question seen then seen else seen ++ question ∷ []
+with_question questions question = if is_in_list question questions then questions else questions ++ question ∷ []
 
+-- questions, each once in order of first sight, and more
 abbrev pub with_questions : List (List ℕ) → List (List ℕ) → List (List ℕ)
-with_questions seen [] = seen
-with_questions seen (question ∷ more) = with_questions (with_question seen question) more
+with_questions questions [] = questions
+with_questions questions (question ∷ more) = with_questions (with_question questions question) more
 
--- a run after an outcome
+-- the state of a run after a program with this outcome
 abbrev pub after_outcome : {A : Type 0} → RunState → Outcome A → RunState
 after_outcome s o = record s { left = o.left; notices = s.notices ++ o.notices; questions = with_questions s.questions o.questions }

@@ -1,13 +1,13 @@
 pub mod Bodies
 pub mod LineTexts
-pub mod LinesLeft
+pub mod LineFronts
 pub mod RealTokens
 pub mod QuietLines
-pub mod Storing
+pub mod StoredBytes
 pub mod Pieces
 pub mod Frames
-pub mod Leads
-pub mod Gathering
+pub mod ProgramSteps
+pub mod PartialValues
 pub mod BuiltIns
 pub mod Texts
 pub mod Events

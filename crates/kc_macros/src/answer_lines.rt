@@ -7,7 +7,7 @@ ghost use Rattle.kc_macros_model.specs.Variables.{without_white_end, is_environm
 ghost use Rattle.kc_macros_model.specs.AnswerFiles.{line_after_command, name_not_set, name_with_text, line_alone, meaning_of_line};
 ghost use Rattle.kc_macros.specs.checker.LineView.{line_view};
 
-/// The meaning of a line without white at its end.
+/// The meaning of a line of a file of answers, white at its end aside.
 #[derive(Clone, Copy, Debug, PartialEq, Eq)]
 pub(crate) enum AnswerLine<'a> {
     /// Empty, or a comment.
@@ -19,7 +19,7 @@ pub(crate) enum AnswerLine<'a> {
     },
     /// The question of a command, whose answer comes on the next line.
     Command(&'a [u8]),
-    /// None of the forms.
+    /// A line of none of these forms.
     Malformed,
 }
 
@@ -65,7 +65,7 @@ pub(crate) fn is_environment_name(text: &[u8]) -> bool
     !first.is_ascii_digit() && are_name_bytes(text)
 }
 
-/// The byte at a place, and 0 after the end.
+/// The byte at a place of a line, and 0 after its end.
 pub(crate) fn byte_at(line: &[u8], at: usize) -> u8
     ensures { result ≡ slice_index line.now at }
 {
@@ -75,7 +75,7 @@ pub(crate) fn byte_at(line: &[u8], at: usize) -> u8
     }
 }
 
-/// The answer on the line after a command.
+/// The meaning of a line after a command: `>` alone, or `> ` and the answer.
 fn line_after_command<'a>(question: &'a [u8], line: &'a [u8]) -> AnswerLine<'a>
     ensures { line_view result ≡ line_after_command question.now line.now }
 {
@@ -94,7 +94,7 @@ fn line_after_command<'a>(question: &'a [u8], line: &'a [u8]) -> AnswerLine<'a>
     AnswerLine::Malformed
 }
 
-/// A name that isn't set.
+/// The meaning of `!` and a name: the name isn't set.
 fn name_not_set(name: &[u8]) -> AnswerLine<'_>
     ensures { line_view result ≡ name_not_set name.now }
 {
@@ -108,18 +108,18 @@ fn name_not_set(name: &[u8]) -> AnswerLine<'_>
     }
 }
 
-/// The place of the first `=`.
+/// The place of the first `=` in a line.
 fn place_of_equals(line: &[u8]) -> Option<usize>
-    ensures place { result ≡ position (λ c. c == 61) line.now }
+    ensures value { result ≡ position (λ c. c == 61) line.now }
     ensures within { IfSome result (λ at. at < length line.now) }
 {
     line.iter().position(|&byte| byte == b'=')
 }
 
-/// A name, `=` and a text, by the place of the `=`.
+/// The meaning of a name, `=` and a text, by the place of the `=`.
 fn name_with_text(line: &[u8], at: usize) -> AnswerLine<'_>
-    requires { at < length line.now }
-    ensures { line_view result ≡ name_with_text line.now (Some at) }
+    requires there { at < length line.now }
+    ensures value { line_view result ≡ name_with_text line.now (Some at) }
 {
     if !is_environment_name(&line[..at]) {
         return AnswerLine::Malformed;
@@ -130,7 +130,7 @@ fn name_with_text(line: &[u8], at: usize) -> AnswerLine<'_>
     }
 }
 
-/// A line that follows no command.
+/// The meaning of a line that follows no command.
 fn line_alone(line: &[u8]) -> AnswerLine<'_>
     ensures { line_view result ≡ line_alone line.now }
 {
@@ -153,7 +153,7 @@ fn line_alone(line: &[u8]) -> AnswerLine<'_>
     }
 }
 
-/// The meaning of a line without white at its end, which may follow a command.
+/// The meaning of a line without white at its end; `waiting` is the question of a command on the line before it.
 pub(crate) fn meaning_of_line<'a>(waiting: Option<&'a [u8]>, line: &'a [u8]) -> AnswerLine<'a>
     ensures { line_view result ≡ meaning_of_line (option_map (λ q. q.now) waiting.entry) line.now }
 {

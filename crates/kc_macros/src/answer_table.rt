@@ -1,4 +1,4 @@
-//! Questions with their answers.
+//! A table of questions with their answers.
 ghost use Rattle.std.specs.Prelude.{◌≡◌, ℕ, List, [], ◌∷◌, ◌++◌, length, take, Some, None, OnOk, OnErr, IfOk, Vec, bytes_eq, map, option_map, if◌then◌else◌};
 ghost use Rattle.std.specs.declared.alloc.Global.{Global};
 ghost use Rattle.kc_tree_model.specs.Keywords.{keyword_in_table};
@@ -9,7 +9,7 @@ use kc_value::Seed;
 use std::alloc::{AllocError, Global};
 use std::marker::Model;
 
-/// Questions with their answers, in order of insertion; a name that isn't set has none.
+/// Questions with their answers, in order of insertion; a name that isn't set has the answer `None`.
 #[derive(Drop)]
 pub(crate) struct AnswerTable {
     alloc: Global,
@@ -28,7 +28,7 @@ impl Model for AnswerTable {
 }
 
 /// A copy of an answer.
-fn copied(alloc: Global, answer: Option<&[u8]>) -> Result<Option<Vec<u8>>, AllocError>
+fn copy_of_answer(alloc: Global, answer: Option<&[u8]>) -> Result<Option<Vec<u8>>, AllocError>
     ensures { IfOk result (λ copy. option_map (λ (t : Vec ℕ Global). t.items) copy ≡ option_map (λ t. t.now) answer.entry) }
 {
     match answer {
@@ -38,7 +38,7 @@ fn copied(alloc: Global, answer: Option<&[u8]>) -> Result<Option<Vec<u8>>, Alloc
 }
 
 impl AnswerTable {
-    /// No answers; questions are hashed by this seed.
+    /// A table without questions, which `seed` will hash.
     pub(crate) fn new(alloc: Global, seed: Seed) -> AnswerTable
         ensures { result ≡ [] }
     {
@@ -48,7 +48,7 @@ impl AnswerTable {
         }
     }
 
-    /// The answer to a question, if it is there.
+    /// The answer to a question, if the table has the question.
     pub(crate) fn get(&self, question: &[u8]) -> Option<Option<&[u8]>>
         ensures { option_map (λ a. option_map (λ t. t.now) a) result ≡ keyword_in_table self.now question.now }
     {
@@ -58,7 +58,7 @@ impl AnswerTable {
         }
     }
 
-    /// Puts a question that isn't there last, with its answer; both are copied.
+    /// Appends a question that the table doesn't have, with its answer; both are copy_of_answer.
     ///
     /// # Errors
     ///
@@ -73,12 +73,12 @@ impl AnswerTable {
         ensures err { OnErr result (self.new ≡ self.old) }
     {
         let question = Vec::from_slice(self.alloc, question)?;
-        let answer = copied(self.alloc, answer)?;
+        let answer = copy_of_answer(self.alloc, answer)?;
         self.entries.insert(question, answer)?;
         Ok(())
     }
 
-    /// Gives a question this answer, in place of one that it has; both are copied.
+    /// Gives a question this answer, in place of one that it has; both are copy_of_answer.
     ///
     /// # Errors
     ///
@@ -88,12 +88,12 @@ impl AnswerTable {
         ensures err { OnErr result (self.new ≡ self.old) }
     {
         let question = Vec::from_slice(self.alloc, question)?;
-        let answer = copied(self.alloc, answer)?;
+        let answer = copy_of_answer(self.alloc, answer)?;
         self.entries.insert(question, answer)?;
         Ok(())
     }
 
-    /// Puts a question that isn't there last, without an answer; one that is there stays.
+    /// Appends a question without an answer, unless the table has the question.
     ///
     /// # Errors
     ///
@@ -107,7 +107,7 @@ impl AnswerTable {
         Ok(())
     }
 
-    /// The questions in their order.
+    /// The questions, in order of insertion.
     pub(crate) fn into_questions(self) -> Result<Vec<Vec<u8>>, AllocError>
         ensures { IfOk result (λ qs. map (λ (q : Vec ℕ Global). q.items) qs.items ≡ questions_of self) }
     {
@@ -122,7 +122,7 @@ impl AnswerTable {
         self.entries.len()
     }
 
-    /// Keeps the first questions, as many as this.
+    /// Drops the questions after the first `len`.
     pub(crate) fn truncate(&mut self, len: usize)
         ensures { self.new ≡ take len self.old }
     {

@@ -1,18 +1,19 @@
-//! Answers to questions.
+//! The answers that files of answers give to the questions of macros.
 ghost use Rattle.std.specs.Prelude.{◌≡◌, ◌⊎◌, ◌+◌, ◌<◌, ◌≤◌, ℕ, List, [], length, take, Some, None, Ok, OnOk, OnErr, IfOk, IfErr, bytes_eq, is_some, option_map, if◌then◌else◌};
 ghost use Rattle.std.specs.Io.KnownBytes.{Consumes, IsAtEnd};
 ghost use Rattle.kc_tree_model.specs.Keywords.{keyword_in_table};
 ghost use Rattle.kc_macros.specs.ReadAnswers.{ReadsToEnd, AreRecorded, IsRefused};
 
 use super::answer_table::AnswerTable;
+use super::file_records::record_lines;
 use super::limits::MAX_ANSWER_BYTES;
-use super::recording_lines::record_lines;
 use kc_macros_model::{AnswersFault, AnswersKind};
 use kc_value::{ReadBytes, ReadEnd, Seed, Source, read_up_to};
 use std::alloc::{AllocError, Global};
 use std::marker::Model;
 
-/// Reads what a reader has left, up to the first byte too many. Returns it with the fault that cuts it there, if one does.
+/// Reads a reader to its end, or to the first byte too many for a file of answers; returns the bytes, and the fault that
+/// ended them early, if one did.
 fn read_whole<R: Source>(
     alloc: Global,
     source: &mut R,
@@ -29,7 +30,7 @@ fn read_whole<R: Source>(
     }
 }
 
-/// The bytes before the first byte too many.
+/// The first `MAX_ANSWER_BYTES` of some bytes, or all of fewer.
 fn within_size(bytes: &[u8]) -> &[u8]
     ensures { result.now ≡ take MAX_ANSWER_BYTES bytes.now }
 {
@@ -57,7 +58,7 @@ impl Model for Answers {
 }
 
 impl Answers {
-    /// No answers; questions are hashed by this seed.
+    /// Answers to no question; `seed` will hash the questions.
     pub fn new(alloc: Global, seed: Seed) -> Answers
         ensures { result ≡ [] }
     {

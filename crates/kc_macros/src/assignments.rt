@@ -2,24 +2,24 @@
 ghost use Rattle.std.specs.Prelude.{◌≡◌, [], ◌∷◌, ◌++◌, Some, IfOk, OnErr};
 ghost use Rattle.kc_macros_model.specs.Variables.{joined_values};
 ghost use Rattle.kc_macros_model.specs.Assignments.{appends, stored_simple, stored_recursive, variable_assigned};
-ghost use Rattle.kc_macros.specs.Variables.{bindings_of, variable_of};
-ghost use Rattle.kc_macros.specs.Assigning.{operator_of, bindings_assigned};
-ghost use Rattle.kc_macros.specs.checker.Storing.{stored_bytes};
+ghost use Rattle.kc_macros.specs.between.Variables.{bindings_of, variable_of};
+ghost use Rattle.kc_macros.specs.between.AssignmentViews.{operator_of, bindings_assigned};
+ghost use Rattle.kc_macros.specs.checker.StoredBytes.{stored_bytes};
 ghost use Rattle.kc_macros.specs.Runs.{place_of, Runs, end_of};
 
 use super::bindings::Bindings;
 use super::bytes::Bytes;
 use super::events::{fault, spend};
-use super::expand::text_value;
-use super::gathered::value_length;
 use super::limits::MAX_TEXT_BYTES;
+use super::partial_value::value_length;
 use super::run::Run;
 use super::stop::{Place, Stop};
+use super::text_values::text_value;
 use super::variable::Variable;
 use kc_macros_model::MacroKind;
 use std::alloc::{AllocError, Global};
 
-/// `:=`, `+=` and `=`.
+/// The operators of assignments: `:=` stores the value of its text, `+=` appends, `=` stores a text that each use expands.
 #[derive(Clone, Copy, Debug, PartialEq, Eq)]
 pub enum Operator {
     SetsNow,
@@ -27,7 +27,7 @@ pub enum Operator {
     Sets,
 }
 
-/// An assignment of a text to a name.
+/// An assignment: its name, which is expanded, its operator, and its text, which isn't.
 #[derive(Drop)]
 pub struct Assignment {
     pub name: Bytes,
@@ -35,7 +35,7 @@ pub struct Assignment {
     pub text: Bytes,
 }
 
-/// The work and the limit of a variable that is stored with this many bytes.
+/// Does the work of storing `length` bytes for a variable, unless that is too many.
 fn store(run: &mut Run<'_>, at: Place<'_>, length: usize) -> Result<(), Stop>
     ensures { Runs run.old run.new (stored_bytes (place_of at.entry) length) (end_of (λ u. u) result) }
 {
@@ -45,7 +45,7 @@ fn store(run: &mut Run<'_>, at: Place<'_>, length: usize) -> Result<(), Stop>
     spend(run, at, length)
 }
 
-/// A new simple variable.
+/// Stores a value as a simple variable.
 fn stored_simple(run: &mut Run<'_>, at: Place<'_>, value: Option<Bytes>) -> Result<Variable, Stop>
     ensures { Runs run.old run.new (stored_simple (place_of at.entry) value) (end_of variable_of result) }
 {
@@ -53,7 +53,7 @@ fn stored_simple(run: &mut Run<'_>, at: Place<'_>, value: Option<Bytes>) -> Resu
     Ok(Variable::Simple(value))
 }
 
-/// A new recursive variable.
+/// Stores a text as a recursive variable.
 fn stored_recursive(run: &mut Run<'_>, at: Place<'_>, text: Bytes) -> Result<Variable, Stop>
     ensures { Runs run.old run.new (stored_recursive (place_of at.entry) text) (end_of variable_of result) }
 {
@@ -85,7 +85,7 @@ fn spaced_value(
     }
 }
 
-/// The variable that `+=` makes of the one before, whose flavour it keeps.
+/// The variable that `+=` makes of an earlier one, whose flavour it keeps.
 fn appended(
     run: &mut Run<'_>,
     at: Place<'_>,
@@ -108,7 +108,7 @@ fn appended(
     }
 }
 
-/// The variable that an assignment makes of the one before, if there is one.
+/// The variable that an assignment makes for a name, which may have an earlier one.
 fn variable_assigned(
     run: &mut Run<'_>,
     at: Place<'_>,

@@ -1,7 +1,7 @@
 //! Variables by their names.
 ghost use Rattle.std.specs.Prelude.{◌≡◌, ◌∷◌, OnOk, OnErr, option_map};
 ghost use Rattle.kc_macros_model.specs.Variables.{no_bindings, with_variable};
-ghost use Rattle.kc_macros.specs.Variables.{bindings_of, variable_of};
+ghost use Rattle.kc_macros.specs.between.Variables.{bindings_of, variable_of};
 
 use super::bytes::Bytes;
 use super::variable::Variable;
@@ -23,13 +23,13 @@ impl Model for Bindings {
 
     ghost Value = { List (List ℕ × Meaning) };
 
-    ghost use Rattle.kc_macros.specs.Variables.{entry_of};
+    ghost use Rattle.kc_macros.specs.between.Variables.{entry_of};
 
     ghost view = { λ b. map entry_of b.entries.entries };
 }
 
 impl Bindings {
-    /// No variables; names are hashed by this seed.
+    /// Bindings of no name; `seed` will hash the names.
     pub fn new(alloc: Global, seed: Seed) -> Bindings
         ensures { bindings_of result ≡ no_bindings }
     {
@@ -46,7 +46,7 @@ impl Bindings {
         self.entries.get(name)
     }
 
-    /// Binds a name to a variable, in place of one of that name.
+    /// Binds a name to a variable, in place of an earlier one.
     ///
     /// # Errors
     ///

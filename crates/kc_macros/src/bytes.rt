@@ -4,7 +4,7 @@ ghost use Rattle.std.specs.Prelude.{◌≡◌, IfOk};
 use std::alloc::{AllocError, Global};
 use std::marker::Model;
 
-/// Bytes of one's own, which contracts see as a list.
+/// A vector of bytes, which contracts see as a list.
 #[derive(Drop)]
 pub struct Bytes {
     bytes: Vec<u8>,

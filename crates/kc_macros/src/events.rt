@@ -1,10 +1,11 @@
-//! What a run does beside its values: work, notices, questions and faults.
+//! The events of a run: work, notices, questions and faults.
 ghost use Rattle.std.specs.Prelude.{◌≡◌, Some, None, IfOk, option_map};
 ghost use Rattle.kc_tree_model.specs.Keywords.{keyword_in_table};
 ghost use Rattle.kc_macros_model.specs.Variables.{value_of_answer};
 ghost use Rattle.kc_macros_model.specs.Expansion.{asked_value, reported};
 ghost use Rattle.kc_macros.specs.Runs.{place_of, fault_of, notice_of, Runs, end_of};
-ghost use Rattle.kc_macros.specs.checker.Events.{FailsWith, spent};
+ghost use Rattle.kc_macros.specs.between.Stops.{FailsWith};
+ghost use Rattle.kc_macros.specs.checker.Events.{spent};
 
 use super::bytes::Bytes;
 use super::run::Run;
@@ -29,7 +30,7 @@ fn new_fault(
     })
 }
 
-/// The stop for a fault; want of memory where it can't be kept.
+/// Stops an expansion by a fault, or by running out of memory where the fault can't be copied.
 pub(crate) fn fault(alloc: Global, at: Place<'_>, kind: MacroKind, text: &[u8]) -> Stop
     ensures { FailsWith (record { at = place_of at.entry; kind = kind; text = text.now }) result }
 {
@@ -56,7 +57,7 @@ fn new_notice(
     })
 }
 
-/// Does work, if as much is left.
+/// Does work, or fails with `TooMany` where less is left.
 pub(crate) fn spend(run: &mut Run<'_>, at: Place<'_>, work: usize) -> Result<(), Stop>
     ensures { Runs run.old run.new (spent (place_of at.entry) work) (end_of (λ u. u) result) }
 {
@@ -67,7 +68,7 @@ pub(crate) fn spend(run: &mut Run<'_>, at: Place<'_>, work: usize) -> Result<(),
     Ok(())
 }
 
-/// Gives a notice, whose value is empty.
+/// Reports a notice; the reference that asks for it has an empty value.
 pub(crate) fn report(
     run: &mut Run<'_>,
     at: Place<'_>,
@@ -81,7 +82,7 @@ pub(crate) fn report(
     Ok(Some(Bytes::from_vec(Vec::new(run.alloc()))))
 }
 
-/// A copy of the value of a question by its answer.
+/// A copy of the value that an answer gives: its text, or nothing for a name that isn't set.
 fn answered_value(alloc: Global, answer: Option<&[u8]>) -> Result<Bytes, AllocError>
     ensures { IfOk result (λ v. Some v ≡ value_of_answer (Some (option_map (λ t. t.now) answer.entry))) }
 {
@@ -91,14 +92,14 @@ fn answered_value(alloc: Global, answer: Option<&[u8]>) -> Result<Bytes, AllocEr
     }
 }
 
-/// The value of a question without an answer.
+/// The value of a question without an answer: unknown, or a fault where each question must have one.
 fn unanswered_value(
     run: &mut Run<'_>,
     at: Place<'_>,
     question: &[u8],
 ) -> Result<Option<Bytes>, Stop>
-    requires { keyword_in_table run.old.answers question.now ≡ None }
-    ensures { Runs run.old run.new (asked_value (place_of at.entry) question.now) (end_of (λ v. v) result) }
+    requires unanswered { keyword_in_table run.old.answers question.now ≡ None }
+    ensures run { Runs run.old run.new (asked_value (place_of at.entry) question.now) (end_of (λ v. v) result) }
 {
     if run.all_answered() {
         return Err(fault(run.alloc(), at, MacroKind::Unanswered, question));
@@ -107,7 +108,7 @@ fn unanswered_value(
     Ok(None)
 }
 
-/// The value of a question.
+/// The value of a question, by its answer.
 pub(crate) fn ask(run: &mut Run<'_>, at: Place<'_>, question: &[u8]) -> Result<Option<Bytes>, Stop>
     ensures { Runs run.old run.new (asked_value (place_of at.entry) question.now) (end_of (λ v. v) result) }
 {

@@ -21,16 +21,16 @@ static PROMPT_WORDS: [&[u8]; 9] = [
 /// Words that a path of files to be read follows.
 static SOURCE_WORDS: [&[u8]; 4] = [b"source", b"rsource", b"osource", b"orsource"];
 
-/// Those whose paths begin at the folder of the file.
+/// Words of a `source` whose path begins in the folder of the file.
 static RELATIVE_SOURCES: [&[u8]; 2] = [b"rsource", b"orsource"];
 
-/// Those whose files may be missing.
+/// Words of a `source` whose files may be missing.
 static OPTIONAL_SOURCES: [&[u8]; 2] = [b"osource", b"orsource"];
 
 /// Words after which a help text begins.
 static HELP_WORDS: [&[u8]; 2] = [b"help", b"---help---"];
 
-/// Words that come after a type or a prompt and are no prompts.
+/// Words that aren't a prompt where they follow a type or `prompt`.
 static CONDITION_WORDS: [&[u8]; 2] = [b"if", b"on"];
 
 /// Whether a prompt or a title follows a word.
@@ -47,14 +47,14 @@ pub(crate) fn is_source_word(word: &[u8]) -> bool
     is_among(&SOURCE_WORDS, word)
 }
 
-/// Whether the paths of a `source` begin at the folder of the file.
+/// Whether the path of a `source` with this word begins in the folder of the file.
 pub(crate) fn is_relative_source(word: &[u8]) -> bool
     ensures { result ≡ is_in_list word.now (codes "rsource" ∷ codes "orsource" ∷ []) }
 {
     is_among(&RELATIVE_SOURCES, word)
 }
 
-/// Whether the files of a `source` may be missing.
+/// Whether the files of a `source` with this word may be missing.
 pub(crate) fn is_optional_source(word: &[u8]) -> bool
     ensures { result ≡ is_in_list word.now (codes "osource" ∷ codes "orsource" ∷ []) }
 {
@@ -68,7 +68,7 @@ pub(crate) fn is_help_word(word: &[u8]) -> bool
     is_among(&HELP_WORDS, word)
 }
 
-/// Whether a word after a type or a prompt is no prompt.
+/// Whether a word isn't a prompt where it follows a type or `prompt`.
 pub(crate) fn is_condition_word(word: &[u8]) -> bool
     ensures { result ≡ is_in_list word.now (codes "if" ∷ codes "on" ∷ []) }
 {

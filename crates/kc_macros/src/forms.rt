@@ -4,20 +4,20 @@ ghost use Rattle.std.specs.List.{list_any};
 ghost use Rattle.kc_tree_model.specs.Limits.{is_in_list};
 ghost use Rattle.kc_macros_model.specs.Assignments.{is_unknown};
 ghost use Rattle.kc_macros_model.specs.LineForms.{help_words, is_word, sort_of_source, form_of_pair, form_of, without_gaps, is_help_line, is_undecided};
-ghost use Rattle.kc_macros.specs.WrittenTokens.{token_of};
-ghost use Rattle.kc_macros.specs.LineContents.{tokens_of};
-ghost use Rattle.kc_macros.specs.LineFormViews.{source_sort_of, form_view};
+ghost use Rattle.kc_macros.specs.between.WrittenTokens.{token_of};
+ghost use Rattle.kc_macros.specs.between.LineContents.{tokens_of};
+ghost use Rattle.kc_macros.specs.between.LineFormViews.{source_sort_of, form_view};
 ghost use Rattle.kc_macros.specs.checker.RealTokens.{is_decisive_word, form_by};
 
-use super::built_in::is_text;
+use super::built_in_functions::is_text;
 use super::form_words::{
     is_help_word, is_optional_source, is_prompt_word, is_relative_source, is_source_word,
 };
 use super::real_tokens::{is_empty_line, next_real};
 use super::token_sorts::{is_bare_prompt, is_path, is_unknown, is_word};
-use super::written::WrittenToken;
+use super::written_tokens::WrittenToken;
 
-/// Which `source` a line has: one whose paths begin at the folder of the file, one whose files may be missing.
+/// The sort of a `source`: whether its path begins in the folder of the file, and whether its files may be missing.
 #[derive(Clone, Copy, Debug, PartialEq, Eq)]
 pub struct SourceSort {
     pub relative: bool,
@@ -45,7 +45,7 @@ fn meaning_of(token: &WrittenToken) -> Option<&[u8]>
     }
 }
 
-/// Which `source` a word is.
+/// The sort of `source` that a word means.
 fn sort_of_source(word: &[u8]) -> SourceSort
     ensures { source_sort_of result ≡ sort_of_source word.now }
 {
@@ -145,7 +145,8 @@ fn has_unknown(tokens: &[WrittenToken]) -> bool
     tokens.iter().any(|token| is_unknown(token))
 }
 
-/// Whether it isn't known what a line is: a `source` or the beginning of a help text with a token that may be gone.
+/// Whether the form of a line isn't known: it begins with a `source` or help word, and a later token may be gone, since it
+/// depends on a question without an answer.
 pub fn is_undecided(tokens: &[WrittenToken]) -> bool
     ensures { result ≡ is_undecided (without_gaps (tokens_of tokens.now)) }
 {

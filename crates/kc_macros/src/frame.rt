@@ -1,17 +1,17 @@
-//! Where a text is expanded.
+//! Frames in which texts are expanded.
 ghost use Rattle.std.specs.Prelude.{◌≡◌, ◌∷◌, IfOk, bytes_eq};
 ghost use Rattle.std.specs.List.{list_any};
 ghost use Rattle.kc_macros_model.specs.Expansion.{is_recursion};
 ghost use Rattle.kc_macros.specs.checker.Texts.{texts_of};
 
 use super::bindings::Bindings;
-use super::built_in::is_text;
+use super::built_in_functions::is_text;
 use super::bytes::Bytes;
 use super::stop::Place;
 use std::alloc::{AllocError, Global};
 
-/// Where a text is expanded: its line, the variables, the names whose values are being expanded, the arguments of the
-/// call, and how many expansions may still be open within each other.
+/// A frame in which a text is expanded: its line, the variables, the names whose values are being expanded, the arguments of
+/// the call, and how many expansions may still be open within each other.
 #[derive(Clone, Copy)]
 pub(crate) struct Frame<'a> {
     pub(crate) at: Place<'a>,
@@ -38,7 +38,7 @@ pub(crate) fn is_recursion(names: &[&[u8]], name: &[u8], args: &[Option<Bytes>])
     false
 }
 
-/// A name before others.
+/// Names with one more at their front.
 pub(crate) fn with_name<'a>(
     alloc: Global,
     name: &'a [u8],

@@ -1,12 +1,12 @@
-//! Words that the language gives a meaning.
+//! Words with a meaning in the language of trees.
 ghost use Rattle.std.specs.Prelude.{◌≡◌, bytes_eq};
 ghost use Rattle.std.specs.List.{list_any};
 ghost use Rattle.kc_tree_model.specs.Keywords.{keywords};
-ghost use Rattle.kc_macros_model.specs.Rewriting.{is_keyword};
+ghost use Rattle.kc_macros_model.specs.WrittenTokens.{is_keyword};
 
-use super::built_in::is_text;
+use super::built_in_functions::is_text;
 
-/// The words of statements and attributes.
+/// Words that begin statements and attributes.
 static LINE_KEYWORDS: [&[u8]; 37] = [
     b"config",
     b"menuconfig",
@@ -57,7 +57,7 @@ pub(crate) fn is_among(words: &[&[u8]], word: &[u8]) -> bool
     words.iter().any(|other| is_text(other, word))
 }
 
-/// Whether a word is one of a statement or an attribute.
+/// Whether a word begins statements or attributes.
 fn is_line_keyword(word: &[u8]) -> bool
     ensures { result ≡ list_any (λ e. bytes_eq e.0 word.now) keywords }
 {

@@ -1,46 +1,45 @@
-//! Macros of Kconfig trees: answers to the questions that they ask.
+//! Macros of Kconfig trees: files of answers, variables, and the values of texts and lines.
 #![tactic(auto)]
 
 mod answer_lines;
 mod answer_table;
 mod answers;
-mod assigned_texts;
+mod assignment_syntax;
 mod assignments;
 mod bindings;
-mod built_in;
+mod built_in_functions;
 mod bytes;
-mod copied;
+mod copied_lines;
 mod events;
-mod expand;
+mod file_records;
 mod form_words;
 mod forms;
 mod frame;
-mod gathered;
 mod keywords;
 mod limits;
 mod line_content;
+mod line_records;
 mod line_texts;
 mod line_tokens;
 mod names;
 mod parameter;
+mod partial_value;
 mod quoted_tokens;
 mod real_tokens;
-mod recording;
-mod recording_lines;
 mod references;
 mod run;
 mod stop;
+mod text_values;
 mod token_sorts;
 mod token_values;
 mod variable;
-mod written;
+mod written_tokens;
 
 pub use answers::Answers;
 pub use assignments::{Assignment, Operator, assign};
 pub use bindings::Bindings;
 pub use bytes::Bytes;
-pub use copied::is_copied;
-pub use expand::text_value;
+pub use copied_lines::is_copied;
 pub use forms::{LineForm, SourceSort, is_help_line, is_undecided, line_form};
 pub use kc_macros_model::{AnswersFault, AnswersKind, MacroKind, MacroNoticeKind};
 pub use limits::{
@@ -53,5 +52,6 @@ pub use line_texts::{
 };
 pub use run::Run;
 pub use stop::{MacroFault, MacroNotice, Place, Stop};
+pub use text_values::text_value;
 pub use variable::Variable;
-pub use written::{TokenSort, WrittenToken, quoted_text_token};
+pub use written_tokens::{TokenSort, WrittenToken, quoted_text_token};

@@ -2,15 +2,15 @@
 ghost use Rattle.std.specs.Prelude.{◌≡◌, ◌+◌, ◌<◌, ◌^◌, ◌∷◌, ◌&&◌, true, None, Some, length, IfOk};
 ghost use Rattle.kc_macros_model.specs.LineTokens.{token_bytes, line_tokens};
 ghost use Rattle.kc_macros_model.specs.Assignments.{is_gap, assignment_to, assignment_at, is_open_front, line_content};
-ghost use Rattle.kc_macros.specs.Variables.{bindings_of};
-ghost use Rattle.kc_macros.specs.WrittenTokens.{token_of};
-ghost use Rattle.kc_macros.specs.LineContents.{content_of};
+ghost use Rattle.kc_macros.specs.between.Variables.{bindings_of};
+ghost use Rattle.kc_macros.specs.between.WrittenTokens.{token_of};
+ghost use Rattle.kc_macros.specs.between.LineContents.{content_of};
 ghost use Rattle.kc_macros.specs.Runs.{place_of, Runs, end_of};
-ghost use Rattle.kc_macros.specs.checker.Leads.{Steps};
+ghost use Rattle.kc_macros.specs.checker.ProgramSteps.{Steps};
 ghost use Rattle.kc_macros.specs.checker.LineTexts.{token_view, has_token};
-ghost use Rattle.kc_macros.specs.checker.LinesLeft.{name_token, assigned_of, front_left, step_left, IsShorter};
+ghost use Rattle.kc_macros.specs.checker.LineFronts.{name_token, assigned_of, front_left, step_left, IsShorter};
 
-use super::assigned_texts::{FoundAssignment, assignment_at, without_white_front};
+use super::assignment_syntax::{FoundAssignment, assignment_at, without_white_front};
 use super::assignments::Assignment;
 use super::bindings::Bindings;
 use super::bytes::Bytes;
@@ -20,23 +20,23 @@ use super::run::Run;
 use super::stop::{Place, Stop};
 use super::token_sorts::{is_gap, is_unknown};
 use super::token_values::run_value;
-use super::written::{WrittenToken, token_of_text};
+use super::written_tokens::{WrittenToken, token_of_text};
 
-/// A line assigns a text to a name, or has these tokens.
+/// The content of a line: an assignment, or written tokens.
 #[derive(Drop)]
 pub enum LineContent {
     Assigns(Assignment),
     Tokens(Vec<WrittenToken>),
 }
 
-/// The tokens of a line so far, and whether the name of an assignment may come next.
+/// The first tokens of a line, as they are written, and whether the name of an assignment may come next.
 #[derive(Drop)]
 pub(crate) struct LineFront {
     pub(crate) tokens: Vec<WrittenToken>,
     pub(crate) may_assign: bool,
 }
 
-/// What a token leaves: the rest of the line, or an assignment.
+/// A step along a line: to the bytes after a token, or to the assignment that the line is.
 #[derive(Drop)]
 pub(crate) enum LineStep<'t> {
     Rest(&'t [u8]),
@@ -45,8 +45,8 @@ pub(crate) enum LineStep<'t> {
 
 /// How many bytes a token has.
 fn token_length(token: LineToken<'_>) -> usize
-    requires { length (token_bytes (token_view token)) < 2 ^ 64 }
-    ensures { result ≡ length (token_bytes (token_view token.entry)) }
+    requires small { length (token_bytes (token_view token)) < 2 ^ 64 }
+    ensures value { result ≡ length (token_bytes (token_view token.entry)) }
 {
     match token {
         LineToken::Gap(text)
@@ -59,7 +59,7 @@ fn token_length(token: LineToken<'_>) -> usize
 
 /// The token at the front of a text, and the bytes after it.
 pub(crate) fn front_token(text: &[u8]) -> (LineToken<'_>, &[u8])
-    requires some { 0 < length text.now }
+    requires not_empty { 0 < length text.now }
     ensures tokens { line_tokens 0 text.now ≡ token_view result.0 ∷ line_tokens 0 result.1.now }
     ensures shorter { length result.1.now < length text.now }
 {
@@ -78,21 +78,21 @@ pub(crate) fn has_token(text: &[u8]) -> bool
     rest[0] != b'#'
 }
 
-/// Whether tokens come after one that may be gone, so that they may be a line of their own.
+/// Whether a first token that may be gone has more after it, so that it isn't known whether that is an assignment.
 fn is_open_front(may_assign: bool, written: &WrittenToken, after: &[u8]) -> bool
     ensures { result ≡ is_open_front may_assign (token_of written.now) (line_tokens 0 after.now) }
 {
     may_assign && is_unknown(written) && has_token(after)
 }
 
-/// Whether the name of an assignment may come after a token, where it could come before: only gaps have come then.
+/// Whether the name of an assignment may come after a token: only where nothing but gaps came before.
 fn may_still_assign(may_assign: bool, written: &WrittenToken) -> bool
     ensures { result ≡ (may_assign && is_gap (token_of written.now)) }
 {
     may_assign && is_gap(written)
 }
 
-/// Puts a token that is no name of an assignment to those before it.
+/// Writes a token that is no name of an assignment, and appends it to those before it.
 fn push_token(
     run: &mut Run<'_>,
     at: Place<'_>,
@@ -101,8 +101,8 @@ fn push_token(
     after: &[u8],
     front: &mut LineFront,
 ) -> Result<(), Stop>
-    requires { assignment_at front.old.may_assign (token_view token) (line_tokens 0 after.now) ≡ None }
-    ensures { Steps run.old run.new (front_left (place_of at.entry) (bindings_of bindings.now) front.old (token_view token.entry ∷ line_tokens 0 after.now)) (λ u. front_left (place_of at.entry) (bindings_of bindings.now) front.new (line_tokens 0 after.now)) result }
+    requires unassigned { assignment_at front.old.may_assign (token_view token) (line_tokens 0 after.now) ≡ None }
+    ensures steps { Steps run.old run.new (front_left (place_of at.entry) (bindings_of bindings.now) front.old (token_view token.entry ∷ line_tokens 0 after.now)) (λ u. front_left (place_of at.entry) (bindings_of bindings.now) front.new (line_tokens 0 after.now)) result }
 {
     let written = written_token(run, at, bindings, token)?;
     if is_open_front(front.may_assign, &written, after) {
@@ -113,7 +113,7 @@ fn push_token(
     Ok(())
 }
 
-/// The assignment to a name. A name whose value is empty is a gap, and the line goes on.
+/// The assignment that a line is; a name whose value is empty is a gap, and the line goes on.
 fn assigned_or_gap<'t>(
     run: &mut Run<'_>,
     at: Place<'_>,
@@ -123,7 +123,7 @@ fn assigned_or_gap<'t>(
     front: &mut LineFront,
 ) -> Result<LineStep<'t>, Stop>
     requires found { assignment_to (name_token found.name.now) (line_tokens 0 after.now) ≡ Some (assigned_of found) }
-    requires may { front.old.may_assign ≡ true }
+    requires may_assign { front.old.may_assign ≡ true }
     ensures steps { Steps run.old run.new (front_left (place_of at.entry) (bindings_of bindings.now) front.old (name_token found.entry.name.now ∷ line_tokens 0 after.now)) (step_left (place_of at.entry) (bindings_of bindings.now) front.new) result }
     ensures shorter { IfOk result (λ s. IsShorter s (length after.now + 1)) }
 {
@@ -143,7 +143,7 @@ fn assigned_or_gap<'t>(
     }))
 }
 
-/// Goes over the token at the front of what is left of a line.
+/// Reads the token at the front of the rest of a line.
 fn next_token<'t>(
     run: &mut Run<'_>,
     at: Place<'_>,
@@ -151,7 +151,7 @@ fn next_token<'t>(
     text: &'t [u8],
     front: &mut LineFront,
 ) -> Result<LineStep<'t>, Stop>
-    requires some { 0 < length text.now }
+    requires not_empty { 0 < length text.now }
     ensures steps { Steps run.old run.new (front_left (place_of at.entry) (bindings_of bindings.now) front.old (line_tokens 0 text.now)) (step_left (place_of at.entry) (bindings_of bindings.now) front.new) result }
     ensures shorter { IfOk result (λ s. IsShorter s (length text.now)) }
 {
@@ -165,7 +165,7 @@ fn next_token<'t>(
     }
 }
 
-/// A line as an assignment or as its tokens, with the values of their references.
+/// The content of a logical line: an assignment, or its tokens with the values of their references.
 ///
 /// # Errors
 ///

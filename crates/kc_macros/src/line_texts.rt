@@ -1,16 +1,16 @@
-//! The bytes that lines are written as.
+//! The bytes of written lines.
 ghost use Rattle.std.specs.Prelude.{◌≡◌, ◌++◌, ◌∷◌, [], codes, OnOk, IfOk};
-ghost use Rattle.kc_macros_model.specs.Rewriting.{WrittenToken as Written, a_word, written_as};
+ghost use Rattle.kc_macros_model.specs.WrittenTokens.{WrittenToken as Written, a_word, written_as};
 ghost use Rattle.kc_macros_model.specs.LineForms.{with_nth_token, line_bytes, with_replacement, quoted_text_token};
 ghost use Rattle.kc_macros_model.specs.TreeExpansion.{source_line};
-ghost use Rattle.kc_macros.specs.LineContents.{tokens_of};
+ghost use Rattle.kc_macros.specs.between.LineContents.{tokens_of};
 
-use super::built_in::is_text;
+use super::built_in_functions::is_text;
 use super::real_tokens::gap_count;
-use super::written::{WrittenToken, quoted_text_token};
+use super::written_tokens::{WrittenToken, quoted_text_token};
 use std::alloc::{AllocError, Global};
 
-/// Puts the bytes of tokens to a text.
+/// Appends the bytes of tokens to a text.
 fn push_tokens(out: &mut Vec<u8>, tokens: &[WrittenToken]) -> Result<(), AllocError>
     ensures { OnOk result (out.new.items ≡ out.old.items ++ line_bytes (tokens_of tokens.now)) }
 {
@@ -20,7 +20,7 @@ fn push_tokens(out: &mut Vec<u8>, tokens: &[WrittenToken]) -> Result<(), AllocEr
     Ok(())
 }
 
-/// Puts the bytes of tokens to a text, with others in place of the first token that is no gap.
+/// Appends the bytes of tokens to a text, with `bytes` in place of the first token that is no gap.
 fn push_with_first(
     out: &mut Vec<u8>,
     tokens: &[WrittenToken],
@@ -38,7 +38,7 @@ fn push_with_first(
     Ok(())
 }
 
-/// The bytes of tokens, with others in place of the second token that is no gap.
+/// The bytes of tokens, with `bytes` in place of the second token that is no gap.
 fn with_second(alloc: Global, tokens: &[WrittenToken], bytes: &[u8]) -> Result<Vec<u8>, AllocError>
     ensures { IfOk result (λ t. t.items ≡ line_bytes (with_nth_token 1 (written_as a_word bytes.now []) (tokens_of tokens.now))) }
 {
@@ -53,7 +53,7 @@ fn with_second(alloc: Global, tokens: &[WrittenToken], bytes: &[u8]) -> Result<V
     Ok(text)
 }
 
-/// A line as it is.
+/// The bytes of a line, by its tokens.
 ///
 /// # Errors
 ///
@@ -85,7 +85,7 @@ pub fn with_bare_prompt(
     with_second(alloc, tokens, prompt.as_slice())
 }
 
-/// A line that from its first token on is this text.
+/// A line that is `text` from its first token on.
 ///
 /// # Errors
 ///
@@ -114,8 +114,8 @@ pub fn without_choice_name(alloc: Global, tokens: &[WrittenToken]) -> Result<Vec
     with_second(alloc, tokens, b"")
 }
 
-/// A `source` line with its keyword written anew, and where its path isn't the key of what it sources with the key in
-/// place of the path.
+/// A line with the keyword `source`, and with the key of what it sources in place of its path; a path that is the key stays
+/// as it is written.
 ///
 /// # Errors
 ///
@@ -137,7 +137,7 @@ pub fn source_line(
     Ok(text)
 }
 
-/// Puts a `source` line of a key to a text.
+/// Appends a `source` line to a text, with this key in place of its path.
 fn push_with_key(
     alloc: Global,
     out: &mut Vec<u8>,

@@ -32,8 +32,8 @@ pub(crate) fn is_run_byte(byte: u8) -> bool
 
 /// Whether a text begins with a `$(` without its `)`.
 fn is_unterminated_front(text: &[u8], in_quotes: bool) -> bool
-    requires { 0 < length text.now }
-    ensures { result ≡ is_unterminated (first_item_of in_quotes text.now) }
+    requires not_empty { 0 < length text.now }
+    ensures value { result ≡ is_unterminated (first_item_of in_quotes text.now) }
 {
     if begins_reference_at(text, 0) {
         return inside_length(&text[2..]).is_none();
@@ -44,8 +44,8 @@ fn is_unterminated_front(text: &[u8], in_quotes: bool) -> bool
 /// How many bytes the reference at the front of a text has; all where it doesn't end.
 fn reference_length(text: &[u8]) -> usize
     requires begins { begins_reference text.now ≡ true }
-    ensures length { (q : Bool) → result ≡ length (item_bytes (first_item_of q text.now)) }
-    ensures some { 0 < result }
+    ensures value { (q : Bool) → result ≡ length (item_bytes (first_item_of q text.now)) }
+    ensures positive { 0 < result }
     ensures within { result ≤ length text.now }
 {
     match inside_length(&text[2..]) {
@@ -56,17 +56,17 @@ fn reference_length(text: &[u8]) -> usize
 
 /// Whether a text in quotes begins with a backslash and another byte.
 pub(crate) fn is_pair(text: &[u8], in_quotes: bool) -> bool
-    requires { 0 < length text.now }
-    ensures { result ≡ (in_quotes && (slice_index text.now 0 == 92) && nat_lt 1 (length text.now)) }
+    requires not_empty { 0 < length text.now }
+    ensures value { result ≡ (in_quotes && (slice_index text.now 0 == 92) && nat_lt 1 (length text.now)) }
 {
     in_quotes && text[0] == b'\\' && text.len() > 1
 }
 
-/// How many bytes the first item of a text has.
+/// How many bytes the first item of a text has: a reference, a backslash with its byte, or one byte.
 pub(crate) fn item_length(text: &[u8], in_quotes: bool) -> usize
-    requires some { 0 < length text.now }
-    ensures length { result ≡ length (item_bytes (first_item_of in_quotes text.now)) }
-    ensures some { 0 < result }
+    requires not_empty { 0 < length text.now }
+    ensures value { result ≡ length (item_bytes (first_item_of in_quotes text.now)) }
+    ensures positive { 0 < result }
     ensures within { result ≤ length text.now }
 {
     if begins_reference_at(text, 0) {
@@ -105,9 +105,9 @@ fn ends_extent(byte: u8, quote: Option<u8>) -> bool
     }
 }
 
-/// How many bytes come before the first item that begins with a byte that ends a run, or a quoted token with this quote.
+/// How many bytes come before the byte that ends a run, or a quoted token with this quote; references are passed over.
 fn extent(text: &[u8], quote: Option<u8>) -> usize
-    ensures extent { result ≡ extent (is_some quote) (ends_extent quote) 0 text.now }
+    ensures value { result ≡ extent (is_some quote) (ends_extent quote) 0 text.now }
     ensures within { result ≤ length text.now }
 {
     let mut rest = text;
@@ -134,8 +134,8 @@ fn run_token(text: &[u8]) -> LineToken<'_>
 
 /// The token at the front of a text that begins with this quote.
 fn quoted_token(text: &[u8], quote: u8) -> LineToken<'_>
-    requires { slice_get text.now 0 ≡ Some quote }
-    ensures { token_view result ≡ quoted_token (extent true (λ d. d == quote) 0 (drop 1 text.now)) quote (drop 1 text.now) }
+    requires begins { slice_get text.now 0 ≡ Some quote }
+    ensures value { token_view result ≡ quoted_token (extent true (λ d. d == quote) 0 (drop 1 text.now)) quote (drop 1 text.now) }
 {
     let inside = &text[1..];
     let n = extent(inside, Some(quote));
@@ -150,8 +150,8 @@ fn quoted_token(text: &[u8], quote: u8) -> LineToken<'_>
 
 /// The token at the front of a text.
 pub(crate) fn first_token(text: &[u8]) -> LineToken<'_>
-    requires { 0 < length text.now }
-    ensures { token_view result ≡ first_token_of text.now }
+    requires not_empty { 0 < length text.now }
+    ensures value { token_view result ≡ first_token_of text.now }
 {
     let byte = text[0];
     if is_white(byte) {

@@ -1,13 +1,13 @@
-//! What a name means that is no variable: a built-in function, a parameter that wasn't given, or a name of the environment.
+//! The values of names that are no variables: built-in functions, parameters that weren't given, and names of the environment.
 ghost use Rattle.std.specs.Prelude.{◌≡◌, ◌≢◌, ◌∷◌, [], Some, length, decimal, IfOk, option_map};
 ghost use Rattle.kc_tree_model.specs.Keywords.{keyword_in_table};
 ghost use Rattle.kc_macros_model.specs.Variables.{command_question, built_ins};
 ghost use Rattle.kc_macros_model.specs.Expansion.{fault as fault_program, reported, shell_value, built_in_value, other_value, unbound_value};
 ghost use Rattle.kc_macros.specs.Runs.{place_of, Runs, end_of};
-ghost use Rattle.kc_macros.specs.checker.BuiltIns.{built_in_of, arity_of, message_text, said};
+ghost use Rattle.kc_macros.specs.checker.BuiltIns.{built_in_of, arity_of, message_text, message_value};
 
 use super::answer_lines::{is_environment_name, without_white_end};
-use super::built_in::{BuiltIn, arity, built_in, is_text};
+use super::built_in_functions::{BuiltIn, arity, built_in, is_text};
 use super::bytes::Bytes;
 use super::events::{ask, fault, report};
 use super::parameter::is_number;
@@ -26,7 +26,7 @@ fn decimal_text(alloc: Global, number: u32) -> Result<Bytes, AllocError>
     Bytes::copied(alloc, digits.as_bytes())
 }
 
-/// The question for a command.
+/// The question of a command: `$ ` and the command without white at its end.
 fn command_question(alloc: Global, command: &[u8]) -> Result<Vec<u8>, AllocError>
     ensures { IfOk result (λ q. q.items ≡ command_question command.now) }
 {
@@ -35,7 +35,7 @@ fn command_question(alloc: Global, command: &[u8]) -> Result<Vec<u8>, AllocError
     Ok(question)
 }
 
-/// The answer to a command, if it is known.
+/// The value of `shell`: the answer to its command, if both are known.
 fn shell_value(
     run: &mut Run<'_>,
     at: Place<'_>,
@@ -72,14 +72,14 @@ fn known_text(text: &Option<Bytes>) -> Option<&[u8]>
     }
 }
 
-/// A notice, if there is one.
+/// The value of `info` or `warning-if`, which is empty: reports a notice with this text, if there is one.
 fn notice_value(
     run: &mut Run<'_>,
     at: Place<'_>,
     kind: MacroNoticeKind,
     text: Option<&[u8]>,
 ) -> Result<Option<Bytes>, Stop>
-    ensures { Runs run.old run.new (said (reported (place_of at.entry) kind) (option_map (λ t. t.now) text.entry)) (end_of (λ v. v) result) }
+    ensures { Runs run.old run.new (message_value (reported (place_of at.entry) kind) (option_map (λ t. t.now) text.entry)) (end_of (λ v. v) result) }
 {
     match text {
         Some(text) => report(run, at, kind, text),
@@ -87,9 +87,9 @@ fn notice_value(
     }
 }
 
-/// A fault that a tree asks for, if there is one.
+/// The value of `error-if`: a fault with this text, if there is one, and else empty.
 fn error_value(run: &mut Run<'_>, at: Place<'_>, text: Option<&[u8]>) -> Result<Option<Bytes>, Stop>
-    ensures { Runs run.old run.new (said (fault_program (place_of at.entry) MacroKind.Error) (option_map (λ t. t.now) text.entry)) (end_of (λ v. v) result) }
+    ensures { Runs run.old run.new (message_value (fault_program (place_of at.entry) MacroKind.Error) (option_map (λ t. t.now) text.entry)) (end_of (λ v. v) result) }
 {
     match text {
         Some(text) => Err(fault(run.alloc(), at, MacroKind::Error, text)),
@@ -97,7 +97,7 @@ fn error_value(run: &mut Run<'_>, at: Place<'_>, text: Option<&[u8]>) -> Result<
     }
 }
 
-/// The value of a built-in function that has its count of arguments.
+/// The value of a built-in function that is called with as many arguments as it takes.
 fn called_value(
     run: &mut Run<'_>,
     at: Place<'_>,
@@ -105,8 +105,8 @@ fn called_value(
     function: BuiltIn,
     args: &[Option<Bytes>],
 ) -> Result<Option<Bytes>, Stop>
-    requires { length args.now ≡ arity_of (built_in_of function) }
-    ensures { Runs run.old run.new (built_in_value (place_of at.entry) name.now (built_in_of function) args.now) (end_of (λ v. v) result) }
+    requires arity { length args.now ≡ arity_of (built_in_of function) }
+    ensures run { Runs run.old run.new (built_in_value (place_of at.entry) name.now (built_in_of function) args.now) (end_of (λ v. v) result) }
 {
     match function {
         BuiltIn::Filename => Ok(Some(Bytes::copied(run.alloc(), at.file)?)),
@@ -162,7 +162,7 @@ fn other_value(
     Err(fault(run.alloc(), at, MacroKind::Undefined, name))
 }
 
-/// The value of a name that is no variable, under arguments.
+/// The value of a name that is no variable, called with these arguments.
 pub(crate) fn unbound_value(
     run: &mut Run<'_>,
     at: Place<'_>,

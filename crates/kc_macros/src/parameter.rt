@@ -21,7 +21,7 @@ fn are_digits(text: &[u8]) -> bool
     text.iter().all(|&byte| is_digit_byte(byte))
 }
 
-/// Decimal digits alone.
+/// Whether a text is a number: decimal digits, at least one.
 pub(crate) fn is_number(text: &[u8]) -> bool
     ensures { result ≡ is_number text.now }
 {
@@ -31,7 +31,7 @@ pub(crate) fn is_number(text: &[u8]) -> bool
 /// A number with a digit more; none where the byte is no digit or the number has no room.
 fn with_digit(number: usize, byte: u8) -> Option<usize>
     ensures digit { IfSome result (λ n. is_digit byte 10 ≡ true) }
-    ensures number { IfSome result (λ n. n ≡ number * 10 + digit_value byte) }
+    ensures value { IfSome result (λ n. n ≡ number * 10 + digit_value byte) }
     ensures none { IfNone result ((is_digit byte 10 ≡ false) ⊎ (2 ^ 64 ≤ number * 10 + digit_value byte)) }
 {
     if !is_digit_byte(byte) {
@@ -42,7 +42,7 @@ fn with_digit(number: usize, byte: u8) -> Option<usize>
 
 /// The number of a text of digits, if it is one from 1 to a limit.
 fn number_within(text: &[u8], limit: usize) -> Option<usize>
-    ensures number { IfSome result (λ n. is_number text.now ≡ true) }
+    ensures digits { IfSome result (λ n. is_number text.now ≡ true) }
     ensures value { IfSome result (λ n. digits_value 10 text.now ≡ n) }
     ensures within { IfSome result (λ n. (0 < n) × (n ≤ limit)) }
     ensures none { IfNone result ((is_number text.now ≡ false) ⊎ ((digits_value 10 text.now ≡ 0) ⊎ (limit < digits_value 10 text.now))) }
@@ -58,7 +58,7 @@ fn number_within(text: &[u8], limit: usize) -> Option<usize>
     if number == 0 { None } else { Some(number) }
 }
 
-/// The argument that an inside means, if it is the number of one.
+/// The argument that a reference means by its number, if there is one.
 pub(crate) fn argument_of<'a>(args: &'a [Option<Bytes>], inside: &[u8]) -> Option<&'a Option<Bytes>>
     ensures { option_map (λ a. a.now) result ≡ argument_of args.now inside.now }
 {

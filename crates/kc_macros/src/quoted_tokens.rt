@@ -2,28 +2,28 @@
 ghost use Rattle.std.specs.Prelude.{◌≡◌, ◌<◌, [], true, length, IfOk};
 ghost use Rattle.kc_macros_model.specs.References.{items};
 ghost use Rattle.kc_macros_model.specs.ExpansionRules.{begins_reference};
-ghost use Rattle.kc_macros_model.specs.Rewriting.{body_of, written_items, written_token, token_of_body};
-ghost use Rattle.kc_macros.specs.Variables.{bindings_of};
-ghost use Rattle.kc_macros.specs.WrittenTokens.{token_of};
+ghost use Rattle.kc_macros_model.specs.WrittenTokens.{body_of, written_items, written_token, token_of_body};
+ghost use Rattle.kc_macros.specs.between.Variables.{bindings_of};
+ghost use Rattle.kc_macros.specs.between.WrittenTokens.{token_of};
 ghost use Rattle.kc_macros.specs.Runs.{place_of, Runs, end_of};
 ghost use Rattle.kc_macros.specs.checker.Bodies.{body_of_code, has_dollar_or_backslash, bodies_left, quoted_written};
-ghost use Rattle.kc_macros.specs.checker.Leads.{Steps};
+ghost use Rattle.kc_macros.specs.checker.ProgramSteps.{Steps};
 ghost use Rattle.kc_macros.specs.checker.LineTexts.{token_view};
 
 use super::bindings::Bindings;
 use super::bytes::Bytes;
 use super::events::fault;
-use super::expand::text_value;
 use super::line_tokens::{LineToken, is_pair};
 use super::references::{begins_reference_at, reference_at_front};
 use super::run::Run;
 use super::stop::{Place, Stop};
+use super::text_values::text_value;
 use super::token_values::{Body, push_byte, push_pair, push_reference, written_run};
-use super::written::{TokenSort, WrittenToken, new_token};
+use super::written_tokens::{TokenSort, WrittenToken, new_token};
 use kc_macros_model::MacroKind;
 use std::alloc::{AllocError, Global};
 
-/// Puts the value of the reference at the front of a text between quotes to what is written; gives the rest.
+/// Appends the value of the reference at the front of a text between quotes to `out`; returns the rest.
 fn next_reference<'t>(
     run: &mut Run<'_>,
     at: Place<'_>,
@@ -44,7 +44,7 @@ fn next_reference<'t>(
     Ok(after)
 }
 
-/// Puts the item at the front of a text between quotes to what is written; gives the rest.
+/// Appends the item at the front of a text between quotes to `out`, as it is written; returns the rest.
 fn next_item<'t>(
     run: &mut Run<'_>,
     at: Place<'_>,
@@ -53,7 +53,7 @@ fn next_item<'t>(
     text: &'t [u8],
     out: &mut Body,
 ) -> Result<&'t [u8], Stop>
-    requires some { 0 < length text.now }
+    requires not_empty { 0 < length text.now }
     ensures steps { Steps run.old run.new (bodies_left (place_of at.entry) (bindings_of bindings.now) quote (body_of_code out.old) (items true 0 text.now)) (λ rest. bodies_left (place_of at.entry) (bindings_of bindings.now) quote (body_of_code out.new) (items true 0 rest.now)) result }
     ensures shorter { IfOk result (λ rest. length rest.now < length text.now) }
 {
@@ -90,7 +90,7 @@ fn plain_body(alloc: Global, text: &[u8]) -> Result<Body, AllocError>
     })
 }
 
-/// No bytes between quotes, with room for so many.
+/// No bytes between quotes, with room for `room` bytes.
 fn empty_body(alloc: Global, room: usize) -> Result<Body, AllocError>
     ensures { IfOk result (λ body. body_of_code body ≡ body_of [] []) }
 {

@@ -1,14 +1,14 @@
 //! The tokens of a line without gaps.
 ghost use Rattle.std.specs.Prelude.{◌≡◌, ◌≤◌, [], ◌∷◌, length, IfSome, IfNone};
-ghost use Rattle.kc_macros.specs.WrittenTokens.{token_of};
+ghost use Rattle.kc_macros.specs.between.WrittenTokens.{token_of};
 ghost use Rattle.kc_macros.specs.checker.RealTokens.{gap_count, real_tokens, is_empty_line};
 
 use super::token_sorts::is_gap;
-use super::written::WrittenToken;
+use super::written_tokens::WrittenToken;
 
 /// How many gaps come before the first token that is none.
 pub(crate) fn gap_count(tokens: &[WrittenToken]) -> usize
-    ensures count { result ≡ gap_count tokens.now }
+    ensures value { result ≡ gap_count tokens.now }
     ensures within { result ≤ length tokens.now }
 {
     'tokens: for i in 0..tokens.len() {

@@ -9,7 +9,7 @@ use std::alloc::{AllocError, Global};
 /// How many parentheses are open after a byte.
 fn open_after(byte: u8, depth: usize) -> usize
     requires small { depth < 2 ^ 63 }
-    ensures same { result ≡ open_after byte depth }
+    ensures value { result ≡ open_after byte depth }
     ensures few { result ≤ depth + 1 }
 {
     match byte {
@@ -26,9 +26,9 @@ fn is_outside(byte: u8, other: u8, depth: usize) -> bool
     byte == other && depth == 0
 }
 
-/// How many bytes come before the first `)` that closes no `(` among them.
+/// How many bytes a reference has between `$(` and its `)`, which is the first one that closes no `(` among them.
 pub(crate) fn inside_length(text: &[u8]) -> Option<usize>
-    ensures place { result ≡ inside_length 0 text.now }
+    ensures value { result ≡ inside_length 0 text.now }
     ensures within { IfSome result (λ n. n < length text.now) }
 {
     let mut depth = 0;
@@ -42,7 +42,7 @@ pub(crate) fn inside_length(text: &[u8]) -> Option<usize>
     None
 }
 
-/// How many bytes the first piece of an inside has: those before the first comma outside parentheses.
+/// How many bytes the first piece of a reference has: those before the first comma outside parentheses.
 fn piece_length(inside: &[u8]) -> usize
     ensures within { result ≤ length inside.now }
     ensures pieces { pieces 0 inside.now ≡ pieces_from result inside.now }
@@ -58,7 +58,7 @@ fn piece_length(inside: &[u8]) -> usize
     inside.len()
 }
 
-/// The pieces of an inside: a name and its arguments.
+/// The pieces of a reference, by the bytes between its parentheses: a name and its arguments.
 pub(crate) fn pieces(alloc: Global, inside: &[u8]) -> Result<Vec<&[u8]>, AllocError>
     ensures { IfOk result (λ ps. texts_of ps.items ≡ pieces 0 inside.now) }
 {
@@ -77,8 +77,8 @@ pub(crate) fn pieces(alloc: Global, inside: &[u8]) -> Result<Vec<&[u8]>, AllocEr
 
 /// Whether a reference begins at a place.
 pub(crate) fn begins_reference_at(text: &[u8], at: usize) -> bool
-    requires { at < length text.now }
-    ensures { result ≡ begins_reference (drop at text.now) }
+    requires there { at < length text.now }
+    ensures value { result ≡ begins_reference (drop at text.now) }
 {
     text[at] == b'$' && at + 1 < text.len() && text[at + 1] == b'('
 }
@@ -97,12 +97,12 @@ pub(crate) fn plain_length(text: &[u8]) -> usize
     text.len()
 }
 
-/// The inside of the reference at the front of a text, and the bytes after it; none where it doesn't end.
+/// The bytes between the parentheses of the reference at the front of a text, and those after it; none where it doesn't end.
 pub(crate) fn reference_at_front(text: &[u8]) -> Option<(&[u8], &[u8])>
     requires begins { begins_reference text.now ≡ true }
     ensures reference { IfSome result (λ r. (q : Bool) → items q 0 text.now ≡ reference r.0.now ∷ items q 0 r.1.now) }
     ensures shorter { IfSome result (λ r. length r.1.now < length text.now) }
-    ensures whole { IfSome result (λ r. take (length r.0.now + 3) text.now ≡ item_bytes (reference r.0.now)) }
+    ensures front { IfSome result (λ r. take (length r.0.now + 3) text.now ≡ item_bytes (reference r.0.now)) }
     ensures fits { IfSome result (λ r. length r.0.now + 3 ≤ length text.now) }
     ensures unterminated { IfNone result ((q : Bool) → (more : List Item) × (items q 0 text.now ≡ unterminated (drop 2 text.now) ∷ more)) }
 {

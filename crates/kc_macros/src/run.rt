@@ -36,7 +36,7 @@ impl<'a> Model for Run<'a> {
 }
 
 impl<'a> Run<'a> {
-    /// A run that has done nothing; `all_answered` says that each question must have an answer.
+    /// A run at its start; with `all_answered` a question without an answer is a fault.
     pub fn new(alloc: Global, seed: Seed, answers: &'a Answers, all_answered: bool) -> Run<'a>
         ensures { result ≡ run_at_start answers.now all_answered }
     {
@@ -50,7 +50,7 @@ impl<'a> Run<'a> {
         }
     }
 
-    /// Where memory comes from.
+    /// The allocator of the run.
     pub fn alloc(&self) -> Global {
         self.alloc
     }
@@ -103,13 +103,13 @@ impl<'a> Run<'a> {
 
     /// Takes work from what is left.
     pub(crate) fn take_work(&mut self, work: usize)
-        requires { work ≤ self.old.left }
-        ensures { self.new ≡ record self.old { left = self.old.left - work } }
+        requires fits { work ≤ self.old.left }
+        ensures state { self.new ≡ record self.old { left = self.old.left - work } }
     {
         self.left -= work;
     }
 
-    /// A notice more.
+    /// Appends a notice.
     pub(crate) fn push_notice(&mut self, notice: MacroNotice) -> Result<(), AllocError>
         ensures { OnOk result (self.new ≡ record self.old { notices = self.old.notices ++ notice_of notice ∷ [] }) }
     {
@@ -117,7 +117,7 @@ impl<'a> Run<'a> {
         Ok(())
     }
 
-    /// A question without an answer, which is noted once.
+    /// Appends a question without an answer, unless it was met before.
     pub(crate) fn note_question(&mut self, question: &[u8]) -> Result<(), AllocError>
         ensures { OnOk result (self.new ≡ record self.old { questions = with_question self.old.questions question.now }) }
     {

@@ -2,10 +2,10 @@
 ghost use Rattle.std.specs.Prelude.{◌≡◌};
 ghost use Rattle.kc_macros_model.specs.Assignments.{is_gap, is_unknown};
 ghost use Rattle.kc_macros_model.specs.LineForms.{is_word, is_path, is_bare_prompt};
-ghost use Rattle.kc_macros.specs.WrittenTokens.{token_of};
+ghost use Rattle.kc_macros.specs.between.WrittenTokens.{token_of};
 
 use super::form_words::is_condition_word;
-use super::written::{TokenSort, WrittenToken};
+use super::written_tokens::{TokenSort, WrittenToken};
 
 /// Whether a token is white, a comment or gone.
 pub(crate) fn is_gap(token: &WrittenToken) -> bool

@@ -2,21 +2,21 @@
 ghost use Rattle.std.specs.Prelude.{◌≡◌, ◌==◌, ◌<◌, [], ◌∷◌, false, length, OnOk, if◌then◌else◌};
 ghost use Rattle.std.specs.List.{list_any};
 ghost use Rattle.kc_macros_model.specs.References.{is_reference, is_plain_dollar, items};
-ghost use Rattle.kc_macros_model.specs.Rewriting.{run_value, written_run, joined_bodies, body_of, body_of_value};
-ghost use Rattle.kc_macros.specs.Variables.{bindings_of};
-ghost use Rattle.kc_macros.specs.WrittenTokens.{token_of};
+ghost use Rattle.kc_macros_model.specs.WrittenTokens.{run_value, written_run, joined_bodies, body_of, body_of_value};
+ghost use Rattle.kc_macros.specs.between.Variables.{bindings_of};
+ghost use Rattle.kc_macros.specs.between.WrittenTokens.{token_of};
 ghost use Rattle.kc_macros.specs.Runs.{place_of, Runs, end_of};
 ghost use Rattle.kc_macros.specs.checker.Bodies.{body_of_code};
 ghost use Rattle.kc_macros.specs.checker.LineTexts.{first_item_of};
 
 use super::bindings::Bindings;
 use super::bytes::Bytes;
-use super::expand::text_value;
 use super::line_tokens::item_length;
 use super::references::{begins_reference_at, inside_length};
 use super::run::Run;
 use super::stop::{Place, Stop};
-use super::written::{TokenSort, WrittenToken, new_token, push_escaped, token_of_value};
+use super::text_values::text_value;
+use super::written_tokens::{TokenSort, WrittenToken, new_token, push_escaped, token_of_value};
 use std::alloc::AllocError;
 
 /// Whether a text has a `$`.
@@ -43,8 +43,8 @@ pub(crate) fn run_value(
 
 /// Whether a text begins with a reference that ends.
 fn is_reference_front(text: &[u8]) -> bool
-    requires { 0 < length text.now }
-    ensures { result ≡ is_reference (first_item_of false text.now) }
+    requires not_empty { 0 < length text.now }
+    ensures value { result ≡ is_reference (first_item_of false text.now) }
 {
     if begins_reference_at(text, 0) {
         return inside_length(&text[2..]).is_some();
@@ -54,8 +54,8 @@ fn is_reference_front(text: &[u8]) -> bool
 
 /// Whether a text begins with a `$` that begins no reference.
 fn is_plain_dollar_front(text: &[u8]) -> bool
-    requires { 0 < length text.now }
-    ensures { result ≡ is_plain_dollar (first_item_of false text.now) }
+    requires not_empty { 0 < length text.now }
+    ensures value { result ≡ is_plain_dollar (first_item_of false text.now) }
 {
     if begins_reference_at(text, 0) {
         return false;
@@ -91,7 +91,7 @@ fn has_plain_dollar(text: &[u8]) -> bool
     false
 }
 
-/// A run as it is written; one with a `$` that begins no reference stays, for the reader to refuse.
+/// A run as it is written: its value as one token. A run with a `$` that begins no reference stays, for the reader to refuse.
 pub(crate) fn written_run(
     run: &mut Run<'_>,
     at: Place<'_>,
@@ -118,7 +118,7 @@ pub(crate) struct Body {
     pub(crate) known: bool,
 }
 
-/// A byte between quotes; a `$` gets a backslash.
+/// Appends a byte between quotes; a `$` gets a backslash.
 pub(crate) fn push_byte(out: &mut Body, byte: u8) -> Result<(), AllocError>
     ensures { OnOk result (body_of_code out.new ≡ joined_bodies (body_of_code out.old) (body_of (if byte == 36 then 92 ∷ byte ∷ [] else byte ∷ []) (byte ∷ []))) }
 {
@@ -130,7 +130,7 @@ pub(crate) fn push_byte(out: &mut Body, byte: u8) -> Result<(), AllocError>
     Ok(())
 }
 
-/// A backslash and another byte between quotes.
+/// Appends a backslash and another byte between quotes.
 pub(crate) fn push_pair(out: &mut Body, byte: u8) -> Result<(), AllocError>
     ensures { OnOk result (body_of_code out.new ≡ joined_bodies (body_of_code out.old) (body_of (92 ∷ byte ∷ []) (byte ∷ []))) }
 {
@@ -140,7 +140,7 @@ pub(crate) fn push_pair(out: &mut Body, byte: u8) -> Result<(), AllocError>
     Ok(())
 }
 
-/// The value of a reference between quotes.
+/// Appends the value of a reference between quotes, with backslashes where it needs them.
 pub(crate) fn push_reference(
     out: &mut Body,
     quote: u8,

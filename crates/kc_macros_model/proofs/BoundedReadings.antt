@@ -9,15 +9,15 @@ use Rattle.kc_macros_model.specs.declared.fault.MacroKind.TheVariants.{TooMany}
 use Rattle.kc_macros_model.specs.Limits.{max_files, max_bytes, max_open_files, max_work}
 use Rattle.kc_macros_model.specs.Programs.{Place, Answer, spend, report, ask, read_file, list_folder, Program, returns, fails, stops, does, ◌>>=◌}
 use Rattle.kc_macros_model.specs.Expansion.{fault}
-use Rattle.kc_macros_model.specs.ReadingStates.{ExpandedFile, ReadingState, initial_state, Progress, counted, has_key, key_of, kept}
+use Rattle.kc_macros_model.specs.ReadingStates.{ExpandedFile, ReadingState, initial_state, Progress, counted, has_key, key_of, stored_file}
 use Rattle.kc_macros_model.specs.TreeExpansion.{place, SourceReader, lines_read, source_read, root_read, tree_read}
 use Rattle.kc_macros_model.specs.Worlds.{World, reply, unless_unanswered, returned, Outcome, after_event, unless_fault, outcome, expansion}
 use Rattle.kc_macros_model.specs.ExpansionRules.{ending_in}
 use Rattle.kc_macros_model.specs.ReadingLaws.{IsWithinLimits, CountsAreBounded, TreeCountsAreBounded, IsKeyOf, the_path, KeysAreBounded, KeysDiffer, FilesAreBounded, work_in, WorkIsBounded}
-use Rattle.kc_macros_model.proofs.Along.{Along, along_then, fact_of_success}
+use Rattle.kc_macros_model.proofs.RunInvariants.{Along, along_then, fact_of_success}
 use Rattle.kc_macros_model.proofs.CleanTexts.{neither_first, neither_second}
 use Rattle.kc_macros_model.proofs.Keys.{IsFreeKey, key_is_free}
-use Rattle.kc_macros_model.proofs.ReadingsKeep.{AnyEvent, IsKept, lines_keep, source_keeps}
+use Rattle.kc_macros_model.proofs.ReadingInvariants.{AnyEvent, IsKept, lines_keep, source_keeps}
 use Rattle.kc_macros_model.proofs.WantedQuestions.{job_succeeds}
 
 -- what holds along a program holds of what it comes to
@@ -40,7 +40,8 @@ limits_kept root = record {
 
 pub counts_are_bounded : CountsAreBounded
 counts_are_bounded w more root open_files at what s p g e =
-    fact_of_ending w (λ p. IsWithinLimits p.state) (source_read more root open_files at what s) p (source_keeps w root (λ k s. IsWithinLimits s) (limits_kept root) more 0 open_files at what s g) e
+    fact_of_ending w (λ p. IsWithinLimits p.state) (source_read more root open_files at what s) p
+    (source_keeps w root (λ k s. IsWithinLimits s) (limits_kept root) more 0 open_files at what s g) e
 
 -- the first file is within the limits
 first_within : (n : ℕ) → n ≤ max_bytes → IsWithinLimits (counted n initial_state)
@@ -50,29 +51,38 @@ pub tree_counts_are_bounded : TreeCountsAreBounded
 tree_counts_are_bounded w root bytes p h e =
     let sub = source_read max_open_files root (root ∷ []) in
     fact_of_ending w (λ p. IsWithinLimits p.state) (lines_read sub root 0 1 (split_at_newlines bytes) (counted (length bytes) initial_state)) p
-    (lines_keep w root (λ k s. IsWithinLimits s) (limits_kept root) 0 sub (source_keeps w root (λ k s. IsWithinLimits s) (limits_kept root) max_open_files 0 (root ∷ [])) root 0 1 (split_at_newlines bytes) (counted (length bytes) initial_state) (first_within (length bytes) h)) e
+    (lines_keep w root (λ k s. IsWithinLimits s) (limits_kept root) 0 sub
+    (source_keeps w root (λ k s. IsWithinLimits s) (limits_kept root) max_open_files 0 (root ∷ [])) root 0 1 (split_at_newlines bytes)
+    (counted (length bytes) initial_state) (first_within (length bytes) h)) e
 
 abbrev key_of_file : ExpandedFile → List ℕ
 key_of_file f = f.key
 
 -- files with a key more that none of them has
-new_differs : (x : List ℕ) (files : List ExpandedFile) (f : ExpandedFile) → AllByRecursion (λ y. bytes_eq x y ≡ false) (map key_of_file files) → bytes_eq x f.key ≡ false → AllByRecursion (λ y. bytes_eq x y ≡ false) (map key_of_file (files ++ f ∷ []))
+new_differs : (x : List ℕ) (files : List ExpandedFile) (f : ExpandedFile) → AllByRecursion (λ y. bytes_eq x y ≡ false) (map key_of_file files)
+    → bytes_eq x f.key ≡ false → AllByRecursion (λ y. bytes_eq x y ≡ false) (map key_of_file (files ++ f ∷ []))
 new_differs x [] f h n = (n, tt)
 new_differs x (g ∷ files) f h n = (h.0, new_differs x files f h.1 n)
 
-one_more_differs : (files : List ExpandedFile) (f : ExpandedFile) → IsDistinct bytes_eq (map key_of_file files) → has_key files f.key ≡ false → IsDistinct bytes_eq (map key_of_file (files ++ f ∷ []))
+one_more_differs : (files : List ExpandedFile) (f : ExpandedFile) → IsDistinct bytes_eq (map key_of_file files) → has_key files f.key ≡ false
+    → IsDistinct bytes_eq (map key_of_file (files ++ f ∷ []))
 unfolding IsDistinct
 one_more_differs [] f h n = (tt, tt)
-one_more_differs (g ∷ files) f h n = (new_differs g.key files f h.0 (neither_first (bytes_eq g.key f.key) (has_key files f.key) n), one_more_differs files f h.1 (neither_second (bytes_eq g.key f.key) (has_key files f.key) n))
+one_more_differs (g ∷ files) f h n = (
+  new_differs g.key files f h.0 (neither_first (bytes_eq g.key f.key) (has_key files f.key) n),
+  one_more_differs files f h.1 (neither_second (bytes_eq g.key f.key) (has_key files f.key) n),
+)
 
-one_more_without : (key : List ℕ) (files : List ExpandedFile) (f : ExpandedFile) → has_key files key ≡ false → bytes_eq f.key key ≡ false → has_key (files ++ f ∷ []) key ≡ false
+one_more_without : (key : List ℕ) (files : List ExpandedFile) (f : ExpandedFile) → has_key files key ≡ false → bytes_eq f.key key ≡ false
+    → has_key (files ++ f ∷ []) key ≡ false
 one_more_without key [] f h n = by_test (bytes_eq f.key key) n
   where
     by_test : (b : Bool) → b ≡ false → (b || false) ≡ false
     by_test true e = e
     by_test false e = e
 one_more_without key (g ∷ files) f h n =
-    by_test (one_more_without key files f (neither_second (bytes_eq g.key key) (has_key files key) h) n) (bytes_eq g.key key) (neither_first (bytes_eq g.key key) (has_key files key) h)
+    by_test (one_more_without key files f (neither_second (bytes_eq g.key key) (has_key files key) h) n) (bytes_eq g.key key)
+    (neither_first (bytes_eq g.key key) (has_key files key) h)
   where
     by_test : has_key (files ++ f ∷ []) key ≡ false → (b : Bool) → b ≡ false → (b || has_key (files ++ f ∷ []) key) ≡ false
     by_test ih true e = let z : ⊥ = cc in absurd z
@@ -87,7 +97,7 @@ module _ (root : List ℕ) where
     differ : IsDistinct bytes_eq (map key_of_file s.expanded)
     not_root : has_key s.expanded root ≡ false
 
-  kept_keys : (k : ℕ) (path : List ℕ) (p : Progress) → HasKeys (suc k) p.state → HasKeys k (kept root path p).state
+  kept_keys : (k : ℕ) (path : List ℕ) (p : Progress) → HasKeys (suc k) p.state → HasKeys k (stored_file root path p).state
   kept_keys k path p g = by_test (has_key files key) refl
     where
       files : List ExpandedFile
@@ -116,24 +126,56 @@ module _ (root : List ℕ) where
           record {
             limits = record { files = limits.files; bytes = limits.bytes; listed = limits.listed };
             count = omega (arith, g.count, length-append files (new ∷ []));
-            keys = All-append (λ (f : ExpandedFile). IsKeyOf f.path f.key) files (new ∷ []) g.keys (All-cons (λ (f : ExpandedFile). IsKeyOf f.path f.key) new [] free.of_path (All-nil (λ (f : ExpandedFile). IsKeyOf f.path f.key)));
+            keys = All-append (λ (f : ExpandedFile). IsKeyOf f.path f.key) files (new ∷ []) g.keys
+                (All-cons (λ (f : ExpandedFile). IsKeyOf f.path f.key) new [] free.of_path (All-nil (λ (f : ExpandedFile). IsKeyOf f.path f.key)));
             differ = one_more_differs files new g.differ e;
-            not_root = one_more_without root files new g.not_root (neither_first (bytes_eq key root) (list_any (λ (f : ExpandedFile). bytes_eq f.key key && not (bytes_eq f.text p.text)) files) free.free);
+            not_root = one_more_without root files new g.not_root (neither_first (bytes_eq key root)
+                (list_any (λ (f : ExpandedFile). bytes_eq f.key key && not (bytes_eq f.text p.text)) files) free.free);
           }
 
   keys_kept : IsKept root HasKeys
   keys_kept = record {
-    binds = λ k name v s g. record { limits = record { files = g.limits.files; bytes = g.limits.bytes; listed = g.limits.listed }; count = g.count; keys = g.keys; differ = g.differ; not_root = g.not_root };
-    chooses = λ k name s g. record { limits = record { files = g.limits.files; bytes = g.limits.bytes; listed = g.limits.listed }; count = g.count; keys = g.keys; differ = g.differ; not_root = g.not_root };
+    binds = λ k name v s g. record {
+      limits = record { files = g.limits.files; bytes = g.limits.bytes; listed = g.limits.listed };
+      count = g.count;
+      keys = g.keys;
+      differ = g.differ;
+      not_root = g.not_root;
+    };
+    chooses = λ k name s g. record {
+      limits = record { files = g.limits.files; bytes = g.limits.bytes; listed = g.limits.listed };
+      count = g.count;
+      keys = g.keys;
+      differ = g.differ;
+      not_root = g.not_root;
+    };
     listed = λ k s g. g.limits.listed;
-    lists = λ k n s h g. record { limits = record { files = g.limits.files; bytes = g.limits.bytes; listed = h }; count = g.count; keys = g.keys; differ = g.differ; not_root = g.not_root };
-    counts = λ k n s h b g. record { limits = record { files = omega (arith, h); bytes = b; listed = g.limits.listed }; count = omega (arith, g.count); keys = g.keys; differ = g.differ; not_root = g.not_root };
+    lists = λ k n s h g. record {
+      limits = record { files = g.limits.files; bytes = g.limits.bytes; listed = h };
+      count = g.count;
+      keys = g.keys;
+      differ = g.differ;
+      not_root = g.not_root;
+    };
+    counts = λ k n s h b g. record {
+      limits = record { files = omega (arith, h); bytes = b; listed = g.limits.listed };
+      count = omega (arith, g.count);
+      keys = g.keys;
+      differ = g.differ;
+      not_root = g.not_root;
+    };
     keeps = kept_keys;
   }
 
   first_keys : (n : ℕ) → n ≤ max_bytes → HasKeys 0 (counted n initial_state)
   unfolding IsDistinct
-  first_keys n h = record { limits = first_within n h; count = omega arith; keys = All-nil (λ (f : ExpandedFile). IsKeyOf f.path f.key); differ = tt; not_root = refl }
+  first_keys n h = record {
+    limits = first_within n h;
+    count = omega arith;
+    keys = All-nil (λ (f : ExpandedFile). IsKeyOf f.path f.key);
+    differ = tt;
+    not_root = refl;
+  }
 
   -- what holds of the files of a whole tree
   record TreeKeys (files : List ExpandedFile) : Type 0 where
@@ -146,7 +188,8 @@ module _ (root : List ℕ) where
       let files : List ExpandedFile = p.state.expanded in
       let new : ExpandedFile = record { key = root; path = root; text = p.text } in
       record {
-        keys = All-append (λ (f : ExpandedFile). IsKeyOf f.path f.key) files (new ∷ []) g.keys (All-cons (λ (f : ExpandedFile). IsKeyOf f.path f.key) new [] the_path (All-nil (λ (f : ExpandedFile). IsKeyOf f.path f.key)));
+        keys = All-append (λ (f : ExpandedFile). IsKeyOf f.path f.key) files (new ∷ []) g.keys
+            (All-cons (λ (f : ExpandedFile). IsKeyOf f.path f.key) new [] the_path (All-nil (λ (f : ExpandedFile). IsKeyOf f.path f.key)));
         differ = one_more_differs files new g.differ g.not_root;
         few = omega (arith, g.count, g.limits.files, length-append files (new ∷ []));
       }
@@ -160,12 +203,15 @@ module _ (root : List ℕ) where
 
       by_test : (b : Bool) → nat_lt max_bytes (length bytes) ≡ b → Along w AnyEvent TreeKeys (elim b as (λ z. Program (List ExpandedFile)) [
         | true ↦ fault (place root 0) TooMany []
-        | false ↦ lines_read sub root 0 1 (split_at_newlines bytes) (counted (length bytes) initial_state) >>= λ p. returns (p.state.expanded ++ record { key = root; path = root; text = p.text } ∷ [])
+        | false ↦ lines_read sub root 0 1 (split_at_newlines bytes) (counted (length bytes) initial_state) >>= λ p. returns
+            (p.state.expanded ++ record { key = root; path = root; text = p.text } ∷ [])
       ])
       by_test true e = tt
       by_test false e =
-          along_then w AnyEvent (λ p. HasKeys 0 p.state) TreeKeys (lines_read sub root 0 1 (split_at_newlines bytes) (counted (length bytes) initial_state)) (λ p. returns (p.state.expanded ++ record { key = root; path = root; text = p.text } ∷ []))
-          (lines_keep w root HasKeys keys_kept 0 sub (source_keeps w root HasKeys keys_kept max_open_files 0 (root ∷ [])) root 0 1 (split_at_newlines bytes) (counted (length bytes) initial_state) (first_keys (length bytes) (ltb-false max_bytes (length bytes) e))) all_keys
+          along_then w AnyEvent (λ p. HasKeys 0 p.state) TreeKeys (lines_read sub root 0 1 (split_at_newlines bytes) (counted (length bytes) initial_state))
+          (λ p. returns (p.state.expanded ++ record { key = root; path = root; text = p.text } ∷ []))
+          (lines_keep w root HasKeys keys_kept 0 sub (source_keeps w root HasKeys keys_kept max_open_files 0 (root ∷ [])) root 0 1 (split_at_newlines bytes)
+          (counted (length bytes) initial_state) (first_keys (length bytes) (ltb-false max_bytes (length bytes) e))) all_keys
 
   keys_of_tree : (w : World) → Along w AnyEvent TreeKeys (tree_read root)
   unfolding tree_read
@@ -189,19 +235,23 @@ module _ {A : Type 0} (w : World) (y : A) where
   abbrev Adds : ℕ → ℕ → Outcome A → Type 0
   Adds left work o = o.ending ≡ returned y → work + o.left ≡ left
 
-  spent_adds : (left : ℕ) (at : Place) (work more : ℕ) (k : Unit {0} → Program A) → ((n : ℕ) → Adds n more (outcome true w n (k (tt {0})))) → Adds left (work + more) (outcome true w left (does (spend at work) k))
+  spent_adds : (left : ℕ) (at : Place) (work more : ℕ) (k : Unit {0} → Program A) → ((n : ℕ) → Adds n more (outcome true w n (k (tt {0}))))
+      → Adds left (work + more) (outcome true w left (does (spend at work) k))
   spent_adds left at work more k ih = by_test (nat_lt left work) refl
     where
       by_test : (b : Bool) → nat_lt left work ≡ b
-          → Adds left (work + more) (unless_fault left (cond b (Err (record { at = at; kind = TooMany; text = [] })) (Ok (left - work))) (λ n. after_event w (spend at work) (outcome true w n (k (tt {0})))))
+          → Adds left (work + more) (unless_fault left (cond b (Err (record { at = at; kind = TooMany; text = [] })) (Ok (left - work)))
+          (λ n. after_event w (spend at work) (outcome true w n (k (tt {0})))))
       by_test true t e = absurd (let z : ⊥ = cc in z)
       by_test false t e = let rest = ih (left - work) e in omega (arith, rest, ltb-false left work t)
 
-  asked_adds : (left : ℕ) (at : Place) (question : List ℕ) (work : Option Answer → ℕ) (k : Option Answer → Program A) → ((r : Option Answer) → Adds left (work r) (outcome true w left (k r)))
+  asked_adds : (left : ℕ) (at : Place) (question : List ℕ) (work : Option Answer → ℕ) (k : Option Answer → Program A)
+      → ((r : Option Answer) → Adds left (work r) (outcome true w left (k r)))
       → Adds left (work (w.answer question)) (outcome true w left (does (ask at question) k))
   asked_adds left at question work k ih = by_answer (w.answer question)
     where
-      by_answer : (a : Option Answer) → Adds left (work a) (unless_fault left (unless_unanswered at question left a) (λ n. after_event (record w { answer = λ q. a }) (ask at question) (outcome true w n (k a))))
+      by_answer : (a : Option Answer) → Adds left (work a) (unless_fault left (unless_unanswered at question left a)
+          (λ n. after_event (record w { answer = λ q. a }) (ask at question) (outcome true w n (k a))))
       by_answer None e = absurd (let z : ⊥ = cc in z)
       by_answer (Some a) e = ih (Some a) e
 

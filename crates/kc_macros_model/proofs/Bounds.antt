@@ -15,27 +15,33 @@ use Rattle.kc_macros_model.specs.ExpansionLaws.{ValuesAreBounded, stored_length,
 use Rattle.kc_macros_model.proofs.ExpansionByRules.{split_return, same_return}
 
 -- a value after another is as long as both, as far as they are known
-joined_length : (n : ℕ) (v u : Value) → n + value_length v ≤ max_text_bytes → n + value_length v + value_length u ≤ max_text_bytes → n + value_length (joined_values v u) ≤ max_text_bytes
+joined_length : (n : ℕ) (v u : Value) → n + value_length v ≤ max_text_bytes → n + value_length v + value_length u ≤ max_text_bytes
+    → n + value_length (joined_values v u) ≤ max_text_bytes
 joined_length n None u h k = h
 joined_length n (Some s) None h k = omega (arith, h)
 joined_length n (Some s) (Some t) h k = omega (arith, k, length-append s t)
 
 module _ (w : World) (at : Place) where
   -- a program that was not too long goes on
-  not_too_long : {A : Type 0} (n : ℕ) (p : Program A) (x : A) → ending_in w (unless_too_long at n p) ≡ returned x → (n ≤ max_text_bytes) × (ending_in w p ≡ returned x)
+  not_too_long : {A : Type 0} (n : ℕ) (p : Program A) (x : A) → ending_in w (unless_too_long at n p) ≡ returned x
+      → (n ≤ max_text_bytes) × (ending_in w p ≡ returned x)
   not_too_long {A = A} n p x e = by_test (nat_le n max_text_bytes) refl e
     where
-      by_test : (c : Bool) → nat_le n max_text_bytes ≡ c → ending_in w (elim c as (λ z. Program A) [ true ↦ p | false ↦ fault at LineTooLong [] ]) ≡ returned x → (n ≤ max_text_bytes) × (ending_in w p ≡ returned x)
+      by_test : (c : Bool) → nat_le n max_text_bytes ≡ c → ending_in w (elim c as (λ z. Program A) [ true ↦ p | false ↦ fault at LineTooLong [] ]) ≡ returned x
+          → (n ≤ max_text_bytes) × (ending_in w p ≡ returned x)
       by_test true h e = (leb-true n max_text_bytes h, e)
       by_test false h e = absurd (let z : ⊥ = cc in z)
 
-  items_bounded : (f : Item → Program Value) (n : ℕ) (is : List Item) (v : Value) → n ≤ max_text_bytes → ending_in w (item_values at f n is) ≡ returned v → n + value_length v ≤ max_text_bytes
+  items_bounded : (f : Item → Program Value) (n : ℕ) (is : List Item) (v : Value) → n ≤ max_text_bytes → ending_in w (item_values at f n is) ≡ returned v
+      → n + value_length v ≤ max_text_bytes
   items_bounded f n [] v h e = subst (λ u. n + value_length u ≤ max_text_bytes) (same_return (Some []) v e) (omega (arith, h))
   items_bounded f n (i ∷ is) v h e =
-      let (u, eu, e2) = split_return w (f i) (λ u. unless_too_long at (n + value_length u) (item_values at f (n + value_length u) is >>= λ rest. returns (joined_values u rest))) v e in
+      let (u, eu, e2) = split_return w (f i) (λ u. unless_too_long at (n + value_length u)
+      (item_values at f (n + value_length u) is >>= λ rest. returns (joined_values u rest))) v e in
       let (short, e3) = not_too_long (n + value_length u) (item_values at f (n + value_length u) is >>= λ rest. returns (joined_values u rest)) v e2 in
       let (x, ex, e4) = split_return w (item_values at f (n + value_length u) is) (λ rest. returns (joined_values u rest)) v e3 in
-      subst (λ z. n + value_length z ≤ max_text_bytes) (same_return (joined_values u x) v e4) (joined_length n u x short (items_bounded f (n + value_length u) is x short ex))
+      subst (λ z. n + value_length z ≤ max_text_bytes) (same_return (joined_values u x) v e4)
+      (joined_length n u x short (items_bounded f (n + value_length u) is x short ex))
 
   stored_bounded : (v : Value) (x y : Variable) → stored_length x ≡ value_length v → ending_in w (stored at v x) ≡ returned y → stored_length y ≤ max_text_bytes
   stored_bounded v x y same e =

@@ -10,10 +10,10 @@ use Rattle.kc_macros_model.specs.References.{Item, byte, escaped, reference, unt
 use Rattle.kc_macros_model.specs.Variables.{Value, value_length, joined_values, Variable, simple, recursive, Bindings}
 use Rattle.kc_macros_model.specs.Expansion.{fault, spends, unless_too_long, text_value}
 use Rattle.kc_macros_model.specs.LineTokens.{LineToken, gap, run, quoted, other, broken, token_bytes, extent, is_run_byte, run_token, quoted_token, first_token, line_tokens, bytes_of_tokens}
-use Rattle.kc_macros_model.specs.Rewriting.{is_bare_byte, is_keyword, escaped_text, in_quotes_of, a_word, a_quoted, an_other, WrittenToken, written_as, token_of_text, token_of_value, WrittenBody, body_of_value, joined_bodies, written_item, written_items, token_of_body, run_value, written_run, written_token}
+use Rattle.kc_macros_model.specs.WrittenTokens.{is_bare_byte, is_keyword, escaped_text, in_quotes_of, a_word, a_quoted, an_other, WrittenToken, written_as, token_of_text, token_of_value, WrittenBody, body_of_value, joined_bodies, written_item, written_items, token_of_body, run_value, written_run, written_token}
 use Rattle.kc_macros_model.specs.Assignments.{Operator, sets_now, appends, sets, Assigned, assigned, without_front, is_blank_byte, operator_at, assignment_at, LineContent, assigns, tokens, with_token, is_gap, is_open_front, assignment_or, line_content, stored, stored_simple, stored_recursive, variable_assigned}
 use Rattle.kc_macros_model.specs.Worlds.{World}
-use Rattle.kc_macros_model.proofs.Along.{Along, along_then}
+use Rattle.kc_macros_model.proofs.RunInvariants.{Along, along_then}
 use Rattle.kc_macros_model.proofs.CleanTexts.{IsClean, clean, clean_none, clean_cons, clean_first, clean_rest, clean_append, clean_left, clean_take, clean_drop, IsCleanValue, unknown_clean, text_clean, IsCleanVariable, simple_clean, recursive_clean, joined_clean, CleanBindings, CleanAnswers, text_value_clean}
 
 -- the bytes of an item have no newline
@@ -63,7 +63,8 @@ quoted_token_clean n quote s h = by_tests (list_any is_unterminated (items true 
   where
     by_tests : (x y : Bool) → IsClean (token_bytes (cond x (broken (quote ∷ s)) (cond y (quoted quote (take n s)) (other (quote ∷ s)))))
     by_tests true y = h
-    by_tests false true = clean_cons (clean_first h) (clean_append (take n s) (quote ∷ []) (clean_take n s (clean_rest h)) (clean_cons (clean_first h) clean_none))
+    by_tests false true = clean_cons (clean_first h) (clean_append (take n s) (quote ∷ []) (clean_take n s (clean_rest h))
+        (clean_cons (clean_first h) clean_none))
     by_tests false false = h
 
 first_token_clean : (c : ℕ) (s : List ℕ) → IsClean (c ∷ s) → IsClean (token_bytes (first_token c s))
@@ -75,7 +76,9 @@ first_token_clean c s h = by_tests (is_white_byte c) (c == 35) (is_run_byte c) (
     run_len : ℕ
     run_len = extent false (λ d. not (is_run_byte d)) 0 (c ∷ s)
 
-    by_tests : (x y z u : Bool) → IsClean (token_bytes (cond x (gap (c ∷ [])) (cond y (gap (c ∷ s)) (cond z (run_token (take run_len (c ∷ s))) (cond u (quoted_token (extent true (λ d. d == c) 0 s) c s) (other (c ∷ [])))))))
+    by_tests : (x y z u : Bool)
+        → IsClean (token_bytes (cond x (gap (c ∷ [])) (cond y (gap (c ∷ s))
+        (cond z (run_token (take run_len (c ∷ s))) (cond u (quoted_token (extent true (λ d. d == c) 0 s) c s) (other (c ∷ [])))))))
     by_tests true y z u = alone
     by_tests false true z u = h
     by_tests false false true u = run_token_clean (take run_len (c ∷ s)) (clean_take run_len (c ∷ s) h)
@@ -94,7 +97,8 @@ row_clean (next_token {t = t} {ts = ts} h r) = clean_append (token_bytes t) (byt
 
 pub escaped_clean : (quote : ℕ) (s : List ℕ) → IsClean s → IsClean (escaped_text quote s)
 escaped_clean quote [] h = clean_none
-escaped_clean quote (c ∷ s) h = clean_append (cond (c == 92 || (c == 36) || (c == quote)) (92 ∷ c ∷ []) (c ∷ [])) (escaped_text quote s) (by_test (c == 92 || (c == 36) || (c == quote))) (escaped_clean quote s (clean_rest h))
+escaped_clean quote (c ∷ s) h = clean_append (cond (c == 92 || (c == 36) || (c == quote)) (92 ∷ c ∷ []) (c ∷ [])) (escaped_text quote s)
+    (by_test (c == 92 || (c == 36) || (c == quote))) (escaped_clean quote s (clean_rest h))
   where
     by_test : (x : Bool) → IsClean (cond x (92 ∷ c ∷ []) (c ∷ []))
     by_test true = clean_cons refl (clean_cons (clean_first h) clean_none)
@@ -146,13 +150,15 @@ operator_clean (c ∷ []) h = by_test (c == 61)
     by_test false = no_assignment
 operator_clean (c ∷ d ∷ s) h = by_tests (c == 61) (c == 58 && (d == 61)) (c == 43 && (d == 61))
   where
-    by_tests : (x y z : Bool) → IsCleanAssigned (cond x (Some (assigned sets (d ∷ s))) (cond y (Some (assigned sets_now s)) (cond z (Some (assigned appends s)) None)))
+    by_tests : (x y z : Bool)
+        → IsCleanAssigned (cond x (Some (assigned sets (d ∷ s))) (cond y (Some (assigned sets_now s)) (cond z (Some (assigned appends s)) None)))
     by_tests true y z = an_assignment (clean_rest h)
     by_tests false true z = an_assignment (clean_rest (clean_rest h))
     by_tests false false true = an_assignment (clean_rest (clean_rest h))
     by_tests false false false = no_assignment
 
-blanks_clean : {a : Option Assigned} → IsCleanAssigned a → IsCleanAssigned (option_map (λ (a : Assigned). assigned a.operator (without_front is_blank_byte a.text)) a)
+blanks_clean : {a : Option Assigned} → IsCleanAssigned a → IsCleanAssigned
+    (option_map (λ (a : Assigned). assigned a.operator (without_front is_blank_byte a.text)) a)
 blanks_clean no_assignment = no_assignment
 blanks_clean (an_assignment {a = a} h) = an_assignment (clean_drop (prefix_len is_blank_byte a.text) a.text h)
 
@@ -164,9 +170,11 @@ assignment_clean true (other s) r = no_assignment
 assignment_clean true (broken s) r = no_assignment
 assignment_clean true (run s) {ts = ts} r = by_test (is_keyword s)
   where
-    by_test : (x : Bool) → IsCleanAssigned (cond x None (option_map (λ (a : Assigned). assigned a.operator (without_front is_blank_byte a.text)) (operator_at (without_front is_white_byte (bytes_of_tokens ts)))))
+    by_test : (x : Bool) → IsCleanAssigned (cond x None (option_map (λ (a : Assigned). assigned a.operator (without_front is_blank_byte a.text))
+        (operator_at (without_front is_white_byte (bytes_of_tokens ts)))))
     by_test true = no_assignment
-    by_test false = blanks_clean (operator_clean (without_front is_white_byte (bytes_of_tokens ts)) (clean_drop (prefix_len is_white_byte (bytes_of_tokens ts)) (bytes_of_tokens ts) (row_clean r)))
+    by_test false = blanks_clean (operator_clean (without_front is_white_byte (bytes_of_tokens ts))
+        (clean_drop (prefix_len is_white_byte (bytes_of_tokens ts)) (bytes_of_tokens ts) (row_clean r)))
 
 module _ (w : World) (answers : CleanAnswers w) (at : Place) (file : IsClean at.file) (b : Bindings) (bindings : CleanBindings b) where
   abbrev E : Event → Type 0
@@ -191,24 +199,30 @@ module _ (w : World) (answers : CleanAnswers w) (at : Place) (file : IsClean at.
       by_test false = clean_cons h clean_none
   item_clean quote (clean_escaped {c = c} h) = record { bytes = clean_cons refl (clean_cons h clean_none); meaning = text_clean (clean_cons h clean_none) }
   item_clean quote (clean_reference {inside = inside} h) =
-      along_then w E IsCleanValue IsCleanBody (text_value at b (item_bytes (reference inside))) (λ v. returns (body_of_value quote v)) (value_clean (item_bytes (reference inside)) (clean_cons refl (clean_cons refl (clean_append inside (41 ∷ []) h (clean refl)))))
+      along_then w E IsCleanValue IsCleanBody (text_value at b (item_bytes (reference inside))) (λ v. returns (body_of_value quote v))
+      (value_clean (item_bytes (reference inside)) (clean_cons refl (clean_cons refl (clean_append inside (41 ∷ []) h (clean refl)))))
       (λ v k. body_of_value_clean quote k)
   item_clean quote clean_unterminated = tt
 
   items_written_clean : (quote : ℕ) {is : List Item} → AreCleanItems is → Gives IsCleanBody (written_items at b quote is)
   items_written_clean quote no_items = record { bytes = clean_none; meaning = text_clean clean_none }
   items_written_clean quote (next_item {i = i} {is = is} h r) =
-      along_then w E IsCleanBody IsCleanBody (written_item at b quote i) (λ x. written_items at b quote is >>= λ rest. returns (joined_bodies x rest)) (item_clean quote h)
+      along_then w E IsCleanBody IsCleanBody (written_item at b quote i) (λ x. written_items at b quote is >>= λ rest. returns (joined_bodies x rest))
+      (item_clean quote h)
       (λ x k. along_then w E IsCleanBody IsCleanBody (written_items at b quote is) (λ rest. returns (joined_bodies x rest)) (items_written_clean quote r)
       (λ y l. record { bytes = clean_append x.bytes y.bytes k.bytes l.bytes; meaning = joined_clean k.meaning l.meaning }))
 
   run_clean : (s : List ℕ) → IsClean s → Gives IsCleanToken (written_run at b s)
   run_clean s h = by_tests (list_any is_plain_dollar (items false 0 s)) (list_any is_reference (items false 0 s))
     where
-      by_tests : (x y : Bool) → Gives IsCleanToken (elim x as (λ z. Program WrittenToken) [ true ↦ returns (written_as an_other s []) | false ↦ elim y [ true ↦ text_value at b s >>= λ v. returns (token_of_value v) | false ↦ returns (written_as a_word s s) ] ])
+      by_tests : (x y : Bool) → Gives IsCleanToken (elim x as (λ z. Program WrittenToken) [
+        | true ↦ returns (written_as an_other s [])
+        | false ↦ elim y [ true ↦ text_value at b s >>= λ v. returns (token_of_value v) | false ↦ returns (written_as a_word s s) ]
+      ])
       by_tests true y = record { bytes = h; meaning = text_clean clean_none }
       by_tests false false = record { bytes = h; meaning = text_clean h }
-      by_tests false true = along_then w E IsCleanValue IsCleanToken (text_value at b s) (λ v. returns (token_of_value v)) (value_clean s h) (λ v k. token_of_value_clean k)
+      by_tests false true = along_then w E IsCleanValue IsCleanToken (text_value at b s) (λ v. returns (token_of_value v)) (value_clean s h)
+          (λ v k. token_of_value_clean k)
 
   token_clean : (t : LineToken) → IsClean (token_bytes t) → Gives IsCleanToken (written_token at b t)
   token_clean (gap s) h = record { bytes = h; meaning = text_clean clean_none }
@@ -217,8 +231,12 @@ module _ (w : World) (answers : CleanAnswers w) (at : Place) (file : IsClean at.
   token_clean (run s) h = run_clean s h
   token_clean (quoted quote s) h =
       let inside = clean_left s (quote ∷ []) (clean_rest h) in
-      along_then w E IsCleanBody IsCleanToken (written_items at b quote (items true 0 s)) (λ x. returns (token_of_body quote x)) (items_written_clean quote (items_clean true 0 s inside))
-      (λ x k. record { bytes = clean_cons (clean_first h) (clean_append x.bytes (quote ∷ []) k.bytes (clean_cons (clean_first h) clean_none)); meaning = k.meaning })
+      along_then w E IsCleanBody IsCleanToken (written_items at b quote (items true 0 s)) (λ x. returns (token_of_body quote x))
+      (items_written_clean quote (items_clean true 0 s inside))
+      (λ x k. record {
+        bytes = clean_cons (clean_first h) (clean_append x.bytes (quote ∷ []) k.bytes (clean_cons (clean_first h) clean_none));
+        meaning = k.meaning;
+      })
 
   run_value_clean : (s : List ℕ) → IsClean s → Gives IsCleanValue (run_value at b s)
   run_value_clean s h = by_test (list_any (λ c. c == 36) s)
@@ -231,10 +249,12 @@ module _ (w : World) (answers : CleanAnswers w) (at : Place) (file : IsClean at.
   with_token_clean t h (clean_tokens r) = clean_tokens (next_written h r)
   with_token_clean t h (clean_assignment k) = clean_assignment k
 
-  then_token : (t : WrittenToken) → IsCleanToken t → (p : Program LineContent) → Gives IsCleanContent p → Gives IsCleanContent (p >>= λ rest. returns (with_token t rest))
+  then_token : (t : WrittenToken) → IsCleanToken t → (p : Program LineContent) → Gives IsCleanContent p
+      → Gives IsCleanContent (p >>= λ rest. returns (with_token t rest))
   then_token t h p r = along_then w E IsCleanContent IsCleanContent p (λ rest. returns (with_token t rest)) r (λ x k. with_token_clean t h k)
 
-  or_assignment_clean : (rest : Program LineContent) (a : Assigned) → IsClean a.text → Gives IsCleanContent rest → (v : Value) → Gives IsCleanContent (assignment_or rest a v)
+  or_assignment_clean : (rest : Program LineContent) (a : Assigned) → IsClean a.text → Gives IsCleanContent rest → (v : Value)
+      → Gives IsCleanContent (assignment_or rest a v)
   or_assignment_clean rest a h r None = tt
   or_assignment_clean rest a h r (Some []) = r
   or_assignment_clean rest a h r (Some (c ∷ name)) = clean_assignment h
@@ -243,21 +263,30 @@ module _ (w : World) (answers : CleanAnswers w) (at : Place) (file : IsClean at.
   content_clean may_assign no_tokens = clean_tokens none_written
   content_clean may_assign (next_token {t = t} {ts = ts} h r) = by_assignment (λ m. content_clean m r) (assignment_clean may_assign t r)
     where
-      or_stop : (t : WrittenToken) → IsCleanToken t → (c m : Bool) → Gives IsCleanContent (line_content at b m ts) → Gives IsCleanContent (elim c as (λ z. Program LineContent) [ true ↦ stops | false ↦ line_content at b m ts >>= λ rest. returns (with_token t rest) ])
+      or_stop : (t : WrittenToken) → IsCleanToken t → (c m : Bool) → Gives IsCleanContent (line_content at b m ts)
+          → Gives IsCleanContent (elim c as (λ z. Program LineContent)
+          [ true ↦ stops | false ↦ line_content at b m ts >>= λ rest. returns (with_token t rest) ])
       or_stop t h true m r = tt
       or_stop t h false m r = then_token t h (line_content at b m ts) r
 
       by_assignment : ((m : Bool) → Gives IsCleanContent (line_content at b m ts)) → {a : Option Assigned} → IsCleanAssigned a
           → Gives IsCleanContent (elim a as (λ z. Program LineContent) [
             | Some a ↦ run_value at b (token_bytes t) >>= assignment_or (line_content at b true ts >>= λ rest. returns (with_token (token_of_text []) rest)) a
-            | None ↦ written_token at b t >>= λ x. elim (is_open_front may_assign x ts) as (λ z. Program LineContent) [ true ↦ stops | false ↦ line_content at b (may_assign && is_gap x) ts >>= λ rest. returns (with_token x rest) ]
+            | None ↦ written_token at b t >>= λ x. elim (is_open_front may_assign x ts) as (λ z. Program LineContent)
+                [ true ↦ stops | false ↦ line_content at b (may_assign && is_gap x) ts >>= λ rest. returns (with_token x rest) ]
           ])
       by_assignment ih no_assignment =
-          along_then w E IsCleanToken IsCleanContent (written_token at b t) (λ x. elim (is_open_front may_assign x ts) as (λ z. Program LineContent) [ true ↦ stops | false ↦ line_content at b (may_assign && is_gap x) ts >>= λ rest. returns (with_token x rest) ]) (token_clean t h)
+          along_then w E IsCleanToken IsCleanContent (written_token at b t)
+          (λ x. elim (is_open_front may_assign x ts) as (λ z. Program LineContent) [
+            | true ↦ stops
+            | false ↦ line_content at b (may_assign && is_gap x) ts >>= λ rest. returns (with_token x rest)
+          ]) (token_clean t h)
           (λ x k. or_stop x k (is_open_front may_assign x ts) (may_assign && is_gap x) (ih (may_assign && is_gap x)))
       by_assignment ih (an_assignment {a = a} k) =
-          along_then w E IsCleanValue IsCleanContent (run_value at b (token_bytes t)) (assignment_or (line_content at b true ts >>= λ rest. returns (with_token (token_of_text []) rest)) a) (run_value_clean (token_bytes t) h)
-          (λ v l. or_assignment_clean (line_content at b true ts >>= λ rest. returns (with_token (token_of_text []) rest)) a k (then_token (token_of_text []) (token_of_text_clean [] clean_none) (line_content at b true ts) (ih true)) v)
+          along_then w E IsCleanValue IsCleanContent (run_value at b (token_bytes t))
+          (assignment_or (line_content at b true ts >>= λ rest. returns (with_token (token_of_text []) rest)) a) (run_value_clean (token_bytes t) h)
+          (λ v l. or_assignment_clean (line_content at b true ts >>= λ rest. returns (with_token (token_of_text []) rest)) a k
+          (then_token (token_of_text []) (token_of_text_clean [] clean_none) (line_content at b true ts) (ih true)) v)
 
   unless_long_clean : {A : Type 0} (P : A → Type 0) (n : ℕ) (p : Program A) → Gives P p → Gives P (unless_too_long at n p)
   unless_long_clean {A = A} P n p h = by_test (nat_le n max_text_bytes)
@@ -278,11 +307,16 @@ module _ (w : World) (answers : CleanAnswers w) (at : Place) (file : IsClean at.
   text_stored_clean : (s : List ℕ) → IsClean s → Gives IsCleanVariable (stored_recursive at s)
   text_stored_clean s h = stored_clean (Some s) (recursive s) (recursive_clean h)
 
-  pub variable_clean : (operator : Operator) (s : List ℕ) → IsClean s → (before : Option Variable) → ((x : Variable) → before ≡ Some x → IsCleanVariable x) → Gives IsCleanVariable (variable_assigned at b operator s before)
-  variable_clean sets_now s h before k = along_then w E IsCleanValue IsCleanVariable (text_value at b s) (stored_simple at) (value_clean s h) (λ v l. stored_clean v (simple v) (simple_clean l))
+  pub variable_clean : (operator : Operator) (s : List ℕ) → IsClean s → (before : Option Variable) → ((x : Variable) → before ≡ Some x → IsCleanVariable x)
+      → Gives IsCleanVariable (variable_assigned at b operator s before)
+  variable_clean sets_now s h before k = along_then w E IsCleanValue IsCleanVariable (text_value at b s) (stored_simple at) (value_clean s h)
+      (λ v l. stored_clean v (simple v) (simple_clean l))
   variable_clean sets s h before k = text_stored_clean s h
   variable_clean appends s h None k = text_stored_clean s h
-  variable_clean appends s h (Some (recursive t)) k = text_stored_clean (t ++ 32 ∷ s) (clean_append t (32 ∷ s) (recursive_text (k (recursive t) refl)) (clean_cons refl h))
+  variable_clean appends s h (Some (recursive t)) k = text_stored_clean (t ++ 32 ∷ s)
+      (clean_append t (32 ∷ s) (recursive_text (k (recursive t) refl)) (clean_cons refl h))
   variable_clean appends s h (Some (simple v)) k =
-      along_then w E IsCleanValue IsCleanVariable (text_value at b s) (λ x. stored_simple at (joined_values v (joined_values (Some (32 ∷ [])) x))) (value_clean s h)
-      (λ x l. stored_clean (joined_values v (joined_values (Some (32 ∷ [])) x)) (simple (joined_values v (joined_values (Some (32 ∷ [])) x))) (simple_clean (joined_clean (simple_value (k (simple v) refl)) (joined_clean (text_clean {s = 32 ∷ []} (clean refl)) l))))
+      along_then w E IsCleanValue IsCleanVariable (text_value at b s) (λ x. stored_simple at (joined_values v (joined_values (Some (32 ∷ [])) x)))
+      (value_clean s h)
+      (λ x l. stored_clean (joined_values v (joined_values (Some (32 ∷ [])) x)) (simple (joined_values v (joined_values (Some (32 ∷ [])) x)))
+      (simple_clean (joined_clean (simple_value (k (simple v) refl)) (joined_clean (text_clean {s = 32 ∷ []} (clean refl)) l))))

@@ -17,7 +17,7 @@ use Rattle.kc_macros_model.specs.Expansion.{fault, asked_value, reported, messag
 use Rattle.kc_macros_model.specs.Limits.{max_open_expansions}
 use Rattle.kc_macros_model.specs.Worlds.{World, reply, returned}
 use Rattle.kc_macros_model.specs.ExpansionRules.{ending_in, Expands, done, byte, reference, Refers, parameter, call, unknown_name, ExpandEach, no_pieces, piece, Means, simple_variable, recursive_variable, unbound}
-use Rattle.kc_macros_model.proofs.Along.{Along}
+use Rattle.kc_macros_model.proofs.RunInvariants.{Along}
 use Rattle.kc_macros_model.proofs.ExpansionByRules.{expansion_keeps_the_rules}
 
 pub data IsClean (s : List ℕ) : Type 0 where
@@ -67,7 +67,8 @@ clean_drop (suc n) (c ∷ s) h = clean_drop n s (clean_rest h)
 
 pub clean_reverse : (s : List ℕ) → IsClean s → IsClean (reverse s)
 clean_reverse [] h = h
-clean_reverse (c ∷ s) h = subst (λ x. IsClean x) (sym (reverse-cons c s)) (clean_append (reverse s) (c ∷ []) (clean_reverse s (clean_rest h)) (clean_cons (clean_first h) clean_none))
+clean_reverse (c ∷ s) h = subst (λ x. IsClean x) (sym (reverse-cons c s))
+    (clean_append (reverse s) (c ∷ []) (clean_reverse s (clean_rest h)) (clean_cons (clean_first h) clean_none))
 
 -- a byte above a newline's is none
 other_byte : (c : ℕ) → 10 < c → (c == 10) ≡ false
@@ -88,7 +89,8 @@ digits_clean : (k n : ℕ) (s : List ℕ) → IsClean s → IsClean (digits_onto
 digits_clean zero n s h = h
 digits_clean (suc k) n s h = by_test (digits_clean k (n / 10) (digit_glyph false (n % 10) ∷ s) (clean_cons (digit_clean (n % 10)) h)) (n / 10 == 0)
   where
-    by_test : IsClean (digits_onto k 10 false (n / 10) (digit_glyph false (n % 10) ∷ s)) → (b : Bool) → IsClean (cond b (digit_glyph false (n % 10) ∷ s) (digits_onto k 10 false (n / 10) (digit_glyph false (n % 10) ∷ s)))
+    by_test : IsClean (digits_onto k 10 false (n / 10) (digit_glyph false (n % 10) ∷ s)) → (b : Bool)
+        → IsClean (cond b (digit_glyph false (n % 10) ∷ s) (digits_onto k 10 false (n / 10) (digit_glyph false (n % 10) ∷ s)))
     by_test ih true = clean_cons (digit_clean (n % 10)) h
     by_test ih false = ih
 
@@ -225,14 +227,16 @@ module _ (w : World) (answers : CleanAnswers w) (at : Place) (file : IsClean at.
       expands_clean done a h = empty
       expands_clean (byte {c = c} e r) a h = joined_clean (text_clean (clean_cons (clean_first h) clean_none)) (expands_clean r a (clean_rest h))
       expands_clean (reference {inside = inside} {s = s} e r k) a h =
-          joined_clean (refers_clean r a (clean_left inside (41 ∷ s) (clean_rest (clean_rest h)))) (expands_clean k a (clean_rest (clean_right inside (41 ∷ s) (clean_rest (clean_rest h)))))
+          joined_clean (refers_clean r a (clean_left inside (41 ∷ s) (clean_rest (clean_rest h))))
+          (expands_clean k a (clean_rest (clean_right inside (41 ∷ s) (clean_rest (clean_rest h)))))
 
       refers_clean : {args : List Value} {inside : List ℕ} {u : Value} → Refers w at b args inside u → AreCleanValues args → IsClean inside → IsCleanValue u
       refers_clean (parameter {inside = inside} {u = u} e) a h = argument_clean a inside u e
       refers_clean (call {inside = inside} e l each m) a h = means_clean m (first_value (each_clean each a (pieces_clean 0 inside h)))
       refers_clean (unknown_name e l each) a h = unknown_clean
 
-      each_clean : {args : List Value} {ps : List (List ℕ)} {vs : List Value} → ExpandEach w at b args ps vs → AreCleanValues args → AreClean ps → AreCleanValues vs
+      each_clean : {args : List Value} {ps : List (List ℕ)} {vs : List Value} → ExpandEach w at b args ps vs → AreCleanValues args → AreClean ps
+          → AreCleanValues vs
       each_clean no_pieces a no_texts = no_values
       each_clean (piece e r) a (next_text h k) = next_value (expands_clean e a h) (each_clean r a k)
 
@@ -244,4 +248,5 @@ module _ (w : World) (answers : CleanAnswers w) (at : Place) (file : IsClean at.
     -- the value of a text without newlines has none
     pub text_value_clean : (s : List ℕ) → IsClean s → Along w (λ e. Unit {0}) IsCleanValue (text_value at b s)
     unfolding text_value
-    text_value_clean s h = along_ending w IsCleanValue (text_value at b s) (λ v e. expands_clean (expansion_keeps_the_rules w at b max_open_expansions [] [] s v e) no_values h)
+    text_value_clean s h = along_ending w IsCleanValue (text_value at b s)
+        (λ v e. expands_clean (expansion_keeps_the_rules w at b max_open_expansions [] [] s v e) no_values h)

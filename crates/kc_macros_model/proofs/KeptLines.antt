@@ -16,15 +16,15 @@ use Rattle.kc_macros_model.specs.Programs.{Place, Event, Program, returns, stops
 use Rattle.kc_macros_model.specs.Variables.{Value, Variable}
 use Rattle.kc_macros_model.specs.Expansion.{fault}
 use Rattle.kc_macros_model.specs.LineTokens.{line_tokens}
-use Rattle.kc_macros_model.specs.Rewriting.{WrittenToken, in_quotes_of, written_as, a_word}
+use Rattle.kc_macros_model.specs.WrittenTokens.{WrittenToken, in_quotes_of, written_as, a_word}
 use Rattle.kc_macros_model.specs.Assignments.{without_front, is_gap, LineContent, line_content, variable_assigned}
 use Rattle.kc_macros_model.specs.LineForms.{SourceSort, LineForm, plain, bare_prompt, replaced_by, named_choice, sources, form_of_pair, form_by_word, form_of, without_gaps, with_nth_token, with_replacement, line_bytes, quoted_text_token, is_help_line, is_undecided}
 use Rattle.kc_macros_model.specs.PathPatterns.{is_pattern, is_writable_name, matches_name, path_pieces, is_in_order, inserted, sorted, FoundPaths, found, matching_names, paths_in_folder, paths_in_folders, paths_below, readable_paths, files_of_pattern, matches}
-use Rattle.kc_macros_model.specs.ReadingStates.{ExpandedFile, ReadingState, initial_state, Progress, progress, WrittenLine, written_line, bound, with_choice, with_listed, counted, has_key, is_taken, free_key, key_of, kept}
+use Rattle.kc_macros_model.specs.ReadingStates.{ExpandedFile, ReadingState, initial_state, Progress, progress, WrittenLine, written_line, bound, with_choice, with_listed, counted, has_key, is_taken, free_key, key_of, stored_file}
 use Rattle.kc_macros_model.specs.TreeExpansion.{place, Sourced, one_file, file_list, SourceReader, folder_of, begins_with_slash, path_meant, list_name, source_line, pattern_read, path_read, source_followed, form_written, short_line, tokens_written, content_written, line_written, bytes_of_lines, lines_written, help_after, lines_read, list_read, source_fault, contents_read, sourced_read, source_read, root_read, tree_read}
 use Rattle.kc_macros_model.specs.Worlds.{World}
 use Rattle.kc_macros_model.specs.TreeLaws.{newline_count, HasItsLines, of_file, of_list}
-use Rattle.kc_macros_model.proofs.Along.{Along, along_then}
+use Rattle.kc_macros_model.proofs.RunInvariants.{Along, along_then}
 use Rattle.kc_macros_model.proofs.CleanTexts.{IsClean, clean, clean_none, clean_cons, clean_first, clean_rest, clean_append, clean_drop, clean_reverse, clean_decimal, IsCleanValue, text_clean, IsCleanVariable, CleanBindings, CleanAnswers, AreClean, no_texts, next_text, unknown_clean}
 use Rattle.kc_macros_model.proofs.CleanLines.{tokens_clean, in_quotes_clean, IsCleanToken, AreCleanWritten, none_written, next_written, IsCleanContent, clean_assignment, clean_tokens, content_clean, variable_clean}
 use Rattle.kc_macros_model.proofs.LineCounts.{count_both, AreCleanLines, no_lines, next_line, split_clean, split_bytes, lines_both, taken_clean, written_count, returns_clean, joined_lines_clean, drop_twice}
@@ -38,7 +38,8 @@ nth_token_clean : (n : ℕ) (new : WrittenToken) → IsCleanToken new → {ts : 
 nth_token_clean n new h none_written = none_written
 nth_token_clean n new h (next_written {t = t} {ts = ts} k r) = by_tests n (is_gap t) (λ m. nth_token_clean m new h r)
   where
-    by_tests : (n : ℕ) (b : Bool) → ((m : ℕ) → AreCleanWritten (with_nth_token m new ts)) → AreCleanWritten (cond b (t ∷ with_nth_token n new ts) (elim n as (λ z. List WrittenToken) [ zero ↦ new ∷ ts | suc m ↦ t ∷ with_nth_token m new ts ]))
+    by_tests : (n : ℕ) (b : Bool) → ((m : ℕ) → AreCleanWritten (with_nth_token m new ts)) → AreCleanWritten
+        (cond b (t ∷ with_nth_token n new ts) (elim n as (λ z. List WrittenToken) [ zero ↦ new ∷ ts | suc m ↦ t ∷ with_nth_token m new ts ]))
     by_tests n true ih = next_written k (ih n)
     by_tests zero false ih = next_written h r
     by_tests (suc m) false ih = next_written k (ih m)
@@ -72,7 +73,8 @@ either_form true f g h k = h
 either_form false f g h k = k
 
 pair_clean : (word : List ℕ) (t : WrittenToken) → IsCleanToken t → IsCleanForm (form_of_pair word t)
-pair_clean word t h = either_form _ _ _ (clean_source h.meaning) (either_form _ _ _ clean_choice (either_form _ _ _ (clean_replacement (clean refl)) (either_form _ _ _ (clean_replacement clean_none) clean_plain)))
+pair_clean word t h = either_form _ _ _ (clean_source h.meaning) (either_form _ _ _ clean_choice
+    (either_form _ _ _ (clean_replacement (clean refl)) (either_form _ _ _ (clean_replacement clean_none) clean_plain)))
 
 word_form_clean : (word : List ℕ) (t : WrittenToken) (rest : List WrittenToken) → IsCleanToken t → IsCleanForm (form_by_word word t rest)
 word_form_clean word t [] h = either_form _ _ _ (clean_prompt h.bytes) (pair_clean word t h)
@@ -85,7 +87,8 @@ form_clean (next_written {t = t} h (next_written {t = u} {ts = ts} k r)) = eithe
 
 -- paths
 folder_clean : (path : List ℕ) → IsClean path → IsClean (folder_of path)
-folder_clean path h = clean_reverse (without_front (λ c. not (c == 47)) (reverse path)) (clean_drop (prefix_len (λ c. not (c == 47)) (reverse path)) (reverse path) (clean_reverse path h))
+folder_clean path h = clean_reverse (without_front (λ c. not (c == 47)) (reverse path))
+    (clean_drop (prefix_len (λ c. not (c == 47)) (reverse path)) (reverse path) (clean_reverse path h))
 
 meant_clean : (sort : SourceSort) (file given : List ℕ) → IsClean file → IsClean given → IsClean (path_meant sort file given)
 meant_clean sort file given h k = by_test (sort.relative && not (begins_with_slash given))
@@ -108,7 +111,8 @@ source_line_clean given key {ts = ts} r h = by_test (bytes_eq key given)
 
     by_test : (b : Bool) → IsClean (line_bytes (cond b first (with_nth_token 1 (quoted_text_token key) first)))
     by_test true = line_bytes_clean first_clean
-    by_test false = line_bytes_clean (nth_token_clean 1 (quoted_text_token key) (record { bytes = in_quotes_clean 34 key refl h; meaning = text_clean h }) first_clean)
+    by_test false = line_bytes_clean (nth_token_clean 1 (quoted_text_token key) (record { bytes = in_quotes_clean 34 key refl h; meaning = text_clean h })
+        first_clean)
 
 -- lists of paths
 both_clean : {xs ys : List (List ℕ)} → AreClean xs → AreClean ys → AreClean (xs ++ ys)
@@ -131,13 +135,17 @@ not_true : (b : Bool) → not b ≡ true → b ≡ false
 not_true true e = absurd (let z : ⊥ = cc in z)
 not_true false e = refl
 
-matching_clean : (piece folder : List ℕ) → IsClean folder → (names : List (List ℕ)) → AreClean (map (λ name. folder ++ name) (filter (matches_name piece) names))
+matching_clean : (piece folder : List ℕ) → IsClean folder → (names : List (List ℕ))
+    → AreClean (map (λ name. folder ++ name) (filter (matches_name piece) names))
 matching_clean piece folder h [] = no_texts
 matching_clean piece folder h (name ∷ names) = by_test (matching_clean piece folder h names) (matches_name piece name) refl
   where
-    by_test : AreClean (map (λ name. folder ++ name) (filter (matches_name piece) names)) → (b : Bool) → matches_name piece name ≡ b → AreClean (map (λ name. folder ++ name) (cond b (name ∷ filter (matches_name piece) names) (filter (matches_name piece) names)))
+    by_test : AreClean (map (λ name. folder ++ name) (filter (matches_name piece) names)) → (b : Bool) → matches_name piece name ≡ b
+        → AreClean (map (λ name. folder ++ name) (cond b (name ∷ filter (matches_name piece) names) (filter (matches_name piece) names)))
     by_test ih false e = ih
-    by_test ih true e = next_text (clean_append folder name h (clean (not_true (has_newline name) (second_so (is_utf8 name) (not (has_newline name)) (first_so (is_writable_name name) (rest name) e))))) ih
+    by_test ih true e = next_text
+        (clean_append folder name h
+        (clean (not_true (has_newline name) (second_so (is_utf8 name) (not (has_newline name)) (first_so (is_writable_name name) (rest name) e))))) ih
       where
         rest : List ℕ → Bool
         rest name = not (slice_index name 0 == 46 && not (slice_index piece 0 == 46)) && matches piece name
@@ -159,12 +167,15 @@ with_slashes no_texts = no_texts
 with_slashes (next_text {s = s} h r) = next_text (clean_append s (47 ∷ []) h (clean refl)) (with_slashes r)
 
 -- keys
-free_key_clean : (n : ℕ) (root : List ℕ) (files : List ExpandedFile) (path text key : List ℕ) (number : ℕ) → IsClean path → IsClean key → IsClean (free_key n root files path text key number)
+free_key_clean : (n : ℕ) (root : List ℕ) (files : List ExpandedFile) (path text key : List ℕ) (number : ℕ) → IsClean path → IsClean key
+    → IsClean (free_key n root files path text key number)
 free_key_clean zero root files path text key number h k = k
 free_key_clean (suc n) root files path text key number h k =
-    by_test (free_key_clean n root files path text (path ++ 35 ∷ decimal number) (number + 1) h (clean_append path (35 ∷ decimal number) h (clean_cons refl (clean_decimal number)))) (is_taken root files text key)
+    by_test (free_key_clean n root files path text (path ++ 35 ∷ decimal number) (number + 1) h
+    (clean_append path (35 ∷ decimal number) h (clean_cons refl (clean_decimal number)))) (is_taken root files text key)
   where
-    by_test : IsClean (free_key n root files path text (path ++ 35 ∷ decimal number) (number + 1)) → (b : Bool) → IsClean (elim b as (λ z. List ℕ) [ true ↦ free_key n root files path text (path ++ 35 ∷ decimal number) (number + 1) | false ↦ key ])
+    by_test : IsClean (free_key n root files path text (path ++ 35 ∷ decimal number) (number + 1)) → (b : Bool)
+        → IsClean (elim b as (λ z. List ℕ) [ true ↦ free_key n root files path text (path ++ 35 ∷ decimal number) (number + 1) | false ↦ key ])
     by_test ih true = ih
     by_test ih false = k
 
@@ -194,32 +205,45 @@ module _ (w : World) (answers : CleanAnswers w) where
   folder_good : (at : Place) (piece folder : List ℕ) (n : ℕ) → IsClean piece → IsClean folder → Gives GoodPaths (paths_in_folder at piece folder n)
   folder_good at piece folder n h k = by_test (is_pattern piece)
     where
-      by_size : (b : Bool) → Gives GoodPaths (cond b (fault at TooMany []) (returns (found (map (λ name. folder ++ name) (filter (matches_name piece) (w.names folder))) (n + length (w.names folder)))))
+      by_size : (b : Bool) → Gives GoodPaths (cond b (fault at TooMany [])
+          (returns (found (map (λ name. folder ++ name) (filter (matches_name piece) (w.names folder))) (n + length (w.names folder)))))
       by_size true = tt
       by_size false = record { paths = matching_clean piece folder k (w.names folder) }
 
-      by_test : (b : Bool) → Gives GoodPaths (elim b as (λ z. Program FoundPaths) [ true ↦ does (list_folder folder) (matching_names at piece folder n) | false ↦ returns (found ((folder ++ piece) ∷ []) n) ])
+      by_test : (b : Bool) → Gives GoodPaths (elim b as (λ z. Program FoundPaths) [
+        | true ↦ does (list_folder folder) (matching_names at piece folder n)
+        | false ↦ returns (found ((folder ++ piece) ∷ []) n)
+      ])
       by_test true = (tt, by_size (nat_lt max_listed_names (n + length (w.names folder))))
       by_test false = record { paths = next_text (clean_append folder piece k h) no_texts }
 
-  folders_good : (at : Place) (piece : List ℕ) → IsClean piece → {folders : List (List ℕ)} → AreClean folders → (n : ℕ) → Gives GoodPaths (paths_in_folders at piece folders n)
+  folders_good : (at : Place) (piece : List ℕ) → IsClean piece → {folders : List (List ℕ)} → AreClean folders → (n : ℕ)
+      → Gives GoodPaths (paths_in_folders at piece folders n)
   folders_good at piece h no_texts n = record { paths = no_texts }
   folders_good at piece h (next_text {s = folder} {ss = folders} k r) n =
-      along_then w E GoodPaths GoodPaths (paths_in_folder at piece folder n) (λ first. paths_in_folders at piece folders first.listed >>= λ rest. returns (found (first.paths ++ rest.paths) rest.listed)) (folder_good at piece folder n h k)
-      (λ f g. along_then w E GoodPaths GoodPaths (paths_in_folders at piece folders f.listed) (λ rest. returns (found (f.paths ++ rest.paths) rest.listed)) (folders_good at piece h r f.listed)
+      along_then w E GoodPaths GoodPaths (paths_in_folder at piece folder n)
+      (λ first. paths_in_folders at piece folders first.listed >>= λ rest. returns (found (first.paths ++ rest.paths) rest.listed))
+      (folder_good at piece folder n h k)
+      (λ f g. along_then w E GoodPaths GoodPaths (paths_in_folders at piece folders f.listed) (λ rest. returns (found (f.paths ++ rest.paths) rest.listed))
+      (folders_good at piece h r f.listed)
       (λ x y. record { paths = both_clean g.paths y.paths }))
 
-  below_good : (at : Place) {pieces : List (List ℕ)} → AreClean pieces → {folders : List (List ℕ)} → AreClean folders → (n : ℕ) → Gives GoodPaths (paths_below at pieces folders n)
+  below_good : (at : Place) {pieces : List (List ℕ)} → AreClean pieces → {folders : List (List ℕ)} → AreClean folders → (n : ℕ)
+      → Gives GoodPaths (paths_below at pieces folders n)
   below_good at no_texts r n = record { paths = r }
   below_good at (next_text {s = piece} h no_texts) r n = folders_good at piece h r n
   below_good at (next_text {s = piece} h (next_text {s = next} {ss = pieces} k q)) {folders = folders} r n =
-      along_then w E GoodPaths GoodPaths (paths_in_folders at piece folders n) (λ f. paths_below at (next ∷ pieces) (map (λ path. path ++ 47 ∷ []) f.paths) f.listed) (folders_good at piece h r n)
+      along_then w E GoodPaths GoodPaths (paths_in_folders at piece folders n)
+      (λ f. paths_below at (next ∷ pieces) (map (λ path. path ++ 47 ∷ []) f.paths) f.listed) (folders_good at piece h r n)
       (λ f g. below_good at (next_text k q) (with_slashes g.paths) f.listed)
 
   readable_good : {paths : List (List ℕ)} → AreClean paths → Gives AreClean (readable_paths paths)
   readable_good no_texts = no_texts
-  readable_good (next_text {s = path} {ss = paths} h r) =
-      (tt, along_then w E AreClean AreClean (readable_paths paths) (λ rest. returns (cond (is_some (w.bytes path)) (path ∷ rest) rest)) (readable_good r) (λ rest k. by_test rest k (is_some (w.bytes path))))
+  readable_good (next_text {s = path} {ss = paths} h r) = (
+    tt,
+    along_then w E AreClean AreClean (readable_paths paths) (λ rest. returns (cond (is_some (w.bytes path)) (path ∷ rest) rest)) (readable_good r)
+        (λ rest k. by_test rest k (is_some (w.bytes path))),
+  )
     where
       by_test : (rest : List (List ℕ)) → AreClean rest → (b : Bool) → AreClean (cond b (path ∷ rest) rest)
       by_test rest k true = next_text h k
@@ -227,8 +251,11 @@ module _ (w : World) (answers : CleanAnswers w) where
 
   pattern_good : (at : Place) (pattern : List ℕ) (n : ℕ) → IsClean pattern → Gives GoodPaths (files_of_pattern at pattern n)
   pattern_good at pattern n h =
-      along_then w E GoodPaths GoodPaths (paths_below at (path_pieces pattern) ([] ∷ []) n) (λ f. readable_paths f.paths >>= λ paths. returns (found (sorted paths) f.listed)) (below_good at (path_pieces_clean pattern h) (next_text clean_none no_texts) n)
-      (λ f g. along_then w E AreClean GoodPaths (readable_paths f.paths) (λ paths. returns (found (sorted paths) f.listed)) (readable_good g.paths) (λ paths k. record { paths = sorted_clean k }))
+      along_then w E GoodPaths GoodPaths (paths_below at (path_pieces pattern) ([] ∷ []) n)
+      (λ f. readable_paths f.paths >>= λ paths. returns (found (sorted paths) f.listed))
+      (below_good at (path_pieces_clean pattern h) (next_text clean_none no_texts) n)
+      (λ f g. along_then w E AreClean GoodPaths (readable_paths f.paths) (λ paths. returns (found (sorted paths) f.listed)) (readable_good g.paths)
+      (λ paths k. record { paths = sorted_clean k }))
 
   -- a file or the list of a line
   data IsCleanSourced : Sourced → Type 0 where
@@ -239,57 +266,91 @@ module _ (w : World) (answers : CleanAnswers w) where
   ReadsWell sub = (at : Place) (what : Sourced) (s : ReadingState) → IsClean at.file → IsCleanSourced what → IsGood s → Gives GoodProgress (sub at what s)
 
   module _ (sub : SourceReader) (reads : ReadsWell sub) where
-    path_good : (at : Place) (sort : SourceSort) (path : List ℕ) (s : ReadingState) → IsClean at.file → IsClean path → IsGood s → Gives GoodProgress (path_read sub at sort path s)
+    path_good : (at : Place) (sort : SourceSort) (path : List ℕ) (s : ReadingState) → IsClean at.file → IsClean path → IsGood s
+        → Gives GoodProgress (path_read sub at sort path s)
     path_good at sort path s f h g = by_tests (is_pattern path) sort.optional
       where
-        list_good : (x : FoundPaths) → GoodPaths x → (b : Bool) → Gives GoodProgress (elim b as (λ z. Program Progress) [ true ↦ sub at (file_list (list_name at) x.paths) (with_listed x.listed s) | false ↦ fault at MissingFile [] ])
-        list_good x k true = reads at (file_list (list_name at) x.paths) (with_listed x.listed s) f (clean_list at f k.paths) (record { bindings = g.bindings; files = g.files })
+        list_good : (x : FoundPaths) → GoodPaths x → (b : Bool) → Gives GoodProgress
+            (elim b as (λ z. Program Progress) [ true ↦ sub at (file_list (list_name at) x.paths) (with_listed x.listed s) | false ↦ fault at MissingFile [] ])
+        list_good x k true = reads at (file_list (list_name at) x.paths) (with_listed x.listed s) f (clean_list at f k.paths)
+            (record { bindings = g.bindings; files = g.files })
         list_good x k false = tt
 
         by_tests : (c d : Bool) → Gives GoodProgress (elim c as (λ z. Program Progress) [
           | true ↦ files_of_pattern at path s.listed >>= pattern_read sub at sort s
-          | false ↦ elim d as (λ z. Program Progress) [ true ↦ readable_paths (path ∷ []) >>= λ paths. sub at (file_list (list_name at) paths) s | false ↦ sub at (one_file path) s ]
+          | false ↦ elim d as (λ z. Program Progress) [
+            | true ↦ readable_paths (path ∷ []) >>= λ paths. sub at (file_list (list_name at) paths) s
+            | false ↦ sub at (one_file path) s
+          ]
         ])
-        by_tests true d = along_then w E GoodPaths GoodProgress (files_of_pattern at path s.listed) (pattern_read sub at sort s) (pattern_good at path s.listed h) (λ x k. list_good x k (nat_lt 0 (length x.paths) || sort.optional))
-        by_tests false true = along_then w E AreClean GoodProgress (readable_paths (path ∷ [])) (λ paths. sub at (file_list (list_name at) paths) s) (readable_good (next_text h no_texts)) (λ paths k. reads at (file_list (list_name at) paths) s f (clean_list at f k) g)
+        by_tests true d = along_then w E GoodPaths GoodProgress (files_of_pattern at path s.listed) (pattern_read sub at sort s)
+            (pattern_good at path s.listed h) (λ x k. list_good x k (nat_lt 0 (length x.paths) || sort.optional))
+        by_tests false true = along_then w E AreClean GoodProgress (readable_paths (path ∷ [])) (λ paths. sub at (file_list (list_name at) paths) s)
+            (readable_good (next_text h no_texts)) (λ paths k. reads at (file_list (list_name at) paths) s f (clean_list at f k) g)
         by_tests false false = reads at (one_file path) s f (clean_file h) g
 
-    followed_good : (at : Place) {ts : List WrittenToken} (sort : SourceSort) {v : Value} (s : ReadingState) → IsClean at.file → AreCleanWritten ts → IsCleanValue v → IsGood s → Gives GoodProgress (source_followed sub at ts sort v s)
+    followed_good : (at : Place) {ts : List WrittenToken} (sort : SourceSort) {v : Value} (s : ReadingState) → IsClean at.file → AreCleanWritten ts
+        → IsCleanValue v → IsGood s → Gives GoodProgress (source_followed sub at ts sort v s)
     followed_good at sort s f r unknown_clean g = tt
     followed_good at {ts = ts} sort s f r (text_clean {s = given} h) g = by_test (list_any (λ c. c == 91) path)
       where
         path : List ℕ
         path = path_meant sort at.file given
 
-        by_test : (c : Bool) → Gives GoodProgress (elim c as (λ z. Program Progress) [ true ↦ returns (progress (line_bytes ts) s) | false ↦ path_read sub at sort path s >>= λ p. returns (progress (source_line ts given p.text) p.state) ])
+        by_test : (c : Bool) → Gives GoodProgress (elim c as (λ z. Program Progress) [
+          | true ↦ returns (progress (line_bytes ts) s)
+          | false ↦ path_read sub at sort path s >>= λ p. returns (progress (source_line ts given p.text) p.state)
+        ])
         by_test true = record { text = line_bytes_clean r; state = g }
         by_test false =
-            along_then w E GoodProgress GoodProgress (path_read sub at sort path s) (λ p. returns (progress (source_line ts given p.text) p.state)) (path_good at sort path s f (meant_clean sort at.file given f h) g)
+            along_then w E GoodProgress GoodProgress (path_read sub at sort path s) (λ p. returns (progress (source_line ts given p.text) p.state))
+            (path_good at sort path s f (meant_clean sort at.file given f h) g)
             (λ p k. record { text = source_line_clean given p.text r k.text; state = k.state })
 
-    form_good : (at : Place) {ts : List WrittenToken} {f : LineForm} (s : ReadingState) → IsClean at.file → AreCleanWritten ts → IsCleanForm f → IsGood s → Gives GoodProgress (form_written sub at ts f s)
+    form_good : (at : Place) {ts : List WrittenToken} {f : LineForm} (s : ReadingState) → IsClean at.file → AreCleanWritten ts → IsCleanForm f → IsGood s
+        → Gives GoodProgress (form_written sub at ts f s)
     form_good at s k r clean_plain g = record { text = line_bytes_clean r; state = g }
     form_good at s k r (clean_prompt {s = text} h) g =
-        record { text = line_bytes_clean (nth_token_clean 1 (written_as a_word (34 ∷ (text ++ 34 ∷ [])) []) (record { bytes = clean_cons refl (clean_append text (34 ∷ []) h (clean refl)); meaning = text_clean clean_none }) r); state = g }
+        record {
+          text = line_bytes_clean (nth_token_clean 1 (written_as a_word (34 ∷ (text ++ 34 ∷ [])) [])
+              (record { bytes = clean_cons refl (clean_append text (34 ∷ []) h (clean refl)); meaning = text_clean clean_none }) r);
+          state = g;
+        }
     form_good at s k r (clean_replacement {s = text} h) g = record { text = replacement_clean text h r; state = g }
     form_good at {ts = ts} s k r (clean_choice {s = name}) g = by_test (is_in_list name s.choices)
       where
-        by_test : (b : Bool) → GoodProgress (cond b (progress (line_bytes ts) s) (progress (line_bytes (with_nth_token 1 (written_as a_word [] []) ts)) (with_choice name s)))
+        by_test : (b : Bool) → GoodProgress (cond b (progress (line_bytes ts) s)
+            (progress (line_bytes (with_nth_token 1 (written_as a_word [] []) ts)) (with_choice name s)))
         by_test true = record { text = line_bytes_clean r; state = g }
-        by_test false = record { text = line_bytes_clean (nth_token_clean 1 (written_as a_word [] []) (record { bytes = clean_none; meaning = text_clean clean_none }) r); state = record { bindings = g.bindings; files = g.files } }
+        by_test false = record {
+          text = line_bytes_clean (nth_token_clean 1 (written_as a_word [] [])
+              (record { bytes = clean_none; meaning = text_clean clean_none }) r);
+          state = record { bindings = g.bindings; files = g.files };
+        }
     form_good at s k r (clean_source {sort = sort} h) g = followed_good at sort s k r h g
 
-    tokens_good : (at : Place) {ts : List WrittenToken} (s : ReadingState) → IsClean at.file → AreCleanWritten ts → IsGood s → Gives GoodLine (tokens_written sub at s ts (without_gaps ts))
+    tokens_good : (at : Place) {ts : List WrittenToken} (s : ReadingState) → IsClean at.file → AreCleanWritten ts → IsGood s
+        → Gives GoodLine (tokens_written sub at s ts (without_gaps ts))
     tokens_good at {ts = ts} s k r g = by_test (is_undecided (without_gaps ts))
       where
-        short : (p : Progress) → GoodProgress p → (b : Bool) → Gives GoodLine (elim b as (λ z. Program WrittenLine) [ true ↦ fault at LineTooLong [] | false ↦ returns (written_line p.text (is_help_line (without_gaps ts)) p.state) ])
+        short : (p : Progress) → GoodProgress p → (b : Bool) → Gives GoodLine
+            (elim b as (λ z. Program WrittenLine) [
+              | true ↦ fault at LineTooLong []
+              | false ↦ returns
+                  (written_line p.text (is_help_line (without_gaps ts)) p.state)
+            ])
         short p h true = tt
         short p h false = record { text = h.text; state = h.state }
 
-        by_test : (b : Bool) → Gives GoodLine (elim b as (λ z. Program WrittenLine) [ true ↦ stops | false ↦ form_written sub at ts (form_of (without_gaps ts)) s >>= short_line at (is_help_line (without_gaps ts)) ])
+        by_test : (b : Bool) → Gives GoodLine (elim b as (λ z. Program WrittenLine) [
+          | true ↦ stops
+          | false ↦
+              form_written sub at ts (form_of (without_gaps ts)) s >>= short_line at (is_help_line (without_gaps ts))
+        ])
         by_test true = tt
         by_test false =
-            along_then w E GoodProgress GoodLine (form_written sub at ts (form_of (without_gaps ts)) s) (short_line at (is_help_line (without_gaps ts))) (form_good at s k r (form_clean (gaps_gone_clean r)) g) (λ p h. short p h (nat_lt max_text_bytes (length p.text)))
+            along_then w E GoodProgress GoodLine (form_written sub at ts (form_of (without_gaps ts)) s) (short_line at (is_help_line (without_gaps ts)))
+            (form_good at s k r (form_clean (gaps_gone_clean r)) g) (λ p h. short p h (nat_lt max_text_bytes (length p.text)))
 
     bound_good : (name : List ℕ) (x : Variable) (s : ReadingState) → IsCleanVariable x → IsGood s → IsGood (bound name x s)
     bound_good name x s h g = record { bindings = record { each = λ key y e. by_test key y (bytes_eq key name) e }; files = g.files }
@@ -298,37 +359,48 @@ module _ (w : World) (answers : CleanAnswers w) where
         by_test key y true e = let p : x ≡ y = cc in subst (λ z. IsCleanVariable z) p h
         by_test key y false e = g.bindings.each key y e
 
-    content_good : (at : Place) (continued : Bool) {x : LineContent} (s : ReadingState) → IsClean at.file → IsCleanContent x → IsGood s → Gives GoodLine (content_written sub at continued s x)
+    content_good : (at : Place) (continued : Bool) {x : LineContent} (s : ReadingState) → IsClean at.file → IsCleanContent x → IsGood s
+        → Gives GoodLine (content_written sub at continued s x)
     content_good at true s k (clean_tokens r) g = tokens_good at s k r g
     content_good at false s k (clean_tokens r) g = tokens_good at s k r g
     content_good at true s k (clean_assignment h) g = tt
     content_good at false s k (clean_assignment {name = name} {a = a} h) g =
-        along_then w E IsCleanVariable GoodLine (variable_assigned at s.bindings a.operator a.text (s.bindings name)) (λ v. returns (written_line [] false (bound name v s)))
-        (variable_clean w answers at k s.bindings g.bindings a.operator a.text h (s.bindings name) (g.bindings.each name)) (λ v l. record { text = clean_none; state = bound_good name v s l g })
+        along_then w E IsCleanVariable GoodLine (variable_assigned at s.bindings a.operator a.text (s.bindings name))
+        (λ v. returns (written_line [] false (bound name v s)))
+        (variable_clean w answers at k s.bindings g.bindings a.operator a.text h (s.bindings name) (g.bindings.each name))
+        (λ v l. record { text = clean_none; state = bound_good name v s l g })
 
-    line_good : (at : Place) (continued : Bool) (text : List ℕ) (s : ReadingState) → IsClean at.file → IsClean text → IsGood s → Gives GoodLine (line_written sub at continued text s)
+    line_good : (at : Place) (continued : Bool) (text : List ℕ) (s : ReadingState) → IsClean at.file → IsClean text → IsGood s
+        → Gives GoodLine (line_written sub at continued text s)
     line_good at continued text s k h g = by_test (nat_lt max_text_bytes (length text) || not (is_utf8 text))
       where
-        by_test : (b : Bool) → Gives GoodLine (elim b as (λ z. Program WrittenLine) [ true ↦ returns (written_line text (begins_help text) s) | false ↦ line_content at s.bindings true (line_tokens 0 text) >>= content_written sub at continued s ])
+        by_test : (b : Bool) → Gives GoodLine (elim b as (λ z. Program WrittenLine) [
+          | true ↦ returns (written_line text (begins_help text) s)
+          | false ↦ line_content at s.bindings true (line_tokens 0 text) >>= content_written sub at continued s
+        ])
         by_test true = record { text = h; state = g }
         by_test false =
-            along_then w E IsCleanContent GoodLine (line_content at s.bindings true (line_tokens 0 text)) (content_written sub at continued s) (content_clean w answers at k s.bindings g.bindings true (tokens_clean 0 text h)) (λ x r. content_good at continued s k r g)
+            along_then w E IsCleanContent GoodLine (line_content at s.bindings true (line_tokens 0 text)) (content_written sub at continued s)
+            (content_clean w answers at k s.bindings g.bindings true (tokens_clean 0 text h)) (λ x r. content_good at continued s k r g)
 
     -- the lines of a file keep its newlines
     record KeepsLines (ls : List PhysicalLine) (p : Progress) : Type 0 where
       count : newline_count p.text ≡ newline_count (bytes_of_lines ls)
       state : IsGood p.state
 
-    lines_good : (file : List ℕ) → IsClean file → (skip n : ℕ) {ls : List PhysicalLine} (s : ReadingState) → AreCleanLines ls → IsGood s → Gives (KeepsLines (drop skip ls)) (lines_read sub file skip n ls s)
+    lines_good : (file : List ℕ) → IsClean file → (skip n : ℕ) {ls : List PhysicalLine} (s : ReadingState) → AreCleanLines ls → IsGood s
+        → Gives (KeepsLines (drop skip ls)) (lines_read sub file skip n ls s)
     lines_good file k zero n s no_lines g = record { count = refl; state = g }
     lines_good file k (suc skip) n s no_lines g = record { count = refl; state = g }
     lines_good file k (suc skip) n s (next_line h r) g = lines_good file k skip (n + 1) s r g
     lines_good file k zero n s (next_line {l = l} {ls = ls} h r) g =
         along_then w E GoodLine (KeepsLines (l ∷ ls)) (line_written sub (place file n) (is_continued (without_return l)) (joined_bytes all) s)
-        (λ line. let help = help_after line.begins_help (drop more ls) in lines_read sub file (more + help) (n + 1) ls line.state >>= λ rest. returns (progress (written line.text help rest.text) rest.state))
+        (λ line. let help = help_after line.begins_help (drop more ls) in
+        lines_read sub file (more + help) (n + 1) ls line.state >>= λ rest. returns (progress (written line.text help rest.text) rest.state))
         (line_good (place file n) (is_continued (without_return l)) (joined_bytes all) s k (joined_lines_clean (returns_clean (next_line h r))) g)
         (λ line q. let help = help_after line.begins_help (drop more ls) in
-        along_then w E (KeepsLines (drop (more + help) ls)) (KeepsLines (l ∷ ls)) (lines_read sub file (more + help) (n + 1) ls line.state) (λ rest. returns (progress (written line.text help rest.text) rest.state)) (lines_good file k (more + help) (n + 1) line.state r q.state)
+        along_then w E (KeepsLines (drop (more + help) ls)) (KeepsLines (l ∷ ls)) (lines_read sub file (more + help) (n + 1) ls line.state)
+        (λ rest. returns (progress (written line.text help rest.text) rest.state)) (lines_good file k (more + help) (n + 1) line.state r q.state)
         (λ rest x. record { count = counted_lines line.text help rest.text q.text x.count; state = x.state }))
       where
         all : List PhysicalLine
@@ -340,34 +412,42 @@ module _ (w : World) (answers : CleanAnswers w) where
         written : List ℕ → ℕ → List ℕ → List ℕ
         written text help rest = lines_written (l ∷ take more ls) (joined_bytes all) text ++ (bytes_of_lines (take help (drop more ls)) ++ rest)
 
-        counted_lines : (text : List ℕ) (help : ℕ) (rest : List ℕ) → IsClean text → newline_count rest ≡ newline_count (bytes_of_lines (drop (more + help) ls)) → newline_count (written text help rest) ≡ newline_count (bytes_of_lines (l ∷ ls))
+        counted_lines : (text : List ℕ) (help : ℕ) (rest : List ℕ) → IsClean text → newline_count rest ≡ newline_count (bytes_of_lines (drop (more + help) ls))
+            → newline_count (written text help rest) ≡ newline_count (bytes_of_lines (l ∷ ls))
         counted_lines text help rest q e =
             let first = lines_written (l ∷ take more ls) (joined_bytes all) text in
             let middle = bytes_of_lines (take help (drop more ls)) in
             let e1 = count_both first (middle ++ rest) in
             let e2 = count_both middle rest in
             let e3 = written_count (l ∷ take more ls) (joined_bytes all) text (next_line h (taken_clean more ls r)) q in
-            let e4 : bytes_of_lines (l ∷ ls) ≡ bytes_of_lines (l ∷ take more ls) ++ bytes_of_lines (drop more ls) = ap (λ z. bytes_of_lines (l ∷ z)) (sym (take-append-drop more ls)) ∙ lines_both (l ∷ take more ls) (drop more ls) in
+            let e4 : bytes_of_lines (l ∷ ls) ≡ bytes_of_lines (l ∷ take more ls) ++ bytes_of_lines (drop more ls) =
+            ap (λ z. bytes_of_lines (l ∷ z)) (sym (take-append-drop more ls)) ∙ lines_both (l ∷ take more ls) (drop more ls) in
             let e5 : bytes_of_lines (drop more ls) ≡ middle ++ bytes_of_lines (drop (more + help) ls) =
-            ap bytes_of_lines (sym (take-append-drop help (drop more ls))) ∙ lines_both (take help (drop more ls)) (drop help (drop more ls)) ∙ ap (λ z. middle ++ bytes_of_lines z) (sym (drop_twice more help ls)) in
+            ap bytes_of_lines (sym (take-append-drop help (drop more ls))) ∙ lines_both (take help (drop more ls)) (drop help (drop more ls))
+            ∙ ap (λ z. middle ++ bytes_of_lines z) (sym (drop_twice more help ls)) in
             let e6 = ap newline_count e4 in
             let e7 = ap newline_count e5 in
             let e8 = count_both (bytes_of_lines (l ∷ take more ls)) (bytes_of_lines (drop more ls)) in
             let e9 = count_both middle (bytes_of_lines (drop (more + help) ls)) in
             omega (arith, e, e1, e2, e3, e6, e7, e8, e9)
 
-    list_good : (at : Place) {paths : List (List ℕ)} (s : ReadingState) → IsClean at.file → AreClean paths → IsGood s → Gives (λ p. IsGood p.state) (list_read sub at paths s)
+    list_good : (at : Place) {paths : List (List ℕ)} (s : ReadingState) → IsClean at.file → AreClean paths → IsGood s
+        → Gives (λ p. IsGood p.state) (list_read sub at paths s)
     list_good at s k no_texts g = g
     list_good at s k (next_text {s = path} {ss = paths} h r) g =
-        along_then w E GoodProgress (λ p. IsGood p.state) (sub at (one_file path) s) (λ p. list_read sub at paths p.state >>= λ rest. returns (progress (codes "source " ++ (in_quotes_of 34 p.text ++ 10 ∷ rest.text)) rest.state)) (reads at (one_file path) s k (clean_file h) g)
-        (λ p x. along_then w E (λ p. IsGood p.state) (λ p. IsGood p.state) (list_read sub at paths p.state) (λ rest. returns (progress (codes "source " ++ (in_quotes_of 34 p.text ++ 10 ∷ rest.text)) rest.state)) (list_good at p.state k r x.state) (λ rest y. y))
+        along_then w E GoodProgress (λ p. IsGood p.state) (sub at (one_file path) s)
+        (λ p. list_read sub at paths p.state >>= λ rest. returns (progress (codes "source " ++ (in_quotes_of 34 p.text ++ 10 ∷ rest.text)) rest.state))
+        (reads at (one_file path) s k (clean_file h) g)
+        (λ p x. along_then w E (λ p. IsGood p.state) (λ p. IsGood p.state) (list_read sub at paths p.state)
+        (λ rest. returns (progress (codes "source " ++ (in_quotes_of 34 p.text ++ 10 ∷ rest.text)) rest.state)) (list_good at p.state k r x.state)
+        (λ rest y. y))
 
     -- the text of a file or a list, under each key
     record KeepsFile (path : List ℕ) (p : Progress) : Type 0 where
       lines : (key : List ℕ) → HasItsLines w (record { key = key; path = path; text = p.text })
       state : IsGood p.state
 
-    kept_good : (root path : List ℕ) (p : Progress) → IsClean path → KeepsFile path p → GoodProgress (kept root path p)
+    kept_good : (root path : List ℕ) (p : Progress) → IsClean path → KeepsFile path p → GoodProgress (stored_file root path p)
     kept_good root path p h q = record {
       text = free_key_clean (suc (length p.state.expanded)) root p.state.expanded path p.text path 2 h h;
       state = record { bindings = q.state.bindings; files = by_test (has_key p.state.expanded key) };
@@ -378,41 +458,61 @@ module _ (w : World) (answers : CleanAnswers w) where
 
         by_test : (b : Bool) → All (HasItsLines w) (cond b p.state.expanded (p.state.expanded ++ record { key = key; path = path; text = p.text } ∷ []))
         by_test true = q.state.files
-        by_test false = All-append (HasItsLines w) p.state.expanded (record { key = key; path = path; text = p.text } ∷ []) q.state.files (All-cons (HasItsLines w) (record { key = key; path = path; text = p.text }) [] (q.lines key) (All-nil (HasItsLines w)))
+        by_test false = All-append (HasItsLines w) p.state.expanded (record { key = key; path = path; text = p.text } ∷ []) q.state.files
+            (All-cons (HasItsLines w) (record { key = key; path = path; text = p.text }) [] (q.lines key) (All-nil (HasItsLines w)))
 
     counted_good : (n : ℕ) (s : ReadingState) → IsGood s → IsGood (counted n s)
     counted_good n s g = record { bindings = g.bindings; files = g.files }
 
-    file_good : (root : List ℕ) (open_files : List (List ℕ)) (at : Place) (path : List ℕ) (s : ReadingState) → IsClean path → IsGood s → (bytes : Option (List ℕ)) → w.bytes path ≡ bytes → Gives GoodProgress (sourced_read sub root open_files at (one_file path) s bytes)
+    file_good : (root : List ℕ) (open_files : List (List ℕ)) (at : Place) (path : List ℕ) (s : ReadingState) → IsClean path → IsGood s
+        → (bytes : Option (List ℕ)) → w.bytes path ≡ bytes → Gives GoodProgress (sourced_read sub root open_files at (one_file path) s bytes)
     file_good root open_files at path s h g None e = by_test (is_in_list path open_files)
       where
-        by_test : (b : Bool) → Gives GoodProgress (elim (cond b (Some SourceLoop) (Some MissingFile)) as (λ z. Program Progress) [ Some kind ↦ fault at kind [] | None ↦ contents_read sub at (one_file path) None s >>= λ p. returns (kept root path p) ])
+        by_test : (b : Bool) → Gives GoodProgress (elim (cond b (Some SourceLoop) (Some MissingFile)) as (λ z. Program Progress)
+            [ Some kind ↦ fault at kind [] | None ↦ contents_read sub at (one_file path) None s >>= λ p. returns (stored_file root path p) ])
         by_test true = tt
         by_test false = tt
     file_good root open_files at path s h g (Some bytes) e = by_fault (source_fault open_files s path (Some bytes))
       where
-        by_fault : (x : Option MacroKind) → Gives GoodProgress (elim x as (λ z. Program Progress) [ Some kind ↦ fault at kind [] | None ↦ contents_read sub at (one_file path) (Some bytes) s >>= λ p. returns (kept root path p) ])
+        by_fault : (x : Option MacroKind) → Gives GoodProgress (elim x as (λ z. Program Progress) [
+          | Some kind ↦ fault at kind []
+          | None ↦ contents_read sub at (one_file path) (Some bytes) s >>= λ p. returns (stored_file root path p)
+        ])
         by_fault (Some kind) = tt
         by_fault None =
-            along_then w E (KeepsLines (split_at_newlines bytes)) GoodProgress (lines_read sub path 0 1 (split_at_newlines bytes) (counted (length bytes) s)) (λ p. returns (kept root path p)) (lines_good path h 0 1 (counted (length bytes) s) (split_clean bytes) (counted_good (length bytes) s g))
+            along_then w E (KeepsLines (split_at_newlines bytes)) GoodProgress (lines_read sub path 0 1 (split_at_newlines bytes) (counted (length bytes) s))
+            (λ p. returns (stored_file root path p)) (lines_good path h 0 1 (counted (length bytes) s) (split_clean bytes)
+            (counted_good (length bytes) s g))
             (λ p x. kept_good root path p h (record { lines = λ key. of_file bytes e (x.count ∙ ap newline_count (split_bytes bytes)); state = x.state }))
 
-    sourced_list_good : (root : List ℕ) (open_files : List (List ℕ)) (at from : Place) {paths : List (List ℕ)} (s : ReadingState) → IsClean at.file → IsClean from.file → AreClean paths → IsGood s → Gives GoodProgress (sourced_read sub root open_files at (file_list (list_name from) paths) s (Some []))
+    sourced_list_good : (root : List ℕ) (open_files : List (List ℕ)) (at from : Place) {paths : List (List ℕ)} (s : ReadingState) → IsClean at.file
+        → IsClean from.file → AreClean paths → IsGood s → Gives GoodProgress
+        (sourced_read sub root open_files at (file_list (list_name from) paths) s (Some []))
     sourced_list_good root open_files at from {paths = paths} s k h r g = by_fault (source_fault open_files s (list_name from) (Some []))
       where
-        by_fault : (x : Option MacroKind) → Gives GoodProgress (elim x as (λ z. Program Progress) [ Some kind ↦ fault at kind [] | None ↦ contents_read sub at (file_list (list_name from) paths) (Some []) s >>= λ p. returns (kept root (list_name from) p) ])
+        by_fault : (x : Option MacroKind) → Gives GoodProgress (elim x as (λ z. Program Progress) [
+          | Some kind ↦ fault at kind []
+          | None ↦ contents_read sub at (file_list (list_name from) paths) (Some []) s >>= λ p. returns (stored_file root (list_name from) p)
+        ])
         by_fault (Some kind) = tt
         by_fault None =
-            along_then w E (λ p. IsGood p.state) GoodProgress (list_read sub at paths (counted 0 s)) (λ p. returns (kept root (list_name from) p)) (list_good at (counted 0 s) k r (counted_good 0 s g))
+            along_then w E (λ p. IsGood p.state) GoodProgress (list_read sub at paths (counted 0 s)) (λ p. returns (stored_file root (list_name from) p))
+            (list_good at (counted 0 s) k r (counted_good 0 s g))
             (λ p x. kept_good root (list_name from) p (list_name_clean from h) (record { lines = λ key. of_list from refl; state = x }))
 
   source_good : (depth : ℕ) (root : List ℕ) (open_files : List (List ℕ)) → ReadsWell (source_read depth root open_files)
   source_good zero root open_files at what s k c g = record { text = clean_none; state = g }
-  source_good (suc depth) root open_files at (one_file path) s k (clean_file h) g = (tt, file_good (source_read depth root (path ∷ open_files)) (source_good depth root (path ∷ open_files)) root open_files at path s h g (w.bytes path) refl)
+  source_good (suc depth) root open_files at (one_file path) s k (clean_file h) g = (
+    tt,
+    file_good (source_read depth root (path ∷ open_files)) (source_good depth root (path ∷ open_files)) root open_files at path s h g
+        (w.bytes path) refl,
+  )
   source_good (suc depth) root open_files at (file_list name paths) s k (clean_list from h r) g =
-      sourced_list_good (source_read depth root (list_name from ∷ open_files)) (source_good depth root (list_name from ∷ open_files)) root open_files at from s k h r g
+      sourced_list_good (source_read depth root (list_name from ∷ open_files)) (source_good depth root (list_name from ∷ open_files)) root open_files at from
+      s k h r g
 
-  root_good : (root : List ℕ) → IsClean root → (s : ReadingState) → IsGood s → (bytes : Option (List ℕ)) → w.bytes root ≡ bytes → Gives (All (HasItsLines w)) (root_read root s bytes)
+  root_good : (root : List ℕ) → IsClean root → (s : ReadingState) → IsGood s → (bytes : Option (List ℕ)) → w.bytes root ≡ bytes
+      → Gives (All (HasItsLines w)) (root_read root s bytes)
   root_good root h s g None e = tt
   root_good root h s g (Some bytes) e = by_test (nat_lt max_bytes (length bytes))
     where
@@ -424,17 +524,24 @@ module _ (w : World) (answers : CleanAnswers w) where
 
       by_test : (b : Bool) → Gives (All (HasItsLines w)) (elim b as (λ z. Program (List ExpandedFile)) [
         | true ↦ fault (place root 0) TooMany []
-        | false ↦ lines_read sub root 0 1 (split_at_newlines bytes) (counted (length bytes) s) >>= λ p. returns (p.state.expanded ++ record { key = root; path = root; text = p.text } ∷ [])
+        | false ↦ lines_read sub root 0 1 (split_at_newlines bytes) (counted (length bytes) s) >>= λ p. returns
+            (p.state.expanded ++ record { key = root; path = root; text = p.text } ∷ [])
       ])
       by_test true = tt
       by_test false =
-          along_then w E (KeepsLines sub reads (split_at_newlines bytes)) (All (HasItsLines w)) (lines_read sub root 0 1 (split_at_newlines bytes) (counted (length bytes) s)) (λ p. returns (p.state.expanded ++ record { key = root; path = root; text = p.text } ∷ []))
+          along_then w E (KeepsLines sub reads (split_at_newlines bytes)) (All (HasItsLines w))
+          (lines_read sub root 0 1 (split_at_newlines bytes) (counted (length bytes) s))
+          (λ p. returns (p.state.expanded ++ record { key = root; path = root; text = p.text } ∷ []))
           (lines_good sub reads root h 0 1 (counted (length bytes) s) (split_clean bytes) (counted_good sub reads (length bytes) s g))
           (λ p x. All-append (HasItsLines w) p.state.expanded (record { key = root; path = root; text = p.text } ∷ []) x.state.files
-          (All-cons (HasItsLines w) (record { key = root; path = root; text = p.text }) [] (of_file bytes e (x.count ∙ ap newline_count (split_bytes bytes))) (All-nil (HasItsLines w))))
+          (All-cons (HasItsLines w) (record { key = root; path = root; text = p.text }) [] (of_file bytes e (x.count ∙ ap newline_count (split_bytes bytes)))
+          (All-nil (HasItsLines w))))
 
   -- what the reading of a tree returns are files with their lines
   pub tree_good : (root : List ℕ) → IsClean root → Along w (λ e. Unit {0}) (All (HasItsLines w)) (tree_read root)
   unfolding tree_read
-  tree_good root h =
-      (tt, root_good root h initial_state (record { bindings = record { each = λ name x e. absurd (let z : ⊥ = cc in z) }; files = All-nil (HasItsLines w) }) (w.bytes root) refl)
+  tree_good root h = (
+    tt,
+    root_good root h initial_state (record { bindings = record { each = λ name x e. absurd (let z : ⊥ = cc in z) }; files = All-nil (HasItsLines w) })
+        (w.bytes root) refl,
+  )

@@ -39,7 +39,8 @@ keys_differ : (path : List ℕ) (i j : ℕ) → j < i → i ≤ max_files → ke
 keys_differ path zero j h b e = omega (arith, h)
 keys_differ path (suc i) zero h b e = longer path (decimal (i + 2)) 35 e
 keys_differ path (suc i) (suc j) h b e =
-    let p : decimal (i + 2) ≡ decimal (j + 2) = same_tail 35 (decimal (i + 2)) (decimal (j + 2)) (append_cancel_left path (35 ∷ decimal (i + 2)) (35 ∷ decimal (j + 2)) e) in
+    let p : decimal (i + 2) ≡ decimal (j + 2) = same_tail 35 (decimal (i + 2)) (decimal (j + 2))
+    (append_cancel_left path (35 ∷ decimal (i + 2)) (35 ∷ decimal (j + 2)) e) in
     let small : i + 2 < 18446744073709551616 = omega (arith, b) in
     let smaller : j + 2 < 18446744073709551616 = omega (arith, b, h) in
     let q : i + 2 ≡ j + 2 = decimal_injective (i + 2) (j + 2) small smaller p in
@@ -56,7 +57,10 @@ first_keys_count path (suc n) = ap suc (first_keys_count path n)
 
 later_keys_differ : (path : List ℕ) (i n : ℕ) → n ≤ i → i ≤ max_files → AllByRecursion (λ y. bytes_eq (key_at path i) y ≡ false) (first_keys path n)
 later_keys_differ path i zero h b = tt
-later_keys_differ path i (suc n) h b = (other_text (key_at path i) (key_at path n) (keys_differ path i n (omega (arith, h)) b), later_keys_differ path i n (omega (arith, h)) b)
+later_keys_differ path i (suc n) h b = (
+  other_text (key_at path i) (key_at path n) (keys_differ path i n (omega (arith, h)) b),
+  later_keys_differ path i n (omega (arith, h)) b,
+)
 
 first_keys_differ : (path : List ℕ) (n : ℕ) → n ≤ suc max_files → IsDistinct bytes_eq (first_keys path n)
 unfolding IsDistinct
@@ -71,32 +75,40 @@ module _ (root : List ℕ) (files : List ExpandedFile) (path text : List ℕ) wh
   abbrev IsTaken : List ℕ → Type 0
   IsTaken key = is_taken root files text key ≡ true
 
-  file_taken : (key : List ℕ) (fs : List ExpandedFile) → list_any (λ (f : ExpandedFile). bytes_eq f.key key && not (bytes_eq f.text text)) fs ≡ true → list_any (bytes_eq key) (map (λ (f : ExpandedFile). f.key) fs) ≡ true
+  file_taken : (key : List ℕ) (fs : List ExpandedFile) → list_any (λ (f : ExpandedFile). bytes_eq f.key key && not (bytes_eq f.text text)) fs ≡ true
+      → list_any (bytes_eq key) (map (λ (f : ExpandedFile). f.key) fs) ≡ true
   file_taken key [] e = absurd (let z : ⊥ = cc in z)
   file_taken key (f ∷ fs) e = by_test (file_taken key fs) (bytes_eq f.key key && not (bytes_eq f.text text)) refl e
     where
-      either : (b : Bool) → list_any (bytes_eq key) (map (λ (f : ExpandedFile). f.key) fs) ≡ true → (b || list_any (bytes_eq key) (map (λ (f : ExpandedFile). f.key) fs)) ≡ true
+      either : (b : Bool) → list_any (bytes_eq key) (map (λ (f : ExpandedFile). f.key) fs) ≡ true
+          → (b || list_any (bytes_eq key) (map (λ (f : ExpandedFile). f.key) fs)) ≡ true
       either true h = refl
       either false h = h
 
-      by_test : (list_any (λ (f : ExpandedFile). bytes_eq f.key key && not (bytes_eq f.text text)) fs ≡ true → list_any (bytes_eq key) (map (λ (f : ExpandedFile). f.key) fs) ≡ true) → (b : Bool) → (bytes_eq f.key key && not (bytes_eq f.text text)) ≡ b → (b || list_any (λ (f : ExpandedFile). bytes_eq f.key key && not (bytes_eq f.text text)) fs) ≡ true
+      by_test : (list_any (λ (f : ExpandedFile). bytes_eq f.key key && not (bytes_eq f.text text)) fs ≡ true
+          → list_any (bytes_eq key) (map (λ (f : ExpandedFile). f.key) fs) ≡ true) → (b : Bool) → (bytes_eq f.key key && not (bytes_eq f.text text)) ≡ b
+          → (b || list_any (λ (f : ExpandedFile). bytes_eq f.key key && not (bytes_eq f.text text)) fs) ≡ true
           → (bytes_eq key f.key || list_any (bytes_eq key) (map (λ (f : ExpandedFile). f.key) fs)) ≡ true
       by_test ih true h e =
-          ap (λ b. b || list_any (bytes_eq key) (map (λ (f : ExpandedFile). f.key) fs)) (nat_list_eq_equiv.symm key f.key ∙ first_so (bytes_eq f.key key) (not (bytes_eq f.text text)) h)
+          ap (λ b. b || list_any (bytes_eq key) (map (λ (f : ExpandedFile). f.key) fs)) (nat_list_eq_equiv.symm key f.key
+          ∙ first_so (bytes_eq f.key key) (not (bytes_eq f.text text)) h)
       by_test ih false h e = either (bytes_eq key f.key) (ih e)
 
   taken_key : (key : List ℕ) → IsTaken key → is_member bytes_eq keys key ≡ true
   taken_key key e = by_test (bytes_eq key root) e
     where
-      by_test : (b : Bool) → (b || list_any (λ (f : ExpandedFile). bytes_eq f.key key && not (bytes_eq f.text text)) files) ≡ true → (b || list_any (bytes_eq key) (map (λ (f : ExpandedFile). f.key) files)) ≡ true
+      by_test : (b : Bool) → (b || list_any (λ (f : ExpandedFile). bytes_eq f.key key && not (bytes_eq f.text text)) files) ≡ true
+          → (b || list_any (bytes_eq key) (map (λ (f : ExpandedFile). f.key) files)) ≡ true
       by_test true e = refl
       by_test false e = file_taken key files e
 
-  taken_keys : (n : ℕ) → ((j : ℕ) → j < n → IsTaken (key_at path j)) → (q : List ℕ) → is_member bytes_eq (first_keys path n) q ≡ true → is_member bytes_eq keys q ≡ true
+  taken_keys : (n : ℕ) → ((j : ℕ) → j < n → IsTaken (key_at path j)) → (q : List ℕ) → is_member bytes_eq (first_keys path n) q ≡ true
+      → is_member bytes_eq keys q ≡ true
   taken_keys zero h q e = absurd (let z : ⊥ = cc in z)
   taken_keys (suc n) h q e = by_test (taken_keys n (λ j l. h j (omega (arith, l)))) (bytes_eq q (key_at path n)) refl e
     where
-      by_test : ((q : List ℕ) → list_any (bytes_eq q) (first_keys path n) ≡ true → is_member bytes_eq keys q ≡ true) → (b : Bool) → bytes_eq q (key_at path n) ≡ b → (b || list_any (bytes_eq q) (first_keys path n)) ≡ true → is_member bytes_eq keys q ≡ true
+      by_test : ((q : List ℕ) → list_any (bytes_eq q) (first_keys path n) ≡ true → is_member bytes_eq keys q ≡ true) → (b : Bool)
+          → bytes_eq q (key_at path n) ≡ b → (b || list_any (bytes_eq q) (first_keys path n)) ≡ true → is_member bytes_eq keys q ≡ true
       by_test ih true t e = subst (λ x. is_member bytes_eq keys x ≡ true) (sym (same_text q (key_at path n) t)) (taken_key (key_at path n) (h n (omega arith)))
       by_test ih false t e = ih q e
 
@@ -126,16 +138,23 @@ module _ (root : List ℕ) (files : List ExpandedFile) (path text : List ℕ) wh
       by_order (inl a) = h j a
       by_order (inr a) = let e : i ≡ j = omega (arith, l, a) in subst (λ x. IsTaken (key_at path x)) e t
 
-  found_free : (more i n : ℕ) (key : List ℕ) → key ≡ key_at path i → n ≡ i + 2 → i + more ≡ suc (length files) → length files + 2 ≤ max_files → ((j : ℕ) → j < i → IsTaken (key_at path j))
+  found_free : (more i n : ℕ) (key : List ℕ) → key ≡ key_at path i → n ≡ i + 2 → i + more ≡ suc (length files) → length files + 2 ≤ max_files
+      → ((j : ℕ) → j < i → IsTaken (key_at path j))
       → IsFreeKey (free_key more root files path text key n)
   found_free zero i n key k e c b h = record {
-    free = not_true (is_taken root files text key) (λ t. let few = few_taken (suc i) (omega (arith, c, b)) (one_more i (subst (λ x. IsTaken x) k t) h) in omega (arith, few, c));
+    free = not_true (is_taken root files text key) (λ t. let few = few_taken (suc i) (omega (arith, c, b)) (one_more i (subst (λ x. IsTaken x) k t) h) in
+        omega (arith, few, c));
     of_path = subst (λ x. IsKeyOf path x) (sym k) (key_is i (omega (arith, c, b)));
   }
   found_free (suc more) i n key k e c b h =
-      by_test (λ t. found_free more (suc i) (n + 1) (path ++ 35 ∷ decimal n) (ap (λ x. path ++ 35 ∷ decimal x) e) (omega (arith, e)) (omega (arith, c)) b (one_more i (subst (λ x. IsTaken x) k t) h)) (is_taken root files text key) refl
+      by_test (λ t. found_free more (suc i) (n + 1) (path ++ 35 ∷ decimal n) (ap (λ x. path ++ 35 ∷ decimal x) e) (omega (arith, e)) (omega (arith, c)) b
+      (one_more i (subst (λ x. IsTaken x) k t) h)) (is_taken root files text key) refl
     where
-      by_test : (is_taken root files text key ≡ true → IsFreeKey (free_key more root files path text (path ++ 35 ∷ decimal n) (n + 1))) → (t : Bool) → is_taken root files text key ≡ t → IsFreeKey (elim t as (λ z. List ℕ) [ true ↦ free_key more root files path text (path ++ 35 ∷ decimal n) (n + 1) | false ↦ key ])
+      by_test : (is_taken root files text key ≡ true → IsFreeKey (free_key more root files path text (path ++ 35 ∷ decimal n) (n + 1))) → (t : Bool)
+          → is_taken root files text key ≡ t → IsFreeKey (elim t as (λ z. List ℕ) [
+            | true ↦ free_key more root files path text (path ++ 35 ∷ decimal n) (n + 1)
+            | false ↦ key
+          ])
       by_test ih true t = ih t
       by_test ih false t = record { free = t; of_path = subst (λ x. IsKeyOf path x) (sym k) (key_is i (omega (arith, c, b))) }
 

@@ -7,10 +7,10 @@ use Rattle.kc_macros_model.specs.References.{Item, byte, escaped, reference, unt
 use Rattle.kc_macros_model.specs.Variables.{Value, value_length, joined_values, Variable, simple, recursive, Bindings}
 use Rattle.kc_macros_model.specs.Expansion.{spends, text_value}
 use Rattle.kc_macros_model.specs.LineTokens.{LineToken, gap, run, quoted, other, broken, token_bytes}
-use Rattle.kc_macros_model.specs.Rewriting.{is_bare_byte, is_keyword, in_quotes_of, a_word, a_quoted, an_other, WrittenToken, written_as, token_of_text, token_of_value, WrittenBody, body_of_value, joined_bodies, written_item, written_items, token_of_body, run_value, written_run, written_token}
+use Rattle.kc_macros_model.specs.WrittenTokens.{is_bare_byte, is_keyword, in_quotes_of, a_word, a_quoted, an_other, WrittenToken, written_as, token_of_text, token_of_value, WrittenBody, body_of_value, joined_bodies, written_item, written_items, token_of_body, run_value, written_run, written_token}
 use Rattle.kc_macros_model.specs.Assignments.{Operator, sets_now, appends, sets, Assigned, assignment_at, LineContent, assigns, tokens, with_token, is_gap, is_unknown, is_gap_token, is_open_front, assignment_or, line_content, stored, stored_simple, stored_recursive, variable_assigned}
 use Rattle.kc_macros_model.specs.Worlds.{World}
-use Rattle.kc_macros_model.proofs.NeverStops.{NeverStops, never_then}
+use Rattle.kc_macros_model.proofs.AnsweredPrograms.{NeverStops, never_then}
 use Rattle.kc_macros_model.proofs.KnownTexts.{IsKnown, known, IsKnownVariable, known_simple, known_recursive, KnownBindings, joined_known, value_of_simple, unless_long_known, text_value_known}
 
 -- a token that is known, and its meaning
@@ -64,22 +64,29 @@ module _ (w : World) (at : Place) (b : Bindings) (bindings : KnownBindings b) wh
   item_written_known quote (byte c) = record { meaning = known }
   item_written_known quote (escaped c) = record { meaning = known }
   item_written_known quote (reference inside) =
-      never_then w IsKnown IsKnownBody (text_value at b (item_bytes (reference inside))) (λ v. returns (body_of_value quote v)) (value_known (item_bytes (reference inside))) (λ v k. body_of_value_known quote k)
+      never_then w IsKnown IsKnownBody (text_value at b (item_bytes (reference inside))) (λ v. returns (body_of_value quote v))
+      (value_known (item_bytes (reference inside))) (λ v k. body_of_value_known quote k)
   item_written_known quote (unterminated rest) = tt
 
   items_written_known : (quote : ℕ) (is : List Item) → Gives IsKnownBody (written_items at b quote is)
   items_written_known quote [] = record { meaning = known }
   items_written_known quote (i ∷ is) =
-      never_then w IsKnownBody IsKnownBody (written_item at b quote i) (λ x. written_items at b quote is >>= λ rest. returns (joined_bodies x rest)) (item_written_known quote i)
-      (λ x k. never_then w IsKnownBody IsKnownBody (written_items at b quote is) (λ rest. returns (joined_bodies x rest)) (items_written_known quote is) (λ y l. record { meaning = joined_known k.meaning l.meaning }))
+      never_then w IsKnownBody IsKnownBody (written_item at b quote i) (λ x. written_items at b quote is >>= λ rest. returns (joined_bodies x rest))
+      (item_written_known quote i)
+      (λ x k. never_then w IsKnownBody IsKnownBody (written_items at b quote is) (λ rest. returns (joined_bodies x rest)) (items_written_known quote is)
+      (λ y l. record { meaning = joined_known k.meaning l.meaning }))
 
   run_written_known : (s : List ℕ) → Gives IsKnownToken (written_run at b s)
   run_written_known s = by_tests (list_any is_plain_dollar (items false 0 s)) (list_any is_reference (items false 0 s))
     where
-      by_tests : (x y : Bool) → Gives IsKnownToken (elim x as (λ z. Program WrittenToken) [ true ↦ returns (written_as an_other s []) | false ↦ elim y [ true ↦ text_value at b s >>= λ v. returns (token_of_value v) | false ↦ returns (written_as a_word s s) ] ])
+      by_tests : (x y : Bool) → Gives IsKnownToken (elim x as (λ z. Program WrittenToken) [
+        | true ↦ returns (written_as an_other s [])
+        | false ↦ elim y [ true ↦ text_value at b s >>= λ v. returns (token_of_value v) | false ↦ returns (written_as a_word s s) ]
+      ])
       by_tests true y = record { sort = refl; meaning = known }
       by_tests false false = record { sort = refl; meaning = known }
-      by_tests false true = never_then w IsKnown IsKnownToken (text_value at b s) (λ v. returns (token_of_value v)) (value_known s) (λ v k. token_of_value_known k)
+      by_tests false true = never_then w IsKnown IsKnownToken (text_value at b s) (λ v. returns (token_of_value v)) (value_known s)
+          (λ v k. token_of_value_known k)
 
   token_known : (t : LineToken) → Gives IsKnownToken (written_token at b t)
   token_known (gap s) = record { sort = refl; meaning = known }
@@ -87,7 +94,8 @@ module _ (w : World) (at : Place) (b : Bindings) (bindings : KnownBindings b) wh
   token_known (broken s) = tt
   token_known (run s) = run_written_known s
   token_known (quoted quote s) =
-      never_then w IsKnownBody IsKnownToken (written_items at b quote (items true 0 s)) (λ x. returns (token_of_body quote x)) (items_written_known quote (items true 0 s)) (λ x k. record { sort = refl; meaning = k.meaning })
+      never_then w IsKnownBody IsKnownToken (written_items at b quote (items true 0 s)) (λ x. returns (token_of_body quote x))
+      (items_written_known quote (items true 0 s)) (λ x k. record { sort = refl; meaning = k.meaning })
 
   run_value_known : (s : List ℕ) → Gives IsKnown (run_value at b s)
   run_value_known s = by_test (list_any (λ c. c == 36) s)
@@ -100,10 +108,12 @@ module _ (w : World) (at : Place) (b : Bindings) (bindings : KnownBindings b) wh
   with_token_known t h (known_tokens r) = known_tokens (next_known_token h r)
   with_token_known t h known_assignment = known_assignment
 
-  then_token : (t : WrittenToken) → IsKnownToken t → (p : Program LineContent) → Gives IsKnownContent p → Gives IsKnownContent (p >>= λ rest. returns (with_token t rest))
+  then_token : (t : WrittenToken) → IsKnownToken t → (p : Program LineContent) → Gives IsKnownContent p
+      → Gives IsKnownContent (p >>= λ rest. returns (with_token t rest))
   then_token t h p r = never_then w IsKnownContent IsKnownContent p (λ rest. returns (with_token t rest)) r (λ x k. with_token_known t h k)
 
-  or_assignment_known : (rest : Program LineContent) (a : Assigned) → Gives IsKnownContent rest → {v : Value} → IsKnown v → Gives IsKnownContent (assignment_or rest a v)
+  or_assignment_known : (rest : Program LineContent) (a : Assigned) → Gives IsKnownContent rest → {v : Value} → IsKnown v
+      → Gives IsKnownContent (assignment_or rest a v)
   or_assignment_known rest a r (known {s = []}) = r
   or_assignment_known rest a r (known {s = c ∷ name}) = known_assignment
 
@@ -112,21 +122,29 @@ module _ (w : World) (at : Place) (b : Bindings) (bindings : KnownBindings b) wh
   content_known may_assign (t ∷ ts) = by_assignment (λ m. content_known m ts) (assignment_at may_assign t ts)
     where
       goes_on : (x : WrittenToken) → IsKnownToken x → (m : Bool) → Gives IsKnownContent (line_content at b m ts) → (c : Bool) → c ≡ false
-          → Gives IsKnownContent (elim c as (λ z. Program LineContent) [ true ↦ stops | false ↦ line_content at b m ts >>= λ rest. returns (with_token x rest) ])
+          → Gives IsKnownContent (elim c as (λ z. Program LineContent)
+          [ true ↦ stops | false ↦ line_content at b m ts >>= λ rest. returns (with_token x rest) ])
       goes_on x h m r true e = let z : ⊥ = cc in absurd z
       goes_on x h m r false e = then_token x h (line_content at b m ts) r
 
       by_assignment : ((m : Bool) → Gives IsKnownContent (line_content at b m ts)) → (a : Option Assigned)
           → Gives IsKnownContent (elim a as (λ z. Program LineContent) [
             | Some a ↦ run_value at b (token_bytes t) >>= assignment_or (line_content at b true ts >>= λ rest. returns (with_token (token_of_text []) rest)) a
-            | None ↦ written_token at b t >>= λ x. elim (is_open_front may_assign x ts) as (λ z. Program LineContent) [ true ↦ stops | false ↦ line_content at b (may_assign && is_gap x) ts >>= λ rest. returns (with_token x rest) ]
+            | None ↦ written_token at b t >>= λ x. elim (is_open_front may_assign x ts) as (λ z. Program LineContent)
+                [ true ↦ stops | false ↦ line_content at b (may_assign && is_gap x) ts >>= λ rest. returns (with_token x rest) ]
           ])
       by_assignment ih None =
-          never_then w IsKnownToken IsKnownContent (written_token at b t) (λ x. elim (is_open_front may_assign x ts) as (λ z. Program LineContent) [ true ↦ stops | false ↦ line_content at b (may_assign && is_gap x) ts >>= λ rest. returns (with_token x rest) ]) (token_known t)
+          never_then w IsKnownToken IsKnownContent (written_token at b t)
+          (λ x. elim (is_open_front may_assign x ts) as (λ z. Program LineContent) [
+            | true ↦ stops
+            | false ↦ line_content at b (may_assign && is_gap x) ts >>= λ rest. returns (with_token x rest)
+          ]) (token_known t)
           (λ x k. goes_on x k (may_assign && is_gap x) (ih (may_assign && is_gap x)) (is_open_front may_assign x ts) (closed_front may_assign x ts k.sort))
       by_assignment ih (Some a) =
-          never_then w IsKnown IsKnownContent (run_value at b (token_bytes t)) (assignment_or (line_content at b true ts >>= λ rest. returns (with_token (token_of_text []) rest)) a) (run_value_known (token_bytes t))
-          (λ v l. or_assignment_known (line_content at b true ts >>= λ rest. returns (with_token (token_of_text []) rest)) a (then_token (token_of_text []) (token_of_text_known []) (line_content at b true ts) (ih true)) l)
+          never_then w IsKnown IsKnownContent (run_value at b (token_bytes t))
+          (assignment_or (line_content at b true ts >>= λ rest. returns (with_token (token_of_text []) rest)) a) (run_value_known (token_bytes t))
+          (λ v l. or_assignment_known (line_content at b true ts >>= λ rest. returns (with_token (token_of_text []) rest)) a
+          (then_token (token_of_text []) (token_of_text_known []) (line_content at b true ts) (ih true)) l)
 
   stored_known : (v : Value) (x : Variable) → IsKnownVariable x → Gives IsKnownVariable (stored at v x)
   stored_known v x h = unless_long_known w at IsKnownVariable (value_length v) (spends at (value_length v) (returns x)) (λ n. h)
@@ -134,11 +152,14 @@ module _ (w : World) (at : Place) (b : Bindings) (bindings : KnownBindings b) wh
   text_stored_known : (s : List ℕ) → Gives IsKnownVariable (stored_recursive at s)
   text_stored_known s = stored_known (Some s) (recursive s) known_recursive
 
-  pub variable_known : (operator : Operator) (s : List ℕ) (before : Option Variable) → ((x : Variable) → before ≡ Some x → IsKnownVariable x) → Gives IsKnownVariable (variable_assigned at b operator s before)
-  variable_known sets_now s before k = never_then w IsKnown IsKnownVariable (text_value at b s) (stored_simple at) (value_known s) (λ v l. stored_known v (simple v) (known_simple l))
+  pub variable_known : (operator : Operator) (s : List ℕ) (before : Option Variable) → ((x : Variable) → before ≡ Some x → IsKnownVariable x)
+      → Gives IsKnownVariable (variable_assigned at b operator s before)
+  variable_known sets_now s before k = never_then w IsKnown IsKnownVariable (text_value at b s) (stored_simple at) (value_known s)
+      (λ v l. stored_known v (simple v) (known_simple l))
   variable_known sets s before k = text_stored_known s
   variable_known appends s None k = text_stored_known s
   variable_known appends s (Some (recursive t)) k = text_stored_known (t ++ 32 ∷ s)
   variable_known appends s (Some (simple v)) k =
       never_then w IsKnown IsKnownVariable (text_value at b s) (λ x. stored_simple at (joined_values v (joined_values (Some (32 ∷ [])) x))) (value_known s)
-      (λ x l. stored_known (joined_values v (joined_values (Some (32 ∷ [])) x)) (simple (joined_values v (joined_values (Some (32 ∷ [])) x))) (known_simple (joined_known (value_of_simple (k (simple v) refl)) (joined_known (known {s = 32 ∷ []}) l))))
+      (λ x l. stored_known (joined_values v (joined_values (Some (32 ∷ [])) x)) (simple (joined_values v (joined_values (Some (32 ∷ [])) x)))
+      (known_simple (joined_known (value_of_simple (k (simple v) refl)) (joined_known (known {s = 32 ∷ []}) l))))

@@ -11,7 +11,7 @@ use Rattle.kc_macros_model.specs.References.{Item, byte, escaped, reference, unt
 use Rattle.kc_macros_model.specs.Variables.{Value, value_length, joined_values, Variable, simple, recursive, Bindings, is_number, is_environment_name, command_question, argument_of, BuiltIn, filename, lineno, shell, info, warning_if, error_if, built_ins, value_of_answer}
 use Rattle.kc_macros_model.specs.Expansion.{fault, spends, asked_value, reported, message_if, shell_value, built_in_value, other_value, unbound_value, is_recursion, Expander, named_value, piece_values, call_value, reference_value, item_value, unless_too_long, item_values, expanded, text_value}
 use Rattle.kc_macros_model.specs.Worlds.{World, if_unanswered}
-use Rattle.kc_macros_model.proofs.NeverStops.{NeverStops, never_then}
+use Rattle.kc_macros_model.proofs.AnsweredPrograms.{NeverStops, never_then}
 
 -- a value that isn't unknown
 pub data IsKnown : Value → Type 0 where
@@ -102,9 +102,11 @@ module _ (w : World) (at : Place) where
   items_known : (f : Item → Program Value) → ((i : Item) → Knows (f i)) → (n : ℕ) (is : List Item) → Knows (item_values at f n is)
   items_known f h n [] = known
   items_known f h n (i ∷ is) =
-      never_then w IsKnown IsKnown (f i) (λ v. unless_too_long at (n + value_length v) (item_values at f (n + value_length v) is >>= λ rest. returns (joined_values v rest))) (h i)
+      never_then w IsKnown IsKnown (f i) (λ v. unless_too_long at (n + value_length v)
+      (item_values at f (n + value_length v) is >>= λ rest. returns (joined_values v rest))) (h i)
       (λ v k. unless_long_known IsKnown (n + value_length v) (item_values at f (n + value_length v) is >>= λ rest. returns (joined_values v rest))
-      (never_then w IsKnown IsKnown (item_values at f (n + value_length v) is) (λ rest. returns (joined_values v rest)) (items_known f h (n + value_length v) is) (λ u l. joined_known k l)))
+      (never_then w IsKnown IsKnown (item_values at f (n + value_length v) is) (λ rest. returns (joined_values v rest))
+      (items_known f h (n + value_length v) is) (λ u l. joined_known k l)))
 
   module _ (b : Bindings) (bindings : KnownBindings b) where
     -- a way to expand whose values are known
@@ -128,15 +130,19 @@ module _ (w : World) (at : Place) where
       pieces_known : {args : List Value} → AreKnown args → (ps : List (List ℕ)) → NeverStops w AreKnown (piece_values (sub open_names args) ps)
       pieces_known h [] = none_known
       pieces_known {args = args} h (p ∷ ps) =
-          never_then w IsKnown AreKnown (sub open_names args p) (λ v. piece_values (sub open_names args) ps >>= λ vs. returns (v ∷ vs)) (knows open_names args p h)
+          never_then w IsKnown AreKnown (sub open_names args p) (λ v. piece_values (sub open_names args) ps >>= λ vs. returns (v ∷ vs))
+          (knows open_names args p h)
           (λ v k. never_then w AreKnown AreKnown (piece_values (sub open_names args) ps) (λ vs. returns (v ∷ vs)) (pieces_known h ps) (λ vs l. next_known k l))
 
-      reference_known : {args : List Value} → AreKnown args → (inside : List ℕ) (x : Option Value) → argument_of args inside ≡ x → Knows (reference_value sub at b open_names args inside x)
+      reference_known : {args : List Value} → AreKnown args → (inside : List ℕ) (x : Option Value) → argument_of args inside ≡ x
+          → Knows (reference_value sub at b open_names args inside x)
       reference_known h inside (Some v) e = argument_known h inside v e
       reference_known {args = args} h inside None e = by_test (nat_le (length (pieces 0 inside)) max_pieces)
         where
-          by_test : (c : Bool) → Knows (elim c as (λ z. Program Value) [ true ↦ piece_values (sub open_names args) (pieces 0 inside) >>= call_value sub at b open_names | false ↦ fault at Arguments [] ])
-          by_test true = never_then w AreKnown IsKnown (piece_values (sub open_names args) (pieces 0 inside)) (call_value sub at b open_names) (pieces_known h (pieces 0 inside)) (λ vs k. call_known k)
+          by_test : (c : Bool) → Knows (elim c as (λ z. Program Value)
+              [ true ↦ piece_values (sub open_names args) (pieces 0 inside) >>= call_value sub at b open_names | false ↦ fault at Arguments [] ])
+          by_test true = never_then w AreKnown IsKnown (piece_values (sub open_names args) (pieces 0 inside)) (call_value sub at b open_names)
+              (pieces_known h (pieces 0 inside)) (λ vs k. call_known k)
           by_test false = tt
 
       item_known : {args : List Value} → AreKnown args → (i : Item) → Knows (item_value sub at b open_names args i)

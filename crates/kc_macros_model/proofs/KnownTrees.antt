@@ -12,15 +12,15 @@ use Rattle.kc_macros_model.specs.Programs.{Place, Program, returns, stops, list_
 use Rattle.kc_macros_model.specs.Variables.{Value, Variable}
 use Rattle.kc_macros_model.specs.Expansion.{fault}
 use Rattle.kc_macros_model.specs.LineTokens.{line_tokens}
-use Rattle.kc_macros_model.specs.Rewriting.{WrittenToken, written_as, a_word, in_quotes_of}
+use Rattle.kc_macros_model.specs.WrittenTokens.{WrittenToken, written_as, a_word, in_quotes_of}
 use Rattle.kc_macros_model.specs.Assignments.{LineContent, is_gap, is_unknown, line_content, variable_assigned}
 use Rattle.kc_macros_model.specs.LineForms.{SourceSort, LineForm, plain, bare_prompt, replaced_by, named_choice, sources, source_words, help_words, is_word, form_of_pair, form_by_word, form_of, without_gaps, with_nth_token, line_bytes, is_help_line, is_undecided}
 use Rattle.kc_macros_model.specs.PathPatterns.{is_pattern, matches_name, path_pieces, sorted, FoundPaths, found, matching_names, paths_in_folder, paths_in_folders, paths_below, readable_paths, files_of_pattern}
-use Rattle.kc_macros_model.specs.ReadingStates.{ExpandedFile, ReadingState, initial_state, Progress, progress, WrittenLine, written_line, bound, with_choice, with_listed, counted, kept}
+use Rattle.kc_macros_model.specs.ReadingStates.{ExpandedFile, ReadingState, initial_state, Progress, progress, WrittenLine, written_line, bound, with_choice, with_listed, counted, stored_file}
 use Rattle.kc_macros_model.specs.TreeExpansion.{place, Sourced, one_file, file_list, sourced_path, SourceReader, path_meant, list_name, source_line, pattern_read, path_read, source_followed, form_written, short_line, tokens_written, content_written, line_written, bytes_of_lines, lines_written, help_after, lines_read, list_read, source_fault, contents_read, sourced_read, source_read, root_read, tree_read}
 use Rattle.kc_macros_model.specs.Worlds.{World, expansion}
 use Rattle.kc_macros_model.specs.TreeLaws.{ExpansionNeverStops}
-use Rattle.kc_macros_model.proofs.NeverStops.{NeverStops, never_then, job_never_stops}
+use Rattle.kc_macros_model.proofs.AnsweredPrograms.{NeverStops, never_then, job_never_stops}
 use Rattle.kc_macros_model.proofs.KnownTexts.{IsKnown, known, IsKnownVariable, KnownBindings}
 use Rattle.kc_macros_model.proofs.KnownLines.{IsKnownToken, AreKnownTokens, no_known_tokens, next_known_token, IsKnownContent, known_assignment, known_tokens, content_known, variable_known}
 
@@ -40,7 +40,8 @@ none_unknown (next_known_token {t = t} {ts = ts} h r) = ap (λ b. b || list_any 
 pub decided : {ts : List WrittenToken} → AreKnownTokens ts → is_undecided ts ≡ false
 decided no_known_tokens = refl
 decided (next_known_token {t = t} {ts = ts} h r) =
-    ap (λ b. is_word t && (is_in_list t.bytes source_words || is_in_list t.bytes help_words) && b) (none_unknown r) ∙ by_tests (is_word t) (is_in_list t.bytes source_words || is_in_list t.bytes help_words)
+    ap (λ b. is_word t && (is_in_list t.bytes source_words || is_in_list t.bytes help_words) && b) (none_unknown r)
+    ∙ by_tests (is_word t) (is_in_list t.bytes source_words || is_in_list t.bytes help_words)
   where
     by_tests : (x y : Bool) → (x && y && false) ≡ false
     by_tests true true = refl
@@ -94,35 +95,46 @@ module _ (w : World) where
   folder_goes_on : (at : Place) (piece folder : List ℕ) (n : ℕ) → Gives Anything (paths_in_folder at piece folder n)
   folder_goes_on at piece folder n = by_test (is_pattern piece)
     where
-      by_size : (b : Bool) → Gives Anything (cond b (fault at TooMany []) (returns (found (map (λ name. folder ++ name) (filter (matches_name piece) (w.names folder))) (n + length (w.names folder)))))
+      by_size : (b : Bool) → Gives Anything (cond b (fault at TooMany [])
+          (returns (found (map (λ name. folder ++ name) (filter (matches_name piece) (w.names folder))) (n + length (w.names folder)))))
       by_size true = tt
       by_size false = tt
 
-      by_test : (b : Bool) → Gives Anything (elim b as (λ z. Program FoundPaths) [ true ↦ does (list_folder folder) (matching_names at piece folder n) | false ↦ returns (found ((folder ++ piece) ∷ []) n) ])
+      by_test : (b : Bool) → Gives Anything (elim b as (λ z. Program FoundPaths) [
+        | true ↦ does (list_folder folder) (matching_names at piece folder n)
+        | false ↦ returns (found ((folder ++ piece) ∷ []) n)
+      ])
       by_test true = λ e. by_size (nat_lt max_listed_names (n + length (w.names folder)))
       by_test false = tt
 
   folders_go_on : (at : Place) (piece : List ℕ) (folders : List (List ℕ)) (n : ℕ) → Gives Anything (paths_in_folders at piece folders n)
   folders_go_on at piece [] n = tt
   folders_go_on at piece (folder ∷ folders) n =
-      never_then w Anything Anything (paths_in_folder at piece folder n) (λ first. paths_in_folders at piece folders first.listed >>= λ rest. returns (found (first.paths ++ rest.paths) rest.listed)) (folder_goes_on at piece folder n)
-      (λ f g. never_then w Anything Anything (paths_in_folders at piece folders f.listed) (λ rest. returns (found (f.paths ++ rest.paths) rest.listed)) (folders_go_on at piece folders f.listed) (λ x y. tt))
+      never_then w Anything Anything (paths_in_folder at piece folder n)
+      (λ first. paths_in_folders at piece folders first.listed >>= λ rest. returns (found (first.paths ++ rest.paths) rest.listed))
+      (folder_goes_on at piece folder n)
+      (λ f g. never_then w Anything Anything (paths_in_folders at piece folders f.listed) (λ rest. returns (found (f.paths ++ rest.paths) rest.listed))
+      (folders_go_on at piece folders f.listed) (λ x y. tt))
 
   below_goes_on : (at : Place) (pieces folders : List (List ℕ)) (n : ℕ) → Gives Anything (paths_below at pieces folders n)
   below_goes_on at [] folders n = tt
   below_goes_on at (piece ∷ []) folders n = folders_go_on at piece folders n
   below_goes_on at (piece ∷ next ∷ pieces) folders n =
-      never_then w Anything Anything (paths_in_folders at piece folders n) (λ f. paths_below at (next ∷ pieces) (map (λ path. path ++ 47 ∷ []) f.paths) f.listed) (folders_go_on at piece folders n)
+      never_then w Anything Anything (paths_in_folders at piece folders n)
+      (λ f. paths_below at (next ∷ pieces) (map (λ path. path ++ 47 ∷ []) f.paths) f.listed) (folders_go_on at piece folders n)
       (λ f g. below_goes_on at (next ∷ pieces) (map (λ path. path ++ 47 ∷ []) f.paths) f.listed)
 
   readable_go_on : (paths : List (List ℕ)) → Gives Anything (readable_paths paths)
   readable_go_on [] = tt
-  readable_go_on (path ∷ paths) = λ e. never_then w Anything Anything (readable_paths paths) (λ rest. returns (cond (is_some (w.bytes path)) (path ∷ rest) rest)) (readable_go_on paths) (λ rest k. tt)
+  readable_go_on (path ∷ paths) = λ e. never_then w Anything Anything (readable_paths paths)
+      (λ rest. returns (cond (is_some (w.bytes path)) (path ∷ rest) rest)) (readable_go_on paths) (λ rest k. tt)
 
   pattern_goes_on : (at : Place) (pattern : List ℕ) (n : ℕ) → Gives Anything (files_of_pattern at pattern n)
   pattern_goes_on at pattern n =
-      never_then w Anything Anything (paths_below at (path_pieces pattern) ([] ∷ []) n) (λ f. readable_paths f.paths >>= λ paths. returns (found (sorted paths) f.listed)) (below_goes_on at (path_pieces pattern) ([] ∷ []) n)
-      (λ f g. never_then w Anything Anything (readable_paths f.paths) (λ paths. returns (found (sorted paths) f.listed)) (readable_go_on f.paths) (λ paths k. tt))
+      never_then w Anything Anything (paths_below at (path_pieces pattern) ([] ∷ []) n)
+      (λ f. readable_paths f.paths >>= λ paths. returns (found (sorted paths) f.listed)) (below_goes_on at (path_pieces pattern) ([] ∷ []) n)
+      (λ f g. never_then w Anything Anything (readable_paths f.paths) (λ paths. returns (found (sorted paths) f.listed)) (readable_go_on f.paths)
+      (λ paths k. tt))
 
   abbrev ReadsOn : SourceReader → Type 0
   ReadsOn sub = (at : Place) (what : Sourced) (s : ReadingState) → KnownState s → Gives KnownProgress (sub at what s)
@@ -131,50 +143,73 @@ module _ (w : World) where
     path_goes_on : (at : Place) (sort : SourceSort) (path : List ℕ) (s : ReadingState) → KnownState s → Gives KnownProgress (path_read sub at sort path s)
     path_goes_on at sort path s g = by_tests (is_pattern path) sort.optional
       where
-        list_goes_on : (x : FoundPaths) (b : Bool) → Gives KnownProgress (elim b as (λ z. Program Progress) [ true ↦ sub at (file_list (list_name at) x.paths) (with_listed x.listed s) | false ↦ fault at MissingFile [] ])
+        list_goes_on : (x : FoundPaths) (b : Bool) → Gives KnownProgress
+            (elim b as (λ z. Program Progress) [ true ↦ sub at (file_list (list_name at) x.paths) (with_listed x.listed s) | false ↦ fault at MissingFile [] ])
         list_goes_on x true = reads at (file_list (list_name at) x.paths) (with_listed x.listed s) g
         list_goes_on x false = tt
 
         by_tests : (c d : Bool) → Gives KnownProgress (elim c as (λ z. Program Progress) [
           | true ↦ files_of_pattern at path s.listed >>= pattern_read sub at sort s
-          | false ↦ elim d as (λ z. Program Progress) [ true ↦ readable_paths (path ∷ []) >>= λ paths. sub at (file_list (list_name at) paths) s | false ↦ sub at (one_file path) s ]
+          | false ↦ elim d as (λ z. Program Progress) [
+            | true ↦ readable_paths (path ∷ []) >>= λ paths. sub at (file_list (list_name at) paths) s
+            | false ↦ sub at (one_file path) s
+          ]
         ])
-        by_tests true d = never_then w Anything KnownProgress (files_of_pattern at path s.listed) (pattern_read sub at sort s) (pattern_goes_on at path s.listed) (λ x k. list_goes_on x (nat_lt 0 (length x.paths) || sort.optional))
-        by_tests false true = never_then w Anything KnownProgress (readable_paths (path ∷ [])) (λ paths. sub at (file_list (list_name at) paths) s) (readable_go_on (path ∷ [])) (λ paths k. reads at (file_list (list_name at) paths) s g)
+        by_tests true d = never_then w Anything KnownProgress (files_of_pattern at path s.listed) (pattern_read sub at sort s)
+            (pattern_goes_on at path s.listed) (λ x k. list_goes_on x (nat_lt 0 (length x.paths) || sort.optional))
+        by_tests false true = never_then w Anything KnownProgress (readable_paths (path ∷ [])) (λ paths. sub at (file_list (list_name at) paths) s)
+            (readable_go_on (path ∷ [])) (λ paths k. reads at (file_list (list_name at) paths) s g)
         by_tests false false = reads at (one_file path) s g
 
-    followed_goes_on : (at : Place) (ts : List WrittenToken) (sort : SourceSort) {v : Value} (s : ReadingState) → IsKnown v → KnownState s → Gives KnownProgress (source_followed sub at ts sort v s)
+    followed_goes_on : (at : Place) (ts : List WrittenToken) (sort : SourceSort) {v : Value} (s : ReadingState) → IsKnown v → KnownState s
+        → Gives KnownProgress (source_followed sub at ts sort v s)
     followed_goes_on at ts sort s (known {s = given}) g = by_test (list_any (λ c. c == 91) path)
       where
         path : List ℕ
         path = path_meant sort at.file given
 
-        by_test : (c : Bool) → Gives KnownProgress (elim c as (λ z. Program Progress) [ true ↦ returns (progress (line_bytes ts) s) | false ↦ path_read sub at sort path s >>= λ p. returns (progress (source_line ts given p.text) p.state) ])
+        by_test : (c : Bool) → Gives KnownProgress (elim c as (λ z. Program Progress) [
+          | true ↦ returns (progress (line_bytes ts) s)
+          | false ↦ path_read sub at sort path s >>= λ p. returns (progress (source_line ts given p.text) p.state)
+        ])
         by_test true = g
-        by_test false = never_then w KnownProgress KnownProgress (path_read sub at sort path s) (λ p. returns (progress (source_line ts given p.text) p.state)) (path_goes_on at sort path s g) (λ p k. k)
+        by_test false = never_then w KnownProgress KnownProgress (path_read sub at sort path s) (λ p. returns (progress (source_line ts given p.text) p.state))
+            (path_goes_on at sort path s g) (λ p k. k)
 
-    form_goes_on : (at : Place) (ts : List WrittenToken) {f : LineForm} (s : ReadingState) → IsKnownForm f → KnownState s → Gives KnownProgress (form_written sub at ts f s)
+    form_goes_on : (at : Place) (ts : List WrittenToken) {f : LineForm} (s : ReadingState) → IsKnownForm f → KnownState s
+        → Gives KnownProgress (form_written sub at ts f s)
     form_goes_on at ts s known_plain g = g
     form_goes_on at ts s known_prompt g = g
     form_goes_on at ts s known_replacement g = g
     form_goes_on at ts s (known_choice {s = name}) g = by_test (is_in_list name s.choices)
       where
-        by_test : (b : Bool) → KnownProgress (cond b (progress (line_bytes ts) s) (progress (line_bytes (with_nth_token 1 (written_as a_word [] []) ts)) (with_choice name s)))
+        by_test : (b : Bool) → KnownProgress (cond b (progress (line_bytes ts) s)
+            (progress (line_bytes (with_nth_token 1 (written_as a_word [] []) ts)) (with_choice name s)))
         by_test true = g
         by_test false = g
     form_goes_on at ts s (known_source {sort = sort} h) g = followed_goes_on at ts sort s h g
 
-    tokens_go_on : (at : Place) {ts : List WrittenToken} (s : ReadingState) → AreKnownTokens ts → KnownState s → Gives KnownLine (tokens_written sub at s ts (without_gaps ts))
+    tokens_go_on : (at : Place) {ts : List WrittenToken} (s : ReadingState) → AreKnownTokens ts → KnownState s
+        → Gives KnownLine (tokens_written sub at s ts (without_gaps ts))
     tokens_go_on at {ts = ts} s r g = by_test (is_undecided (without_gaps ts)) (decided (gaps_gone_known r))
       where
-        short : (p : Progress) → KnownProgress p → (b : Bool) → Gives KnownLine (elim b as (λ z. Program WrittenLine) [ true ↦ fault at LineTooLong [] | false ↦ returns (written_line p.text (is_help_line (without_gaps ts)) p.state) ])
+        short : (p : Progress) → KnownProgress p → (b : Bool) → Gives KnownLine
+            (elim b as (λ z. Program WrittenLine) [
+              | true ↦ fault at LineTooLong []
+              | false ↦ returns
+                  (written_line p.text (is_help_line (without_gaps ts)) p.state)
+            ])
         short p h true = tt
         short p h false = h
 
-        by_test : (b : Bool) → b ≡ false → Gives KnownLine (elim b as (λ z. Program WrittenLine) [ true ↦ stops | false ↦ form_written sub at ts (form_of (without_gaps ts)) s >>= short_line at (is_help_line (without_gaps ts)) ])
+        by_test : (b : Bool) → b ≡ false → Gives KnownLine (elim b as (λ z. Program WrittenLine) [
+          | true ↦ stops
+          | false ↦ form_written sub at ts (form_of (without_gaps ts)) s >>= short_line at (is_help_line (without_gaps ts))
+        ])
         by_test true e = let z : ⊥ = cc in absurd z
         by_test false e =
-            never_then w KnownProgress KnownLine (form_written sub at ts (form_of (without_gaps ts)) s) (short_line at (is_help_line (without_gaps ts))) (form_goes_on at ts s (form_known (gaps_gone_known r)) g) (λ p h. short p h (nat_lt max_text_bytes (length p.text)))
+            never_then w KnownProgress KnownLine (form_written sub at ts (form_of (without_gaps ts)) s) (short_line at (is_help_line (without_gaps ts)))
+            (form_goes_on at ts s (form_known (gaps_gone_known r)) g) (λ p h. short p h (nat_lt max_text_bytes (length p.text)))
 
     bound_known : (name : List ℕ) (x : Variable) (s : ReadingState) → IsKnownVariable x → KnownState s → KnownState (bound name x s)
     bound_known name x s h g = record { each = λ key y e. by_test key y (bytes_eq key name) e }
@@ -183,31 +218,40 @@ module _ (w : World) where
         by_test key y true e = let p : x ≡ y = cc in subst (λ z. IsKnownVariable z) p h
         by_test key y false e = g.each key y e
 
-    content_goes_on : (at : Place) (continued : Bool) {x : LineContent} (s : ReadingState) → IsKnownContent x → KnownState s → Gives KnownLine (content_written sub at continued s x)
+    content_goes_on : (at : Place) (continued : Bool) {x : LineContent} (s : ReadingState) → IsKnownContent x → KnownState s
+        → Gives KnownLine (content_written sub at continued s x)
     content_goes_on at true s (known_tokens r) g = tokens_go_on at s r g
     content_goes_on at false s (known_tokens r) g = tokens_go_on at s r g
     content_goes_on at true s known_assignment g = tt
     content_goes_on at false s (known_assignment {name = name} {a = a}) g =
-        never_then w IsKnownVariable KnownLine (variable_assigned at s.bindings a.operator a.text (s.bindings name)) (λ v. returns (written_line [] false (bound name v s)))
+        never_then w IsKnownVariable KnownLine (variable_assigned at s.bindings a.operator a.text (s.bindings name))
+        (λ v. returns (written_line [] false (bound name v s)))
         (variable_known w at s.bindings g a.operator a.text (s.bindings name) (g.each name)) (λ v l. bound_known name v s l g)
 
     line_goes_on : (at : Place) (continued : Bool) (text : List ℕ) (s : ReadingState) → KnownState s → Gives KnownLine (line_written sub at continued text s)
     line_goes_on at continued text s g = by_test (nat_lt max_text_bytes (length text) || not (is_utf8 text))
       where
-        by_test : (b : Bool) → Gives KnownLine (elim b as (λ z. Program WrittenLine) [ true ↦ returns (written_line text (begins_help text) s) | false ↦ line_content at s.bindings true (line_tokens 0 text) >>= content_written sub at continued s ])
+        by_test : (b : Bool) → Gives KnownLine (elim b as (λ z. Program WrittenLine) [
+          | true ↦ returns (written_line text (begins_help text) s)
+          | false ↦ line_content at s.bindings true (line_tokens 0 text) >>= content_written sub at continued s
+        ])
         by_test true = g
-        by_test false = never_then w IsKnownContent KnownLine (line_content at s.bindings true (line_tokens 0 text)) (content_written sub at continued s) (content_known w at s.bindings g true (line_tokens 0 text)) (λ x r. content_goes_on at continued s r g)
+        by_test false = never_then w IsKnownContent KnownLine (line_content at s.bindings true (line_tokens 0 text)) (content_written sub at continued s)
+            (content_known w at s.bindings g true (line_tokens 0 text)) (λ x r. content_goes_on at continued s r g)
 
-    lines_go_on : (file : List ℕ) (skip n : ℕ) (ls : List PhysicalLine) (s : ReadingState) → KnownState s → Gives KnownProgress (lines_read sub file skip n ls s)
+    lines_go_on : (file : List ℕ) (skip n : ℕ) (ls : List PhysicalLine) (s : ReadingState) → KnownState s
+        → Gives KnownProgress (lines_read sub file skip n ls s)
     lines_go_on file zero n [] s g = g
     lines_go_on file (suc skip) n [] s g = g
     lines_go_on file (suc skip) n (l ∷ ls) s g = lines_go_on file skip (n + 1) ls s g
     lines_go_on file zero n (l ∷ ls) s g =
         never_then w KnownLine KnownProgress (line_written sub (place file n) (is_continued (without_return l)) text s)
-        (λ line. let help = help_after line.begins_help (drop more ls) in lines_read sub file (more + help) (n + 1) ls line.state >>= λ rest. returns (progress (written line.text help rest.text) rest.state))
+        (λ line. let help = help_after line.begins_help (drop more ls) in
+        lines_read sub file (more + help) (n + 1) ls line.state >>= λ rest. returns (progress (written line.text help rest.text) rest.state))
         (line_goes_on (place file n) (is_continued (without_return l)) text s g)
         (λ line q. let help = help_after line.begins_help (drop more ls) in
-        never_then w KnownProgress KnownProgress (lines_read sub file (more + help) (n + 1) ls line.state) (λ rest. returns (progress (written line.text help rest.text) rest.state)) (lines_go_on file (more + help) (n + 1) ls line.state q) (λ rest x. x))
+        never_then w KnownProgress KnownProgress (lines_read sub file (more + help) (n + 1) ls line.state)
+        (λ rest. returns (progress (written line.text help rest.text) rest.state)) (lines_go_on file (more + help) (n + 1) ls line.state q) (λ rest x. x))
       where
         more : ℕ
         more = continuation_count (map without_return (l ∷ ls))
@@ -221,28 +265,40 @@ module _ (w : World) where
     list_goes_on : (at : Place) (paths : List (List ℕ)) (s : ReadingState) → KnownState s → Gives KnownProgress (list_read sub at paths s)
     list_goes_on at [] s g = g
     list_goes_on at (path ∷ paths) s g =
-        never_then w KnownProgress KnownProgress (sub at (one_file path) s) (λ p. list_read sub at paths p.state >>= λ rest. returns (progress (codes "source " ++ (in_quotes_of 34 p.text ++ 10 ∷ rest.text)) rest.state)) (reads at (one_file path) s g)
-        (λ p x. never_then w KnownProgress KnownProgress (list_read sub at paths p.state) (λ rest. returns (progress (codes "source " ++ (in_quotes_of 34 p.text ++ 10 ∷ rest.text)) rest.state)) (list_goes_on at paths p.state x) (λ rest y. y))
+        never_then w KnownProgress KnownProgress (sub at (one_file path) s)
+        (λ p. list_read sub at paths p.state >>= λ rest. returns (progress (codes "source " ++ (in_quotes_of 34 p.text ++ 10 ∷ rest.text)) rest.state))
+        (reads at (one_file path) s g)
+        (λ p x. never_then w KnownProgress KnownProgress (list_read sub at paths p.state)
+        (λ rest. returns (progress (codes "source " ++ (in_quotes_of 34 p.text ++ 10 ∷ rest.text)) rest.state)) (list_goes_on at paths p.state x)
+        (λ rest y. y))
 
-    contents_go_on : (at : Place) (what : Sourced) (bytes : Option (List ℕ)) (s : ReadingState) → KnownState s → Gives KnownProgress (contents_read sub at what bytes s)
+    contents_go_on : (at : Place) (what : Sourced) (bytes : Option (List ℕ)) (s : ReadingState) → KnownState s
+        → Gives KnownProgress (contents_read sub at what bytes s)
     contents_go_on at (one_file path) None s g = g
     contents_go_on at (one_file path) (Some bytes) s g = lines_go_on path 0 1 (split_at_newlines bytes) (counted (length bytes) s) g
     contents_go_on at (file_list name paths) None s g = list_goes_on at paths (counted 0 s) g
     contents_go_on at (file_list name paths) (Some bytes) s g = list_goes_on at paths (counted 0 s) g
 
-    sourced_goes_on : (root : List ℕ) (open_files : List (List ℕ)) (at : Place) (what : Sourced) (s : ReadingState) → KnownState s → (bytes : Option (List ℕ)) → Gives KnownProgress (sourced_read sub root open_files at what s bytes)
+    sourced_goes_on : (root : List ℕ) (open_files : List (List ℕ)) (at : Place) (what : Sourced) (s : ReadingState) → KnownState s → (bytes : Option (List ℕ))
+        → Gives KnownProgress (sourced_read sub root open_files at what s bytes)
     sourced_goes_on root open_files at what s g bytes = by_fault (source_fault open_files s (sourced_path what) bytes)
       where
-        by_fault : (x : Option MacroKind) → Gives KnownProgress (elim x as (λ z. Program Progress) [ Some kind ↦ fault at kind [] | None ↦ contents_read sub at what bytes s >>= λ p. returns (kept root (sourced_path what) p) ])
+        by_fault : (x : Option MacroKind) → Gives KnownProgress (elim x as (λ z. Program Progress) [
+          | Some kind ↦ fault at kind []
+          | None ↦ contents_read sub at what bytes s >>= λ p. returns (stored_file root (sourced_path what) p)
+        ])
         by_fault (Some kind) = tt
-        by_fault None = never_then w KnownProgress KnownProgress (contents_read sub at what bytes s) (λ p. returns (kept root (sourced_path what) p)) (contents_go_on at what bytes s g) (λ p x. x)
+        by_fault None = never_then w KnownProgress KnownProgress (contents_read sub at what bytes s) (λ p. returns (stored_file root (sourced_path what) p))
+            (contents_go_on at what bytes s g) (λ p x. x)
 
   source_goes_on : (depth : ℕ) (root : List ℕ) (open_files : List (List ℕ)) → ReadsOn (source_read depth root open_files)
   source_goes_on zero root open_files at what s g = g
   source_goes_on (suc depth) root open_files at (one_file path) s g =
-      λ e. sourced_goes_on (source_read depth root (path ∷ open_files)) (source_goes_on depth root (path ∷ open_files)) root open_files at (one_file path) s g (w.bytes path)
+      λ e. sourced_goes_on (source_read depth root (path ∷ open_files)) (source_goes_on depth root (path ∷ open_files)) root open_files at (one_file path) s g
+      (w.bytes path)
   source_goes_on (suc depth) root open_files at (file_list name paths) s g =
-      sourced_goes_on (source_read depth root (name ∷ open_files)) (source_goes_on depth root (name ∷ open_files)) root open_files at (file_list name paths) s g (Some [])
+      sourced_goes_on (source_read depth root (name ∷ open_files)) (source_goes_on depth root (name ∷ open_files)) root open_files at (file_list name paths) s g
+      (Some [])
 
   root_goes_on : (root : List ℕ) (s : ReadingState) → KnownState s → (bytes : Option (List ℕ)) → Gives Anything (root_read root s bytes)
   root_goes_on root s g None = tt
@@ -253,11 +309,13 @@ module _ (w : World) where
 
       by_test : (b : Bool) → Gives Anything (elim b as (λ z. Program (List ExpandedFile)) [
         | true ↦ fault (place root 0) TooMany []
-        | false ↦ lines_read sub root 0 1 (split_at_newlines bytes) (counted (length bytes) s) >>= λ p. returns (p.state.expanded ++ record { key = root; path = root; text = p.text } ∷ [])
+        | false ↦ lines_read sub root 0 1 (split_at_newlines bytes) (counted (length bytes) s) >>= λ p. returns
+            (p.state.expanded ++ record { key = root; path = root; text = p.text } ∷ [])
       ])
       by_test true = tt
       by_test false =
-          never_then w KnownProgress Anything (lines_read sub root 0 1 (split_at_newlines bytes) (counted (length bytes) s)) (λ p. returns (p.state.expanded ++ record { key = root; path = root; text = p.text } ∷ []))
+          never_then w KnownProgress Anything (lines_read sub root 0 1 (split_at_newlines bytes) (counted (length bytes) s))
+          (λ p. returns (p.state.expanded ++ record { key = root; path = root; text = p.text } ∷ []))
           (lines_go_on sub (source_goes_on max_open_files root (root ∷ [])) root 0 1 (split_at_newlines bytes) (counted (length bytes) s) g) (λ p x. tt)
 
   -- the reading of a tree never stops

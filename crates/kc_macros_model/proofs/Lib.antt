@@ -1,21 +1,21 @@
 mod Rows
 mod PlainRows
 pub mod Outcomes
-pub mod NeverStops
+pub mod AnsweredPrograms
 pub mod KnownTexts
 pub mod KnownLines
 pub mod KnownTrees
 pub mod TreeAnswers
 pub mod TextItems
 pub mod ExpansionByRules
-pub mod RulesExpanded
+pub mod RuleExpansions
 pub mod Bounds
-pub mod Along
-pub mod Matching
-pub mod MatchingTexts
-pub mod MatchingLines
-pub mod MatchingForms
-pub mod MatchingTrees
+pub mod RunInvariants
+pub mod ProgramMatches
+pub mod TextMatches
+pub mod LineMatches
+pub mod FormMatches
+pub mod TreeMatches
 pub mod WantedQuestions
 pub mod CleanTexts
 pub mod CleanLines
@@ -23,13 +23,13 @@ pub mod LineCounts
 pub mod KeptLines
 pub mod TreeLines
 pub mod Keys
-pub mod ReadingsKeep
+pub mod ReadingInvariants
 pub mod BoundedReadings
 pub mod TokensOfLines
 pub mod PlainTokens
 pub mod QuotedBodies
 pub mod TokenCuts
-pub mod WrittenAgain
+pub mod SecondExpansions
 pub mod PlainLines
 pub mod PlainTrees
-pub mod HeldKeys
+pub mod SourceKeys

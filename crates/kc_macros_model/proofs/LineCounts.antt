@@ -14,7 +14,8 @@ count_both x y = sum_by-append (λ c. cond (c == 10) 1 0) x y
 
 pub count_clean : (s : List ℕ) → IsClean s → newline_count s ≡ 0
 count_clean [] h = refl
-count_clean (c ∷ s) h = let first : newline_count (c ∷ []) ≡ 0 = ap (λ b. 0 + cond b 1 0) (clean_first h) in omega (arith, first, count_both (c ∷ []) s, count_clean s (clean_rest h))
+count_clean (c ∷ s) h = let first : newline_count (c ∷ []) ≡ 0 = ap (λ b. 0 + cond b 1 0) (clean_first h) in
+    omega (arith, first, count_both (c ∷ []) s, count_clean s (clean_rest h))
 
 -- physical lines whose texts have no newlines
 pub data AreCleanLines : List PhysicalLine → Type 0 where
@@ -29,7 +30,8 @@ pub split_clean : (s : List ℕ) → AreCleanLines (split_at_newlines s)
 split_clean [] = no_lines
 split_clean (c ∷ s) = by_test (split_clean s) (c == 10) refl
   where
-    by_test : AreCleanLines (split_at_newlines s) → (b : Bool) → (c == 10) ≡ b → AreCleanLines (cond b (record { text = []; ended = true } ∷ split_at_newlines s) (with_first_byte c (split_at_newlines s)))
+    by_test : AreCleanLines (split_at_newlines s) → (b : Bool) → (c == 10) ≡ b
+        → AreCleanLines (cond b (record { text = []; ended = true } ∷ split_at_newlines s) (with_first_byte c (split_at_newlines s)))
     by_test r true e = next_line clean_none r
     by_test r false e = first_byte_clean c (split_at_newlines s) e r
 
@@ -46,20 +48,30 @@ pub split_bytes : (s : List ℕ) → bytes_of_lines (split_at_newlines s) ≡ s
 split_bytes [] = refl
 split_bytes (c ∷ s) = by_test (split_bytes s) (c == 10) refl
   where
-    by_test : bytes_of_lines (split_at_newlines s) ≡ s → (b : Bool) → (c == 10) ≡ b → bytes_of_lines (cond b (record { text = []; ended = true } ∷ split_at_newlines s) (with_first_byte c (split_at_newlines s))) ≡ c ∷ s
+    by_test : bytes_of_lines (split_at_newlines s) ≡ s → (b : Bool) → (c == 10) ≡ b → bytes_of_lines
+        (cond b (record { text = []; ended = true } ∷ split_at_newlines s) (with_first_byte c (split_at_newlines s))) ≡ c ∷ s
     by_test h true e = ap (λ x. 10 ∷ x) h ∙ ap (λ x. x ∷ s) (sym (eqb-true c 10 e))
     by_test h false e = first_byte_bytes c (split_at_newlines s) ∙ ap (λ x. c ∷ x) h
 
 pub lines_both : (xs ys : List PhysicalLine) → bytes_of_lines (xs ++ ys) ≡ bytes_of_lines xs ++ bytes_of_lines ys
 lines_both [] ys = refl
-lines_both (l ∷ xs) ys = ap (λ z. cond l.ended (l.text ++ 10 ∷ []) l.text ++ z) (lines_both xs ys) ∙ sym (append_assoc (cond l.ended (l.text ++ 10 ∷ []) l.text) (bytes_of_lines xs) (bytes_of_lines ys))
+lines_both (l ∷ xs) ys = ap (λ z. cond l.ended (l.text ++ 10 ∷ []) l.text ++ z) (lines_both xs ys)
+    ∙ sym (append_assoc (cond l.ended (l.text ++ 10 ∷ []) l.text) (bytes_of_lines xs) (bytes_of_lines ys))
 
 count_newlines : {ls : List PhysicalLine} → AreCleanLines ls → newline_count (newlines_of ls) ≡ newline_count (bytes_of_lines ls)
 count_newlines no_lines = refl
 count_newlines (next_line {l = l} {ls = ls} h r) = by_test (count_newlines r) l.ended
   where
-    by_test : newline_count (newlines_of ls) ≡ newline_count (bytes_of_lines ls) → (b : Bool) → newline_count (cond b (10 ∷ []) [] ++ newlines_of ls) ≡ newline_count (cond b (l.text ++ 10 ∷ []) l.text ++ bytes_of_lines ls)
-    by_test e true = omega (arith, e, count_both (10 ∷ []) (newlines_of ls), count_both (l.text ++ 10 ∷ []) (bytes_of_lines ls), count_both l.text (10 ∷ []), count_clean l.text h)
+    by_test : newline_count (newlines_of ls) ≡ newline_count (bytes_of_lines ls) → (b : Bool) → newline_count (cond b (10 ∷ []) [] ++ newlines_of ls)
+        ≡ newline_count (cond b (l.text ++ 10 ∷ []) l.text ++ bytes_of_lines ls)
+    by_test e true = omega (
+      arith,
+      e,
+      count_both (10 ∷ []) (newlines_of ls),
+      count_both (l.text ++ 10 ∷ []) (bytes_of_lines ls),
+      count_both l.text (10 ∷ []),
+      count_clean l.text h,
+    )
     by_test e false = omega (arith, e, count_both l.text (bytes_of_lines ls), count_clean l.text h)
 
 pub taken_clean : (n : ℕ) (ls : List PhysicalLine) → AreCleanLines ls → AreCleanLines (take n ls)
@@ -68,7 +80,8 @@ taken_clean (suc n) [] h = h
 taken_clean (suc n) (l ∷ ls) (next_line h r) = next_line h (taken_clean n ls r)
 
 -- what is written for lines has their newlines
-pub written_count : (ls : List PhysicalLine) (text new : List ℕ) → AreCleanLines ls → IsClean new → newline_count (lines_written ls text new) ≡ newline_count (bytes_of_lines ls)
+pub written_count : (ls : List PhysicalLine) (text new : List ℕ) → AreCleanLines ls → IsClean new → newline_count (lines_written ls text new)
+    ≡ newline_count (bytes_of_lines ls)
 written_count ls text new h k = by_test (bytes_eq new text)
   where
     by_test : (b : Bool) → newline_count (cond b (bytes_of_lines ls) (new ++ newlines_of ls)) ≡ newline_count (bytes_of_lines ls)

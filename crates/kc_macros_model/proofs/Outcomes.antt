@@ -11,27 +11,32 @@ module _ {A : Type 0} (w more : World) (ext : Extends w more) where
   abbrev SameIf : Outcome A → Outcome A → Type 0
   SameIf o m = is_unanswered o.ending ≡ false → m ≡ o
 
-  same_spent : (left : ℕ) (at : Place) (work : ℕ) (k : Unit {0} → Program A) → ((n : ℕ) → SameIf (outcome true w n (k (tt {0}))) (outcome true more n (k (tt {0}))))
+  same_spent : (left : ℕ) (at : Place) (work : ℕ) (k : Unit {0} → Program A)
+      → ((n : ℕ) → SameIf (outcome true w n (k (tt {0}))) (outcome true more n (k (tt {0}))))
       → SameIf (outcome true w left (does (spend at work) k)) (outcome true more left (does (spend at work) k))
   same_spent left at work k ih = by_test (nat_lt left work)
     where
       spent : World → Bool → Outcome A
-      spent v b = unless_fault left (cond b (Err (record { at = at; kind = TooMany; text = [] })) (Ok (left - work))) (λ n. after_event v (spend at work) (outcome true v n (k (tt {0}))))
+      spent v b = unless_fault left (cond b (Err (record { at = at; kind = TooMany; text = [] })) (Ok (left - work)))
+          (λ n. after_event v (spend at work) (outcome true v n (k (tt {0}))))
 
       by_test : (b : Bool) → SameIf (spent w b) (spent more b)
       by_test true h = refl
       by_test false h = ap (after_event w (spend at work)) (ih (left - work) h)
 
-  same_answered : (left : ℕ) (at : Place) (question : List ℕ) (k : Option Answer → Program A) → ((r : Option Answer) → SameIf (outcome true w left (k r)) (outcome true more left (k r)))
+  same_answered : (left : ℕ) (at : Place) (question : List ℕ) (k : Option Answer → Program A)
+      → ((r : Option Answer) → SameIf (outcome true w left (k r)) (outcome true more left (k r)))
       → SameIf (outcome true w left (does (ask at question) k)) (outcome true more left (does (ask at question) k))
   same_answered left at question k ih = by_answer (w.answer question) refl
     where
       asked : World → Option Answer → Outcome A
-      asked v a = unless_fault left (unless_unanswered at question left a) (λ n. after_event (record v { answer = λ q. a }) (ask at question) (outcome true v n (k a)))
+      asked v a = unless_fault left (unless_unanswered at question left a)
+          (λ n. after_event (record v { answer = λ q. a }) (ask at question) (outcome true v n (k a)))
 
       by_answer : (a : Option Answer) → w.answer question ≡ a → SameIf (asked w a) (asked more (more.answer question))
       by_answer None e h = absurd (let z : ⊥ = cc in z)
-      by_answer (Some a) e h = ap (asked more) (ext.answers question a e) ∙ ap (after_event (record w { answer = λ q. Some a }) (ask at question)) (ih (Some a) h)
+      by_answer (Some a) e h = ap (asked more) (ext.answers question a e) ∙ ap (after_event (record w { answer = λ q. Some a }) (ask at question))
+          (ih (Some a) h)
 
   -- answers that aren't asked for change nothing
   pub same_if_answered : (left : ℕ) (p : Program A) → SameIf (outcome true w left p) (outcome true more left p)
@@ -40,9 +45,11 @@ module _ {A : Type 0} (w more : World) (ext : Extends w more) where
   same_if_answered left stops h = refl
   same_if_answered left (does (report n) k) h = ap (after_event w (report n)) (same_if_answered left (k (tt {0})) h)
   same_if_answered left (does (read_file path) k) h =
-      ap (λ r. after_event w (read_file path) (outcome true more left (k r))) (ext.bytes path) ∙ ap (after_event w (read_file path)) (same_if_answered left (k (w.bytes path)) h)
+      ap (λ r. after_event w (read_file path) (outcome true more left (k r))) (ext.bytes path) ∙ ap (after_event w (read_file path))
+      (same_if_answered left (k (w.bytes path)) h)
   same_if_answered left (does (list_folder folder) k) h =
-      ap (λ r. after_event w (list_folder folder) (outcome true more left (k r))) (ext.names folder) ∙ ap (after_event w (list_folder folder)) (same_if_answered left (k (w.names folder)) h)
+      ap (λ r. after_event w (list_folder folder) (outcome true more left (k r))) (ext.names folder)
+      ∙ ap (after_event w (list_folder folder)) (same_if_answered left (k (w.names folder)) h)
   same_if_answered left (does (spend at work) k) h = same_spent left at work k (λ n. same_if_answered n (k (tt {0}))) h
   same_if_answered left (does (ask at question) k) h = same_answered left at question k (λ r. same_if_answered left (k r)) h
 
@@ -51,25 +58,29 @@ module _ {A : Type 0} (w : World) where
   abbrev Agree : Outcome A → Outcome A → Type 0
   Agree o m = o.questions ≡ [] → m ≡ o
 
-  agree_spent : (left : ℕ) (at : Place) (work : ℕ) (k : Unit {0} → Program A) → ((n : ℕ) → Agree (outcome false w n (k (tt {0}))) (outcome true w n (k (tt {0}))))
+  agree_spent : (left : ℕ) (at : Place) (work : ℕ) (k : Unit {0} → Program A)
+      → ((n : ℕ) → Agree (outcome false w n (k (tt {0}))) (outcome true w n (k (tt {0}))))
       → Agree (outcome false w left (does (spend at work) k)) (outcome true w left (does (spend at work) k))
   agree_spent left at work k ih = by_test (nat_lt left work)
     where
       spent : Bool → Bool → Outcome A
-      spent all b = unless_fault left (cond b (Err (record { at = at; kind = TooMany; text = [] })) (Ok (left - work))) (λ n. after_event w (spend at work) (outcome all w n (k (tt {0}))))
+      spent all b = unless_fault left (cond b (Err (record { at = at; kind = TooMany; text = [] })) (Ok (left - work)))
+          (λ n. after_event w (spend at work) (outcome all w n (k (tt {0}))))
 
       by_test : (b : Bool) → Agree (spent false b) (spent true b)
       by_test true h = refl
       by_test false h = ap (after_event w (spend at work)) (ih (left - work) h)
 
-  agree_asked : (left : ℕ) (at : Place) (question : List ℕ) (k : Option Answer → Program A) → ((r : Option Answer) → Agree (outcome false w left (k r)) (outcome true w left (k r)))
+  agree_asked : (left : ℕ) (at : Place) (question : List ℕ) (k : Option Answer → Program A)
+      → ((r : Option Answer) → Agree (outcome false w left (k r)) (outcome true w left (k r)))
       → Agree (outcome false w left (does (ask at question) k)) (outcome true w left (does (ask at question) k))
   agree_asked left at question k ih = by_answer (w.answer question)
     where
       after : Option Answer → Outcome A → Outcome A
       after a o = after_event (record w { answer = λ q. a }) (ask at question) o
 
-      by_answer : (a : Option Answer) → Agree (after a (outcome false w left (k a))) (unless_fault left (unless_unanswered at question left a) (λ n. after a (outcome true w n (k a))))
+      by_answer : (a : Option Answer) → Agree (after a (outcome false w left (k a)))
+          (unless_fault left (unless_unanswered at question left a) (λ n. after a (outcome true w n (k a))))
       by_answer None h = absurd (let z : ⊥ = cc in z)
       by_answer (Some a) h = ap (after (Some a)) (ih (Some a) h)
 
@@ -86,7 +97,12 @@ module _ {A : Type 0} (w : World) where
 
 -- an outcome, and where it returned a value the outcome of the rest after it
 abbrev pub continued_by : {A B : Type 0} → Outcome A → Ending A → (ℕ → A → Outcome B) → Outcome B
-continued_by o (returned x) rest = let r = rest o.left x in record { notices = o.notices ++ r.notices; questions = o.questions ++ r.questions; left = r.left; ending = r.ending }
+continued_by o (returned x) rest = let r = rest o.left x in record {
+  notices = o.notices ++ r.notices;
+  questions = o.questions ++ r.questions;
+  left = r.left;
+  ending = r.ending;
+}
 continued_by o (failed f) rest = record { notices = o.notices; questions = o.questions; left = o.left; ending = failed f }
 continued_by o stopped rest = record { notices = o.notices; questions = o.questions; left = o.left; ending = stopped }
 
@@ -101,15 +117,19 @@ module _ {A B : Type 0} (all : Bool) (w : World) (f : A → Program B) where
   after_continued : (e : Event) (o : Outcome A) (end : Ending A) → after_event w e (continued_by o end rest) ≡ continued_by (after_event w e o) end rest
   after_continued e o (returned x) =
       let r = rest o.left x in
-      ap (λ ns. let m : Outcome B = record { notices = ns; questions = open_question w e ++ (o.questions ++ r.questions); left = r.left; ending = r.ending } in m) (sym (append_assoc (notices_of e) o.notices r.notices))
-      ∙ ap (λ qs. let m : Outcome B = record { notices = (notices_of e ++ o.notices) ++ r.notices; questions = qs; left = r.left; ending = r.ending } in m) (sym (append_assoc (open_question w e) o.questions r.questions))
+      ap (λ ns. let m : Outcome B = record { notices = ns; questions = open_question w e ++ (o.questions ++ r.questions); left = r.left; ending = r.ending } in
+      m) (sym (append_assoc (notices_of e) o.notices r.notices))
+      ∙ ap (λ qs. let m : Outcome B = record { notices = (notices_of e ++ o.notices) ++ r.notices; questions = qs; left = r.left; ending = r.ending } in m)
+      (sym (append_assoc (open_question w e) o.questions r.questions))
   after_continued e o (failed g) = refl
   after_continued e o stopped = refl
 
-  composed_event : (left : ℕ) (e : Event) (k : Reply e → Program A) → ((n : ℕ) (r : Reply e) → ProgramsCompose all w n (k r) f) → ProgramsCompose all w left (does e k) f
+  composed_event : (left : ℕ) (e : Event) (k : Reply e → Program A) → ((n : ℕ) (r : Reply e) → ProgramsCompose all w n (k r) f)
+      → ProgramsCompose all w left (does e k) f
   composed_event left e k ih = by_result (left_after all w left e)
     where
-      by_result : (r : Result ℕ Fault) → unless_fault left r (λ n. after_event w e (outcome all w n (k (reply w e) >>= f))) ≡ (let o = unless_fault left r (λ n. after_event w e (outcome all w n (k (reply w e)))) in continued_by o o.ending rest)
+      by_result : (r : Result ℕ Fault) → unless_fault left r (λ n. after_event w e (outcome all w n (k (reply w e) >>= f)))
+          ≡ (let o = unless_fault left r (λ n. after_event w e (outcome all w n (k (reply w e)))) in continued_by o o.ending rest)
       by_result (Err g) = refl
       by_result (Ok n) = let o = outcome all w n (k (reply w e)) in ap (after_event w e) (ih n (reply w e)) ∙ after_continued e o o.ending
 

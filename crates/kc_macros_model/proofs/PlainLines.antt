@@ -11,7 +11,7 @@ use Rattle.kc_macros_model.specs.Limits.{max_text_bytes}
 use Rattle.kc_macros_model.specs.Programs.{Place, Program, returns, stops, ◌>>=◌}
 use Rattle.kc_macros_model.specs.Expansion.{fault}
 use Rattle.kc_macros_model.specs.LineTokens.{line_tokens}
-use Rattle.kc_macros_model.specs.Rewriting.{WrittenToken, written_as, a_word}
+use Rattle.kc_macros_model.specs.WrittenTokens.{WrittenToken, written_as, a_word}
 use Rattle.kc_macros_model.specs.Assignments.{LineContent, tokens, is_gap, line_content}
 use Rattle.kc_macros_model.specs.LineForms.{SourceSort, LineForm, plain, bare_prompt, replaced_by, named_choice, sources, is_word, is_path, form_by_word, form_of, without_gaps, with_nth_token, line_bytes, is_help_line}
 use Rattle.kc_macros_model.specs.PathPatterns.{is_pattern}
@@ -34,13 +34,16 @@ pub own_bytes : (text : List ℕ) → line_bytes (own_tokens text) ≡ text
 own_bytes text = bytes_as_they_are (line_tokens 0 text) ∙ tokens_are_line text
 
 -- a line that has nothing to expand and is no assignment, by its form
-pub line_by_form : (sub : SourceReader) (at : Place) (continued : Bool) (text : List ℕ) (s : ReadingState) (f : LineForm) → list_all is_kept_token (line_tokens 0 text) ≡ true → is_assignment (line_tokens 0 text) ≡ false
+pub line_by_form : (sub : SourceReader) (at : Place) (continued : Bool) (text : List ℕ) (s : ReadingState) (f : LineForm)
+    → list_all is_kept_token (line_tokens 0 text) ≡ true → is_assignment (line_tokens 0 text) ≡ false
     → form_of (tokens_as_they_are text) ≡ f
-    → (line_content at s.bindings true (line_tokens 0 text) >>= content_written sub at continued s) ≡ (form_written sub at (own_tokens text) f s >>= short_line at (is_help_line (tokens_as_they_are text)))
+    → (line_content at s.bindings true (line_tokens 0 text) >>= content_written sub at continued s)
+    ≡ (form_written sub at (own_tokens text) f s >>= short_line at (is_help_line (tokens_as_they_are text)))
 line_by_form sub at continued text s f free no_name form =
     ap (λ (p : Program LineContent). p >>= content_written sub at continued s) (tokens_stay at s.bindings (line_tokens 0 text) free no_name)
     ∙ either_way continued
-    ∙ ap (λ b. elim b as (λ z. Program WrittenLine) [ true ↦ stops | false ↦ form_written sub at ts (form_of real) s >>= short_line at (is_help_line real) ]) (decided (gaps_gone_known (known_as_they_are (line_tokens 0 text))))
+    ∙ ap (λ b. elim b as (λ z. Program WrittenLine) [ true ↦ stops | false ↦ form_written sub at ts (form_of real) s >>= short_line at (is_help_line real) ])
+    (decided (gaps_gone_known (known_as_they_are (line_tokens 0 text))))
     ∙ ap (λ g. form_written sub at ts g s >>= short_line at (is_help_line real)) form
   where
     ts : List WrittenToken
@@ -54,9 +57,13 @@ line_by_form sub at continued text s f free no_name form =
     either_way false = refl
 
 -- a text that isn't too long, as a line
-pub short_stays : (at : Place) (help : Bool) (text new : List ℕ) (s : ReadingState) → new ≡ text → nat_lt max_text_bytes (length text) ≡ false → short_line at help (progress new s) ≡ returns (written_line text help s)
+pub short_stays : (at : Place) (help : Bool) (text new : List ℕ) (s : ReadingState) → new ≡ text → nat_lt max_text_bytes (length text) ≡ false
+    → short_line at help (progress new s) ≡ returns (written_line text help s)
 short_stays at help text new s e h =
-    ap (λ x. short_line at help (progress x s)) e ∙ ap (λ b. elim b as (λ z. Program WrittenLine) [ true ↦ fault at LineTooLong [] | false ↦ returns (written_line text help s) ]) h
+    ap (λ x. short_line at help (progress x s)) e ∙ ap (λ b. elim b as (λ z. Program WrittenLine) [
+      | true ↦ fault at LineTooLong []
+      | false ↦ returns (written_line text help s)
+    ]) h
 
 pub plain_form_is : (f : LineForm) → is_plain_form f ≡ true → f ≡ plain
 plain_form_is plain e = refl
@@ -66,9 +73,11 @@ plain_form_is (named_choice name) e = let z : ⊥ = cc in absurd z
 plain_form_is (sources sort path) e = let z : ⊥ = cc in absurd z
 
 -- a plain line that sources nothing
-pub plain_line_stays : (sub : SourceReader) (at : Place) (continued : Bool) (text : List ℕ) (s : ReadingState) → list_all is_kept_token (line_tokens 0 text) ≡ true → is_assignment (line_tokens 0 text) ≡ false
+pub plain_line_stays : (sub : SourceReader) (at : Place) (continued : Bool) (text : List ℕ) (s : ReadingState)
+    → list_all is_kept_token (line_tokens 0 text) ≡ true → is_assignment (line_tokens 0 text) ≡ false
     → is_plain_form (form_of (tokens_as_they_are text)) ≡ true → nat_lt max_text_bytes (length text) ≡ false
-    → (line_content at s.bindings true (line_tokens 0 text) >>= content_written sub at continued s) ≡ returns (written_line text (is_help_line (tokens_as_they_are text)) s)
+    → (line_content at s.bindings true (line_tokens 0 text) >>= content_written sub at continued s) ≡ returns
+    (written_line text (is_help_line (tokens_as_they_are text)) s)
 plain_line_stays sub at continued text s free no_name form short =
     line_by_form sub at continued text s plain free no_name (plain_form_is (form_of (tokens_as_they_are text)) form)
     ∙ short_stays at (is_help_line (tokens_as_they_are text)) text (line_bytes (own_tokens text)) s (own_bytes text) short
@@ -102,17 +111,22 @@ plain_lines_stay sub at continued text s e = by_test (is_copied text) refl e
     form = is_plain_form (form_of real) || is_one_of no_paths (plain_path real)
 
     by_test : (b : Bool) → is_copied text ≡ b → (b || (free && (no_name && form))) ≡ true
-        → (elim b as (λ z. Program WrittenLine) [ true ↦ returns (written_line text (begins_help text) s) | false ↦ line_content at s.bindings true (line_tokens 0 text) >>= content_written sub at continued s ])
+        → (elim b as (λ z. Program WrittenLine) [
+          | true ↦ returns (written_line text (begins_help text) s)
+          | false ↦ line_content at s.bindings true (line_tokens 0 text) >>= content_written sub at continued s
+        ])
         ≡ returns (written_line text (cond b (begins_help text) (is_help_line real)) s)
     by_test true c e = refl
     by_test false c e =
         let rest = second_so free (no_name && form) e in
         plain_line_stays sub at continued text s (first_so free (no_name && form) e) (not_so (is_assignment (line_tokens 0 text)) (first_so no_name form rest))
-        (no_other (is_plain_form (form_of real)) (is_one_of no_paths (plain_path real)) (none_of_none (plain_path real)) (second_so no_name form rest)) (neither_first (nat_lt max_text_bytes (length text)) (not (is_utf8 text)) c)
+        (no_other (is_plain_form (form_of real)) (is_one_of no_paths (plain_path real)) (none_of_none (plain_path real)) (second_so no_name form rest))
+        (neither_first (nat_lt max_text_bytes (length text)) (not (is_utf8 text)) c)
 
 -- physical lines with their help text and those after it are all the lines
 pub whole_lines : (l : PhysicalLine) (ls : List PhysicalLine) (more help : ℕ) (text : List ℕ)
-    → lines_written (l ∷ take more ls) text text ++ (bytes_of_lines (take help (drop more ls)) ++ bytes_of_lines (drop (more + help) ls)) ≡ bytes_of_lines (l ∷ ls)
+    → lines_written (l ∷ take more ls) text text ++ (bytes_of_lines (take help (drop more ls)) ++ bytes_of_lines (drop (more + help) ls))
+    ≡ bytes_of_lines (l ∷ ls)
 whole_lines l ls more help text =
     let first = bytes_of_lines (l ∷ take more ls) in
     let middle = bytes_of_lines (take help (drop more ls)) in
@@ -122,7 +136,8 @@ whole_lines l ls more help text =
     ∙ sym (lines_both (l ∷ take more ls) (drop more ls))
     ∙ ap (λ x. bytes_of_lines (l ∷ x)) (take-append-drop more ls)
 
-lines_stay : (sub : SourceReader) (file : List ℕ) (skip n : ℕ) (ls : List PhysicalLine) (s : ReadingState) → list_all (is_plain_line no_paths) (logical_texts skip ls) ≡ true
+lines_stay : (sub : SourceReader) (file : List ℕ) (skip n : ℕ) (ls : List PhysicalLine) (s : ReadingState)
+    → list_all (is_plain_line no_paths) (logical_texts skip ls) ≡ true
     → lines_read sub file skip n ls s ≡ returns (progress (bytes_of_lines (drop skip ls)) s)
 lines_stay sub file zero n [] s e = refl
 lines_stay sub file (suc skip) n [] s e = refl
@@ -131,12 +146,16 @@ lines_stay sub file zero n (l ∷ ls) s e =
     let more = continuation_count (map without_return (l ∷ ls)) in
     let text = joined_bytes (map without_return (l ∷ ls)) in
     let help = help_after (is_before_help text) (drop more ls) in
-    let first : is_plain_line no_paths text ≡ true = first_so (is_plain_line no_paths text) (list_all (is_plain_line no_paths) (logical_texts (more + help) ls)) e in
-    let others : list_all (is_plain_line no_paths) (logical_texts (more + help) ls) ≡ true = second_so (is_plain_line no_paths text) (list_all (is_plain_line no_paths) (logical_texts (more + help) ls)) e in
+    let first : is_plain_line no_paths text ≡ true = first_so (is_plain_line no_paths text)
+    (list_all (is_plain_line no_paths) (logical_texts (more + help) ls)) e in
+    let others : list_all (is_plain_line no_paths) (logical_texts (more + help) ls) ≡ true =
+    second_so (is_plain_line no_paths text) (list_all (is_plain_line no_paths) (logical_texts (more + help) ls)) e in
     ap (λ (p : Program WrittenLine). p >>= λ line. let h = help_after line.begins_help (drop more ls) in
-    lines_read sub file (more + h) (n + 1) ls line.state >>= λ rest. returns (progress (lines_written (l ∷ take more ls) text line.text ++ (bytes_of_lines (take h (drop more ls)) ++ rest.text)) rest.state))
+    lines_read sub file (more + h) (n + 1) ls line.state >>= λ rest. returns
+    (progress (lines_written (l ∷ take more ls) text line.text ++ (bytes_of_lines (take h (drop more ls)) ++ rest.text)) rest.state))
     (plain_lines_stay sub (place file n) (is_continued (without_return l)) text s first)
-    ∙ ap (λ (p : Program Progress). p >>= λ rest. returns (progress (lines_written (l ∷ take more ls) text text ++ (bytes_of_lines (take help (drop more ls)) ++ rest.text)) rest.state)) (lines_stay sub file (more + help) (n + 1) ls s others)
+    ∙ ap (λ (p : Program Progress). p >>= λ rest. returns (progress (lines_written (l ∷ take more ls) text text
+    ++ (bytes_of_lines (take help (drop more ls)) ++ rest.text)) rest.state)) (lines_stay sub file (more + help) (n + 1) ls s others)
     ∙ ap (λ x. returns (progress x s)) (whole_lines l ls more help text)
 
 pub plain_files_stay : PlainFilesStay
@@ -160,11 +179,13 @@ same_head : (x y : WrittenToken) (xs ys : List WrittenToken) → x ∷ xs ≡ y 
 same_head x y xs ys e = cc
 
 -- the word `source` in place of itself
-source_stays : (ts : List WrittenToken) (first : WrittenToken) (rest : List WrittenToken) → without_gaps ts ≡ first ∷ rest → first.bytes ≡ codes "source" → line_bytes (with_nth_token 0 source_word ts) ≡ line_bytes ts
+source_stays : (ts : List WrittenToken) (first : WrittenToken) (rest : List WrittenToken) → without_gaps ts ≡ first ∷ rest → first.bytes ≡ codes "source"
+    → line_bytes (with_nth_token 0 source_word ts) ≡ line_bytes ts
 source_stays [] first rest e b = let z : ⊥ = cc in absurd z
 source_stays (t ∷ ts) first rest e b = by_test (λ h. source_stays ts first rest h b) (is_gap t) e
   where
-    by_test : (without_gaps ts ≡ first ∷ rest → line_bytes (with_nth_token 0 source_word ts) ≡ line_bytes ts) → (g : Bool) → cond (not g) (t ∷ without_gaps ts) (without_gaps ts) ≡ first ∷ rest
+    by_test : (without_gaps ts ≡ first ∷ rest → line_bytes (with_nth_token 0 source_word ts) ≡ line_bytes ts) → (g : Bool)
+        → cond (not g) (t ∷ without_gaps ts) (without_gaps ts) ≡ first ∷ rest
         → line_bytes (cond g (t ∷ with_nth_token 0 source_word ts) (source_word ∷ ts)) ≡ line_bytes (t ∷ ts)
     by_test ih true e = ap (λ x. t.bytes ++ x) (ih e)
     by_test ih false e = ap (λ x. x ++ line_bytes ts) (sym b ∙ ap (λ (x : WrittenToken). x.bytes) (sym (same_head t first (without_gaps ts) rest e)))
@@ -186,7 +207,8 @@ source_of_path (t ∷ []) path e = let z : ⊥ = cc in absurd z
 source_of_path (t ∷ u ∷ v ∷ rest) path e = let z : ⊥ = cc in absurd z
 source_of_path (t ∷ u ∷ []) path e = by_tests (is_word t) (bytes_eq t.bytes (codes "source")) (is_path u) refl refl refl e
   where
-    by_tests : (x y z : Bool) → is_word t ≡ x → bytes_eq t.bytes (codes "source") ≡ y → is_path u ≡ z → cond (x && (y && z)) u.meaning None ≡ Some path → IsSource (t ∷ u ∷ []) path
+    by_tests : (x y z : Bool) → is_word t ≡ x → bytes_eq t.bytes (codes "source") ≡ y → is_path u ≡ z → cond (x && (y && z)) u.meaning None ≡ Some path
+        → IsSource (t ∷ u ∷ []) path
     by_tests true true true hw hs hp e =
         let s : t.bytes ≡ codes "source" = same_text t.bytes (codes "source") hs in
         record {

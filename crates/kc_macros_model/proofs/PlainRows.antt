@@ -9,19 +9,24 @@ use Rattle.kc_macros_model.specs.PlainLines.{is_plain_line, no_paths}
 abbrev plain_ones : (List ℕ → Bool) → List (List ℕ) → List Bool
 plain_ones paths lines = map (λ line. is_plain_line paths line) lines
 
-plain_lines : plain_ones no_paths (codes "config A_B" ∷ codes "\tdefault y if B && \"c d\" # $(e)" ∷ codes "\tdefault \"a\\$b\"" ∷ codes "" ∷ codes "\thelp" ∷ codes "\tdefault $X" ∷ codes "\tprompt \"a = b\"" ∷ []) ≡ true ∷ true ∷ true ∷ true ∷ true ∷ true ∷ true ∷ []
+plain_lines : plain_ones no_paths (codes "config A_B" ∷ codes "\tdefault y if B && \"c d\" # $(e)" ∷ codes "\tdefault \"a\\$b\"" ∷ codes "" ∷ codes "\thelp"
+    ∷ codes "\tdefault $X" ∷ codes "\tprompt \"a = b\"" ∷ []) ≡ true ∷ true ∷ true ∷ true ∷ true ∷ true ∷ true ∷ []
 unfolding next_token is_utf8 chars lib.Utf8.encode
 plain_lines = refl
 
 -- a reference, a `$` in quotes, assignments, prompts without quotes, a name of a choice, options, and sources of no file of the tree
-other_lines : plain_ones no_paths (codes "if $(A)" ∷ codes "\tdefault \"$b\"" ∷ codes "A = 1" ∷ codes " A := 1" ∷ codes "A+=1" ∷ codes "\tbool word" ∷ codes "choice a" ∷ codes "\toption allnoconfig_y" ∷ codes "source \"a\"" ∷ []) ≡ false ∷ false ∷ false ∷ false ∷ false ∷ false ∷ false ∷ false ∷ false ∷ []
+other_lines : plain_ones no_paths (codes "if $(A)" ∷ codes "\tdefault \"$b\"" ∷ codes "A = 1" ∷ codes " A := 1" ∷ codes "A+=1" ∷ codes "\tbool word"
+    ∷ codes "choice a" ∷ codes "\toption allnoconfig_y" ∷ codes "source \"a\"" ∷ []) ≡ false ∷ false ∷ false ∷ false ∷ false ∷ false ∷ false ∷ false
+    ∷ false ∷ []
 unfolding next_token is_utf8 chars lib.Utf8.encode
 other_lines = refl
 
-source_lines : plain_ones (bytes_eq (codes "a/b")) (codes "source \"a/b\"" ∷ codes " source a/b # b" ∷ codes "source \"a/c\"" ∷ codes "rsource \"a/b\"" ∷ codes "osource \"a/b\"" ∷ []) ≡ true ∷ true ∷ false ∷ false ∷ false ∷ []
+source_lines : plain_ones (bytes_eq (codes "a/b")) (codes "source \"a/b\"" ∷ codes " source a/b # b" ∷ codes "source \"a/c\"" ∷ codes "rsource \"a/b\""
+    ∷ codes "osource \"a/b\"" ∷ []) ≡ true ∷ true ∷ false ∷ false ∷ false ∷ []
 unfolding next_token is_utf8 chars lib.Utf8.encode
 source_lines = refl
 
-pattern_lines : plain_ones (λ path. true) (codes "source \"a*\"" ∷ codes "source \"a?\"" ∷ codes "source \"a[b]\"" ∷ codes "source \"a\" b" ∷ []) ≡ false ∷ false ∷ false ∷ true ∷ []
+pattern_lines : plain_ones (λ path. true) (codes "source \"a*\"" ∷ codes "source \"a?\"" ∷ codes "source \"a[b]\"" ∷ codes "source \"a\" b" ∷ [])
+    ≡ false ∷ false ∷ false ∷ true ∷ []
 unfolding next_token is_utf8 chars lib.Utf8.encode
 pattern_lines = refl

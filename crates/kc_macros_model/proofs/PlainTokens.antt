@@ -11,7 +11,7 @@ use Rattle.kc_macros_model.specs.References.{Item, byte, escaped, item_bytes, in
 use Rattle.kc_macros_model.specs.Variables.{Bindings}
 use Rattle.kc_macros_model.specs.Expansion.{text_value}
 use Rattle.kc_macros_model.specs.LineTokens.{LineToken, gap, run, quoted, other, broken, token_bytes, extent, is_run_byte, run_token, quoted_token, first_token, bytes_of_tokens}
-use Rattle.kc_macros_model.specs.Rewriting.{WrittenToken, a_word, an_other, written_as, token_of_text, token_of_value, WrittenBody, body_of, joined_bodies, written_items, token_of_body, run_value, written_token}
+use Rattle.kc_macros_model.specs.WrittenTokens.{WrittenToken, a_word, an_other, written_as, token_of_text, token_of_value, WrittenBody, body_of, joined_bodies, written_items, token_of_body, run_value, written_token}
 use Rattle.kc_macros_model.specs.Assignments.{Assigned, assignment_to, LineContent, tokens, with_token, is_gap, is_open_front, assignment_or, line_content}
 use Rattle.kc_macros_model.specs.LineForms.{line_bytes}
 use Rattle.kc_macros_model.specs.PlainLines.{is_kept_item, has_dollar, LinesWithoutDollars, is_kept_token, text_of_items, token_as_it_is, is_assignment}
@@ -40,15 +40,19 @@ items_within zero q (c ∷ s) h e = absurd (omega (arith, h))
 items_within (suc n) q (c ∷ []) h e = plain_byte (neither_first (c == 36) false e) plain_none
 items_within (suc n) q (c ∷ d ∷ s) h e =
     subst (λ b. ArePlainItems (c ∷ d ∷ s) (from b)) (sym (and_false (c == 36) (d == 40) (neither_first (c == 36) (has_dollar (d ∷ s)) e)))
-    (by_escape (items_within n q (d ∷ s) (omega (arith, h)) (neither_second (c == 36) (has_dollar (d ∷ s)) e)) (items_within n q s (omega (arith, h)) (neither_second (d == 36) (has_dollar s) (neither_second (c == 36) (has_dollar (d ∷ s)) e))) (q && (c == 92)) refl)
+    (by_escape (items_within n q (d ∷ s) (omega (arith, h)) (neither_second (c == 36) (has_dollar (d ∷ s)) e))
+    (items_within n q s (omega (arith, h)) (neither_second (d == 36) (has_dollar s) (neither_second (c == 36) (has_dollar (d ∷ s)) e)))
+    (q && (c == 92)) refl)
   where
     from : Bool → List Item
-    from b = let i = cond b (reference_of s (inside_length 0 s)) (cond (q && (c == 92)) (escaped d) (byte c)) in i ∷ items q (pred (length (item_bytes i))) (d ∷ s)
+    from b = let i = cond b (reference_of s (inside_length 0 s)) (cond (q && (c == 92)) (escaped d) (byte c)) in
+        i ∷ items q (pred (length (item_bytes i))) (d ∷ s)
 
     plain_from : Bool → List Item
     plain_from p = let i = cond p (escaped d) (byte c) in i ∷ items q (pred (length (item_bytes i))) (d ∷ s)
 
-    by_escape : ArePlainItems (d ∷ s) (items q 0 (d ∷ s)) → ArePlainItems s (items q 0 s) → (p : Bool) → (q && (c == 92)) ≡ p → ArePlainItems (c ∷ d ∷ s) (plain_from (q && (c == 92)))
+    by_escape : ArePlainItems (d ∷ s) (items q 0 (d ∷ s)) → ArePlainItems s (items q 0 s) → (p : Bool) → (q && (c == 92)) ≡ p
+        → ArePlainItems (c ∷ d ∷ s) (plain_from (q && (c == 92)))
     by_escape r1 r2 true e2 = subst (λ p. ArePlainItems (c ∷ d ∷ s) (plain_from p)) (sym e2) (plain_escaped (eqb-true c 92 (second_so q (c == 92) e2)) r2)
     by_escape r1 r2 false e2 = subst (λ p. ArePlainItems (c ∷ d ∷ s) (plain_from p)) (sym e2) (plain_byte (neither_first (c == 36) (has_dollar (d ∷ s)) e) r1)
 
@@ -61,7 +65,8 @@ kept_within : (n : ℕ) (s : List ℕ) → length s ≤ n → list_all is_kept_i
 kept_within n [] h e = plain_none
 kept_within zero (c ∷ s) h e = absurd (omega (arith, h))
 kept_within (suc n) (c ∷ []) h e = plain_byte (not_so (c == 36) (first_so (not (c == 36)) true e)) plain_none
-kept_within (suc n) (c ∷ d ∷ s) h e = by_tests (kept_within n (d ∷ s) (omega (arith, h))) (kept_within n s (omega (arith, h))) (c == 36 && (d == 40)) (c == 92) refl e
+kept_within (suc n) (c ∷ d ∷ s) h e = by_tests (kept_within n (d ∷ s) (omega (arith, h))) (kept_within n s (omega (arith, h))) (c == 36 && (d == 40))
+    (c == 92) refl e
   where
     front : Bool → Bool → List Item
     front x y = let i = cond x (reference_of s (inside_length 0 s)) (cond y (escaped d) (byte c)) in i ∷ items true (pred (length (item_bytes i))) (d ∷ s)
@@ -70,12 +75,15 @@ kept_within (suc n) (c ∷ d ∷ s) h e = by_tests (kept_within n (d ∷ s) (ome
     not_reference None more e = cc
     not_reference (Some n) more e = cc
 
-    by_tests : (list_all is_kept_item (items true 0 (d ∷ s)) ≡ true → ArePlainItems (d ∷ s) (items true 0 (d ∷ s))) → (list_all is_kept_item (items true 0 s) ≡ true → ArePlainItems s (items true 0 s))
+    by_tests : (list_all is_kept_item (items true 0 (d ∷ s)) ≡ true → ArePlainItems (d ∷ s) (items true 0 (d ∷ s)))
+        → (list_all is_kept_item (items true 0 s) ≡ true → ArePlainItems s (items true 0 s))
         → (x y : Bool) → (c == 92) ≡ y → list_all is_kept_item (front x y) ≡ true → ArePlainItems (c ∷ d ∷ s) (front x y)
     by_tests ih1 ih2 true y k e =
-        absurd (not_reference (inside_length 0 s) (list_all is_kept_item (items true (pred (length (item_bytes (reference_of s (inside_length 0 s))))) (d ∷ s))) e)
+        absurd (not_reference (inside_length 0 s) (list_all is_kept_item
+        (items true (pred (length (item_bytes (reference_of s (inside_length 0 s))))) (d ∷ s))) e)
     by_tests ih1 ih2 false true k e = plain_escaped (eqb-true c 92 k) (ih2 e)
-    by_tests ih1 ih2 false false k e = plain_byte (not_so (c == 36) (first_so (not (c == 36)) (list_all is_kept_item (items true 0 (d ∷ s))) e)) (ih1 (second_so (not (c == 36)) (list_all is_kept_item (items true 0 (d ∷ s))) e))
+    by_tests ih1 ih2 false false k e = plain_byte (not_so (c == 36) (first_so (not (c == 36)) (list_all is_kept_item (items true 0 (d ∷ s))) e))
+        (ih1 (second_so (not (c == 36)) (list_all is_kept_item (items true 0 (d ∷ s))) e))
 
 pub kept_items : (s : List ℕ) → list_all is_kept_item (items true 0 s) ≡ true → ArePlainItems s (items true 0 s)
 kept_items s e = kept_within (length s) s (omega arith) e
@@ -127,7 +135,8 @@ dollar_taken n s e = dollar_left (take n s) (drop n s) (ap has_dollar (take-appe
 quoted_kept : (n quote : ℕ) (s : List ℕ) → has_dollar s ≡ false → is_kept_token (quoted_token n quote s) ≡ true
 quoted_kept n quote s e =
     let p = plain_items true (take n s) (dollar_taken n s e) in
-    ap (λ x. is_kept_token (cond x (broken (quote ∷ s)) (cond (nat_lt n (length s)) (quoted quote (take n s)) (other (quote ∷ s))))) (no_unterminated p) ∙ by_test (nat_lt n (length s)) (all_kept p)
+    ap (λ x. is_kept_token (cond x (broken (quote ∷ s)) (cond (nat_lt n (length s)) (quoted quote (take n s)) (other (quote ∷ s))))) (no_unterminated p)
+    ∙ by_test (nat_lt n (length s)) (all_kept p)
   where
     by_test : (x : Bool) → list_all is_kept_item (items true 0 (take n s)) ≡ true → is_kept_token (cond x (quoted quote (take n s)) (other (quote ∷ s))) ≡ true
     by_test true h = h
@@ -139,7 +148,9 @@ first_kept c s e = by_tests (is_white_byte c) (c == 35) (is_run_byte c) (c == 34
     n : ℕ
     n = extent false (λ d. not (is_run_byte d)) 0 (c ∷ s)
 
-    by_tests : (x y z u : Bool) → is_kept_token (cond x (gap (c ∷ [])) (cond y (gap (c ∷ s)) (cond z (run_token (take n (c ∷ s))) (cond u (quoted_token (extent true (λ d. d == c) 0 s) c s) (other (c ∷ [])))))) ≡ true
+    by_tests : (x y z u : Bool)
+        → is_kept_token (cond x (gap (c ∷ [])) (cond y (gap (c ∷ s)) (cond z (run_token (take n (c ∷ s)))
+        (cond u (quoted_token (extent true (λ d. d == c) 0 s) c s) (other (c ∷ [])))))) ≡ true
     by_tests true y z u = refl
     by_tests false true z u = refl
     by_tests false false true u = run_whole (take n (c ∷ s)) (dollar_taken n (c ∷ s) e)
@@ -149,7 +160,8 @@ first_kept c s e = by_tests (is_white_byte c) (c == 35) (is_run_byte c) (c == 34
 kept_in_row : {s : List ℕ} {ts : List LineToken} → IsInTokens s ts → has_dollar s ≡ false → list_all is_kept_token ts ≡ true
 kept_in_row no_bytes e = refl
 kept_in_row (next_token {c = c} {s = s} {rest = rest} {ts = ts} more begins parts r) e =
-    ap (λ b. b && list_all is_kept_token ts) (first_kept c s e) ∙ kept_in_row r (dollar_right more rest (ap has_dollar (sym parts) ∙ neither_second (c == 36) (has_dollar s) e))
+    ap (λ b. b && list_all is_kept_token ts) (first_kept c s e) ∙ kept_in_row r
+    (dollar_right more rest (ap has_dollar (sym parts) ∙ neither_second (c == 36) (has_dollar s) e))
 
 pub lines_without_dollars : LinesWithoutDollars
 lines_without_dollars text e = kept_in_row (is_in_tokens text) e
@@ -160,7 +172,8 @@ bytes_as_they_are [] = refl
 bytes_as_they_are (gap s ∷ ts) = ap (λ x. s ++ x) (bytes_as_they_are ts)
 bytes_as_they_are (run s ∷ ts) = by_test (list_any is_plain_dollar (items false 0 s)) (bytes_as_they_are ts)
   where
-    by_test : (b : Bool) → line_bytes (map token_as_it_is ts) ≡ bytes_of_tokens ts → (cond b (written_as an_other s []) (written_as a_word s s)).bytes ++ line_bytes (map token_as_it_is ts) ≡ s ++ bytes_of_tokens ts
+    by_test : (b : Bool) → line_bytes (map token_as_it_is ts) ≡ bytes_of_tokens ts → (cond b (written_as an_other s []) (written_as a_word s s)).bytes
+        ++ line_bytes (map token_as_it_is ts) ≡ s ++ bytes_of_tokens ts
     by_test true h = ap (λ x. s ++ x) h
     by_test false h = ap (λ x. s ++ x) h
 bytes_as_they_are (quoted quote s ∷ ts) = ap (λ x. (quote ∷ (s ++ quote ∷ [])) ++ x) (bytes_as_they_are ts)
@@ -186,14 +199,19 @@ module _ (at : Place) (b : Bindings) where
   body_stays : (quote : ℕ) {s : List ℕ} {is : List Item} → ArePlainItems s is → written_items at b quote is ≡ returns (body_of s (text_of_items is))
   body_stays quote plain_none = refl
   body_stays quote (plain_byte {c = c} {is = is} e r) =
-      ap (λ x. let p : Program WrittenBody = returns (body_of (cond x (92 ∷ c ∷ []) (c ∷ [])) (c ∷ [])) in p >>= λ first. written_items at b quote is >>= λ rest. returns (joined_bodies first rest)) e
+      ap (λ x. let p : Program WrittenBody = returns (body_of (cond x (92 ∷ c ∷ []) (c ∷ [])) (c ∷ [])) in
+      p >>= λ first. written_items at b quote is >>= λ rest. returns (joined_bodies first rest)) e
       ∙ ap (λ (p : Program WrittenBody). p >>= λ rest. returns (joined_bodies (body_of (c ∷ []) (c ∷ [])) rest)) (body_stays quote r)
   body_stays quote (plain_escaped {c = c} {d = d} {s = s} {is = is} e r) =
       ap (λ (p : Program WrittenBody). p >>= λ rest. returns (joined_bodies (body_of (92 ∷ d ∷ []) (d ∷ [])) rest)) (body_stays quote r)
       ∙ ap (λ x. let p : Program WrittenBody = returns (body_of (x ∷ d ∷ s) (d ∷ text_of_items is)) in p) (sym e)
 
   run_stays : (s : List ℕ) (x y : Bool) → (x || not y) ≡ true
-      → (elim x as (λ z. Program WrittenToken) [ true ↦ returns (written_as an_other s []) | false ↦ elim y [ true ↦ text_value at b s >>= λ v. returns (token_of_value v) | false ↦ returns (written_as a_word s s) ] ])
+      → (elim x as (λ z. Program WrittenToken) [
+        | true ↦ returns (written_as an_other s [])
+        | false ↦
+            elim y [ true ↦ text_value at b s >>= λ v. returns (token_of_value v) | false ↦ returns (written_as a_word s s) ]
+      ])
       ≡ returns (cond x (written_as an_other s []) (written_as a_word s s))
   run_stays s true y e = refl
   run_stays s false false e = refl
@@ -209,20 +227,26 @@ module _ (at : Place) (b : Bindings) where
 
   -- the content of a line from a token on, once it is written and where it is no name of an assignment
   abbrev content_after : Bool → List LineToken → WrittenToken → Program LineContent
-  content_after m ts x = elim (is_open_front m x ts) as (λ z. Program LineContent) [ true ↦ stops | false ↦ line_content at b (m && is_gap x) ts >>= λ rest. returns (with_token x rest) ]
+  content_after m ts x = elim (is_open_front m x ts) as (λ z. Program LineContent) [
+    | true ↦ stops
+    | false ↦
+        line_content at b (m && is_gap x) ts >>= λ rest. returns (with_token x rest)
+  ]
 
   tokens_stay_inside : (ts : List LineToken) → list_all is_kept_token ts ≡ true → line_content at b false ts ≡ returns (tokens (map token_as_it_is ts))
   tokens_stay_inside [] e = refl
   tokens_stay_inside (t ∷ ts) e =
       ap (λ (p : Program WrittenToken). p >>= content_after false ts) (token_stays t (first_so (is_kept_token t) (list_all is_kept_token ts) e))
-      ∙ ap (λ (p : Program LineContent). p >>= λ rest. returns (with_token (token_as_it_is t) rest)) (tokens_stay_inside ts (second_so (is_kept_token t) (list_all is_kept_token ts) e))
+      ∙ ap (λ (p : Program LineContent). p >>= λ rest. returns (with_token (token_as_it_is t) rest))
+      (tokens_stay_inside ts (second_so (is_kept_token t) (list_all is_kept_token ts) e))
 
   no_name : (a : Option Assigned) → is_some a ≡ false → a ≡ None
   no_name (Some a) e = let z : ⊥ = cc in absurd z
   no_name None e = refl
 
   -- a first token that is no gap and no name
-  first_stays : (t : LineToken) (ts : List LineToken) → is_open_front true (token_as_it_is t) ts ≡ false → is_gap (token_as_it_is t) ≡ false → (is_kept_token t && list_all is_kept_token ts) ≡ true
+  first_stays : (t : LineToken) (ts : List LineToken) → is_open_front true (token_as_it_is t) ts ≡ false → is_gap (token_as_it_is t) ≡ false
+      → (is_kept_token t && list_all is_kept_token ts) ≡ true
       → is_some (assignment_to t ts) ≡ false → line_content at b true (t ∷ ts) ≡ returns (tokens (map token_as_it_is (t ∷ ts)))
   first_stays t ts closed solid e n =
       ap (λ a. elim a as (λ z. Program LineContent) [
@@ -230,15 +254,22 @@ module _ (at : Place) (b : Bindings) where
         | None ↦ written_token at b t >>= content_after true ts
       ]) (no_name (assignment_to t ts) n)
       ∙ ap (λ (p : Program WrittenToken). p >>= content_after true ts) (token_stays t (first_so (is_kept_token t) (list_all is_kept_token ts) e))
-      ∙ ap (λ x. elim x as (λ z. Program LineContent) [ true ↦ stops | false ↦ line_content at b (true && is_gap (token_as_it_is t)) ts >>= λ rest. returns (with_token (token_as_it_is t) rest) ]) closed
+      ∙ ap (λ x. elim x as (λ z. Program LineContent) [
+        | true ↦ stops
+        | false ↦ line_content at b (true && is_gap (token_as_it_is t)) ts >>= λ rest. returns
+            (with_token (token_as_it_is t) rest)
+      ]) closed
       ∙ ap (λ m. line_content at b m ts >>= λ rest. returns (with_token (token_as_it_is t) rest)) solid
-      ∙ ap (λ (p : Program LineContent). p >>= λ rest. returns (with_token (token_as_it_is t) rest)) (tokens_stay_inside ts (second_so (is_kept_token t) (list_all is_kept_token ts) e))
+      ∙ ap (λ (p : Program LineContent). p >>= λ rest. returns (with_token (token_as_it_is t) rest))
+      (tokens_stay_inside ts (second_so (is_kept_token t) (list_all is_kept_token ts) e))
 
   -- a line that has nothing to expand and is no assignment has its own tokens
-  pub tokens_stay : (ts : List LineToken) → list_all is_kept_token ts ≡ true → is_assignment ts ≡ false → line_content at b true ts ≡ returns (tokens (map token_as_it_is ts))
+  pub tokens_stay : (ts : List LineToken) → list_all is_kept_token ts ≡ true → is_assignment ts ≡ false
+      → line_content at b true ts ≡ returns (tokens (map token_as_it_is ts))
   tokens_stay [] e n = refl
   tokens_stay (gap s ∷ ts) e n = ap (λ (p : Program LineContent). p >>= λ rest. returns (with_token (token_as_it_is (gap s)) rest)) (tokens_stay ts e n)
-  tokens_stay (run s ∷ ts) e n = first_stays (run s) ts (closed (list_any is_plain_dollar (items false 0 s))) (solid (list_any is_plain_dollar (items false 0 s))) e n
+  tokens_stay (run s ∷ ts) e n = first_stays (run s) ts (closed (list_any is_plain_dollar (items false 0 s)))
+      (solid (list_any is_plain_dollar (items false 0 s))) e n
     where
       closed : (x : Bool) → is_open_front true (cond x (written_as an_other s []) (written_as a_word s s)) ts ≡ false
       closed true = refl

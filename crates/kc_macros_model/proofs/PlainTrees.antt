@@ -15,11 +15,11 @@ use Rattle.kc_macros_model.specs.Limits.{max_text_bytes, max_files, max_bytes, m
 use Rattle.kc_macros_model.specs.Programs.{Place, Fault, Answer, spend, report, ask, read_file, list_folder, Program, returns, fails, stops, does, ◌>>=◌}
 use Rattle.kc_macros_model.specs.Expansion.{fault}
 use Rattle.kc_macros_model.specs.LineTokens.{line_tokens}
-use Rattle.kc_macros_model.specs.Rewriting.{WrittenToken, written_as, a_word}
+use Rattle.kc_macros_model.specs.WrittenTokens.{WrittenToken, written_as, a_word}
 use Rattle.kc_macros_model.specs.Assignments.{line_content}
 use Rattle.kc_macros_model.specs.LineForms.{sources, form_of, with_nth_token, line_bytes, quoted_text_token, is_help_line}
 use Rattle.kc_macros_model.specs.PathPatterns.{is_pattern, files_of_pattern}
-use Rattle.kc_macros_model.specs.ReadingStates.{ExpandedFile, ReadingState, initial_state, Progress, progress, WrittenLine, written_line, counted, has_key, is_taken, free_key, key_of, kept}
+use Rattle.kc_macros_model.specs.ReadingStates.{ExpandedFile, ReadingState, initial_state, Progress, progress, WrittenLine, written_line, counted, has_key, is_taken, free_key, key_of, stored_file}
 use Rattle.kc_macros_model.specs.TreeExpansion.{place, one_file, SourceReader, source_line, pattern_read, path_read, source_followed, short_line, content_written, line_written, bytes_of_lines, lines_written, help_after, lines_read, source_fault, contents_read, sourced_read, source_read, root_read, tree_read}
 use Rattle.kc_macros_model.specs.Worlds.{World, returned, failed, Outcome, after_event, outcome, expansion}
 use Rattle.kc_macros_model.specs.PlainLines.{is_kept_token, is_assignment, tokens_as_they_are, is_plain_form, plain_path, is_one_of, is_copied, is_plain_line, is_before_help, logical_texts, IsPlainTree, is_fault_of_sources, IsOwnFile, PlainTreesStay}
@@ -40,7 +40,8 @@ OnlyReads w P (does (report notice) k) = ⊥
 OnlyReads w P (does (ask at question) k) = ⊥
 OnlyReads w P (does (list_folder folder) k) = ⊥
 
-only_both : {A B : Type 0} (w : World) (Q : A → Type 0) (P : B → Type 0) (p : Program A) (f : A → Program B) → OnlyReads w Q p → ((x : A) → Q x → OnlyReads w P (f x)) → OnlyReads w P (p >>= f)
+only_both : {A B : Type 0} (w : World) (Q : A → Type 0) (P : B → Type 0) (p : Program A) (f : A → Program B) → OnlyReads w Q p
+    → ((x : A) → Q x → OnlyReads w P (f x)) → OnlyReads w P (p >>= f)
 only_both w Q P (returns x) f h k = k x h
 only_both w Q P (fails g) f h k = h
 only_both w Q P stops f h k = absurd h
@@ -59,10 +60,21 @@ record IsQuiet {A : Type 0} (P : A → Type 0) (o : Outcome A) : Type 0 where
 
 module _ {A : Type 0} (w : World) (P : A → Type 0) where
   returned_quietly : (left : ℕ) (x : A) → P x → IsQuiet P (outcome true w left (returns x))
-  returned_quietly left x h = record { notices = refl; questions = refl; value = λ y e. let q : x ≡ y = cc in subst P q h; faults = λ f e. absurd (let z : ⊥ = cc in z) }
+  returned_quietly left x h = record {
+    notices = refl;
+    questions = refl;
+    value = λ y e. let q : x ≡ y = cc in subst P q h;
+    faults = λ f e. absurd (let z : ⊥ = cc in z);
+  }
 
   failed_quietly : (left : ℕ) (g : Fault) → is_fault_of_sources g.kind ≡ true → IsQuiet P (outcome true w left (fails g))
-  failed_quietly left g h = record { notices = refl; questions = refl; value = λ y e. absurd (let z : ⊥ = cc in z); faults = λ f e. let q : g ≡ f = cc in subst (λ (x : Fault). is_fault_of_sources x.kind ≡ true) q h }
+  failed_quietly left g h = record {
+    notices = refl;
+    questions = refl;
+    value = λ y e. absurd (let z : ⊥ = cc in z);
+    faults = λ f e. let q : g ≡ f = cc in
+        subst (λ (x : Fault). is_fault_of_sources x.kind ≡ true) q h;
+  }
 
   quiet_outcome : (left : ℕ) (p : Program A) → OnlyReads w P p → IsQuiet P (outcome true w left p)
   quiet_outcome left (returns x) h = returned_quietly left x h
@@ -76,7 +88,8 @@ module _ {A : Type 0} (w : World) (P : A → Type 0) where
   quiet_outcome left (does (list_folder folder) k) h = absurd h
 
   -- it is the same under any answers
-  same_outcome : (answer : List ℕ → Option Answer) (left : ℕ) (p : Program A) → OnlyReads w P p → outcome true (record w { answer = answer }) left p ≡ outcome true w left p
+  same_outcome : (answer : List ℕ → Option Answer) (left : ℕ) (p : Program A) → OnlyReads w P p → outcome true (record w { answer = answer }) left p
+      ≡ outcome true w left p
   same_outcome answer left (returns x) h = refl
   same_outcome answer left (fails g) h = refl
   same_outcome answer left stops h = refl
@@ -89,7 +102,8 @@ module _ {A : Type 0} (w : World) (P : A → Type 0) where
 -- faults of sources, and what holds where there is none
 module _ (open_files : List (List ℕ)) (s : ReadingState) (path : List ℕ) where
   fault_kind : (bytes : List ℕ) (kind : MacroKind) → source_fault open_files s path (Some bytes) ≡ Some kind → is_fault_of_sources kind ≡ true
-  fault_kind bytes kind e = by_tests (is_in_list path open_files) (nat_le max_open_files (length open_files)) (nat_le max_files s.files || nat_lt max_bytes (s.bytes + length bytes)) e
+  fault_kind bytes kind e = by_tests (is_in_list path open_files) (nat_le max_open_files (length open_files))
+      (nat_le max_files s.files || nat_lt max_bytes (s.bytes + length bytes)) e
     where
       by_tests : (a b c : Bool) → cond a (Some SourceLoop) (cond b (Some TooDeep) (cond c (Some TooMany) None)) ≡ Some kind → is_fault_of_sources kind ≡ true
       by_tests true b c e = let p : SourceLoop ≡ kind = cc in ap is_fault_of_sources (sym p)
@@ -98,9 +112,11 @@ module _ (open_files : List (List ℕ)) (s : ReadingState) (path : List ℕ) whe
       by_tests false false false e = let z : ⊥ = cc in absurd z
 
   not_open : (bytes : List ℕ) → source_fault open_files s path (Some bytes) ≡ None → (is_in_list path open_files ≡ false) × (length open_files < max_open_files)
-  not_open bytes e = by_tests (is_in_list path open_files) (nat_le max_open_files (length open_files)) (nat_le max_files s.files || nat_lt max_bytes (s.bytes + length bytes)) refl refl e
+  not_open bytes e = by_tests (is_in_list path open_files) (nat_le max_open_files (length open_files))
+      (nat_le max_files s.files || nat_lt max_bytes (s.bytes + length bytes)) refl refl e
     where
-      by_tests : (a b c : Bool) → is_in_list path open_files ≡ a → nat_le max_open_files (length open_files) ≡ b → cond a (Some SourceLoop) (cond b (Some TooDeep) (cond c (Some TooMany) None)) ≡ None
+      by_tests : (a b c : Bool) → is_in_list path open_files ≡ a → nat_le max_open_files (length open_files) ≡ b
+          → cond a (Some SourceLoop) (cond b (Some TooDeep) (cond c (Some TooMany) None)) ≡ None
           → (is_in_list path open_files ≡ false) × (length open_files < max_open_files)
       by_tests true b c f g e = let z : ⊥ = cc in absurd z
       by_tests false true c f g e = let z : ⊥ = cc in absurd z
@@ -120,7 +136,8 @@ module _ (w : World) where
   all_own (next_file {f = f} {fs = fs} h r) = All-cons (IsOwnFile w) f fs h (all_own r)
 
   -- no file takes the path of another from it
-  own_key_free : (path text : List ℕ) → w.bytes path ≡ Some text → {fs : List ExpandedFile} → AreOwnFiles fs → list_any (λ (f : ExpandedFile). bytes_eq f.key path && not (bytes_eq f.text text)) fs ≡ false
+  own_key_free : (path text : List ℕ) → w.bytes path ≡ Some text → {fs : List ExpandedFile} → AreOwnFiles fs
+      → list_any (λ (f : ExpandedFile). bytes_eq f.key path && not (bytes_eq f.text text)) fs ≡ false
   own_key_free path text e no_files = refl
   own_key_free path text e (next_file {f = f} {fs = fs} h r) = by_test (own_key_free path text e r) (bytes_eq f.key path) refl
     where
@@ -153,22 +170,32 @@ module _ (w : World) where
     ReadsOwn sub = (at : Place) (path : List ℕ) (s : ReadingState) → paths path ≡ true → IsOwnState s → OnlyReads w (IsOwnText path) (sub at (one_file path) s)
 
     module _ (sub : SourceReader) (reads : ReadsOwn sub) where
-      source_own : (at : Place) (text path : List ℕ) (ts : List WrittenToken) (s : ReadingState) → line_bytes ts ≡ text → BeginsWithSource ts → is_pattern path ≡ false → list_any (λ c. c == 91) path ≡ false → paths path ≡ true → IsOwnState s
+      source_own : (at : Place) (text path : List ℕ) (ts : List WrittenToken) (s : ReadingState) → line_bytes ts ≡ text → BeginsWithSource ts
+          → is_pattern path ≡ false → list_any (λ c. c == 91) path ≡ false → paths path ≡ true → IsOwnState s
           → OnlyReads w (IsOwnText text) (source_followed sub at ts one_source (Some path) s)
       source_own at text path ts s b h no_pattern no_bracket p g =
-          subst (λ c. OnlyReads w (IsOwnText text) (elim c as (λ z. Program Progress) [ true ↦ returns (progress (line_bytes ts) s) | false ↦ path_read sub at one_source path s >>= λ p. returns (progress (source_line ts path p.text) p.state) ])) (sym no_bracket)
-          (subst (λ c. OnlyReads w (IsOwnText text) (elim c as (λ z. Program Progress) [ true ↦ files_of_pattern at path s.listed >>= pattern_read sub at one_source s | false ↦ sub at (one_file path) s ] >>= λ p. returns (progress (source_line ts path p.text) p.state))) (sym no_pattern)
-          (only_both w (IsOwnText path) (IsOwnText text) (sub at (one_file path) s) (λ p. returns (progress (source_line ts path p.text) p.state)) (reads at path s p g) (λ q k. record { text = written q.text k.text; state = k.state })))
+          subst (λ c. OnlyReads w (IsOwnText text) (elim c as (λ z. Program Progress) [
+            | true ↦ returns (progress (line_bytes ts) s)
+            | false ↦ path_read sub at one_source path s >>= λ p. returns (progress (source_line ts path p.text) p.state)
+          ])) (sym no_bracket)
+          (subst (λ c. OnlyReads w (IsOwnText text) (elim c as (λ z. Program Progress)
+          [ true ↦ files_of_pattern at path s.listed >>= pattern_read sub at one_source s | false ↦ sub at (one_file path) s ] >>= λ p. returns
+          (progress (source_line ts path p.text) p.state))) (sym no_pattern)
+          (only_both w (IsOwnText path) (IsOwnText text) (sub at (one_file path) s) (λ p. returns (progress (source_line ts path p.text) p.state))
+          (reads at path s p g) (λ q k. record { text = written q.text k.text; state = k.state })))
         where
           first : List WrittenToken
           first = with_nth_token 0 (written_as a_word (codes "source") []) ts
 
           written : (key : List ℕ) → key ≡ path → source_line ts path key ≡ text
           written key e =
-              ap (λ x. source_line ts path x) e ∙ ap (λ c. line_bytes (cond c first (with_nth_token 1 (quoted_text_token path) first))) (nat_list_eq_equiv.refl path) ∙ source_word_stays h ∙ b
+              ap (λ x. source_line ts path x) e ∙ ap (λ c. line_bytes (cond c first (with_nth_token 1 (quoted_text_token path) first)))
+              (nat_list_eq_equiv.refl path) ∙ source_word_stays h ∙ b
 
-      plain_line_own : (at : Place) (continued : Bool) (text : List ℕ) (s : ReadingState) → list_all is_kept_token (line_tokens 0 text) ≡ true → is_assignment (line_tokens 0 text) ≡ false
-          → (is_plain_form (form_of (tokens_as_they_are text)) || is_one_of paths (plain_path (tokens_as_they_are text))) ≡ true → nat_lt max_text_bytes (length text) ≡ false
+      plain_line_own : (at : Place) (continued : Bool) (text : List ℕ) (s : ReadingState) → list_all is_kept_token (line_tokens 0 text) ≡ true
+          → is_assignment (line_tokens 0 text) ≡ false
+          → (is_plain_form (form_of (tokens_as_they_are text)) || is_one_of paths (plain_path (tokens_as_they_are text))) ≡ true
+          → nat_lt max_text_bytes (length text) ≡ false
           → is_before_help text ≡ is_help_line (tokens_as_they_are text) → IsOwnState s
           → OnlyReads w (IsOwnLine text) (line_content at s.bindings true (line_tokens 0 text) >>= content_written sub at continued s)
       plain_line_own at continued text s free no_name form short help g = by_form (is_plain_form (form_of real)) refl form
@@ -180,27 +207,39 @@ module _ (w : World) where
           line = line_content at s.bindings true (line_tokens 0 text) >>= content_written sub at continued s
 
           own_line : (x : Progress) → IsOwnText text x → OnlyReads w (IsOwnLine text) (short_line at (is_help_line real) x)
-          own_line x k = subst (λ p. OnlyReads w (IsOwnLine text) p) (sym (short_stays at (is_help_line real) text x.text x.state k.text short)) (record { text = refl; help = sym help; state = k.state })
+          own_line x k = subst (λ p. OnlyReads w (IsOwnLine text) p) (sym (short_stays at (is_help_line real) text x.text x.state k.text short))
+              (record { text = refl; help = sym help; state = k.state })
 
-          one_path : (path : List ℕ) → plain_path real ≡ Some path → (not (is_pattern path) && (not (list_any (λ c. c == 91) path) && paths path)) ≡ true → OnlyReads w (IsOwnLine text) line
+          one_path : (path : List ℕ) → plain_path real ≡ Some path → (not (is_pattern path) && (not (list_any (λ c. c == 91) path) && paths path)) ≡ true
+              → OnlyReads w (IsOwnLine text) line
           one_path path e h =
               let source : IsSource real path = source_of_path real path e in
               let rest = second_so (not (is_pattern path)) (not (list_any (λ c. c == 91) path) && paths path) h in
-              let begins : BeginsWithSource (own_tokens text) = record { first = source.first; rest = source.rest; parts = source.parts; bytes = source.bytes } in
+              let begins : BeginsWithSource (own_tokens text) = record {
+                first = source.first;
+                rest = source.rest;
+                parts = source.parts;
+                bytes = source.bytes;
+              } in
               subst (λ p. OnlyReads w (IsOwnLine text) p) (sym (line_by_form sub at continued text s (sources one_source (Some path)) free no_name source.form))
-              (only_both w (IsOwnText text) (IsOwnLine text) (source_followed sub at (own_tokens text) one_source (Some path) s) (short_line at (is_help_line real))
-              (source_own at text path (own_tokens text) s (own_bytes text) begins (not_so (is_pattern path) (first_so (not (is_pattern path)) (not (list_any (λ c. c == 91) path) && paths path) h))
-              (not_so (list_any (λ c. c == 91) path) (first_so (not (list_any (λ c. c == 91) path)) (paths path) rest)) (second_so (not (list_any (λ c. c == 91) path)) (paths path) rest) g) own_line)
+              (only_both w (IsOwnText text) (IsOwnLine text) (source_followed sub at (own_tokens text) one_source (Some path) s)
+              (short_line at (is_help_line real))
+              (source_own at text path (own_tokens text) s (own_bytes text) begins
+              (not_so (is_pattern path) (first_so (not (is_pattern path)) (not (list_any (λ c. c == 91) path) && paths path) h))
+              (not_so (list_any (λ c. c == 91) path) (first_so (not (list_any (λ c. c == 91) path)) (paths path) rest))
+              (second_so (not (list_any (λ c. c == 91) path)) (paths path) rest) g) own_line)
 
           by_path : (o : Option (List ℕ)) → plain_path real ≡ o → is_one_of paths o ≡ true → OnlyReads w (IsOwnLine text) line
           by_path None e h = let z : ⊥ = cc in absurd z
           by_path (Some path) e h = one_path path e h
 
           by_form : (b : Bool) → is_plain_form (form_of real) ≡ b → (b || is_one_of paths (plain_path real)) ≡ true → OnlyReads w (IsOwnLine text) line
-          by_form true f h = subst (λ p. OnlyReads w (IsOwnLine text) p) (sym (plain_line_stays sub at continued text s free no_name f short)) (record { text = refl; help = sym help; state = g })
+          by_form true f h = subst (λ p. OnlyReads w (IsOwnLine text) p) (sym (plain_line_stays sub at continued text s free no_name f short))
+              (record { text = refl; help = sym help; state = g })
           by_form false f h = by_path (plain_path real) refl h
 
-      line_own : (at : Place) (continued : Bool) (text : List ℕ) (s : ReadingState) → is_plain_line paths text ≡ true → IsOwnState s → OnlyReads w (IsOwnLine text) (line_written sub at continued text s)
+      line_own : (at : Place) (continued : Bool) (text : List ℕ) (s : ReadingState) → is_plain_line paths text ≡ true → IsOwnState s
+          → OnlyReads w (IsOwnLine text) (line_written sub at continued text s)
       line_own at continued text s e g = by_test (is_copied text) refl e
         where
           free : Bool
@@ -216,25 +255,37 @@ module _ (w : World) where
           help_is b c = ap (λ x. cond x (begins_help text) (is_help_line (tokens_as_they_are text))) c
 
           by_test : (b : Bool) → is_copied text ≡ b → (b || (free && (no_name && form))) ≡ true
-              → OnlyReads w (IsOwnLine text) (elim b as (λ z. Program WrittenLine) [ true ↦ returns (written_line text (begins_help text) s) | false ↦ line_content at s.bindings true (line_tokens 0 text) >>= content_written sub at continued s ])
+              → OnlyReads w (IsOwnLine text) (elim b as (λ z. Program WrittenLine) [
+                | true ↦ returns (written_line text (begins_help text) s)
+                | false ↦ line_content at s.bindings true (line_tokens 0 text) >>= content_written sub at continued s
+              ])
           by_test true c e = record { text = refl; help = sym (help_is true c); state = g }
           by_test false c e =
               let rest = second_so free (no_name && form) e in
-              plain_line_own at continued text s (first_so free (no_name && form) e) (not_so (is_assignment (line_tokens 0 text)) (first_so no_name form rest)) (second_so no_name form rest)
+              plain_line_own at continued text s (first_so free (no_name && form) e) (not_so (is_assignment (line_tokens 0 text)) (first_so no_name form rest))
+              (second_so no_name form rest)
               (neither_first (nat_lt max_text_bytes (length text)) (not (is_utf8 text)) c) (help_is false c) g
 
-      lines_own : (file : List ℕ) (skip n : ℕ) (ls : List PhysicalLine) (s : ReadingState) → list_all (is_plain_line paths) (logical_texts skip ls) ≡ true → IsOwnState s → OnlyReads w (IsOwnText (bytes_of_lines (drop skip ls))) (lines_read sub file skip n ls s)
+      lines_own : (file : List ℕ) (skip n : ℕ) (ls : List PhysicalLine) (s : ReadingState) → list_all (is_plain_line paths) (logical_texts skip ls) ≡ true
+          → IsOwnState s → OnlyReads w (IsOwnText (bytes_of_lines (drop skip ls))) (lines_read sub file skip n ls s)
       lines_own file zero n [] s e g = record { text = refl; state = g }
       lines_own file (suc skip) n [] s e g = record { text = refl; state = g }
       lines_own file (suc skip) n (l ∷ ls) s e g = lines_own file skip (n + 1) ls s e g
       lines_own file zero n (l ∷ ls) s e g =
           only_both w (IsOwnLine text) (IsOwnText (bytes_of_lines (l ∷ ls))) (line_written sub (place file n) (is_continued (without_return l)) text s)
-          (λ line. let help = help_after line.begins_help (drop more ls) in lines_read sub file (more + help) (n + 1) ls line.state >>= λ rest. returns (progress (written line.text help rest.text) rest.state))
-          (line_own (place file n) (is_continued (without_return l)) text s (first_so (is_plain_line paths text) (list_all (is_plain_line paths) (others (is_before_help text))) e) g)
+          (λ line. let help = help_after line.begins_help (drop more ls) in
+          lines_read sub file (more + help) (n + 1) ls line.state >>= λ rest. returns (progress (written line.text help rest.text) rest.state))
+          (line_own (place file n) (is_continued (without_return l)) text s
+          (first_so (is_plain_line paths text) (list_all (is_plain_line paths) (others (is_before_help text))) e) g)
           (λ line q. let help = help_after line.begins_help (drop more ls) in
-          only_both w (IsOwnText (bytes_of_lines (drop (more + help) ls))) (IsOwnText (bytes_of_lines (l ∷ ls))) (lines_read sub file (more + help) (n + 1) ls line.state) (λ rest. returns (progress (written line.text help rest.text) rest.state))
-          (lines_own file (more + help) (n + 1) ls line.state (ap (λ b. list_all (is_plain_line paths) (others b)) q.help ∙ second_so (is_plain_line paths text) (list_all (is_plain_line paths) (others (is_before_help text))) e) q.state)
-          (λ rest x. record { text = ap (λ t. written t help rest.text) q.text ∙ ap (λ t. written text help t) x.text ∙ whole_lines l ls more help text; state = x.state }))
+          only_both w (IsOwnText (bytes_of_lines (drop (more + help) ls))) (IsOwnText (bytes_of_lines (l ∷ ls)))
+          (lines_read sub file (more + help) (n + 1) ls line.state) (λ rest. returns (progress (written line.text help rest.text) rest.state))
+          (lines_own file (more + help) (n + 1) ls line.state (ap (λ b. list_all (is_plain_line paths) (others b)) q.help
+          ∙ second_so (is_plain_line paths text) (list_all (is_plain_line paths) (others (is_before_help text))) e) q.state)
+          (λ rest x. record {
+            text = ap (λ t. written t help rest.text) q.text ∙ ap (λ t. written text help t) x.text ∙ whole_lines l ls more help text;
+            state = x.state;
+          }))
         where
           more : ℕ
           more = continuation_count (map without_return (l ∷ ls))
@@ -249,8 +300,17 @@ module _ (w : World) where
           others b = logical_texts (more + help_after b (drop more ls)) ls
 
     -- the text of a path is kept under it
-    kept_own : (path bytes : List ℕ) (p : Progress) → w.bytes path ≡ Some bytes → bytes_eq path root ≡ false → IsOwnText bytes p → IsOwnText path (kept root path p)
-    kept_own path bytes p e r q = record { text = own_key; state = record { files = subst (λ k. AreOwnFiles (cond (has_key files k) files (files ++ record { key = k; path = path; text = p.text } ∷ []))) (sym own_key) (by_test (has_key files path)) } }
+    kept_own : (path bytes : List ℕ) (p : Progress) → w.bytes path ≡ Some bytes → bytes_eq path root ≡ false → IsOwnText bytes p
+        → IsOwnText path (stored_file root path p)
+    kept_own path bytes p e r q =
+        record {
+          text = own_key;
+          state =
+              record {
+                files = subst (λ k. AreOwnFiles (cond (has_key files k) files (files ++ record { key = k; path = path; text = p.text } ∷ []))) (sym own_key)
+                    (by_test (has_key files path));
+              };
+        }
       where
         files : List ExpandedFile
         files = p.state.expanded
@@ -262,7 +322,8 @@ module _ (w : World) where
         own_files = q.state.files
 
         free : is_taken root files p.text path ≡ false
-        free = ap (λ b. b || list_any (λ (f : ExpandedFile). bytes_eq f.key path && not (bytes_eq f.text p.text)) files) r ∙ own_key_free path p.text holds own_files
+        free = ap (λ b. b || list_any (λ (f : ExpandedFile). bytes_eq f.key path && not (bytes_eq f.text p.text)) files) r
+            ∙ own_key_free path p.text holds own_files
 
         own_key : key_of root files path p.text ≡ path
         own_key = ap (λ b. elim b as (λ z. List ℕ) [ true ↦ free_key (length files) root files path p.text (path ++ 35 ∷ decimal 2) 3 | false ↦ path ]) free
@@ -272,35 +333,45 @@ module _ (w : World) where
         by_test false = one_more_own files (record { key = path; path = path; text = p.text }) own_files (record { key = refl; text = holds })
 
     -- a path that isn't open isn't the first
-    other_path : (path : List ℕ) (open_files : List (List ℕ)) → is_in_list root open_files ≡ true → is_in_list path open_files ≡ false → bytes_eq path root ≡ false
+    other_path : (path : List ℕ) (open_files : List (List ℕ)) → is_in_list root open_files ≡ true → is_in_list path open_files ≡ false
+        → bytes_eq path root ≡ false
     other_path path open_files h n = by_test (bytes_eq path root) refl
       where
         by_test : (b : Bool) → bytes_eq path root ≡ b → b ≡ false
         by_test true e = let z : true ≡ false = sym h ∙ ap (λ x. is_in_list x open_files) (sym (same_text path root e)) ∙ n in let y : ⊥ = cc in absurd y
         by_test false e = refl
 
-    file_own : (sub : SourceReader) (open_files : List (List ℕ)) → (length open_files < max_open_files → ReadsOwn sub) → is_in_list root open_files ≡ true → (at : Place) (path : List ℕ) (s : ReadingState) → paths path ≡ true → IsOwnState s
+    file_own : (sub : SourceReader) (open_files : List (List ℕ)) → (length open_files < max_open_files → ReadsOwn sub) → is_in_list root open_files ≡ true
+        → (at : Place) (path : List ℕ) (s : ReadingState) → paths path ≡ true → IsOwnState s
         → (bytes : Option (List ℕ)) → w.bytes path ≡ bytes → OnlyReads w (IsOwnText path) (sourced_read sub root open_files at (one_file path) s bytes)
     file_own sub open_files reads h at path s p g None e = by_test (is_in_list path open_files)
       where
-        by_test : (b : Bool) → OnlyReads w (IsOwnText path) (elim (cond b (Some SourceLoop) (Some MissingFile)) as (λ z. Program Progress) [ Some kind ↦ fault at kind [] | None ↦ contents_read sub at (one_file path) None s >>= λ p. returns (kept root path p) ])
+        by_test : (b : Bool) → OnlyReads w (IsOwnText path) (elim (cond b (Some SourceLoop) (Some MissingFile)) as (λ z. Program Progress)
+            [ Some kind ↦ fault at kind [] | None ↦ contents_read sub at (one_file path) None s >>= λ p. returns (stored_file root path p) ])
         by_test true = refl
         by_test false = refl
     file_own sub open_files reads h at path s p g (Some bytes) e = by_fault (source_fault open_files s path (Some bytes)) refl
       where
         by_fault : (x : Option MacroKind) → source_fault open_files s path (Some bytes) ≡ x
-            → OnlyReads w (IsOwnText path) (elim x as (λ z. Program Progress) [ Some kind ↦ fault at kind [] | None ↦ contents_read sub at (one_file path) (Some bytes) s >>= λ p. returns (kept root path p) ])
+            → OnlyReads w (IsOwnText path) (elim x as (λ z. Program Progress) [
+              | Some kind ↦ fault at kind []
+              | None ↦ contents_read sub at (one_file path) (Some bytes) s >>= λ p. returns (stored_file root path p)
+            ])
         by_fault (Some kind) f = fault_kind open_files s path bytes kind f
         by_fault None f =
             let n = not_open open_files s path bytes f in
-            only_both w (IsOwnText (bytes_of_lines (split_at_newlines bytes))) (IsOwnText path) (lines_read sub path 0 1 (split_at_newlines bytes) (counted (length bytes) s)) (λ p. returns (kept root path p))
+            only_both w (IsOwnText (bytes_of_lines (split_at_newlines bytes))) (IsOwnText path)
+            (lines_read sub path 0 1 (split_at_newlines bytes) (counted (length bytes) s)) (λ p. returns (stored_file root path p))
             (lines_own sub (reads n.1) path 0 1 (split_at_newlines bytes) (counted (length bytes) s) (tree.files path bytes p e) (record { files = g.files }))
             (λ p q. kept_own path bytes p e (other_path path open_files h n.0) (record { text = q.text ∙ split_bytes bytes; state = q.state }))
 
-    sources_own : (depth : ℕ) (open_files : List (List ℕ)) → max_open_files < depth + length open_files → length open_files ≤ max_open_files → is_in_list root open_files ≡ true → ReadsOwn (source_read depth root open_files)
+    sources_own : (depth : ℕ) (open_files : List (List ℕ)) → max_open_files < depth + length open_files → length open_files ≤ max_open_files
+        → is_in_list root open_files ≡ true → ReadsOwn (source_read depth root open_files)
     sources_own zero open_files deep few h at path s p g = absurd (omega (arith, deep, few))
     sources_own (suc depth) open_files deep few h at path s p g =
-        file_own (source_read depth root (path ∷ open_files)) open_files (λ l. sources_own depth (path ∷ open_files) (omega (arith, deep)) (omega (arith, l)) (either (bytes_eq path root) h)) h at path s p g (w.bytes path) refl
+        file_own (source_read depth root (path ∷ open_files)) open_files
+        (λ l. sources_own depth (path ∷ open_files) (omega (arith, deep)) (omega (arith, l)) (either (bytes_eq path root) h)) h at path s p g
+        (w.bytes path) refl
       where
         either : (b : Bool) → is_in_list root open_files ≡ true → (b || is_in_list root open_files) ≡ true
         either true h = refl
@@ -315,13 +386,18 @@ module _ (w : World) where
 
         by_test : (b : Bool) → OnlyReads w AreOwnFiles (elim b as (λ z. Program (List ExpandedFile)) [
           | true ↦ fault (place root 0) TooMany []
-          | false ↦ lines_read sub root 0 1 (split_at_newlines bytes) (counted (length bytes) initial_state) >>= λ p. returns (p.state.expanded ++ record { key = root; path = root; text = p.text } ∷ [])
+          | false ↦ lines_read sub root 0 1 (split_at_newlines bytes) (counted (length bytes) initial_state) >>= λ p. returns
+              (p.state.expanded ++ record { key = root; path = root; text = p.text } ∷ [])
         ])
         by_test true = refl
         by_test false =
-            only_both w (IsOwnText (bytes_of_lines (split_at_newlines bytes))) AreOwnFiles (lines_read sub root 0 1 (split_at_newlines bytes) (counted (length bytes) initial_state)) (λ p. returns (p.state.expanded ++ record { key = root; path = root; text = p.text } ∷ []))
-            (lines_own sub (sources_own max_open_files (root ∷ []) (omega arith) (omega arith) (ap (λ b. b || false) (nat_list_eq_equiv.refl root))) root 0 1 (split_at_newlines bytes) (counted (length bytes) initial_state) (tree.files root bytes tree.first e) (record { files = no_files }))
-            (λ p q. one_more_own p.state.expanded (record { key = root; path = root; text = p.text }) q.state.files (record { key = refl; text = e ∙ ap Some (sym (q.text ∙ split_bytes bytes)) }))
+            only_both w (IsOwnText (bytes_of_lines (split_at_newlines bytes))) AreOwnFiles
+            (lines_read sub root 0 1 (split_at_newlines bytes) (counted (length bytes) initial_state))
+            (λ p. returns (p.state.expanded ++ record { key = root; path = root; text = p.text } ∷ []))
+            (lines_own sub (sources_own max_open_files (root ∷ []) (omega arith) (omega arith) (ap (λ b. b || false) (nat_list_eq_equiv.refl root))) root 0 1
+            (split_at_newlines bytes) (counted (length bytes) initial_state) (tree.files root bytes tree.first e) (record { files = no_files }))
+            (λ p q. one_more_own p.state.expanded (record { key = root; path = root; text = p.text }) q.state.files
+            (record { key = refl; text = e ∙ ap Some (sym (q.text ∙ split_bytes bytes)) }))
 
     tree_own : OnlyReads w AreOwnFiles (tree_read root)
     unfolding tree_read
@@ -330,5 +406,7 @@ module _ (w : World) where
 pub plain_trees_stay : PlainTreesStay
 unfolding expansion
 plain_trees_stay w paths root answer tree =
-    let q = quiet_outcome w (AreOwnFiles w) max_work (tree_read root) (tree_own w paths root tree) in
-    (record { notices = q.notices; questions = q.questions; files = λ files e. all_own w (q.value files e); faults = q.faults }, same_outcome w (AreOwnFiles w) answer max_work (tree_read root) (tree_own w paths root tree))
+    let q = quiet_outcome w (AreOwnFiles w) max_work (tree_read root) (tree_own w paths root tree) in (
+      record { notices = q.notices; questions = q.questions; files = λ files e. all_own w (q.value files e); faults = q.faults },
+      same_outcome w (AreOwnFiles w) answer max_work (tree_read root) (tree_own w paths root tree),
+    )

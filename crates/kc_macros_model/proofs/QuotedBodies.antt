@@ -10,7 +10,7 @@ use Rattle.kc_macros_model.specs.References.{open_after, inside_length, Item, by
 use Rattle.kc_macros_model.specs.Variables.{Value, Bindings}
 use Rattle.kc_macros_model.specs.Expansion.{text_value}
 use Rattle.kc_macros_model.specs.LineTokens.{extent}
-use Rattle.kc_macros_model.specs.Rewriting.{escaped_text, WrittenBody, body_of, body_of_value, joined_bodies, written_item, written_items}
+use Rattle.kc_macros_model.specs.WrittenTokens.{escaped_text, WrittenBody, body_of, body_of_value, joined_bodies, written_item, written_items}
 use Rattle.kc_macros_model.specs.Worlds.{World, returned}
 use Rattle.kc_macros_model.specs.ExpansionRules.{ending_in}
 use Rattle.kc_macros_model.proofs.CleanTexts.{neither_first, neither_second}
@@ -33,7 +33,8 @@ pub escaped_is_body : (q : ℕ) (s : List ℕ) → IsQuotedBody q (escaped_text 
 escaped_is_body q [] = body_none
 escaped_is_body q (c ∷ s) = by_test (escaped_is_body q s) (c == 92 || (c == 36) || (c == q)) refl
   where
-    by_test : IsQuotedBody q (escaped_text q s) → (b : Bool) → (c == 92 || (c == 36) || (c == q)) ≡ b → IsQuotedBody q (cond b (92 ∷ c ∷ []) (c ∷ []) ++ escaped_text q s)
+    by_test : IsQuotedBody q (escaped_text q s) → (b : Bool) → (c == 92 || (c == 36) || (c == q)) ≡ b
+        → IsQuotedBody q (cond b (92 ∷ c ∷ []) (c ∷ []) ++ escaped_text q s)
     by_test ih true e = body_pair ih
     by_test ih false e =
         let l : (c == 92 || (c == 36)) ≡ false = neither_first (c == 92 || (c == 36)) (c == q) e in
@@ -42,7 +43,8 @@ escaped_is_body q (c ∷ s) = by_test (escaped_is_body q s) (c == 92 || (c == 36
 -- a byte that is neither `$` nor a backslash is an item
 pub byte_first : (q : Bool) (c : ℕ) (s : List ℕ) → (c == 36) ≡ false → (q && (c == 92)) ≡ false → first_item q c s ≡ byte c
 byte_first q c [] e f = refl
-byte_first q c (d ∷ s) e f = ap (λ x. cond x (reference_of s (inside_length 0 s)) (cond (q && (c == 92)) (escaped d) (byte c))) (and_false (c == 36) (d == 40) e) ∙ ap (λ x. cond x (escaped d) (byte c)) f
+byte_first q c (d ∷ s) e f = ap (λ x. cond x (reference_of s (inside_length 0 s)) (cond (q && (c == 92)) (escaped d) (byte c)))
+    (and_false (c == 36) (d == 40) e) ∙ ap (λ x. cond x (escaped d) (byte c)) f
 
 byte_items : (c : ℕ) (s : List ℕ) → (c == 36) ≡ false → (c == 92) ≡ false → items true 0 (c ∷ s) ≡ byte c ∷ items true 0 s
 byte_items c s e f = ap (λ i. i ∷ items true (pred (length (item_bytes i))) s) (byte_first true c s e f)
@@ -54,7 +56,8 @@ body_items (body_byte {c = c} {s = s} a b e r) = subst (λ is. ArePlainItems (c 
 body_items (body_pair r) = plain_escaped refl (body_items r)
 
 -- they reach up to the quote
-pub body_extent : (q : ℕ) → (q == q) ≡ true → (92 == q) ≡ false → {s : List ℕ} → IsQuotedBody q s → (y : List ℕ) → extent true (λ d. d == q) 0 (s ++ q ∷ y) ≡ length s
+pub body_extent : (q : ℕ) → (q == q) ≡ true → (92 == q) ≡ false → {s : List ℕ} → IsQuotedBody q s → (y : List ℕ)
+    → extent true (λ d. d == q) 0 (s ++ q ∷ y) ≡ length s
 body_extent q same other body_none y = ap (λ b. cond b 0 (suc (extent true (λ d. d == q) (pred (length (item_bytes (first_item true q y)))) y))) same
 body_extent q same other (body_byte {c = c} {s = s} a b e r) y =
     ap (λ x. cond x 0 (suc (extent true (λ d. d == q) (pred (length (item_bytes (first_item true c (s ++ q ∷ y))))) (s ++ q ∷ y)))) a
@@ -80,16 +83,21 @@ module _ (w : World) (at : Place) (b : Bindings) where
   byte_body q c e f false h = body_byte e f h body_none
 
   -- what is written of an inside
-  pub inside_written : (q : ℕ) {s : List ℕ} {is : List Item} → IsQuotedInside q s is → (x : WrittenBody) → ending_in w (written_items at b q is) ≡ returned x → IsQuotedBody q x.bytes
+  pub inside_written : (q : ℕ) {s : List ℕ} {is : List Item} → IsQuotedInside q s is → (x : WrittenBody) → ending_in w (written_items at b q is) ≡ returned x
+      → IsQuotedBody q x.bytes
   inside_written q inside_none x e = subst (λ (z : WrittenBody). IsQuotedBody q z.bytes) (same_return (body_of [] []) x e) body_none
   inside_written q (inside_byte {c = c} {is = is} h k r) x e =
-      let (y, ey, e2) = split_return w (written_items at b q is) (λ rest. returns (joined_bodies (body_of (cond (c == 36) (92 ∷ c ∷ []) (c ∷ [])) (c ∷ [])) rest)) x e in
-      subst (λ (z : WrittenBody). IsQuotedBody q z.bytes) (same_return (joined_bodies (body_of (cond (c == 36) (92 ∷ c ∷ []) (c ∷ [])) (c ∷ [])) y) x e2) (body_append (byte_body q c h k (c == 36) refl) (inside_written q r y ey))
+      let (y, ey, e2) = split_return w (written_items at b q is) (λ rest. returns
+      (joined_bodies (body_of (cond (c == 36) (92 ∷ c ∷ []) (c ∷ [])) (c ∷ [])) rest)) x e in
+      subst (λ (z : WrittenBody). IsQuotedBody q z.bytes) (same_return (joined_bodies (body_of (cond (c == 36) (92 ∷ c ∷ []) (c ∷ [])) (c ∷ [])) y) x e2)
+      (body_append (byte_body q c h k (c == 36) refl) (inside_written q r y ey))
   inside_written q (inside_pair {c = c} {is = is} r) x e =
       let (y, ey, e2) = split_return w (written_items at b q is) (λ rest. returns (joined_bodies (body_of (92 ∷ c ∷ []) (c ∷ [])) rest)) x e in
-      subst (λ (z : WrittenBody). IsQuotedBody q z.bytes) (same_return (joined_bodies (body_of (92 ∷ c ∷ []) (c ∷ [])) y) x e2) (body_pair (inside_written q r y ey))
+      subst (λ (z : WrittenBody). IsQuotedBody q z.bytes) (same_return (joined_bodies (body_of (92 ∷ c ∷ []) (c ∷ [])) y) x e2)
+      (body_pair (inside_written q r y ey))
   inside_written q (inside_reference {inside = inside} {is = is} r) x e =
-      let (u, eu, e1) = split_return w (written_item at b q (reference inside)) (λ first. written_items at b q is >>= λ rest. returns (joined_bodies first rest)) x e in
+      let (u, eu, e1) = split_return w (written_item at b q (reference inside))
+      (λ first. written_items at b q is >>= λ rest. returns (joined_bodies first rest)) x e in
       let (y, ey, e2) = split_return w (written_items at b q is) (λ rest. returns (joined_bodies u rest)) x e1 in
       let (v, ev, e3) = split_return w (text_value at b (item_bytes (reference inside))) (λ v. returns (body_of_value q v)) u eu in
       let first : IsQuotedBody q u.bytes = subst (λ (z : WrittenBody). IsQuotedBody q z.bytes) (same_return (body_of_value q v) u e3) (value_body q v) in
@@ -104,16 +112,20 @@ one_less None n e = let z : ⊥ = cc in absurd z
 one_less (Some m) n e = cc
 
 -- a reference is closed by what comes before its end alone
-inside_before : (n : ℕ) (inside s r : List ℕ) → inside_length n (inside ++ 41 ∷ s) ≡ Some (length inside) → inside_length n (inside ++ 41 ∷ r) ≡ Some (length inside)
+inside_before : (n : ℕ) (inside s r : List ℕ) → inside_length n (inside ++ 41 ∷ s) ≡ Some (length inside)
+    → inside_length n (inside ++ 41 ∷ r) ≡ Some (length inside)
 inside_before n [] s r e = by_test (n == 0) e
   where
-    by_test : (x : Bool) → cond x (Some 0) (option_map suc (inside_length (n - 1) s)) ≡ Some 0 → cond x (Some 0) (option_map suc (inside_length (n - 1) r)) ≡ Some 0
+    by_test : (x : Bool) → cond x (Some 0) (option_map suc (inside_length (n - 1) s)) ≡ Some 0 → cond x (Some 0) (option_map suc (inside_length (n - 1) r))
+        ≡ Some 0
     by_test true e = refl
     by_test false e = absurd (no_zero (inside_length (n - 1) s) e)
 inside_before n (c ∷ inside) s r e = by_test (inside_before (open_after c n) inside s r) (c == 41 && (n == 0)) e
   where
-    by_test : (inside_length (open_after c n) (inside ++ 41 ∷ s) ≡ Some (length inside) → inside_length (open_after c n) (inside ++ 41 ∷ r) ≡ Some (length inside)) → (x : Bool)
-        → cond x (Some 0) (option_map suc (inside_length (open_after c n) (inside ++ 41 ∷ s))) ≡ Some (suc (length inside)) → cond x (Some 0) (option_map suc (inside_length (open_after c n) (inside ++ 41 ∷ r))) ≡ Some (suc (length inside))
+    by_test : (inside_length (open_after c n) (inside ++ 41 ∷ s) ≡ Some (length inside) → inside_length (open_after c n) (inside ++ 41 ∷ r)
+        ≡ Some (length inside)) → (x : Bool)
+        → cond x (Some 0) (option_map suc (inside_length (open_after c n) (inside ++ 41 ∷ s))) ≡ Some (suc (length inside))
+        → cond x (Some 0) (option_map suc (inside_length (open_after c n) (inside ++ 41 ∷ r))) ≡ Some (suc (length inside))
     by_test ih true e = let z : ⊥ = cc in absurd z
     by_test ih false e = ap (option_map suc) (ih (one_less (inside_length (open_after c n) (inside ++ 41 ∷ s)) (length inside) e))
 
@@ -133,7 +145,7 @@ module _ (q : ℕ) where
   extent_all [] = refl
   extent_all (c ∷ s) = ap suc (extent_all s)
 
-  -- the first so many bytes, if there are more, are an inside
+  -- the first `r` bytes of a longer text are bytes between quotes
   abbrev IsReached : ℕ → List ℕ → Type 0
   IsReached r s = r < length s → IsQuotedInside q (take r s) (items true 0 (take r s))
 
@@ -143,13 +155,16 @@ module _ (q : ℕ) where
   pair_reached : (d : ℕ) (s : List ℕ) → UpToQuote s → IsReached (suc (suc (extent true ends 0 s))) (92 ∷ d ∷ s)
   pair_reached d s h lt = inside_pair (h (omega (arith, lt)))
 
-  near_items : (c d m : ℕ) (s : List ℕ) → (c == 36 && (d == 40)) ≡ false → (c == 92) ≡ false → items true 0 (c ∷ take m (d ∷ s)) ≡ byte c ∷ items true 0 (take m (d ∷ s))
+  near_items : (c d m : ℕ) (s : List ℕ) → (c == 36 && (d == 40)) ≡ false → (c == 92) ≡ false → items true 0 (c ∷ take m (d ∷ s))
+      ≡ byte c ∷ items true 0 (take m (d ∷ s))
   near_items c d zero s e1 e2 = refl
   near_items c d (suc m) s e1 e2 =
-      ap (λ x. let i = cond x (reference_of (take m s) (inside_length 0 (take m s))) (cond (c == 92) (escaped d) (byte c)) in i ∷ items true (pred (length (item_bytes i))) (d ∷ take m s)) e1
+      ap (λ x. let i = cond x (reference_of (take m s) (inside_length 0 (take m s))) (cond (c == 92) (escaped d) (byte c)) in
+      i ∷ items true (pred (length (item_bytes i))) (d ∷ take m s)) e1
       ∙ ap (λ x. let i = cond x (escaped d) (byte c) in i ∷ items true (pred (length (item_bytes i))) (d ∷ take m s)) e2
 
-  byte_reached : (c d : ℕ) (s : List ℕ) → (c == 36 && (d == 40)) ≡ false → (c == 92) ≡ false → (c == q) ≡ false → UpToQuote (d ∷ s) → IsReached (suc (extent true ends 0 (d ∷ s))) (c ∷ d ∷ s)
+  byte_reached : (c d : ℕ) (s : List ℕ) → (c == 36 && (d == 40)) ≡ false → (c == 92) ≡ false → (c == q) ≡ false → UpToQuote (d ∷ s)
+      → IsReached (suc (extent true ends 0 (d ∷ s))) (c ∷ d ∷ s)
   byte_reached c d s e1 e2 e3 h lt =
       let m = extent true ends 0 (d ∷ s) in
       subst (λ is. IsQuotedInside q (c ∷ take m (d ∷ s)) is) (sym (near_items c d m s e1 e2)) (inside_byte e3 e2 (h (omega (arith, lt))))
@@ -160,12 +175,14 @@ module _ (q : ℕ) where
       let x = inside ++ 41 ∷ [] in
       let m = extent true ends 0 rest in
       let join : (ys : List ℕ) → x ++ ys ≡ inside ++ 41 ∷ ys = λ ys. append_assoc inside (41 ∷ []) ys in
-      let far : extent true ends (length x) (inside ++ 41 ∷ rest) ≡ length x + m = ap (λ s. extent true ends (length x) s) (sym (join rest)) ∙ extent_past x rest in
+      let far : extent true ends (length x) (inside ++ 41 ∷ rest) ≡ length x + m = ap (λ s. extent true ends (length x) s) (sym (join rest))
+      ∙ extent_past x rest in
       let taken : take (extent true ends (length x) (inside ++ 41 ∷ rest)) (inside ++ 41 ∷ rest) ≡ inside ++ 41 ∷ take m rest =
       ap (λ n. take n (inside ++ 41 ∷ rest)) far ∙ ap (λ s. take (length x + m) s) (sym (join rest)) ∙ take_past x rest m ∙ join (take m rest) in
       let less : m < length rest = omega (arith, lt, far, ap length (join rest), length-append x rest) in
       let it = items_of_reference true inside (take m rest) (inside_before 0 inside rest (take m rest) e) in
-      subst (λ s. IsQuotedInside q (36 ∷ 40 ∷ s) (items true 0 (36 ∷ 40 ∷ s))) (sym taken) (subst (λ is. IsQuotedInside q (36 ∷ 40 ∷ (inside ++ 41 ∷ take m rest)) is) (sym it) (inside_reference (h less)))
+      subst (λ s. IsQuotedInside q (36 ∷ 40 ∷ s) (items true 0 (36 ∷ 40 ∷ s))) (sym taken)
+      (subst (λ is. IsQuotedInside q (36 ∷ 40 ∷ (inside ++ 41 ∷ take m rest)) is) (sym it) (inside_reference (h less)))
 
   closing_reached : (n : ℕ) (s : List ℕ) → ((r : List ℕ) → length r ≤ n → UpToQuote r) → length s ≤ n → (k : Option ℕ) → inside_length 0 s ≡ k
       → IsReached (suc (extent true ends (pred (length (item_bytes (reference_of s k)))) (40 ∷ s))) (36 ∷ 40 ∷ s)
@@ -176,16 +193,20 @@ module _ (q : ℕ) where
       let le : length c.rest ≤ n = omega (arith, h, ap length c.whole, length-append c.inside (41 ∷ c.rest)) in
       let front : take k s ≡ c.inside = ap (λ m. take m s) (sym c.place) ∙ ap (take (length c.inside)) c.whole ∙ take-append_seam c.inside (41 ∷ c.rest) in
       subst (λ y. IsReached (suc (suc (extent true ends (length (y ++ 41 ∷ [])) s))) (36 ∷ 40 ∷ s)) (sym front)
-      (subst (λ y. IsReached (suc (suc (extent true ends (length (c.inside ++ 41 ∷ [])) y))) (36 ∷ 40 ∷ y)) (sym c.whole) (reference_reached c.inside c.rest p (ih c.rest le)))
+      (subst (λ y. IsReached (suc (suc (extent true ends (length (c.inside ++ 41 ∷ [])) y))) (36 ∷ 40 ∷ y)) (sym c.whole)
+      (reference_reached c.inside c.rest p (ih c.rest le)))
 
-  two_reached : (n c d : ℕ) (s : List ℕ) → ((r : List ℕ) → length r ≤ n → UpToQuote r) → length (d ∷ s) ≤ n → (c == q) ≡ false → (x y : Bool) → (c == 36 && (d == 40)) ≡ x → (c == 92) ≡ y
-      → IsReached (suc (extent true ends (pred (length (item_bytes (cond x (reference_of s (inside_length 0 s)) (cond y (escaped d) (byte c)))))) (d ∷ s))) (c ∷ d ∷ s)
+  two_reached : (n c d : ℕ) (s : List ℕ) → ((r : List ℕ) → length r ≤ n → UpToQuote r) → length (d ∷ s) ≤ n → (c == q) ≡ false → (x y : Bool)
+      → (c == 36 && (d == 40)) ≡ x → (c == 92) ≡ y
+      → IsReached (suc (extent true ends (pred (length (item_bytes (cond x (reference_of s (inside_length 0 s)) (cond y (escaped d) (byte c)))))) (d ∷ s)))
+      (c ∷ d ∷ s)
   two_reached n c d s ih h e3 true y e1 e2 =
       let p : 36 ≡ c = sym (eqb-true c 36 (first_so (c == 36) (d == 40) e1)) in
       let r : 40 ≡ d = sym (eqb-true d 40 (second_so (c == 36) (d == 40) e1)) in
       let le : length s ≤ n = omega (arith, h) in
       subst (λ z. IsReached (suc (extent true ends (pred (length (item_bytes (reference_of s (inside_length 0 s))))) (d ∷ s))) (z ∷ d ∷ s)) p
-      (subst (λ z. IsReached (suc (extent true ends (pred (length (item_bytes (reference_of s (inside_length 0 s))))) (z ∷ s))) (36 ∷ z ∷ s)) r (closing_reached n s ih le (inside_length 0 s) refl))
+      (subst (λ z. IsReached (suc (extent true ends (pred (length (item_bytes (reference_of s (inside_length 0 s))))) (z ∷ s))) (36 ∷ z ∷ s)) r
+      (closing_reached n s ih le (inside_length 0 s) refl))
   two_reached n c d s ih h e3 false true e1 e2 =
       let p : 92 ≡ c = sym (eqb-true c 92 e2) in
       subst (λ z. IsReached (suc (suc (extent true ends 0 s))) (z ∷ d ∷ s)) p (pair_reached d s (ih s (omega (arith, h))))
@@ -203,5 +224,6 @@ module _ (q : ℕ) where
       by_end (d ∷ s) ih h false e = two_reached n c d s ih h e (c == 36 && (d == 40)) (c == 92) refl refl
 
   -- the bytes up to the quote
-  pub up_to_quote : (s : List ℕ) → extent true (λ d. d == q) 0 s < length s → IsQuotedInside q (take (extent true (λ d. d == q) 0 s) s) (items true 0 (take (extent true (λ d. d == q) 0 s) s))
+  pub up_to_quote : (s : List ℕ) → extent true (λ d. d == q) 0 s < length s → IsQuotedInside q (take (extent true (λ d. d == q) 0 s) s)
+      (items true 0 (take (extent true (λ d. d == q) 0 s) s))
   up_to_quote s lt = reached_within (length s) s (omega arith) lt

@@ -9,9 +9,8 @@ use Rattle.std.specs.Map.{lookup}
 use Rattle.kc_tree_model.specs.Keywords.{keyword_in_table}
 use Rattle.kc_tree_model.specs.Limits.{without_repeats}
 use Rattle.kc_macros_model.specs.declared.fault.MacroKind.{MacroKind}
-use Rattle.kc_macros_model.specs.declared.fault.MacroKind.TheVariants.{Unterminated, Undefined, Recursion, Unanswered, JoinedAssignment, TooMany}
-use Rattle.kc_macros_model.specs.declared.fault.MacroNoticeKind.TheVariants.{Warning}
-use Rattle.kc_macros_model.specs.declared.fault.AnswersKind.TheVariants.{Malformed, TwoAnswers, Read}
+use Rattle.kc_macros_model.specs.declared.fault.MacroKind.TheVariants.{TooMany}
+use Rattle.kc_macros_model.specs.declared.fault.AnswersKind.TheVariants.{Read}
 use Rattle.kc_macros_model.specs.Programs.{Fault}
 use Rattle.kc_macros_model.specs.Expansion.{text_value}
 use Rattle.kc_macros_model.specs.ReadingStates.{ExpandedFile}
@@ -21,9 +20,10 @@ use Rattle.kc_macros_model.specs.AnswerFiles.{Recorded, complete, cut_by, answer
 
 -- the names in a folder, by the paths of files
 abbrev names_in : List (List ℕ × List ℕ) → List ℕ → List (List ℕ)
-names_in files folder = without_repeats (map (λ (f : List ℕ × List ℕ). take_while (λ c. not (c == 47)) (drop (length folder) f.0)) (filter (λ (f : List ℕ × List ℕ). starts_with (λ a b. a == b) f.0 folder) files))
+names_in files folder = without_repeats (map (λ (f : List ℕ × List ℕ). take_while (λ c. not (c == 47)) (drop (length folder) f.0))
+    (filter (λ (f : List ℕ × List ℕ). starts_with (λ a b. a == b) f.0 folder) files))
 
--- files and answers
+-- a world of these files and answers
 abbrev world : List (List ℕ × List ℕ) → Recorded → World
 world files answers = record { answer = keyword_in_table answers; bytes = λ path. lookup (bytes_eq path) files; names = names_in files }
 
@@ -40,7 +40,7 @@ texts_of stopped = Ok []
 abbrev expanded_texts : World → Result (List (List ℕ × List ℕ)) Fault
 expanded_texts w = texts_of (expansion w (codes "Kconfig")).ending
 
--- the tree of one file in which it is expanded
+-- the result of an expansion to a tree of one file
 abbrev one_text : List ℕ → Result (List (List ℕ × List ℕ)) Fault
 one_text bytes = Ok ((codes "Kconfig", bytes) ∷ [])
 
@@ -48,10 +48,12 @@ abbrev fault_of : ℕ → MacroKind → List ℕ → Fault
 fault_of line kind text = record { at = place (codes "Kconfig") line; kind = kind; text = text }
 
 -- a recursive variable is expanded where it is used, a simple one where it is assigned
-recursive_and_simple : expanded_texts (one_file (codes "R = $(X)\nS := $(X)\nX = 2\nif $(R)\n") ((codes "X", Some (codes "1")) ∷ [])) ≡ one_text (codes "\n\n\nif 2\n")
+recursive_and_simple : expanded_texts (one_file (codes "R = $(X)\nS := $(X)\nX = 2\nif $(R)\n") ((codes "X", Some (codes "1")) ∷ []))
+    ≡ one_text (codes "\n\n\nif 2\n")
 unfolding tree_read text_value expansion next_token is_utf8 chars digits lib.Utf8.encode
 recursive_and_simple = refl
 
+-- a simple variable keeps the value of its text at the assignment
 simple_keeps_its_value : expanded_texts (one_file (codes "S := $(X)\nX = 2\nif $(S)\n") ((codes "X", Some (codes "1")) ∷ [])) ≡ one_text (codes "\n\nif 1\n")
 unfolding tree_read text_value expansion next_token is_utf8 chars digits lib.Utf8.encode
 simple_keeps_its_value = refl
@@ -72,79 +74,48 @@ unfolding tree_read text_value expansion next_token is_utf8 chars digits lib.Utf
 one_token = refl
 
 -- a rewritten line keeps its number, and the lines joined to it become empty; help texts and comments are copied
-lines_are_kept : expanded_texts (one_file (codes "N := n\nif \"$(N)\" \\\n  || A # $(N)\nendif\nconfig B\n\thelp\n\t  $(N)\n") []) ≡ one_text (codes "\nif \"n\"   || A # $(N)\n\nendif\nconfig B\n\thelp\n\t  $(N)\n")
+lines_are_kept : expanded_texts (one_file (codes "N := n\nif \"$(N)\" \\\n  || A # $(N)\nendif\nconfig B\n\thelp\n\t  $(N)\n") [])
+    ≡ one_text (codes "\nif \"n\"   || A # $(N)\n\nendif\nconfig B\n\thelp\n\t  $(N)\n")
 unfolding tree_read text_value expansion next_token is_utf8 chars digits lib.Utf8.encode
 lines_are_kept = refl
 
 -- a template has a key for each of its texts, and files of a pattern are in a list
-keys : expanded_texts (world ((codes "Kconfig", codes "X := 1\nsource \"t\"\nX := 2\nsource \"t\"\nsource \"d/*\"\n") ∷ (codes "t", codes "if A$(X)\n") ∷ (codes "d/b", []) ∷ (codes "d/a", []) ∷ []) [])
-    ≡ Ok ((codes "t", codes "if A1\n") ∷ (codes "t#2", codes "if A2\n") ∷ (codes "d/a", []) ∷ (codes "d/b", []) ∷ (codes "Kconfig:5", codes "source \"d/a\"\nsource \"d/b\"\n") ∷ (codes "Kconfig", codes "\nsource \"t\"\n\nsource \"t#2\"\nsource \"Kconfig:5\"\n") ∷ [])
+keys : expanded_texts (world ((codes "Kconfig", codes "X := 1\nsource \"t\"\nX := 2\nsource \"t\"\nsource \"d/*\"\n") ∷ (codes "t", codes "if A$(X)\n")
+    ∷ (codes "d/b", []) ∷ (codes "d/a", []) ∷ []) [])
+    ≡ Ok ((codes "t", codes "if A1\n") ∷ (codes "t#2", codes "if A2\n") ∷ (codes "d/a", []) ∷ (codes "d/b", [])
+    ∷ (codes "Kconfig:5", codes "source \"d/a\"\nsource \"d/b\"\n")
+    ∷ (codes "Kconfig", codes "\nsource \"t\"\n\nsource \"t#2\"\nsource \"Kconfig:5\"\n") ∷ [])
 unfolding tree_read text_value expansion next_token is_utf8 chars digits lib.Utf8.encode
 keys = refl
 
 -- forms of older trees are written as plain ones
-older_forms : expanded_texts (one_file (codes "menu Title\nchoice C\noption allnoconfig_y # c\n\toption defconfig_list\n") []) ≡ one_text (codes "menu \"Title\"\nchoice \n\n\tdepends on n\n")
+older_forms : expanded_texts (one_file (codes "menu Title\nchoice C\noption allnoconfig_y # c\n\toption defconfig_list\n") [])
+    ≡ one_text (codes "menu \"Title\"\nchoice \n\n\tdepends on n\n")
 unfolding tree_read text_value expansion next_token is_utf8 chars digits lib.Utf8.encode
 older_forms = refl
 
--- the first faults
-recursion : expanded_texts (one_file (codes "X = $(Y)\nY = $(X)\nif $(X)\n") []) ≡ Err (fault_of 3 Recursion (codes "X"))
-unfolding tree_read text_value expansion next_token is_utf8 chars digits lib.Utf8.encode
-recursion = refl
-
-undefined : expanded_texts (one_file (codes "if $(f,a)\n") []) ≡ Err (fault_of 1 Undefined (codes "f"))
-unfolding tree_read text_value expansion next_token is_utf8 chars digits lib.Utf8.encode
-undefined = refl
-
-unterminated : expanded_texts (one_file (codes "if \"$(A\"\n") []) ≡ Err (fault_of 1 Unterminated [])
-unfolding tree_read text_value expansion next_token is_utf8 chars digits lib.Utf8.encode
-unterminated = refl
-
-joined_assignment : expanded_texts (one_file (codes "X := a\\\nb\n") []) ≡ Err (fault_of 1 JoinedAssignment [])
-unfolding tree_read text_value expansion next_token is_utf8 chars digits lib.Utf8.encode
-joined_assignment = refl
-
 -- work: the four bytes of the token and one, the byte of the name and one, and the one and the three bytes that they become
-enough_work : texts_of (outcome true (one_file (codes "if $(A)\n") ((codes "A", Some (codes "abc")) ∷ [])) 11 (tree_read (codes "Kconfig"))).ending ≡ one_text (codes "if abc\n")
+enough_work : texts_of (outcome true (one_file (codes "if $(A)\n") ((codes "A", Some (codes "abc")) ∷ [])) 11 (tree_read (codes "Kconfig"))).ending
+    ≡ one_text (codes "if abc\n")
 unfolding tree_read text_value next_token is_utf8 chars digits lib.Utf8.encode
 enough_work = refl
 
-too_much_work : texts_of (outcome true (one_file (codes "if $(A)\n") ((codes "A", Some (codes "abc")) ∷ [])) 10 (tree_read (codes "Kconfig"))).ending ≡ Err (fault_of 1 TooMany [])
+-- with one step of work less the expansion fails
+too_much_work : texts_of (outcome true (one_file (codes "if $(A)\n") ((codes "A", Some (codes "abc")) ∷ [])) 10 (tree_read (codes "Kconfig"))).ending
+    ≡ Err (fault_of 1 TooMany [])
 unfolding tree_read text_value next_token is_utf8 chars digits lib.Utf8.encode
 too_much_work = refl
-
--- a name without an answer is a fault in a job; a name that isn't set is empty
-unanswered : expanded_texts (one_file (codes "if \"$(A)$(B)\"\n") ((codes "A", None) ∷ [])) ≡ Err (fault_of 1 Unanswered (codes "B"))
-unfolding tree_read text_value expansion next_token is_utf8 chars digits lib.Utf8.encode
-unanswered = refl
-
--- the questions that are wanted, once each: not those that depend on one without an answer
-questions : wanted (one_file (codes "if \"$(A) $(shell,f $(B)) $(shell,g ) $(A)\"\n") []) (codes "Kconfig") ≡ Ok (codes "A" ∷ codes "B" ∷ codes "$ g" ∷ [])
-unfolding tree_read text_value wanted next_token is_utf8 chars digits lib.Utf8.encode
-questions = refl
 
 -- the search ends where it isn't known what a line is: without `$(A)` the first is an assignment of `X`
 undecided_line : wanted (one_file (codes "$(A) X := $(B)\nif $(X)\n") []) (codes "Kconfig") ≡ Ok (codes "A" ∷ [])
 unfolding tree_read text_value wanted next_token is_utf8 chars digits lib.Utf8.encode
 undecided_line = refl
 
-messages : (expansion (one_file (codes "$(warning-if,y,at $(lineno))\n$(warning-if,n,none)\n") []) (codes "Kconfig")).notices ≡ record { at = place (codes "Kconfig") 1; kind = Warning; text = codes "at 1" } ∷ []
-unfolding tree_read text_value expansion next_token is_utf8 chars digits lib.Utf8.encode
-messages = refl
-
 -- a file of answers: a name with its value, one that isn't set, a command with its answer; white at a line's end is dropped
-answers : answers_read complete (codes "# a comment\nA=x=y \n!B\n$ c d\n> e\n") [] ≡ Ok ((codes "A", Some (codes "x=y")) ∷ (codes "B", None) ∷ (codes "$ c d", Some (codes "e")) ∷ [])
+answers : answers_read complete (codes "# a comment\nA=x=y \n!B\n$ c d\n> e\n") []
+    ≡ Ok ((codes "A", Some (codes "x=y")) ∷ (codes "B", None) ∷ (codes "$ c d", Some (codes "e")) ∷ [])
 unfolding answers_read is_utf8 chars lib.Utf8.encode
 answers = refl
-
-two_answers : answers_read complete (codes "A=1\nA=1\nA=2\n") [] ≡ Err (record { line = 3; kind = TwoAnswers })
-unfolding answers_read is_utf8 chars lib.Utf8.encode
-two_answers = refl
-
--- a command without its answer is at fault itself, also at the end
-command_alone : answers_read complete (codes "B=1\n$ a\n") [] ≡ Err (record { line = 2; kind = Malformed })
-unfolding answers_read is_utf8 chars lib.Utf8.encode
-command_alone = refl
 
 -- a line that a failed read cuts is not judged
 cut_line : answers_read (cut_by Read) (codes "A=1\nB") [] ≡ Err (record { line = 2; kind = Read })

@@ -26,7 +26,8 @@ inside_found open_count (c ∷ s) n e = by_test (λ m h. inside_found (open_afte
     by_test : ((m : ℕ) → inside_length (open_after c open_count) s ≡ Some m → IsInside s m) → (b : Bool) → (c == 41 && (open_count == 0)) ≡ b
         → cond b (Some 0) (option_map suc (inside_length (open_after c open_count) s)) ≡ Some n → IsInside (c ∷ s) n
     by_test ih true t e =
-        let p : c ≡ 41 = eqb-true c 41 (first_so (c == 41) (open_count == 0) t) in record { inside = []; rest = s; whole = ap (λ x. x ∷ s) p; place = let z : 0 ≡ n = cc in z }
+        let p : c ≡ 41 = eqb-true c 41 (first_so (c == 41) (open_count == 0) t) in
+        record { inside = []; rest = s; whole = ap (λ x. x ∷ s) p; place = let z : 0 ≡ n = cc in z }
     by_test ih false t e = one_byte_more c s (inside_length (open_after c open_count) s) n ih e
 
 pub items_passed : (q : Bool) (xs ys : List ℕ) → items q (length xs) (xs ++ ys) ≡ items q 0 ys
@@ -59,7 +60,8 @@ pub data IsRow : List ℕ → List Item → Type 0 where
 abbrev ShortRows : ℕ → Type 0
 ShortRows n = (s : List ℕ) → length s ≤ n → IsRow s (items false 0 s)
 
-row_of_reference : (n : ℕ) (s : List ℕ) → ShortRows n → length s ≤ n → (found : Option ℕ) → inside_length 0 s ≡ found → IsRow (36 ∷ 40 ∷ s) (items false 0 (36 ∷ 40 ∷ s))
+row_of_reference : (n : ℕ) (s : List ℕ) → ShortRows n → length s ≤ n → (found : Option ℕ) → inside_length 0 s ≡ found
+    → IsRow (36 ∷ 40 ∷ s) (items false 0 (36 ∷ 40 ∷ s))
 row_of_reference n s ih h None e =
     subst (λ r. IsRow (36 ∷ 40 ∷ s) (let i = reference_of s r in i ∷ items false (pred (length (item_bytes i))) (40 ∷ s))) (sym e) then_unterminated
 row_of_reference n s ih h (Some k) e =
@@ -67,7 +69,8 @@ row_of_reference n s ih h (Some k) e =
     let ends : inside_length 0 (i.inside ++ 41 ∷ i.rest) ≡ Some (length i.inside) = ap (inside_length 0) (sym i.whole) ∙ e ∙ ap Some (sym i.place) in
     let short : length i.rest ≤ n = omega (arith, h, ap length i.whole, length-append i.inside (41 ∷ i.rest)) in
     let row : IsRow (36 ∷ 40 ∷ (i.inside ++ 41 ∷ i.rest)) (items false 0 (36 ∷ 40 ∷ (i.inside ++ 41 ∷ i.rest))) =
-    subst (λ is. IsRow (36 ∷ 40 ∷ (i.inside ++ 41 ∷ i.rest)) is) (sym (items_of_reference false i.inside i.rest ends)) (then_reference ends (ih i.rest short)) in
+    subst (λ is. IsRow (36 ∷ 40 ∷ (i.inside ++ 41 ∷ i.rest)) is) (sym (items_of_reference false i.inside i.rest ends))
+    (then_reference ends (ih i.rest short)) in
     subst (λ x. IsRow (36 ∷ 40 ∷ x) (items false 0 (36 ∷ 40 ∷ x))) (sym i.whole) row
 
 row_by_front : (n c : ℕ) (s : List ℕ) → ShortRows n → length s ≤ n → (b : Bool) → begins_reference (c ∷ s) ≡ b → IsRow (c ∷ s) (items false 0 (c ∷ s))

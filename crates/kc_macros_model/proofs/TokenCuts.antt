@@ -33,7 +33,8 @@ pub data IsQuote : ℕ → Type 0 where
 pub data IsCut (c : ℕ) (s : List ℕ) : LineToken → List ℕ → Type 0 where
   cut_white : is_white_byte c ≡ true → IsCut c s (gap (c ∷ [])) s
   cut_comment : first_token c s ≡ gap (c ∷ s) → IsCut c s (gap (c ∷ s)) []
-  cut_run : {r rest : List ℕ} → is_run_byte c ≡ true → list_any is_unterminated (items false 0 (c ∷ r)) ≡ false → (has_dollar (c ∷ r) ≡ false → AreWordBytes (c ∷ r)) → begins_with_run rest ≡ false → IsCut c s (run (c ∷ r)) rest
+  cut_run : {r rest : List ℕ} → is_run_byte c ≡ true → list_any is_unterminated (items false 0 (c ∷ r)) ≡ false
+      → (has_dollar (c ∷ r) ≡ false → AreWordBytes (c ∷ r)) → begins_with_run rest ≡ false → IsCut c s (run (c ∷ r)) rest
   cut_broken : {t rest : List ℕ} → IsCut c s (broken t) rest
   cut_quoted : {inside rest : List ℕ} → IsQuote c → IsQuotedInside c inside (items true 0 inside) → IsCut c s (quoted c inside) rest
   cut_open : first_token c s ≡ other (c ∷ s) → IsCut c s (other (c ∷ s)) []
@@ -73,9 +74,10 @@ words_of_run (c ∷ s) h = by_test (words_of_run s) (is_run_byte c) refl h
     by_test ih true e h =
         let plain : (c == 36) ≡ false = neither_first (c == 36) (has_dollar (take next s)) h in
         let near : next ≡ extent false ends_run 0 s = ap (λ i. extent false ends_run (pred (length (item_bytes i))) s) (byte_first false c s plain refl) in
-        next_word_byte e plain (subst (λ n. AreWordBytes (take n s)) (sym near) (ih (ap (λ n. has_dollar (take n s)) (sym near) ∙ neither_second (c == 36) (has_dollar (take next s)) h)))
+        next_word_byte e plain (subst (λ n. AreWordBytes (take n s)) (sym near)
+        (ih (ap (λ n. has_dollar (take n s)) (sym near) ∙ neither_second (c == 36) (has_dollar (take next s)) h)))
 
--- a run of so many bytes
+-- the token at the front of a text is a run of `n` bytes
 record IsRunCut (c : ℕ) (s : List ℕ) (n : ℕ) : Type 0 where
   more : List ℕ
   rest : List ℕ
@@ -87,13 +89,21 @@ run_cut : (c : ℕ) (s : List ℕ) → is_run_byte c ≡ true → IsRunCut c s (
 run_cut c s e =
     let k = pred (length (item_bytes (first_item false c s))) in
     let n = extent false ends_run k s in
-    subst (λ b. IsRunCut c s (cond (not b) 0 (suc n))) (sym e) (record { more = take n s; rest = drop n s; begins = refl; parts = sym (take-append-drop n s); ends = rest_of_run k s })
+    subst (λ b. IsRunCut c s (cond (not b) 0 (suc n))) (sym e) (record {
+      more = take n s;
+      rest = drop n s;
+      begins = refl;
+      parts = sym (take-append-drop n s);
+      ends = rest_of_run k s;
+    })
 
-run_at : (c : ℕ) (s bytes : List ℕ) (f : (more rest : List ℕ) → bytes ≡ c ∷ more → s ≡ more ++ rest → begins_with_run rest ≡ false → IsCutAt c s (cond (list_any is_unterminated (items false 0 bytes)) (broken bytes) (run bytes))) → (n : ℕ) → take n (c ∷ s) ≡ bytes → IsRunCut c s n
+run_at : (c : ℕ) (s bytes : List ℕ) (f : (more rest : List ℕ) → bytes ≡ c ∷ more → s ≡ more ++ rest → begins_with_run rest ≡ false
+    → IsCutAt c s (cond (list_any is_unterminated (items false 0 bytes)) (broken bytes) (run bytes))) → (n : ℕ) → take n (c ∷ s) ≡ bytes → IsRunCut c s n
     → IsCutAt c s (cond (list_any is_unterminated (items false 0 bytes)) (broken bytes) (run bytes))
 run_at c s bytes f n same r = f r.more r.rest (sym same ∙ r.begins) r.parts r.ends
 
-run_cut_at : (c : ℕ) (s bytes : List ℕ) → is_run_byte c ≡ true → (has_dollar bytes ≡ false → AreWordBytes bytes) → (more rest : List ℕ) → bytes ≡ c ∷ more → s ≡ more ++ rest → begins_with_run rest ≡ false
+run_cut_at : (c : ℕ) (s bytes : List ℕ) → is_run_byte c ≡ true → (has_dollar bytes ≡ false → AreWordBytes bytes) → (more rest : List ℕ) → bytes ≡ c ∷ more
+    → s ≡ more ++ rest → begins_with_run rest ≡ false
     → IsCutAt c s (cond (list_any is_unterminated (items false 0 bytes)) (broken bytes) (run bytes))
 run_cut_at c s bytes e words more rest begins parts ends = by_test (list_any is_unterminated (items false 0 bytes)) refl
   where
@@ -104,7 +114,8 @@ run_cut_at c s bytes e words more rest begins parts ends = by_test (list_any is_
       rest = rest;
       begins = begins;
       parts = parts;
-      cut = subst (λ x. IsCut c s (run x) rest) (sym begins) (cut_run e (subst (λ x. list_any is_unterminated (items false 0 x) ≡ false) begins h) (subst (λ x. has_dollar x ≡ false → AreWordBytes x) begins words) ends);
+      cut = subst (λ x. IsCut c s (run x) rest) (sym begins) (cut_run e (subst (λ x. list_any is_unterminated (items false 0 x) ≡ false) begins h)
+          (subst (λ x. has_dollar x ≡ false → AreWordBytes x) begins words) ends);
     }
 
 is_quote : (c : ℕ) → (c == 34 || (c == 39)) ≡ true → IsQuote c
@@ -114,7 +125,8 @@ is_quote c e = by_test (c == 34) refl e
     by_test true h e = subst (λ x. IsQuote x) (sym (eqb-true c 34 h)) double_quote
     by_test false h e = subst (λ x. IsQuote x) (sym (eqb-true c 39 e)) single_quote
 
-quoted_cut_at : (c : ℕ) (s : List ℕ) → IsQuote c → (first_token c s ≡ quoted_token (extent true (λ d. d == c) 0 s) c s) → IsCutAt c s (quoted_token (extent true (λ d. d == c) 0 s) c s)
+quoted_cut_at : (c : ℕ) (s : List ℕ) → IsQuote c → (first_token c s ≡ quoted_token (extent true (λ d. d == c) 0 s) c s)
+    → IsCutAt c s (quoted_token (extent true (λ d. d == c) 0 s) c s)
 quoted_cut_at c s q first = by_tests (list_any is_unterminated (items true 0 (take n s))) (nat_lt n (length s)) refl first
   where
     n : ℕ
@@ -132,7 +144,8 @@ quoted_cut_at c s q first = by_tests (list_any is_unterminated (items true 0 (ta
           cut = cut_quoted q (up_to_quote c s h);
         }
 
-    by_tests : (a b : Bool) → nat_lt n (length s) ≡ b → first_token c s ≡ cond a (broken (c ∷ s)) (cond b (quoted c (take n s)) (other (c ∷ s))) → IsCutAt c s (cond a (broken (c ∷ s)) (cond b (quoted c (take n s)) (other (c ∷ s))))
+    by_tests : (a b : Bool) → nat_lt n (length s) ≡ b → first_token c s ≡ cond a (broken (c ∷ s)) (cond b (quoted c (take n s)) (other (c ∷ s)))
+        → IsCutAt c s (cond a (broken (c ∷ s)) (cond b (quoted c (take n s)) (other (c ∷ s))))
     by_tests true b e f = record { more = s; rest = []; begins = refl; parts = sym (append-nil s); cut = cut_broken }
     by_tests false false e f = record { more = s; rest = []; begins = refl; parts = sym (append-nil s); cut = cut_open f }
     by_tests false true e f = closed (ltb-true n (length s) e)
@@ -149,7 +162,8 @@ cut_at c s = by_tests (is_white_byte c) (c == 35) (is_run_byte c) (c == 34 || (c
     as_quoted : LineToken
     as_quoted = quoted_token (extent true (λ d. d == c) 0 s) c s
 
-    by_tests : (x y z u : Bool) → is_white_byte c ≡ x → (c == 35) ≡ y → is_run_byte c ≡ z → (c == 34 || (c == 39)) ≡ u → first_token c s ≡ cond x (gap (c ∷ [])) (cond y (gap (c ∷ s)) (cond z as_run (cond u as_quoted (other (c ∷ [])))))
+    by_tests : (x y z u : Bool) → is_white_byte c ≡ x → (c == 35) ≡ y → is_run_byte c ≡ z → (c == 34 || (c == 39)) ≡ u
+        → first_token c s ≡ cond x (gap (c ∷ [])) (cond y (gap (c ∷ s)) (cond z as_run (cond u as_quoted (other (c ∷ [])))))
         → IsCutAt c s (cond x (gap (c ∷ [])) (cond y (gap (c ∷ s)) (cond z as_run (cond u as_quoted (other (c ∷ []))))))
     by_tests true y z u hx hy hz hu f = record { more = []; rest = s; begins = refl; parts = refl; cut = cut_white hx }
     by_tests false true z u hx hy hz hu f = record { more = s; rest = []; begins = refl; parts = sym (append-nil s); cut = cut_comment f }

@@ -39,7 +39,8 @@ extent_ends q ends zero (d ∷ s) h = by_end (extent_ends q ends (pred (length (
     next : ℕ
     next = extent q ends (pred (length (item_bytes (first_item q d s)))) s
 
-    by_end : (next < length s → (c : ℕ) × (ends c ≡ true) × (s ≡ take next s ++ c ∷ drop (suc next) s)) → (b : Bool) → ends d ≡ b → cond b 0 (suc next) < suc (length s)
+    by_end : (next < length s → (c : ℕ) × (ends c ≡ true) × (s ≡ take next s ++ c ∷ drop (suc next) s)) → (b : Bool) → ends d ≡ b
+        → cond b 0 (suc next) < suc (length s)
         → (c : ℕ) × (ends c ≡ true) × (d ∷ s ≡ take (cond b 0 (suc next)) (d ∷ s) ++ c ∷ drop (suc (cond b 0 (suc next))) (d ∷ s))
     by_end ih true e h = (d, e, refl)
     by_end ih false e h = let (c, e2, p) = ih (omega (arith, h)) in (c, e2, ap (λ x. d ∷ x) p)
@@ -66,7 +67,13 @@ quoted_front c s = by_tests (list_any is_unterminated (items true 0 (take n s)))
     closed_front h =
         let (d, e, p) = extent_ends true (λ d. d == c) 0 s h in
         let q : d ≡ c = eqb-true d c e in
-        record { more = take n s ++ c ∷ []; rest = drop (suc n) s; begins = refl; parts = subst (λ x. s ≡ take n s ++ x ∷ drop (suc n) s) q p ∙ sym (append_assoc (take n s) (c ∷ []) (drop (suc n) s)) }
+        record {
+          more = take n s ++ c ∷ [];
+          rest = drop (suc n) s;
+          begins = refl;
+          parts = subst (λ x. s ≡ take n s ++ x ∷ drop (suc n) s) q p
+              ∙ sym (append_assoc (take n s) (c ∷ []) (drop (suc n) s));
+        }
 
     by_tests : (a b : Bool) → nat_lt n (length s) ≡ b → IsFront (token_bytes (cond a (broken (c ∷ s)) (cond b (quoted c (take n s)) (other (c ∷ s))))) c s
     by_tests true b e = front_all c s
@@ -76,7 +83,9 @@ quoted_front c s = by_tests (list_any is_unterminated (items true 0 (take n s)))
 token_front : (c : ℕ) (s : List ℕ) → IsFront (token_bytes (first_token c s)) c s
 token_front c s = by_tests (is_white_byte c) (c == 35) (is_run_byte c) (c == 34 || (c == 39)) refl
   where
-    by_tests : (w h r q : Bool) → is_run_byte c ≡ r → IsFront (token_bytes (cond w (gap (c ∷ [])) (cond h (gap (c ∷ s)) (cond r (run_token (take (extent false (λ d. not (is_run_byte d)) 0 (c ∷ s)) (c ∷ s)))
+    by_tests : (w h r q : Bool) → is_run_byte c ≡ r
+        → IsFront (token_bytes (cond w (gap (c ∷ [])) (cond h (gap (c ∷ s))
+        (cond r (run_token (take (extent false (λ d. not (is_run_byte d)) 0 (c ∷ s)) (c ∷ s)))
         (cond q (quoted_token (extent true (λ d. d == c) 0 s) c s) (other (c ∷ []))))))) c s
     by_tests true h r q e = front_one c s
     by_tests false true r q e = front_all c s
@@ -87,7 +96,8 @@ token_front c s = by_tests (is_white_byte c) (c == 35) (is_run_byte c) (c == 34 
 -- bytes, cut into tokens
 pub data IsInTokens : List ℕ → List LineToken → Type 0 where
   no_bytes : IsInTokens [] []
-  next_token : {c : ℕ} {s rest : List ℕ} {ts : List LineToken} (more : List ℕ) → token_bytes (first_token c s) ≡ c ∷ more → s ≡ more ++ rest → IsInTokens rest ts → IsInTokens (c ∷ s) (first_token c s ∷ ts)
+  next_token : {c : ℕ} {s rest : List ℕ} {ts : List LineToken} (more : List ℕ) → token_bytes (first_token c s) ≡ c ∷ more → s ≡ more ++ rest
+      → IsInTokens rest ts → IsInTokens (c ∷ s) (first_token c s ∷ ts)
 
 tokens_within : (n : ℕ) (s : List ℕ) → length s ≤ n → IsInTokens s (line_tokens 0 s)
 tokens_within n [] h = no_bytes

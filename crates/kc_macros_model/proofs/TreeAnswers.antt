@@ -29,7 +29,8 @@ none_of_none (x ∷ xs) e = by_test (none_of_none xs) (is_in_list x xs) refl e
     has_none true e h r = absurd (let z : ⊥ = cc in z)
     has_none false e h r = absurd (let z : ⊥ = cc in z)
 
-    by_test : (without_repeats xs ≡ [] → xs ≡ []) → (b : Bool) → is_in_list x xs ≡ b → cond b (without_repeats xs) (without_repeats xs ++ x ∷ []) ≡ [] → x ∷ xs ≡ []
+    by_test : (without_repeats xs ≡ [] → xs ≡ []) → (b : Bool) → is_in_list x xs ≡ b → cond b (without_repeats xs) (without_repeats xs ++ x ∷ []) ≡ []
+        → x ∷ xs ≡ []
     by_test ih true h e = let n = ih e in has_none (is_in_list x []) refl (ap (is_in_list x) (sym n) ∙ h) n
     by_test ih false h e = end_of_none (without_repeats xs) x e
 

@@ -4,7 +4,7 @@ use Rattle.kc_macros_model.specs.Limits.{max_work}
 use Rattle.kc_macros_model.specs.TreeExpansion.{tree_read}
 use Rattle.kc_macros_model.specs.Worlds.{expansion}
 use Rattle.kc_macros_model.specs.TreeLaws.{HasItsLines, LinesAreKept}
-use Rattle.kc_macros_model.proofs.Along.{fact_of_success}
+use Rattle.kc_macros_model.proofs.RunInvariants.{fact_of_success}
 use Rattle.kc_macros_model.proofs.CleanTexts.{clean}
 use Rattle.kc_macros_model.proofs.KeptLines.{tree_good}
 use Rattle.kc_macros_model.proofs.WantedQuestions.{job_succeeds}

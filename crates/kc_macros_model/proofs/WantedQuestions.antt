@@ -1,4 +1,4 @@
--- What is wanted is needed.
+-- A question that is wanted is needed.
 use Rattle.std.proofs.Common.{◌≡◌, ℕ, Bool, true, false, ◌||◌, cond, List, [], ◌∷◌, ◌++◌, Option, Some, None, Ok, Err, refl, sym, ap, ◌∙◌}
 use Rattle.std.specs.Prelude.{nat_lt, ◌-◌, bytes_eq, reverse}
 use mathlib.Core.List.{reverse-cons}
@@ -13,28 +13,32 @@ use Rattle.kc_macros_model.specs.TreeExpansion.{tree_read}
 use Rattle.kc_macros_model.specs.Worlds.{World, if_unanswered, unless_unanswered, Ending, returned, failed, stopped, Outcome, after_event, unless_fault, outcome, expansion, questions_or_fault, wanted}
 use Rattle.kc_macros_model.specs.ProgramLaws.{Extends}
 use Rattle.kc_macros_model.specs.TreeLaws.{WantedIsNeeded}
-use Rattle.kc_macros_model.proofs.Along.{Along, Succeeds}
-use Rattle.kc_macros_model.proofs.Matching.{Spares}
-use Rattle.kc_macros_model.proofs.MatchingTrees.{Any, tree_matches}
+use Rattle.kc_macros_model.proofs.RunInvariants.{Along, Succeeds}
+use Rattle.kc_macros_model.proofs.ProgramMatches.{Spares}
+use Rattle.kc_macros_model.proofs.TreeMatches.{Any, tree_matches}
 
 module _ {A : Type 0} (w : World) (y : A) where
   -- an outcome that returned this value
   abbrev Returned : Outcome A → Type 0
   Returned o = o.ending ≡ returned y
 
-  spent_success : (left : ℕ) (at : Place) (work : ℕ) (k : Unit {0} → Program A) → ((n : ℕ) → Returned (outcome true w n (k (tt {0}))) → Succeeds w y (k (tt {0})))
+  spent_success : (left : ℕ) (at : Place) (work : ℕ) (k : Unit {0} → Program A)
+      → ((n : ℕ) → Returned (outcome true w n (k (tt {0}))) → Succeeds w y (k (tt {0})))
       → Returned (outcome true w left (does (spend at work) k)) → Succeeds w y (k (tt {0}))
   spent_success left at work k ih = by_test (nat_lt left work)
     where
-      by_test : (b : Bool) → Returned (unless_fault left (cond b (Err (record { at = at; kind = TooMany; text = [] })) (Ok (left - work))) (λ n. after_event w (spend at work) (outcome true w n (k (tt {0}))))) → Succeeds w y (k (tt {0}))
+      by_test : (b : Bool) → Returned (unless_fault left (cond b (Err (record { at = at; kind = TooMany; text = [] })) (Ok (left - work)))
+          (λ n. after_event w (spend at work) (outcome true w n (k (tt {0}))))) → Succeeds w y (k (tt {0}))
       by_test true e = absurd (let z : ⊥ = cc in z)
       by_test false e = ih (left - work) e
 
-  asked_success : (left : ℕ) (at : Place) (question : List ℕ) (k : Option Answer → Program A) → ((r : Option Answer) → Returned (outcome true w left (k r)) → Succeeds w y (k r))
+  asked_success : (left : ℕ) (at : Place) (question : List ℕ) (k : Option Answer → Program A)
+      → ((r : Option Answer) → Returned (outcome true w left (k r)) → Succeeds w y (k r))
       → Returned (outcome true w left (does (ask at question) k)) → Succeeds w y (does (ask at question) k)
   asked_success left at question k ih = by_answer (w.answer question)
     where
-      by_answer : (a : Option Answer) → Returned (unless_fault left (unless_unanswered at question left a) (λ n. after_event (record w { answer = λ q. a }) (ask at question) (outcome true w n (k a)))) → (if_unanswered question a ≡ []) × Succeeds w y (k a)
+      by_answer : (a : Option Answer) → Returned (unless_fault left (unless_unanswered at question left a)
+          (λ n. after_event (record w { answer = λ q. a }) (ask at question) (outcome true w n (k a)))) → (if_unanswered question a ≡ []) × Succeeds w y (k a)
       by_answer None e = absurd (let z : ⊥ = cc in z)
       by_answer (Some a) e = (refl, ih (Some a) e)
 
@@ -58,21 +62,25 @@ module _ {A : Type 0} (w more : World) (ext : Extends w more) (question : List �
   abbrev Without : Outcome A → Type 0
   Without o = is_in_list question o.questions ≡ false
 
-  spared_spent : (left : ℕ) (at : Place) (work : ℕ) (k : Unit {0} → Program A) → ((n : ℕ) → Without (outcome false w n (k (tt {0})))) → Without (outcome false w left (does (spend at work) k))
+  spared_spent : (left : ℕ) (at : Place) (work : ℕ) (k : Unit {0} → Program A) → ((n : ℕ) → Without (outcome false w n (k (tt {0}))))
+      → Without (outcome false w left (does (spend at work) k))
   spared_spent left at work k ih = by_test (nat_lt left work)
     where
-      by_test : (b : Bool) → Without (unless_fault left (cond b (Err (record { at = at; kind = TooMany; text = [] })) (Ok (left - work))) (λ n. after_event w (spend at work) (outcome false w n (k (tt {0})))))
+      by_test : (b : Bool) → Without (unless_fault left (cond b (Err (record { at = at; kind = TooMany; text = [] })) (Ok (left - work)))
+          (λ n. after_event w (spend at work) (outcome false w n (k (tt {0})))))
       by_test true = refl
       by_test false = ih (left - work)
 
-  spared_asked : (left : ℕ) (at : Place) (other : List ℕ) (k : Option Answer → Program A) → (w.answer other ≡ None → other ≡ question → ⊥) → Without (outcome false w left (k (w.answer other))) → Without (outcome false w left (does (ask at other) k))
+  spared_asked : (left : ℕ) (at : Place) (other : List ℕ) (k : Option Answer → Program A) → (w.answer other ≡ None → other ≡ question → ⊥)
+      → Without (outcome false w left (k (w.answer other))) → Without (outcome false w left (does (ask at other) k))
   spared_asked left at other k h ih = by_answer (w.answer other) refl ih
     where
       by_same : (b : Bool) → bytes_eq other question ≡ b → w.answer other ≡ None → (o : Outcome A) → Without o → (b || is_in_list question o.questions) ≡ false
       by_same true e n o i = absurd (h n ((bytes_eq-Decides other question).0 e))
       by_same false e n o i = i
 
-      by_answer : (a : Option Answer) → w.answer other ≡ a → Without (outcome false w left (k a)) → Without (after_event (record w { answer = λ q. a }) (ask at other) (outcome false w left (k a)))
+      by_answer : (a : Option Answer) → w.answer other ≡ a → Without (outcome false w left (k a)) → Without
+          (after_event (record w { answer = λ q. a }) (ask at other) (outcome false w left (k a)))
       by_answer None e i = by_same (bytes_eq other question) refl e (outcome false w left (k None)) i
       by_answer (Some a) e i = i
 
@@ -92,7 +100,8 @@ not_in_reverse x [] e = refl
 not_in_reverse x (y ∷ ys) e =
     ap (is_in_list x) (reverse-cons y ys) ∙ list_any-append (λ z. bytes_eq z x) (reverse ys) (y ∷ []) ∙ by_tests (bytes_eq y x) (λ h. not_in_reverse x ys h) e
   where
-    by_tests : (b : Bool) → (is_in_list x ys ≡ false → is_in_list x (reverse ys) ≡ false) → (b || is_in_list x ys) ≡ false → (is_in_list x (reverse ys) || (b || false)) ≡ false
+    by_tests : (b : Bool) → (is_in_list x ys ≡ false → is_in_list x (reverse ys) ≡ false) → (b || is_in_list x ys) ≡ false
+        → (is_in_list x (reverse ys) || (b || false)) ≡ false
     by_tests true ih e = absurd (let z : ⊥ = cc in z)
     by_tests false ih e = ap (λ c. c || false) (ih e)
 
@@ -100,10 +109,12 @@ not_without_repeats : (x : List ℕ) (xs : List (List ℕ)) → is_in_list x xs 
 not_without_repeats x [] e = refl
 not_without_repeats x (y ∷ ys) e = by_tests (bytes_eq y x) (is_in_list y ys) (λ h. not_without_repeats x ys h) refl e
   where
-    by_tests : (b c : Bool) → (is_in_list x ys ≡ false → is_in_list x (without_repeats ys) ≡ false) → bytes_eq y x ≡ b → (b || is_in_list x ys) ≡ false → is_in_list x (cond c (without_repeats ys) (without_repeats ys ++ y ∷ [])) ≡ false
+    by_tests : (b c : Bool) → (is_in_list x ys ≡ false → is_in_list x (without_repeats ys) ≡ false) → bytes_eq y x ≡ b → (b || is_in_list x ys) ≡ false
+        → is_in_list x (cond c (without_repeats ys) (without_repeats ys ++ y ∷ [])) ≡ false
     by_tests true c ih h e = absurd (let z : ⊥ = cc in z)
     by_tests false true ih h e = ih e
-    by_tests false false ih h e = list_any-append (λ z. bytes_eq z x) (without_repeats ys) (y ∷ []) ∙ ap (λ c. c || (bytes_eq y x || false)) (ih e) ∙ ap (λ c. c || false) h
+    by_tests false false ih h e = list_any-append (λ z. bytes_eq z x) (without_repeats ys) (y ∷ []) ∙ ap (λ c. c || (bytes_eq y x || false)) (ih e)
+        ∙ ap (λ c. c || false) h
 
 -- the questions of a result are those of the reading
 questions_are : {A : Type 0} (qs : List (List ℕ)) (end : Ending A) (rs : List (List ℕ)) → questions_or_fault qs end ≡ Ok rs → qs ≡ rs

@@ -6,9 +6,9 @@ use Rattle.kc_macros_model.specs.Programs.{Place, Program, returns, stops, ◌>>
 use Rattle.kc_macros_model.specs.Variables.{Value, value_length, joined_values, Variable, simple, recursive, Bindings}
 use Rattle.kc_macros_model.specs.Expansion.{spends, unless_too_long, text_value}
 use Rattle.kc_macros_model.specs.LineTokens.{LineToken, gap, run, token_bytes, bytes_of_tokens}
-use Rattle.kc_macros_model.specs.Rewriting.{is_keyword, WrittenToken, a_gap, an_unknown, token_of_text, run_value, written_token}
+use Rattle.kc_macros_model.specs.WrittenTokens.{is_keyword, WrittenToken, a_gap, an_unknown, token_of_text, run_value, written_token}
 
--- `:=`, `+=` and `=`
+-- the operators of assignments: `:=`, `+=` and `=`
 pub data Operator : Type 0 where
   sets_now : Operator
   appends : Operator
@@ -19,10 +19,11 @@ pub record Assigned : Type 0 where
   pub operator : Operator
   pub text : List ℕ
 
+-- an operator with a text
 abbrev pub assigned : Operator → List ℕ → Assigned
 assigned operator text = record { operator = operator; text = text }
 
--- a text without the bytes of this test at its front
+-- a text without the bytes at its front that pass a test
 abbrev pub without_front : (ℕ → Bool) → List ℕ → List ℕ
 without_front p s = drop (prefix_len p s) s
 
@@ -30,7 +31,7 @@ without_front p s = drop (prefix_len p s) s
 abbrev pub is_blank_byte : ℕ → Bool
 is_blank_byte c = c == 32 || (c == 9)
 
--- the operator at the front, and the bytes after it
+-- the assignment operator at the front of a text, and the bytes after it
 abbrev pub operator_at : List ℕ → Option Assigned
 operator_at [] = None
 operator_at (c ∷ []) = if c == 61 then Some (assigned sets []) else None
@@ -45,41 +46,45 @@ abbrev pub assignment_to : LineToken → List LineToken → Option Assigned
 assignment_to (run s) ts = if is_keyword s then None else option_map (λ (a : Assigned). assigned a.operator (without_front is_blank_byte a.text)) (operator_at (without_front is_white_byte (bytes_of_tokens ts)))
 assignment_to t ts = None
 
--- the same where a name may come, which is before the first token that isn't empty
+-- the assignment to a token as its name, where one may come: before the first token whose value isn't empty
 abbrev pub assignment_at : (may_assign : Bool) → LineToken → List LineToken → Option Assigned
 assignment_at true t ts = assignment_to t ts
 assignment_at false t ts = None
 
--- a line assigns a text to a name, or has these tokens
+-- the content of a line: an assignment of a text to a name, or written tokens
 pub data LineContent : Type 0 where
   assigns : (name : List ℕ) → Assigned → LineContent
   tokens : List WrittenToken → LineContent
 
+-- a content with a token before its tokens
 abbrev pub with_token : WrittenToken → LineContent → LineContent
 with_token t (tokens ts) = tokens (t ∷ ts)
 with_token t (assigns name a) = assigns name a
 
+-- whether a written token is a gap: white, a comment, or a token whose value is empty
 abbrev pub is_gap : WrittenToken → Bool
 is_gap t = elim t.sort [ a_gap ↦ true | _ ↦ false ]
 
+-- whether a token depends on a question without an answer
 abbrev pub is_unknown : WrittenToken → Bool
 is_unknown t = elim t.sort [ an_unknown ↦ true | _ ↦ false ]
 
+-- whether a token is white or a comment
 abbrev pub is_gap_token : LineToken → Bool
 is_gap_token (gap s) = true
 is_gap_token t = false
 
--- whether tokens come after one that may be gone, so that they may be a line of their own
+-- whether a first token may be gone and tokens follow it, so that it isn't known whether these are an assignment
 abbrev pub is_open_front : (may_assign : Bool) → WrittenToken → List LineToken → Bool
 is_open_front may_assign w ts = may_assign && is_unknown w && list_any (λ t. not (is_gap_token t)) ts
 
--- a name with its value: an empty one is a token that is gone, and without a value the reading ends
+-- an assignment by the value of its name: an empty name is a gap, and where the value isn't known the reading ends
 abbrev pub assignment_or : Program LineContent → Assigned → Value → Program LineContent
 assignment_or rest a None = stops
 assignment_or rest a (Some []) = rest
 assignment_or rest a (Some (c ∷ name)) = returns (assigns (c ∷ name) a)
 
--- the content of a line from a token on; the reading ends where it isn't known what the line is
+-- the content of a line from its first tokens on; the reading ends where it isn't known whether the line is an assignment
 abbrev pub line_content : Place → Bindings → (may_assign : Bool) → List LineToken → Program LineContent
 line_content at b may_assign [] = returns (tokens [])
 line_content at b may_assign (t ∷ ts) =
@@ -89,17 +94,19 @@ line_content at b may_assign (t ∷ ts) =
           elim (is_open_front may_assign w ts) [ true ↦ stops | false ↦ line_content at b (may_assign && is_gap w) ts >>= λ rest. returns (with_token w rest) ]
     ]
 
--- a new variable, which is stored with its value or text
+-- stores a variable with this value or text: a fault where that is too long, else work for its bytes
 abbrev pub stored : Place → Value → Variable → Program Variable
 stored at value v = unless_too_long at (value_length value) (spends at (value_length value) (returns v))
 
+-- stores a value as a simple variable
 abbrev pub stored_simple : Place → Value → Program Variable
 stored_simple at value = stored at value (simple value)
 
+-- stores a text as a recursive variable
 abbrev pub stored_recursive : Place → List ℕ → Program Variable
 stored_recursive at text = stored at (Some text) (recursive text)
 
--- the variable that an assignment makes of the one before, if there is one; `+=` keeps its flavour
+-- the variable that an assignment makes for a name, which may have an earlier one; `+=` keeps the flavour of that
 abbrev pub variable_assigned : Place → Bindings → Operator → List ℕ → Option Variable → Program Variable
 variable_assigned at b sets_now text before = text_value at b text >>= stored_simple at
 variable_assigned at b appends text (Some (simple value)) = text_value at b text >>= λ more. stored_simple at (joined_values value (joined_values (Some (32 ∷ [])) more))

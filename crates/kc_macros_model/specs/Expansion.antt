@@ -11,31 +11,34 @@ use Rattle.kc_macros_model.specs.Programs.{Place, spend, report, ask, Program, r
 use Rattle.kc_macros_model.specs.References.{Item, byte, escaped, reference, unterminated, items, pieces}
 use Rattle.kc_macros_model.specs.Variables.{Value, value_length, joined_values, Variable, simple, recursive, Bindings, is_number, is_environment_name, command_question, argument_of, BuiltIn, filename, lineno, shell, info, warning_if, error_if, built_ins, value_of_answer}
 
+-- a program that fails at a place
 abbrev pub fault : {A : Type 0} → Place → MacroKind → List ℕ → Program A
 fault at kind text = fails (record { at = at; kind = kind; text = text })
 
+-- a program that does work first
 abbrev pub spends : {A : Type 0} → Place → ℕ → Program A → Program A
 spends at work p = does (spend at work) (λ u. p)
 
--- the value of a question
+-- the value of a question, by its answer
 abbrev pub asked_value : Place → List ℕ → Program Value
 asked_value at question = does (ask at question) (λ answer. returns (value_of_answer answer))
 
--- a notice, whose value is empty
+-- reports a notice; the reference that asks for it has an empty value
 abbrev pub reported : Place → MacroNoticeKind → List ℕ → Program Value
 reported at kind text = does (report (record { at = at; kind = kind; text = text })) (λ u. returns (Some []))
 
--- a message where the condition is `y`; one with an unknown text has no effect
+-- a message, as `warning-if` and `error-if` have it, where the condition is `y`; one with an unknown text has no effect
 abbrev pub message_if : (List ℕ → Program Value) → Value → Value → Program Value
 message_if message (Some condition) (Some text) = if bytes_eq condition (codes "y") then message text else returns (Some [])
 message_if message (Some condition) None = returns (Some [])
 message_if message None text = returns (Some [])
 
+-- the value of `shell`: the answer to its command
 abbrev pub shell_value : Place → Value → Program Value
 shell_value at None = returns None
 shell_value at (Some command) = asked_value at (command_question command)
 
--- the value of a built-in function; another count of arguments is a fault
+-- the value of a built-in function, called with these arguments; another count of arguments than it takes is a fault
 abbrev pub built_in_value : Place → List ℕ → BuiltIn → List Value → Program Value
 built_in_value at name filename [] = returns (Some at.file)
 built_in_value at name lineno [] = returns (Some (decimal at.line))
@@ -50,6 +53,7 @@ abbrev pub other_value : Place → List ℕ → List Value → Program Value
 other_value at name (arg ∷ args) = fault at Undefined name
 other_value at name [] = if is_number name then returns (Some []) else if is_environment_name name then asked_value at name else fault at Undefined name
 
+-- the value of a name that is no variable, called with these arguments: of a built-in function, or of another name
 abbrev pub unbound_value : Place → List ℕ → List Value → Option BuiltIn → Program Value
 unbound_value at name args (Some f) = built_in_value at name f args
 unbound_value at name args None = other_value at name args
@@ -59,33 +63,34 @@ abbrev pub is_recursion : List (List ℕ) → List ℕ → List Value → Bool
 is_recursion open_names name [] = list_any (bytes_eq name) open_names
 is_recursion open_names name (arg ∷ args) = false
 
--- a way to expand a text: under the names whose values are being expanded, and arguments
+-- a way to expand a text, by the names whose values are being expanded, and the arguments of the call
 abbrev pub Expander : Type 0
 Expander = List (List ℕ) → List Value → List ℕ → Program Value
 
--- the value of a variable, or of a name that isn't one
+-- the value of a name, called with these arguments: of a variable, or of a name that isn't one
 abbrev pub named_value : Expander → Place → List (List ℕ) → List ℕ → List Value → Option Variable → Program Value
 named_value sub at open_names name args None = unbound_value at name args (keyword_in_table built_ins name)
 named_value sub at open_names name args (Some (simple value)) = returns value
 named_value sub at open_names name args (Some (recursive text)) = elim (is_recursion open_names name args) [ true ↦ fault at Recursion name | false ↦ sub (name ∷ open_names) args text ]
 
--- the values of pieces, in order
+-- the values of the pieces of a reference, in order
 abbrev pub piece_values : (List ℕ → Program Value) → List (List ℕ) → Program (List Value)
 piece_values expand [] = returns []
 piece_values expand (p ∷ ps) = expand p >>= λ v. piece_values expand ps >>= λ vs. returns (v ∷ vs)
 
--- the value of a name with its arguments
+-- the value of a reference by the values of its pieces: a name and its arguments
 abbrev pub call_value : Expander → Place → Bindings → List (List ℕ) → List Value → Program Value
 call_value sub at b open_names [] = fault at Undefined []
 call_value sub at b open_names (None ∷ args) = returns None
 call_value sub at b open_names (Some name ∷ args) = named_value sub at open_names name args (b name)
 
--- the value of a reference that means this argument, or none
+-- the value of a reference: that of the argument whose number it is, or else of its pieces, of which there may be 16
 abbrev pub reference_value : Expander → Place → Bindings → List (List ℕ) → List Value → List ℕ → Option Value → Program Value
 reference_value sub at b open_names args inside (Some value) = returns value
 reference_value sub at b open_names args inside None =
     elim (nat_le (length (pieces 0 inside)) max_pieces) [ true ↦ piece_values (sub open_names args) (pieces 0 inside) >>= call_value sub at b open_names | false ↦ fault at Arguments [] ]
 
+-- the value of an item of a text: of a byte itself, of a reference its value
 abbrev pub item_value : Expander → Place → Bindings → List (List ℕ) → List Value → Item → Program Value
 item_value sub at b open_names args (byte c) = returns (Some (c ∷ []))
 item_value sub at b open_names args (escaped c) = returns (Some (92 ∷ c ∷ []))
@@ -96,7 +101,7 @@ item_value sub at b open_names args (unterminated rest) = fault at Unterminated 
 abbrev pub unless_too_long : {A : Type 0} → Place → ℕ → Program A → Program A
 unless_too_long at n p = elim (nat_le n max_text_bytes) [ true ↦ p | false ↦ fault at LineTooLong [] ]
 
--- the values of items in a row, after this many bytes
+-- the value of items one after the other, where this many bytes of the value of the text come before them
 abbrev pub item_values : Place → (Item → Program Value) → ℕ → List Item → Program Value
 item_values at value n [] = returns (Some [])
 item_values at value n (i ∷ is) = value i >>= λ v. unless_too_long at (n + value_length v) (item_values at value (n + value_length v) is >>= λ rest. returns (joined_values v rest))

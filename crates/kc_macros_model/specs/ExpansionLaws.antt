@@ -19,7 +19,7 @@ ExpansionKeepsTheRules = (w : World) (at : Place) (b : Bindings) (more : ℕ) (o
 abbrev pub is_bound : MacroKind → Bool
 is_bound k = elim k [ TooDeep ↦ true | LineTooLong ↦ true | Recursion ↦ true | _ ↦ false ]
 
--- a value is returned, or a bound is met
+-- a program returns a value, or meets a bound
 pub data IsValueOrBound {A : Type 0} (v : A) : Ending A → Type 0 where
   value : IsValueOrBound v (returned v)
   bound : {f : Fault} → is_bound f.kind ≡ true → IsValueOrBound v (failed f)
@@ -45,12 +45,12 @@ abbrev pub ValuesAreBounded : Type 0
 ValuesAreBounded = (w : World) (at : Place) (b : Bindings) (more : ℕ) (open_names : List (List ℕ)) (args : List Value) (text : List ℕ) (v : Value)
     → ending_in w (expanded more at b open_names args text) ≡ returned v → value_length v ≤ max_text_bytes
 
--- the bytes that are stored for a variable
+-- how many bytes are stored for a variable
 abbrev pub stored_length : Variable → ℕ
 stored_length (simple v) = value_length v
 stored_length (recursive text) = length text
 
--- no variable stores more, however it is appended to
+-- no variable stores more bytes than a text may have, however it is appended to
 abbrev pub VariablesAreBounded : Type 0
 VariablesAreBounded = (w : World) (at : Place) (b : Bindings) (operator : Operator) (text : List ℕ) (before : Option Variable) (x : Variable)
     → ending_in w (variable_assigned at b operator text before) ≡ returned x → stored_length x ≤ max_text_bytes

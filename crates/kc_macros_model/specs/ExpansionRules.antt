@@ -1,4 +1,4 @@
--- Expansion by rules: the text that a text expands to, apart from how it is gone through.
+-- Expansion by rules: the value that a text expands to, whatever the order of the steps.
 use Rattle.std.specs.Prelude.{◌≡◌, ℕ, Bool, false, ◌&&◌, ◌==◌, ◌≤◌, List, [], ◌∷◌, ◌++◌, length, Some, None}
 use Rattle.kc_tree_model.specs.Keywords.{keyword_in_table}
 use Rattle.kc_macros_model.specs.Limits.{max_pieces}
@@ -30,7 +30,7 @@ mutual
     reference : {args : List Value} {inside s : List ℕ} {u v : Value} → inside_length 0 (inside ++ 41 ∷ s) ≡ Some (length inside)
         → Refers w at b args inside u → Expands w at b args s v → Expands w at b args (36 ∷ 40 ∷ (inside ++ 41 ∷ s)) (joined_values u v)
 
-  -- a reference with this inside has a value
+  -- a reference with these bytes between its parentheses has a value
   pub data Refers (w : World) (at : Place) (b : Bindings) : List Value → List ℕ → Value → Type 0 where
     parameter : {args : List Value} {inside : List ℕ} {u : Value} → argument_of args inside ≡ Some u → Refers w at b args inside u
     call : {args given : List Value} {inside name : List ℕ} {u : Value} → argument_of args inside ≡ None → length (pieces 0 inside) ≤ max_pieces

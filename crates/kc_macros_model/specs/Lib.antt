@@ -4,7 +4,7 @@ pub mod References
 pub mod Variables
 pub mod Expansion
 pub mod LineTokens
-pub mod Rewriting
+pub mod WrittenTokens
 pub mod Assignments
 pub mod LineForms
 pub mod PathPatterns
@@ -18,4 +18,4 @@ pub mod ExpansionLaws
 pub mod TreeLaws
 pub mod ReadingLaws
 pub mod PlainLines
-pub mod OnceLaws
+pub mod SecondExpansionLaws

@@ -3,15 +3,15 @@ use Rattle.std.specs.Prelude.{ℕ, zero, suc, Bool, true, false, not, ◌&&◌, 
 use Rattle.std.specs.List.{list_any}
 use Rattle.kc_tree_model.specs.Limits.{is_in_list}
 use Rattle.kc_macros_model.specs.Variables.{Value}
-use Rattle.kc_macros_model.specs.Rewriting.{WrittenToken, a_word, a_quoted, an_unknown, written_as, in_quotes_of}
+use Rattle.kc_macros_model.specs.WrittenTokens.{WrittenToken, a_word, a_quoted, an_unknown, written_as, in_quotes_of}
 use Rattle.kc_macros_model.specs.Assignments.{is_gap, is_unknown}
 
--- which `source` a line has: one whose paths begin at the folder of the file, one whose files may be missing
+-- the sort of a `source`: whether its path begins in the folder of the file, and whether its files may be missing
 pub record SourceSort : Type 0 where
   pub relative : Bool
   pub optional : Bool
 
--- a line stays; its second token is a prompt without quotes; it is replaced; it names a choice; it sources files
+-- the form of a line: it stays; its second token is a prompt without quotes; it is replaced; it names a choice; it sources files
 pub data LineForm : Type 0 where
   plain : LineForm
   bare_prompt : List ℕ → LineForm
@@ -23,6 +23,7 @@ pub data LineForm : Type 0 where
 abbrev pub prompt_words : List (List ℕ)
 prompt_words = codes "bool" ∷ codes "tristate" ∷ codes "string" ∷ codes "hex" ∷ codes "int" ∷ codes "prompt" ∷ codes "menu" ∷ codes "comment" ∷ codes "mainmenu" ∷ []
 
+-- words that a path of files to be read follows
 abbrev pub source_words : List (List ℕ)
 source_words = codes "source" ∷ codes "rsource" ∷ codes "osource" ∷ codes "orsource" ∷ []
 
@@ -30,17 +31,19 @@ source_words = codes "source" ∷ codes "rsource" ∷ codes "osource" ∷ codes 
 abbrev pub help_words : List (List ℕ)
 help_words = codes "help" ∷ codes "---help---" ∷ []
 
+-- the sort of `source` that a word means: `rsource` and `orsource` are relative, `osource` and `orsource` optional
 abbrev pub sort_of_source : List ℕ → SourceSort
 sort_of_source word = record { relative = is_in_list word (codes "rsource" ∷ codes "orsource" ∷ []); optional = is_in_list word (codes "osource" ∷ codes "orsource" ∷ []) }
 
+-- whether a written token is a word
 abbrev pub is_word : WrittenToken → Bool
 is_word t = elim t.sort [ a_word ↦ true | _ ↦ false ]
 
--- a word, a quoted token, or one that may become either
+-- whether a token may be a path: a word, a quoted token, or one that may become either
 abbrev pub is_path : WrittenToken → Bool
 is_path t = elim t.sort [ a_word ↦ true | a_quoted ↦ true | an_unknown ↦ true | _ ↦ false ]
 
--- a word that may be a prompt
+-- whether a token may be a prompt without quotes: a word but `if` and `on`
 abbrev pub is_bare_prompt : WrittenToken → Bool
 is_bare_prompt t = is_word t && not (is_in_list t.bytes (codes "if" ∷ codes "on" ∷ []))
 
@@ -65,16 +68,17 @@ form_of [] = plain
 form_of (t ∷ []) = plain
 form_of (t ∷ u ∷ rest) = if is_word t then form_by_word t.bytes u rest else plain
 
+-- the tokens of a line that are no gaps
 abbrev pub without_gaps : List WrittenToken → List WrittenToken
 without_gaps ts = filter (λ t. not (is_gap t)) ts
 
--- whether a help text follows a line: its one token is such a word
+-- whether a help text follows a line: its one token is `help` or `---help---`
 abbrev pub is_help_line : List WrittenToken → Bool
 is_help_line [] = false
 is_help_line (t ∷ []) = is_word t && is_in_list t.bytes help_words
 is_help_line (t ∷ u ∷ rest) = false
 
--- whether it isn't known what a line is: a `source` or the beginning of a help text with a token that may be gone
+-- whether the form of a line isn't known: it begins with a `source` or help word, and a later token may be gone
 abbrev pub is_undecided : List WrittenToken → Bool
 is_undecided [] = false
 is_undecided (t ∷ rest) = is_word t && (is_in_list t.bytes source_words || is_in_list t.bytes help_words) && list_any is_unknown rest
@@ -84,14 +88,15 @@ abbrev pub with_nth_token : ℕ → WrittenToken → List WrittenToken → List 
 with_nth_token n new [] = []
 with_nth_token n new (t ∷ ts) = if is_gap t then t ∷ with_nth_token n new ts else elim n [ zero ↦ new ∷ ts | suc m ↦ t ∷ with_nth_token m new ts ]
 
+-- the bytes of a line, by its written tokens
 abbrev pub line_bytes : List WrittenToken → List ℕ
 line_bytes ts = flat_map (λ (t : WrittenToken). t.bytes) ts
 
--- a line with these bytes in place of all from its first token on
+-- the bytes of a line that from its first token on is replaced by others
 abbrev pub with_replacement : List ℕ → List WrittenToken → List ℕ
 with_replacement new [] = new
 with_replacement new (t ∷ ts) = if is_gap t then t.bytes ++ with_replacement new ts else new
 
--- a text as a quoted token
+-- a text as a token in double quotes
 abbrev pub quoted_text_token : List ℕ → WrittenToken
 quoted_text_token s = written_as a_quoted (in_quotes_of 34 s) s

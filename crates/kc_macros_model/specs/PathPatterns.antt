@@ -8,14 +8,15 @@ use Rattle.kc_macros_model.specs.Limits.{max_listed_names}
 use Rattle.kc_macros_model.specs.Programs.{Place, read_file, list_folder, Program, returns, does, ◌>>=◌}
 use Rattle.kc_macros_model.specs.Expansion.{fault}
 
--- `*` or `?`
+-- whether a byte is `*` or `?`
 abbrev pub is_wildcard : ℕ → Bool
 is_wildcard c = c == 42 || (c == 63)
 
+-- whether a path has a `*` or a `?`
 abbrev pub is_pattern : List ℕ → Bool
 is_pattern path = list_any is_wildcard path
 
--- whether a text, or what is left after some of its bytes, passes a test
+-- whether some end of a text, which may be all of it or empty, passes a test
 abbrev pub some_end_matches : (List ℕ → Bool) → List ℕ → Bool
 some_end_matches test [] = test []
 some_end_matches test (c ∷ s) = test (c ∷ s) || some_end_matches test s
@@ -30,25 +31,26 @@ abbrev pub matches : List ℕ → List ℕ → Bool
 matches [] name = nat_le (length name) 0
 matches (c ∷ piece) name = elim (c == 42) [ true ↦ some_end_matches (matches piece) name | false ↦ first_byte_matches c (matches piece) name ]
 
--- a name that a line can hold
+-- whether a line can have a name: it is UTF-8 and has no newline
 abbrev pub is_writable_name : List ℕ → Bool
 is_writable_name name = is_utf8 name && not (has_newline name)
 
--- a name that begins with `.` matches only a piece that does
+-- whether a name in a folder matches a piece; one that begins with `.` matches only a piece that does
 abbrev pub matches_name : List ℕ → List ℕ → Bool
 matches_name piece name = is_writable_name name && (not (slice_index name 0 == 46 && not (slice_index piece 0 == 46)) && matches piece name)
 
--- a path, cut at each slash
+-- the pieces of a path, which is cut at each slash
 abbrev pub path_pieces : List ℕ → List (List ℕ)
 path_pieces [] = [] ∷ []
 path_pieces (c ∷ s) = if c == 47 then [] ∷ path_pieces s else onto_first c (path_pieces s)
 
--- whether bytes come before others, or are the same
+-- whether a text comes before another in order of their bytes, or is the same
 abbrev pub is_in_order : List ℕ → List ℕ → Bool
 is_in_order [] t = true
 is_in_order (c ∷ s) [] = false
 is_in_order (c ∷ s) (d ∷ t) = nat_lt c d || (c == d && is_in_order s t)
 
+-- a text inserted into texts in ascending order
 abbrev pub inserted : List ℕ → List (List ℕ) → List (List ℕ)
 inserted s [] = s ∷ []
 inserted s (t ∷ ts) = if is_in_order s t then s ∷ t ∷ ts else t ∷ inserted s ts
@@ -58,11 +60,12 @@ abbrev pub sorted : List (List ℕ) → List (List ℕ)
 sorted [] = []
 sorted (s ∷ ss) = inserted s (sorted ss)
 
--- paths, and how many names were listed for the tree so far
+-- the paths that were found, and how many names were listed for the tree so far
 pub record FoundPaths : Type 0 where
   pub paths : List (List ℕ)
   pub listed : ℕ
 
+-- paths with a count of listed names
 abbrev pub found : List (List ℕ) → ℕ → FoundPaths
 found paths listed = record { paths = paths; listed = listed }
 
@@ -72,24 +75,25 @@ matching_names at piece folder listed names =
     if nat_lt max_listed_names (listed + length names) then fault at TooMany []
     else returns (found (map (λ name. folder ++ name) (filter (matches_name piece) names)) (listed + length names))
 
--- the paths of a piece in a folder, which is empty or ends in a slash; a piece that is no pattern is taken as it is
+-- the paths that a piece matches in a folder, which is empty or ends in a slash; a piece that is no pattern matches itself
 abbrev pub paths_in_folder : Place → (piece folder : List ℕ) → ℕ → Program FoundPaths
 paths_in_folder at piece folder listed =
     elim (is_pattern piece) [ true ↦ does (list_folder folder) (matching_names at piece folder listed) | false ↦ returns (found ((folder ++ piece) ∷ []) listed) ]
 
+-- the paths that a piece matches in some folders
 abbrev pub paths_in_folders : Place → List ℕ → List (List ℕ) → ℕ → Program FoundPaths
 paths_in_folders at piece [] listed = returns (found [] listed)
 paths_in_folders at piece (folder ∷ folders) listed =
     paths_in_folder at piece folder listed >>= λ first. paths_in_folders at piece folders first.listed >>= λ rest. returns (found (first.paths ++ rest.paths) rest.listed)
 
--- the paths that match pieces below folders
+-- the paths that match pieces below some folders, the last of them in the folders that match those before it
 abbrev pub paths_below : Place → List (List ℕ) → List (List ℕ) → ℕ → Program FoundPaths
 paths_below at [] folders listed = returns (found folders listed)
 paths_below at (piece ∷ []) folders listed = paths_in_folders at piece folders listed
 paths_below at (piece ∷ next ∷ pieces) folders listed =
     paths_in_folders at piece folders listed >>= λ f. paths_below at (next ∷ pieces) (map (λ path. path ++ 47 ∷ []) f.paths) f.listed
 
--- those paths that can be read
+-- those of some paths whose files can be read
 abbrev pub readable_paths : List (List ℕ) → Program (List (List ℕ))
 readable_paths [] = returns []
 readable_paths (path ∷ paths) = does (read_file path) (λ bytes. readable_paths paths >>= λ rest. returns (if is_some bytes then path ∷ rest else rest))

@@ -9,7 +9,7 @@ use Rattle.kc_macros_model.specs.Limits.{max_text_bytes}
 use Rattle.kc_macros_model.specs.Programs.{Fault, Answer}
 use Rattle.kc_macros_model.specs.References.{Item, byte, escaped, reference, unterminated, items, is_reference, is_plain_dollar}
 use Rattle.kc_macros_model.specs.LineTokens.{LineToken, gap, run, quoted, other, broken, line_tokens}
-use Rattle.kc_macros_model.specs.Rewriting.{WrittenToken, a_gap, a_word, a_quoted, an_other, written_as}
+use Rattle.kc_macros_model.specs.WrittenTokens.{WrittenToken, a_gap, a_word, a_quoted, an_other, written_as}
 use Rattle.kc_macros_model.specs.Assignments.{assignment_to}
 use Rattle.kc_macros_model.specs.LineForms.{LineForm, plain, bare_prompt, replaced_by, named_choice, sources, form_of, without_gaps, is_word, is_path, is_help_line}
 use Rattle.kc_macros_model.specs.PathPatterns.{is_pattern}
@@ -68,26 +68,27 @@ is_assignment (t ∷ ts) = is_some (assignment_to t ts)
 abbrev pub tokens_as_they_are : List ℕ → List WrittenToken
 tokens_as_they_are text = without_gaps (map token_as_it_is (line_tokens 0 text))
 
+-- whether a line of this form stays as it is
 abbrev pub is_plain_form : LineForm → Bool
 is_plain_form f = elim f [ plain ↦ true | bare_prompt text ↦ false | replaced_by text ↦ false | named_choice name ↦ false | sources sort path ↦ false ]
 
--- the path of a line `source PATH`
+-- the path of the line `source PATH`, by its tokens
 abbrev pub plain_path : List WrittenToken → Option (List ℕ)
 plain_path [] = None
 plain_path (t ∷ []) = None
 plain_path (t ∷ u ∷ []) = if is_word t && (bytes_eq t.bytes (codes "source") && is_path u) then u.meaning else None
 plain_path (t ∷ u ∷ v ∷ rest) = None
 
--- a path that names one file, among these
+-- whether a path names one file, which is one of these
 abbrev pub is_one_of : (paths : List ℕ → Bool) → Option (List ℕ) → Bool
 is_one_of paths None = false
 is_one_of paths (Some path) = not (is_pattern path) && (not (list_any (λ c. c == 91) path) && paths path)
 
--- a line that is copied, since the reader refuses it: one that is too long or isn't UTF-8
+-- whether a line is copied, since the reader refuses it: it is too long or isn't UTF-8
 abbrev pub is_copied : List ℕ → Bool
 is_copied text = nat_lt max_text_bytes (length text) || not (is_utf8 text)
 
--- a line on which nothing acts: nothing to expand, no assignment, and of no form that is written anew but a `source` of one of these files
+-- whether a line is plain: it has nothing to expand, assigns nothing, and is of no form that is written anew but a `source` of one of these files
 abbrev pub is_plain_line : (paths : List ℕ → Bool) → List ℕ → Bool
 is_plain_line paths text =
     is_copied text || (list_all is_kept_token (line_tokens 0 text) && (not (is_assignment (line_tokens 0 text))
@@ -106,7 +107,7 @@ logical_texts zero (l ∷ ls) =
     let text = joined_bytes (map without_return (l ∷ ls)) in
     text ∷ logical_texts (more + help_after (is_before_help text) (drop more ls)) ls
 
--- no path at all
+-- whether a path is among no files
 abbrev pub no_paths : List ℕ → Bool
 no_paths path = false
 
@@ -115,7 +116,7 @@ abbrev pub PlainLinesStay : Type 0
 PlainLinesStay = (sub : SourceReader) (at : Place) (continued : Bool) (text : List ℕ) (s : ReadingState)
     → is_plain_line no_paths text ≡ true → line_written sub at continued text s ≡ returns (written_line text (is_before_help text) s)
 
--- a file of plain lines that source nothing keeps its bytes: no question is asked, nothing is told, and nothing is defined for what follows
+-- a file of plain lines that source nothing keeps its bytes, asks no question, reports no notice, and defines nothing for the lines after it
 abbrev pub PlainFilesStay : Type 0
 PlainFilesStay = (sub : SourceReader) (file bytes : List ℕ) (s : ReadingState)
     → list_all (is_plain_line no_paths) (logical_texts 0 (split_at_newlines bytes)) ≡ true

@@ -3,16 +3,18 @@ use Rattle.std.specs.Prelude.{ℕ, List, Option}
 use Rattle.kc_macros_model.specs.declared.fault.MacroKind.{MacroKind}
 use Rattle.kc_macros_model.specs.declared.fault.MacroNoticeKind.{MacroNoticeKind}
 
--- a line of a file, by the file's path
+-- a place: a line of a file, by the file's path
 pub record Place : Type 0 where
   pub file : List ℕ
   pub line : ℕ
 
+-- why a tree can't be expanded: a kind at a place, and the name or the message that it is about
 pub record Fault : Type 0 where
   pub at : Place
   pub kind : MacroKind
   pub text : List ℕ
 
+-- a message of a tree at a place, which refuses nothing
 pub record Notice : Type 0 where
   pub at : Place
   pub kind : MacroNoticeKind
@@ -46,7 +48,7 @@ pub data Program (A : Type 0) : Type 0 where
   does : (event : Event) → (Reply event → Program A) → Program A
 
 infixl 10 ◌>>=◌
--- one program after another
+-- one program after another, which begins with the value that the first returns
 abbrev pub ◌>>=◌ : {A B : Type 0} → Program A → (A → Program B) → Program B
 returns x >>= f = f x
 fails fault >>= f = fails fault

@@ -15,7 +15,7 @@ pub record IsWithinLimits (s : ReadingState) : Type 0 where
   pub bytes : s.bytes ≤ max_bytes
   pub listed : s.listed ≤ max_listed_names
 
--- a file or a list that is read in a state within the limits leaves one within the limits
+-- a file or a list of files that is read in a state within the limits leaves a state within the limits
 abbrev pub CountsAreBounded : Type 0
 CountsAreBounded = (w : World) (more : ℕ) (root : List ℕ) (open_files : List (List ℕ)) (at : Place) (what : Sourced) (s : ReadingState) (p : Progress)
     → IsWithinLimits s → ending_in w (source_read more root open_files at what s) ≡ returned p → IsWithinLimits p.state
@@ -26,7 +26,7 @@ TreeCountsAreBounded = (w : World) (root bytes : List ℕ) (p : Progress) → le
     → ending_in w (lines_read (source_read max_open_files root (root ∷ [])) root 0 1 (split_at_newlines bytes) (counted (length bytes) initial_state))
     ≡ returned p → IsWithinLimits p.state
 
--- a key of a path: the path, or the path with `#` and a number
+-- a key is one of a path: the path, or the path with `#` and a number
 pub data IsKeyOf (path : List ℕ) : List ℕ → Type 0 where
   the_path : IsKeyOf path path
   numbered : {n : ℕ} → 2 ≤ n → n ≤ max_files → IsKeyOf path (path ++ 35 ∷ decimal n)
@@ -42,8 +42,8 @@ KeysDiffer = (w : World) (root : List ℕ) (files : List ExpandedFile) → (expa
     → IsDistinct bytes_eq (map (λ (f : ExpandedFile). f.key) files)
 
 -- the key that takes the place of a source is that of an expanded file
-abbrev pub KeysAreHeld : Type 0
-KeysAreHeld = (w : World) (more : ℕ) (root : List ℕ) (open_files : List (List ℕ)) (at : Place) (what : Sourced) (s : ReadingState) (p : Progress)
+abbrev pub SourceKeysHaveFiles : Type 0
+SourceKeysHaveFiles = (w : World) (more : ℕ) (root : List ℕ) (open_files : List (List ℕ)) (at : Place) (what : Sourced) (s : ReadingState) (p : Progress)
     → ending_in w (source_read (suc more) root open_files at what s) ≡ returned p → has_key p.state.expanded p.text ≡ true
 
 -- no tree has more expanded files than files may be read
@@ -58,7 +58,7 @@ work_in w stops = 0
 work_in w (does (spend at work) k) = work + work_in w (k (tt {0}))
 work_in w (does e k) = work_in w (k (reply w e))
 
--- an expansion that returns files does no more work than a tree may have, and what is left of it is left
+-- the work of an expansion that returns files, with the work that is left, is the most work over a tree
 abbrev pub WorkIsBounded : Type 0
 WorkIsBounded = (w : World) (root : List ℕ) (files : List ExpandedFile) → (expansion w root).ending ≡ returned files
     → work_in w (tree_read root) + (expansion w root).left ≡ max_work

@@ -9,7 +9,7 @@ pub record ExpandedFile : Type 0 where
   pub path : List ℕ
   pub text : List ℕ
 
--- variables, names of choices, expanded files; counts of files and bytes read and of names listed
+-- the state of a reading: variables, names of choices, expanded files; counts of files and bytes read and of names listed
 pub record ReadingState : Type 0 where
   pub bindings : Bindings
   pub choices : List (List ℕ)
@@ -18,14 +18,16 @@ pub record ReadingState : Type 0 where
   pub bytes : ℕ
   pub listed : ℕ
 
+-- the state before the first line
 abbrev pub initial_state : ReadingState
 initial_state = record { bindings = no_bindings; choices = []; expanded = []; files = 0; bytes = 0; listed = 0 }
 
--- a text, and the state after it
+-- the text that some lines became, or a key, and the state after it
 pub record Progress : Type 0 where
   pub text : List ℕ
   pub state : ReadingState
 
+-- a text with the state after it
 abbrev pub progress : List ℕ → ReadingState → Progress
 progress text s = record { text = text; state = s }
 
@@ -35,22 +37,27 @@ pub record WrittenLine : Type 0 where
   pub begins_help : Bool
   pub state : ReadingState
 
+-- a written line, with whether a help text follows it, and the state after it
 abbrev pub written_line : List ℕ → Bool → ReadingState → WrittenLine
 written_line text begins_help s = record { text = text; begins_help = begins_help; state = s }
 
+-- a state after an assignment
 abbrev pub bound : List ℕ → Variable → ReadingState → ReadingState
 bound name v s = record s { bindings = with_variable name v s.bindings }
 
+-- a state after the first choice of a name
 abbrev pub with_choice : List ℕ → ReadingState → ReadingState
 with_choice name s = record s { choices = name ∷ s.choices }
 
+-- a state with this count of listed names
 abbrev pub with_listed : ℕ → ReadingState → ReadingState
 with_listed listed s = record s { listed = listed }
 
--- a file or a list of this many bytes is read
+-- a state after one more file or list of files is read, of this many bytes
 abbrev pub counted : ℕ → ReadingState → ReadingState
 counted n s = record s { files = s.files + 1; bytes = s.bytes + n }
 
+-- whether one of some files has a key
 abbrev pub has_key : List (ExpandedFile) → List ℕ → Bool
 has_key files key = list_any (λ (f : ExpandedFile). bytes_eq f.key key) files
 
@@ -67,10 +74,10 @@ free_key (suc more) root files path text key n = elim (is_taken root files text 
 abbrev pub key_of : (root : List ℕ) → List ExpandedFile → (path text : List ℕ) → List ℕ
 key_of root files path text = free_key (suc (length files)) root files path text path 2
 
--- an expanded file more; one with the key of another has its bytes
+-- a state with one more expanded file, unless its key is there, whose file has the same bytes then
 abbrev pub with_expanded : (key path text : List ℕ) → ReadingState → ReadingState
 with_expanded key path text s = record s { expanded = if has_key s.expanded key then s.expanded else s.expanded ++ record { key = key; path = path; text = text } ∷ [] }
 
--- the text of a file that was read to its end is kept, and the key takes its place
-abbrev pub kept : (root path : List ℕ) → Progress → Progress
-kept root path p = let key = key_of root p.state.expanded path p.text in progress key (with_expanded key path p.text p.state)
+-- the state after the last line of a file: its text is among the expanded files, and its key is the text that a `source` gets
+abbrev pub stored_file : (root path : List ℕ) → Progress → Progress
+stored_file root path p = let key = key_of root p.state.expanded path p.text in progress key (with_expanded key path p.text p.state)

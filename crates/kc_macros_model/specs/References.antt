@@ -2,7 +2,7 @@
 use Rattle.std.specs.Prelude.{ℕ, zero, suc, pred, ◌+◌, ◌-◌, Bool, true, false, ◌&&◌, ◌==◌, List, [], ◌∷◌, ◌++◌, length, take, Option, Some, None, option_map, if◌then◌else◌}
 use Rattle.std.specs.List.{onto_first}
 
--- how many parentheses are open after a byte
+-- how many parentheses are open after a byte, of `n` before it
 abbrev pub open_after : ℕ → ℕ → ℕ
 open_after c n = if c == 40 then n + 1 else if c == 41 then n - 1 else n
 
@@ -11,18 +11,19 @@ abbrev pub inside_length : (n : ℕ) → List ℕ → Option ℕ
 inside_length n [] = None
 inside_length n (c ∷ s) = if c == 41 && (n == 0) then Some 0 else option_map suc (inside_length (open_after c n) s)
 
--- the inside of a reference, cut at its commas outside parentheses: a name and its arguments
+-- the pieces of a reference, whose inside is cut at the commas outside parentheses: a name and its arguments
 abbrev pub pieces : (n : ℕ) → List ℕ → List (List ℕ)
 pieces n [] = [] ∷ []
 pieces n (c ∷ s) = let rest = pieces (open_after c n) s in if c == 44 && (n == 0) then [] ∷ rest else onto_first c rest
 
--- a byte; in quotes a backslash with the byte after it; a reference by its inside; a `$(` without its `)`, with all that follows
+-- an item: a byte; in quotes a backslash with the byte after it; a reference by its inside; a `$(` without its `)`, with all that follows
 pub data Item : Type 0 where
   byte : ℕ → Item
   escaped : ℕ → Item
   reference : List ℕ → Item
   unterminated : List ℕ → Item
 
+-- the bytes of an item
 abbrev pub item_bytes : Item → List ℕ
 item_bytes (byte c) = c ∷ []
 item_bytes (escaped c) = 92 ∷ c ∷ []
@@ -48,15 +49,17 @@ items q skip [] = []
 items q (suc skip) (c ∷ s) = items q skip s
 items q zero (c ∷ s) = let i = first_item q c s in i ∷ items q (pred (length (item_bytes i))) s
 
+-- whether an item is a `$(` without its `)`
 abbrev pub is_unterminated : Item → Bool
 is_unterminated (unterminated rest) = true
 is_unterminated i = false
 
+-- whether an item is a reference
 abbrev pub is_reference : Item → Bool
 is_reference (reference inside) = true
 is_reference i = false
 
--- a `$` that begins no reference
+-- whether an item is a `$` that begins no reference
 abbrev pub is_plain_dollar : Item → Bool
 is_plain_dollar (byte c) = c == 36
 is_plain_dollar i = false

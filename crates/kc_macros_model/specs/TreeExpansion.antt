@@ -11,25 +11,27 @@ use Rattle.kc_macros_model.specs.Programs.{Place, read_file, Program, returns, s
 use Rattle.kc_macros_model.specs.Variables.{Value}
 use Rattle.kc_macros_model.specs.Expansion.{fault}
 use Rattle.kc_macros_model.specs.LineTokens.{line_tokens}
-use Rattle.kc_macros_model.specs.Rewriting.{WrittenToken, a_word, written_as, in_quotes_of}
+use Rattle.kc_macros_model.specs.WrittenTokens.{WrittenToken, a_word, written_as, in_quotes_of}
 use Rattle.kc_macros_model.specs.Assignments.{without_front, LineContent, assigns, tokens, line_content, variable_assigned}
 use Rattle.kc_macros_model.specs.LineForms.{SourceSort, LineForm, plain, bare_prompt, replaced_by, named_choice, sources, form_of, without_gaps, with_nth_token, with_replacement, line_bytes, quoted_text_token, is_help_line, is_undecided}
 use Rattle.kc_macros_model.specs.PathPatterns.{is_pattern, FoundPaths, files_of_pattern, readable_paths}
-use Rattle.kc_macros_model.specs.ReadingStates.{ExpandedFile, ReadingState, initial_state, Progress, progress, WrittenLine, written_line, bound, with_choice, with_listed, counted, kept}
+use Rattle.kc_macros_model.specs.ReadingStates.{ExpandedFile, ReadingState, initial_state, Progress, progress, WrittenLine, written_line, bound, with_choice, with_listed, counted, stored_file}
 
+-- a line of a file, by the file's path
 abbrev pub place : List ℕ → ℕ → Place
 place file line = record { file = file; line = line }
 
--- the things that a `source` line reads: a file, or a list of files under a name
+-- a source: a file, or a list of files under a name
 pub data Sourced : Type 0 where
   one_file : List ℕ → Sourced
   file_list : (name : List ℕ) → List (List ℕ) → Sourced
 
+-- the path of a source; that of a list is its name
 abbrev pub sourced_path : Sourced → List ℕ
 sourced_path (one_file path) = path
 sourced_path (file_list name paths) = name
 
--- a way to read a file or a list for a line: the text that it leaves is the key
+-- a way to read a source for a line; it returns the key of the expanded text
 abbrev pub SourceReader : Type 0
 SourceReader = Place → Sourced → ReadingState → Program Progress
 
@@ -37,30 +39,31 @@ SourceReader = Place → Sourced → ReadingState → Program Progress
 abbrev pub folder_of : List ℕ → List ℕ
 folder_of path = reverse (without_front (λ c. not (c == 47)) (reverse path))
 
+-- whether a path begins with a slash
 abbrev pub begins_with_slash : List ℕ → Bool
 begins_with_slash [] = false
 begins_with_slash (c ∷ s) = c == 47
 
--- the path that a `source` of this sort means in a file
+-- the path that a `source` of a file means, by its sort and the path as it is written
 abbrev pub path_meant : SourceSort → (file given : List ℕ) → List ℕ
 path_meant sort file given = if sort.relative && not (begins_with_slash given) then folder_of file ++ given else given
 
--- the name of the list of a line
+-- the name of the list of files of a line: the path of its file, `:` and its number
 abbrev pub list_name : Place → List ℕ
 list_name at = at.file ++ 58 ∷ decimal at.line
 
--- the `source` of a key: its path stays as written where it is the key
+-- a `source` line with the key of what it sources as its path; a path that is the key stays as it is written
 abbrev pub source_line : List WrittenToken → (given key : List ℕ) → List ℕ
 source_line ts given key =
     let first = with_nth_token 0 (written_as a_word (codes "source") []) ts in
     line_bytes (if bytes_eq key given then first else with_nth_token 1 (quoted_text_token key) first)
 
--- the list of the files that a pattern has; none is a fault, unless they may be missing
+-- reads the list of the files that a pattern has; none is a fault, unless they may be missing
 abbrev pub pattern_read : SourceReader → Place → SourceSort → ReadingState → FoundPaths → Program Progress
 pattern_read sub at sort s f =
     elim (nat_lt 0 (length f.paths) || sort.optional) [ true ↦ sub at (file_list (list_name at) f.paths) (with_listed f.listed s) | false ↦ fault at MissingFile [] ]
 
--- reads the files of a path: those of a pattern, one that may be missing, or one
+-- reads the source of a path: the files of a pattern, one file that may be missing, or one file
 abbrev pub path_read : SourceReader → Place → SourceSort → List ℕ → ReadingState → Program Progress
 path_read sub at sort path s =
     elim (is_pattern path) [
@@ -68,20 +71,20 @@ path_read sub at sort path s =
       | false ↦ elim sort.optional [ true ↦ readable_paths (path ∷ []) >>= λ paths. sub at (file_list (list_name at) paths) s | false ↦ sub at (one_file path) s ]
     ]
 
--- a `source` line is followed; one whose path has a `[` stays
+-- a `source` line is followed, unless its path has a `[`, and its path becomes a key
 abbrev pub source_followed : SourceReader → Place → List WrittenToken → SourceSort → Value → ReadingState → Program Progress
 source_followed sub at ts sort None s = stops
 source_followed sub at ts sort (Some given) s =
     let path = path_meant sort at.file given in
     elim (list_any (λ c. c == 91) path) [ true ↦ returns (progress (line_bytes ts) s) | false ↦ path_read sub at sort path s >>= λ p. returns (progress (source_line ts given p.text) p.state) ]
 
--- the first choice of a name loses it
+-- a line that names a choice: the first choice of a name loses it
 abbrev pub choice_written : List WrittenToken → List ℕ → ReadingState → Progress
 choice_written ts name s =
     if is_in_list name s.choices then progress (line_bytes ts) s
     else progress (line_bytes (with_nth_token 1 (written_as a_word [] []) ts)) (with_choice name s)
 
--- a line by its form
+-- a line is written by its form
 abbrev pub form_written : SourceReader → Place → List WrittenToken → LineForm → ReadingState → Program Progress
 form_written sub at ts plain s = returns (progress (line_bytes ts) s)
 form_written sub at ts (bare_prompt text) s = returns (progress (line_bytes (with_nth_token 1 (written_as a_word (34 ∷ (text ++ 34 ∷ [])) []) ts)) s)
@@ -89,16 +92,16 @@ form_written sub at ts (replaced_by text) s = returns (progress (with_replacemen
 form_written sub at ts (named_choice name) s = returns (choice_written ts name s)
 form_written sub at ts (sources sort path) s = source_followed sub at ts sort path s
 
--- a written line that isn't too long
+-- a written line, which is a fault where it is too long
 abbrev pub short_line : Place → (begins_help : Bool) → Progress → Program WrittenLine
 short_line at begins_help p = elim (nat_lt max_text_bytes (length p.text)) [ true ↦ fault at LineTooLong [] | false ↦ returns (written_line p.text begins_help p.state) ]
 
--- a line by its tokens without gaps; the reading ends where it isn't known what the line is
+-- a line is written by its tokens; the reading ends where its form isn't known
 abbrev pub tokens_written : SourceReader → Place → ReadingState → List WrittenToken → List WrittenToken → Program WrittenLine
 tokens_written sub at s ts real =
     elim (is_undecided real) [ true ↦ stops | false ↦ form_written sub at ts (form_of real) s >>= short_line at (is_help_line real) ]
 
--- a line by its content; an assignment leaves nothing of it, and none may be on a continued line
+-- a line is written by its content; nothing is left of an assignment, which may not be on a continued line
 abbrev pub content_written : SourceReader → Place → (continued : Bool) → ReadingState → LineContent → Program WrittenLine
 content_written sub at continued s (tokens ts) = tokens_written sub at s ts (without_gaps ts)
 content_written sub at true s (assigns name a) = fault at JoinedAssignment []
@@ -117,7 +120,7 @@ bytes_of_lines ls = flat_map (λ (l : PhysicalLine). if l.ended then l.text ++ 1
 abbrev pub newlines_of : List PhysicalLine → List ℕ
 newlines_of ls = flat_map (λ (l : PhysicalLine). if l.ended then 10 ∷ [] else []) ls
 
--- physical lines whose joined text is written anew: as they are where that is the same, else the new text and their newlines
+-- physical lines whose joined text becomes another one: as they are where it is the same, else the new text and their newlines
 abbrev pub lines_written : List PhysicalLine → (text new : List ℕ) → List ℕ
 lines_written ls text new = if bytes_eq new text then bytes_of_lines ls else new ++ newlines_of ls
 
@@ -137,13 +140,13 @@ lines_read sub file zero n (l ∷ ls) s =
     lines_read sub file (more + help) (n + 1) ls line.state >>= λ rest.
     returns (progress (lines_written (l ∷ take more ls) text line.text ++ (bytes_of_lines (take help (drop more ls)) ++ rest.text)) rest.state)
 
--- reads the files of a list, and makes its lines: a `source` of each key
+-- reads the files of a list; the text of the list has a `source` line for the key of each
 abbrev pub list_read : SourceReader → Place → List (List ℕ) → ReadingState → Program Progress
 list_read sub at [] s = returns (progress [] s)
 list_read sub at (path ∷ paths) s =
     sub at (one_file path) s >>= λ p. list_read sub at paths p.state >>= λ rest. returns (progress (codes "source " ++ (in_quotes_of 34 p.text ++ 10 ∷ rest.text)) rest.state)
 
--- the fault of a file or a list that is to be read, where these files are open
+-- the fault of a source of this path with these bytes, if it may not be read where these files are open
 abbrev pub source_fault : List (List ℕ) → ReadingState → List ℕ → Option (List ℕ) → Option MacroKind
 source_fault open_files s path None = if is_in_list path open_files then Some SourceLoop else Some MissingFile
 source_fault open_files s path (Some bytes) =
@@ -152,25 +155,25 @@ source_fault open_files s path (Some bytes) =
     else if nat_le max_files s.files || nat_lt max_bytes (s.bytes + length bytes) then Some TooMany
     else None
 
--- reads a file with these bytes, or a list
+-- reads the lines of a file with these bytes, or the files of a list
 abbrev pub contents_read : SourceReader → Place → Sourced → Option (List ℕ) → ReadingState → Program Progress
 contents_read sub at (one_file path) None s = returns (progress [] s)
 contents_read sub at (one_file path) (Some bytes) s = lines_read sub path 0 1 (split_at_newlines bytes) (counted (length bytes) s)
 contents_read sub at (file_list name paths) bytes s = list_read sub at paths (counted 0 s)
 
--- reads a file with these bytes, or a list, unless that is a fault, and keeps its text
+-- reads a source with these bytes, unless that is a fault, and has its text among the expanded files
 abbrev pub sourced_read : SourceReader → (root : List ℕ) → List (List ℕ) → Place → Sourced → ReadingState → Option (List ℕ) → Program Progress
 sourced_read sub root open_files at what s bytes =
-    elim (source_fault open_files s (sourced_path what) bytes) [ Some kind ↦ fault at kind [] | None ↦ contents_read sub at what bytes s >>= λ p. returns (kept root (sourced_path what) p) ]
+    elim (source_fault open_files s (sourced_path what) bytes) [ Some kind ↦ fault at kind [] | None ↦ contents_read sub at what bytes s >>= λ p. returns (stored_file root (sourced_path what) p) ]
 
--- Reads a file or a list, where this many more may be open within each other. At zero nothing is read: with as many
+-- Reads a source, where this many more may be open within each other. At zero nothing is read: with as many
 -- open as may be, one more is TooDeep.
 abbrev pub source_read : (more : ℕ) → (root : List ℕ) → List (List ℕ) → SourceReader
 source_read zero root open_files at what s = returns (progress [] s)
 source_read (suc more) root open_files at (one_file path) s = does (read_file path) (sourced_read (source_read more root (path ∷ open_files)) root open_files at (one_file path) s)
 source_read (suc more) root open_files at (file_list name paths) s = sourced_read (source_read more root (name ∷ open_files)) root open_files at (file_list name paths) s (Some [])
 
--- the first file, whose key is its path
+-- reads the first file of a tree, whose key is its path
 abbrev pub root_read : (root : List ℕ) → ReadingState → Option (List ℕ) → Program (List ExpandedFile)
 root_read root s None = fault (place root 0) MissingFile []
 root_read root s (Some bytes) =

@@ -34,7 +34,7 @@ WantedIsNeeded = (w more : World) (root question : List ℕ) (questions : List (
 abbrev pub newline_count : List ℕ → ℕ
 newline_count bytes = count_by (λ c. c == 10) bytes
 
--- an expanded file has the newlines of the file that was read for its path; any other is the list of a line
+-- an expanded file has as many newlines as the file that was read for its path; any other is the list of files of a line
 pub data HasItsLines (w : World) (f : ExpandedFile) : Type 0 where
   of_file : (bytes : List ℕ) → w.bytes f.path ≡ Some bytes → newline_count f.text ≡ newline_count bytes → HasItsLines w f
   of_list : (at : Place) → f.path ≡ list_name at → HasItsLines w f

@@ -16,7 +16,7 @@ abbrev pub value_length : Value → ℕ
 value_length None = 0
 value_length (Some text) = length text
 
--- values one after the other; unknown where one is
+-- two values one after the other; unknown where one of them is
 abbrev pub joined_values : Value → Value → Value
 joined_values (Some s) (Some t) = Some (s ++ t)
 joined_values (Some s) None = None
@@ -27,18 +27,19 @@ pub data Variable : Type 0 where
   simple : Value → Variable
   recursive : List ℕ → Variable
 
--- the variables by their names
+-- bindings: the variables by their names
 abbrev pub Bindings : Type 0
 Bindings = List ℕ → Option Variable
 
+-- no name has a variable
 abbrev pub no_bindings : Bindings
 no_bindings name = None
 
--- a variable more, in place of one of that name
+-- bindings of a name to a variable, in place of an earlier one
 abbrev pub with_variable : List ℕ → Variable → Bindings → Bindings
 with_variable name v b other = if bytes_eq other name then Some v else b other
 
--- decimal digits alone
+-- whether a text is a number: decimal digits, at least one
 abbrev pub is_number : List ℕ → Bool
 is_number s = nat_lt 0 (length s) && list_all (λ c. is_digit c 10) s
 
@@ -51,15 +52,15 @@ is_environment_name (c ∷ s) = not (is_digit c 10) && list_all is_name_byte (c 
 abbrev pub without_white_end : List ℕ → List ℕ
 without_white_end s = take (length s - suffix_len is_white_byte s) s
 
--- the question for a command
+-- the question of a command: `$ ` and the command without white at its end
 abbrev pub command_question : List ℕ → List ℕ
 command_question command = 36 ∷ 32 ∷ without_white_end command
 
--- the argument that an inside means: digits alone, from 1 to the count of arguments
+-- the argument that a reference means by its number, from 1 to the count of arguments
 abbrev pub argument_of : List Value → List ℕ → Option Value
 argument_of args inside = if is_number inside && nat_lt 0 (digits_value 10 inside) then slice_get args (digits_value 10 inside - 1) else None
 
--- functions that every tree has
+-- the functions that every tree has without defining them
 pub data BuiltIn : Type 0 where
   filename : BuiltIn
   lineno : BuiltIn
@@ -68,6 +69,7 @@ pub data BuiltIn : Type 0 where
   warning_if : BuiltIn
   error_if : BuiltIn
 
+-- the built-in functions by their names
 abbrev pub built_ins : List (List ℕ × BuiltIn)
 built_ins = (codes "filename", filename) ∷ (codes "lineno", lineno) ∷ (codes "shell", shell) ∷ (codes "info", info) ∷ (codes "warning-if", warning_if) ∷ (codes "error-if", error_if) ∷ []
 

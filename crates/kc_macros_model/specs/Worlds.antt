@@ -7,12 +7,13 @@ use Rattle.kc_macros_model.specs.Programs.{Place, Fault, Notice, Answer, Event, 
 use Rattle.kc_macros_model.specs.ReadingStates.{ExpandedFile}
 use Rattle.kc_macros_model.specs.TreeExpansion.{tree_read}
 
--- answers to questions, bytes of paths, names in folders; a folder is empty or ends in a slash
+-- a world: its answers to questions, the bytes of paths, the names in folders; the path of a folder is empty or ends in a slash
 pub record World : Type 0 where
   pub answer : List ℕ → Option Answer
   pub bytes : List ℕ → Option (List ℕ)
   pub names : List ℕ → List (List ℕ)
 
+-- the reply of a world to an event
 abbrev pub reply : World → (event : Event) → Reply event
 reply w (spend at work) = tt {0}
 reply w (report notice) = tt {0}
@@ -20,7 +21,7 @@ reply w (ask at question) = w.answer question
 reply w (read_file path) = w.bytes path
 reply w (list_folder folder) = w.names folder
 
--- the notice of an event
+-- the notice that an event reports, if it does
 abbrev pub notices_of : Event → List Notice
 notices_of (report notice) = notice ∷ []
 notices_of e = []
@@ -30,11 +31,12 @@ abbrev pub if_unanswered : List ℕ → Option Answer → List (List ℕ)
 if_unanswered question None = question ∷ []
 if_unanswered question (Some a) = []
 
+-- the question that an event asks in vain, if it does
 abbrev pub open_question : World → Event → List (List ℕ)
 open_question w (ask at question) = if_unanswered question (w.answer question)
 open_question w e = []
 
--- a question that must be answered
+-- the work that is left after a question; a question without an answer is a fault
 abbrev pub unless_unanswered : Place → List ℕ → ℕ → Option Answer → Result ℕ Fault
 unless_unanswered at question left None = Err (record { at = at; kind = Unanswered; text = question })
 unless_unanswered at question left (Some a) = Ok left
@@ -52,13 +54,14 @@ pub data Ending (A : Type 0) : Type 0 where
   failed : Fault → Ending A
   stopped : Ending A
 
--- its notices and open questions in order, the work that is left, and its end
+-- the outcome of a program: its notices and open questions in order, the work that is left, and its end
 pub record Outcome (A : Type 0) : Type 0 where
   pub notices : List Notice
   pub questions : List (List ℕ)
   pub left : ℕ
   pub ending : Ending A
 
+-- the outcome of a program that ends at once
 abbrev pub ended : {A : Type 0} → ℕ → Ending A → Outcome A
 ended left e = record { notices = []; questions = []; left = left; ending = e }
 
@@ -66,6 +69,7 @@ ended left e = record { notices = []; questions = []; left = left; ending = e }
 abbrev pub after_event : {A : Type 0} → World → Event → Outcome A → Outcome A
 after_event w e o = record { notices = notices_of e ++ o.notices; questions = open_question w e ++ o.questions; left = o.left; ending = o.ending }
 
+-- an outcome that goes on with the work that is left, unless there is a fault
 abbrev pub unless_fault : {A : Type 0} → ℕ → Result ℕ Fault → (ℕ → Outcome A) → Outcome A
 unless_fault left (Err f) rest = ended left (failed f)
 unless_fault left (Ok more) rest = rest more

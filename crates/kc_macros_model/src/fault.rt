@@ -7,9 +7,9 @@ use thiserror::Error;
 pub enum MacroKind {
     /// A `$(` has no `)` in its text.
     Unterminated,
-    /// A call of a function that nobody defines, or a name that no environment can have.
+    /// A call of a function that isn't defined, or a name that no environment can have.
     Undefined,
-    /// The value of a variable without arguments needs the variable itself.
+    /// The value of a variable that is used without arguments needs the variable itself.
     Recursion,
     /// A built-in function has another count of arguments, or a reference more than 16 pieces.
     Arguments,
@@ -19,13 +19,13 @@ pub enum MacroKind {
     Unanswered,
     /// The line of an assignment is continued by a backslash.
     JoinedAssignment,
-    /// A sourced file, or the first, isn't there.
+    /// A file that is sourced, or the first of the tree, isn't there.
     MissingFile,
-    /// A sourced file is open.
+    /// A file is sourced while it is open: by itself, or by one that it sources.
     SourceLoop,
     /// Too many files or expansions are open within each other.
     TooDeep,
-    /// There are too many files, bytes or names of folders, or too much work.
+    /// The tree needs too many files, bytes or names of folders, or too much work.
     TooMany,
     /// A value, an expanded text or a written line has more than 65,536 bytes.
     LineTooLong,
@@ -54,7 +54,7 @@ impl fmt::Display for MacroNoticeKind {
     }
 }
 
-/// Why a file of answers is refused. A kind's text is its name.
+/// Why a file of answers is refused; the text of a kind is its name.
 #[derive(Clone, Copy, Debug, PartialEq, Eq, Error)]
 pub enum AnswersKind {
     /// A line has none of the forms, or a command has no answer on the next line.

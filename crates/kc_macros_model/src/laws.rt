@@ -1,12 +1,12 @@
-//! Laws of the definitions.
+//! Laws of the expansion of macros.
 ghost use Rattle.kc_macros_model.specs.ExpansionLaws.{ExpansionKeepsTheRules, RulesAreExpanded, PlainTextsStay, ValuesAreBounded, VariablesAreBounded};
-ghost use Rattle.kc_macros_model.specs.OnceLaws.{NothingIsLeftToExpand, WrittenLinesStay};
+ghost use Rattle.kc_macros_model.specs.SecondExpansionLaws.{NothingIsLeftToExpand, WrittenLinesStay};
 ghost use Rattle.kc_macros_model.specs.PlainLines.{LinesWithoutDollars, PlainLinesStay, PlainFilesStay, PlainTreesStay};
-ghost use Rattle.kc_macros_model.specs.ReadingLaws.{CountsAreBounded, TreeCountsAreBounded, KeysAreBounded, KeysAreHeld, KeysDiffer, FilesAreBounded, WorkIsBounded};
+ghost use Rattle.kc_macros_model.specs.ReadingLaws.{CountsAreBounded, TreeCountsAreBounded, KeysAreBounded, SourceKeysHaveFiles, KeysDiffer, FilesAreBounded, WorkIsBounded};
 ghost use Rattle.kc_macros_model.specs.TreeLaws.{AnswersNotAskedChangeNothing, ExpansionNeverStops, NothingWantedIsExpanded, NothingWantedReturnsFiles, WantedIsNeeded, LinesAreKept};
 
-/// The function that expands a text and the rules of expansion agree: it returns only values that the rules give, and
-/// each of them, unless a limit or a variable that needs itself is met.
+/// The function that expands a text agrees with the rules of expansion: it returns only values that the rules give, and each
+/// of them, unless a limit or a variable that needs itself is met.
 pub fn expansion_follows_rules()
     ensures only { ExpansionKeepsTheRules }
     ensures each { RulesAreExpanded }
@@ -64,7 +64,7 @@ pub fn readings_are_bounded()
 pub fn keys_are_bounded()
     ensures paths { KeysAreBounded }
     ensures differ { KeysDiffer }
-    ensures held { KeysAreHeld }
+    ensures keys { SourceKeysHaveFiles }
 {}
 
 /// Where nothing acts on the lines of a file it keeps its bytes, and so do the files of a tree of such lines, under
@@ -76,7 +76,7 @@ pub fn plain_trees_stay()
     ensures trees { PlainTreesStay }
 {}
 
-/// What is written of a line has nothing left to expand, and stays when it is expanded again.
+/// The tokens written for a line have nothing left to expand, and stay when the line is expanded again.
 pub fn nothing_is_left_to_expand()
     ensures tokens { NothingIsLeftToExpand }
     ensures lines { WrittenLinesStay }

@@ -23,7 +23,8 @@ no_difference [] e = refl
 no_difference (d ∷ ds) e = cc
 
 pub compared : DifferencesDecideMinimalFiles → (l r : Configured) → IsSolved l → IsSolved r → tree_in l ≡ tree_in r → profile_of l.system ≡ profile_of r.system
-    → (found : List DifferenceOfCode) → found ≡ map difference_view (differences (tree_in l) l.values r.values) → (format : FileFormat) → is_prefix format.prefix ≡ true
+    → (found : List DifferenceOfCode) → found ≡ map difference_view (differences (tree_in l) l.values r.values) → (format : FileFormat)
+    → is_prefix format.prefix ≡ true
     → (found ≡ []) ↔ (minimal_file format (profile_of l.system) (tree_in l) l.values ≡ minimal_file format (profile_of l.system) (tree_in l) r.values)
 compared law l r solved other tree profile found is format valid =
     let fits = subst (λ (t : Tree). FitsUsers (length t.units) (λ u x. IsTrue (user_fits t u x)) r.users) (sym tree) other.fits in

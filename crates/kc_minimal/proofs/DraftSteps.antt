@@ -44,10 +44,12 @@ module _ (format : FileFormat) (tree : Tree) (values : List UnitValue) (left : L
       }
 
   pub menu_begun : (title : List ℕ) (dependency visible : Expr) (shown : Bool) → shown ≡ (applies tree values dependency && applies tree values visible)
-      → new.text.items ≡ old.text.items ++ cond shown (heading format.prefix title) [] → new.gap ≡ cond shown false old.gap → new.defined.items ≡ old.defined.items
+      → new.text.items ≡ old.text.items ++ cond shown (heading format.prefix title) [] → new.gap ≡ cond shown false old.gap
+      → new.defined.items ≡ old.defined.items
       → IsDraft format tree values (menu_begins title dependency visible ∷ left) old → IsDraft format tree values left new
   menu_begun title dependency visible shown e = appended (menu_begins title dependency visible) (heading format.prefix title) false shown
-      (λ seen. sym (ap (λ t. cond t (heading format.prefix title ++ entry_texts format tree values seen false left) (entry_texts format tree values seen old.gap left))
+      (λ seen. sym (ap (λ t. cond t (heading format.prefix title ++ entry_texts format tree values seen false left)
+      (entry_texts format tree values seen old.gap left))
       e))
 
   pub menu_ended : (title : List ℕ) (dependency visible : Expr) (shown : Bool) → shown ≡ (applies tree values dependency && applies tree values visible)
@@ -57,10 +59,12 @@ module _ (format : FileFormat) (tree : Tree) (values : List UnitValue) (left : L
       (λ seen. sym (ap (λ t. cond t (end_line title ++ entry_texts format tree values seen true left) (entry_texts format tree values seen old.gap left)) e))
 
   pub commented : (title : List ℕ) (dependency : Expr) (shown : Bool) → shown ≡ applies tree values dependency
-      → new.text.items ≡ old.text.items ++ cond shown (heading format.prefix title) [] → new.gap ≡ cond shown false old.gap → new.defined.items ≡ old.defined.items
+      → new.text.items ≡ old.text.items ++ cond shown (heading format.prefix title) [] → new.gap ≡ cond shown false old.gap
+      → new.defined.items ≡ old.defined.items
       → IsDraft format tree values (comment title dependency ∷ left) old → IsDraft format tree values left new
   commented title dependency shown e = appended (comment title dependency) (heading format.prefix title) false shown
-      (λ seen. sym (ap (λ t. cond t (heading format.prefix title ++ entry_texts format tree values seen false left) (entry_texts format tree values seen old.gap left))
+      (λ seen. sym (ap (λ t. cond t (heading format.prefix title ++ entry_texts format tree values seen false left)
+      (entry_texts format tree values seen old.gap left))
       e))
 
 -- a choice writes nothing
@@ -79,7 +83,8 @@ marked_more n xs seen s below marks t within = elim (cases_Bool (nat_eq t s)) [
       get_or-set_other xs s t true false (λ e. false≢true (sym other ∙ eq-eqb t s e)) ∙ marks t within ∙ sym (ap (λ b. b || list_any (nat_eq t) seen) other)
 ]
 
-module _ (format : FileFormat) (tree : Tree) (values : List UnitValue) (left : List Entry) (old new : Draft) (s : ℕ) (there : s < length tree.symbols) (marks : length old.defined.items ≡ length tree.symbols)
+module _ (format : FileFormat) (tree : Tree) (values : List UnitValue) (left : List Entry) (old new : Draft) (s : ℕ) (there : s < length tree.symbols)
+    (marks : length old.defined.items ≡ length tree.symbols)
     (defined : new.defined.items ≡ slice_set old.defined.items s true) where
   marked_now : (d : IsDraft format tree values (definition s ∷ left) old) (t : ℕ) → t < length tree.symbols
       → slice_index_or new.defined.items t false ≡ list_any (nat_eq t) (s ∷ d.seen)
@@ -141,7 +146,8 @@ begun format tree values draft text defined gap = record {
 }
 
 -- and all after the last
-pub written : (format : FileFormat) (tree : Tree) (values : List UnitValue) (draft : Draft) (left : List Entry) → left ≡ [] → IsDraft format tree values left draft
+pub written : (format : FileFormat) (tree : Tree) (values : List UnitValue) (draft : Draft) (left : List Entry) → left ≡ []
+    → IsDraft format tree values left draft
     → draft.text.items ≡ full_file format tree values
 written format tree values draft left none d =
     sym (append-nil draft.text.items) ∙ sym (ap (λ l. draft.text.items ++ entry_texts format tree values d.seen draft.gap l) none) ∙ d.whole

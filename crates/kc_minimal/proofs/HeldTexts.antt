@@ -15,7 +15,8 @@ use Rattle.kc_minimal_model.specs.Loading.{ReadsTo, Loads, has_short_lines}
 use Rattle.kc_minimal_model.specs.MinimalFile.{minimal_file}
 use Rattle.kc_minimal_model.specs.CanonicalText.{IsCanonicalText, MinimalTextsAreCanonical}
 
-module _ (format : FileFormat) (valid : is_prefix format.prefix ≡ true) (held : Configured) (solved : IsSolved held) (settled : Settled) (values : List UnitValue) (same : settled ≡ held.system) (same_values : values ≡ held.values) (text : List ℕ) where
+module _ (format : FileFormat) (valid : is_prefix format.prefix ≡ true) (held : Configured) (solved : IsSolved held) (settled : Settled)
+    (values : List UnitValue) (same : settled ≡ held.system) (same_values : values ≡ held.values) (text : List ℕ) where
   pub minimal_held : MinimalTextsAreCanonical → text ≡ minimal_file format (profile_of settled) (tree_of_settled settled) values
       → IsCanonicalText format (profile_of held.system) (tree_in held) held.values text
   minimal_held law is =

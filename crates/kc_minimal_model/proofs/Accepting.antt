@@ -65,8 +65,10 @@ all_of_map : {X Y : Type 0} (p : Y → Bool) (f : X → Y) (xs : List X) → lis
 all_of_map p f [] = refl
 all_of_map p f (x ∷ xs) = ap (λ b. p (f x) && b) (all_of_map p f xs)
 
-module _ (format : FileFormat) (valid : is_prefix format.prefix ≡ true) (profile : Profile) (tree : Tree) (sound : IsConsistent tree) (users : List (Option UserValue)) (values : List UnitValue)
-    (fitting : FitsUsers (length tree.units) (λ u x. IsTrue (user_fits tree u x)) users) (solved : Solves (length tree.units) (rule profile tree) users values) where
+module _ (format : FileFormat) (valid : is_prefix format.prefix ≡ true) (profile : Profile) (tree : Tree) (sound : IsConsistent tree)
+    (users : List (Option UserValue)) (values : List UnitValue)
+    (fitting : FitsUsers (length tree.units) (λ u x. IsTrue (user_fits tree u x)) users)
+    (solved : Solves (length tree.units) (rule profile tree) users values) where
   -- whether the line of a symbol is short
   abbrev pub is_short : ℕ → Bool
   is_short s = nat_le (length (symbol_line format tree values s)) MAX_LINE_BYTES

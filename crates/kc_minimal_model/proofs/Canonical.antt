@@ -86,7 +86,8 @@ module _ (format : FileFormat) (valid : is_prefix format.prefix ≡ true) (profi
       b.gives.only v (subst (λ s. Solves (length tree.units) (rule profile tree) (file_assignment tree s) v) same a.gives.solves)
 
   -- the minimal file of the values of any fitting assignment gives them back
-  pub reads_back : (users : List (Option UserValue)) (values : List UnitValue) → Fitting tree users → Solves (length tree.units) (rule profile tree) users values
+  pub reads_back : (users : List (Option UserValue)) (values : List UnitValue) → Fitting tree users → Solves (length tree.units)
+      (rule profile tree) users values
       → ReadsTo format profile tree (minimal_file format profile tree values) values
   reads_back users values fitting solved =
       let l = reads_as_least format valid profile tree settled.consistent users values fitting solved in
@@ -143,8 +144,10 @@ none_of_two p q r (x ∷ xs) fails = go (r x) (q x) refl refl (none_of_two p q r
         ∙ rest
     at_head false f = ap (λ b. list_any p (cond b (x ∷ filter q (filter r xs)) (filter q (filter r xs)))) f ∙ rest
 
-module _ (format : FileFormat) (valid : is_prefix format.prefix ≡ true) (profile : Profile) (tree : Tree) (settled : IsOrderedTree tree) (users : List (Option UserValue)) (values : List UnitValue)
-    (fitting : FitsUsers (length tree.units) (λ u x. IsTrue (user_fits tree u x)) users) (solved : Solves (length tree.units) (rule profile tree) users values) (keeps : ℕ → Bool) where
+module _ (format : FileFormat) (valid : is_prefix format.prefix ≡ true) (profile : Profile) (tree : Tree) (settled : IsOrderedTree tree)
+    (users : List (Option UserValue)) (values : List UnitValue)
+    (fitting : FitsUsers (length tree.units) (λ u x. IsTrue (user_fits tree u x)) users) (solved : Solves (length tree.units) (rule profile tree) users values)
+    (keeps : ℕ → Bool) where
   pub some_have_lines : list_all (has_line profile tree values) (filter keeps (minimal_symbols profile tree values)) ≡ true
   some_have_lines =
       all_of_filter (has_line profile tree values) keeps (minimal_symbols profile tree values)
@@ -155,11 +158,13 @@ module _ (format : FileFormat) (valid : is_prefix format.prefix ≡ true) (profi
       lines_are_utf8 format valid profile tree settled.consistent users values fitting solved (filter keeps (minimal_symbols profile tree values))
       some_have_lines
 
-  says_some : FileMeans format tree (symbol_lines keeps format profile tree values) (map (λ s. meant values (unit_of tree s)) (filter keeps (minimal_symbols profile tree values)))
+  says_some : FileMeans format tree (symbol_lines keeps format profile tree values)
+      (map (λ s. meant values (unit_of tree s)) (filter keeps (minimal_symbols profile tree values)))
   says_some = lines_say format valid profile tree settled.consistent users values fitting solved (filter keeps (minimal_symbols profile tree values))
       some_have_lines
 
-  user_after : (xs : List ℕ) (u : ℕ) → u < length tree.units → user_of (file_assignment tree (map (λ s. meant values (unit_of tree s)) xs)) u ≡ cond (list_any (λ s. unit_of tree s == u) xs) (user_meant values u) None
+  user_after : (xs : List ℕ) (u : ℕ) → u < length tree.units → user_of (file_assignment tree (map (λ s. meant values (unit_of tree s)) xs)) u
+      ≡ cond (list_any (λ s. unit_of tree s == u) xs) (user_meant values u) None
   user_after xs u h =
       after_lines tree values u xs (empty_assignment tree) false (let len = none_length (length tree.units) in omega (arith, len))
       (none_held (length tree.units) u)
@@ -175,7 +180,8 @@ module _ (format : FileFormat) (valid : is_prefix format.prefix ≡ true) (profi
           | inl some ↦
               let there = any_of_filter (λ s. unit_of tree s == u) keeps (minimal_symbols profile tree values) some in
               ap (λ b. cond b (user_meant values u) None) some
-              ∙ sym (ap (λ b. cond b (user_of (file_assignment tree (map (λ s. meant values (unit_of tree s)) (minimal_symbols profile tree values))) u) None) some
+              ∙ sym (ap (λ b. cond b (user_of (file_assignment tree (map (λ s. meant values (unit_of tree s)) (minimal_symbols profile tree values))) u)
+              None) some
               ∙ user_after (minimal_symbols profile tree values) u h ∙ ap (λ b. cond b (user_meant values u) None) there)
           | inr lost ↦
               ap (λ b. cond b (user_meant values u) None) lost ∙ sym (ap (λ b. cond b

@@ -92,7 +92,8 @@ tri_if_y s (Some m) e = elim (cases_Bool (m == s)) [
   | inr other ↦ (let none : tri_if_selected s (Some m) ≡ N = ap (λ b. cond b Y N) other in cc)
 ]
 
-module _ (tree : Tree) (sound : IsConsistent tree) (v w : List UnitValue) (fits_v : FitsValues (length tree.units) (λ u x. IsTrue (value_fits tree u x)) v) (fits_w : FitsValues (length tree.units) (λ u x. IsTrue (value_fits tree u x)) w)
+module _ (tree : Tree) (sound : IsConsistent tree) (v w : List UnitValue) (fits_v : FitsValues (length tree.units) (λ u x. IsTrue (value_fits tree u x)) v)
+    (fits_w : FitsValues (length tree.units) (λ u x. IsTrue (value_fits tree u x)) w)
     (none : differences tree v w ≡ []) where
   symbol_same : (s : ℕ) (symbol : Symbol) → slice_get tree.symbols s ≡ Some symbol
       → ReadSame (value_in_unit tree v s symbol symbol.choice) (value_in_unit tree w s symbol symbol.choice)

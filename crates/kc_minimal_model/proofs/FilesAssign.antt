@@ -96,7 +96,8 @@ comes_from p f q (x ∷ xs) any = go (p x) refl any (comes_from p f q xs) where
   go true e any next =
       elim (or_cases (eqb q (f x)) (list_any (eqb q) (map f (filter p xs))) any) [ inl here ↦ (x, e, eqb-true q (f x) here) | inr later ↦ next later ]
 
-module _ (format : FileFormat) (profile : Profile) (tree : Tree) (settled : IsOrderedTree tree) (bytes : List ℕ) (values : List UnitValue) (reads : ReadsTo format profile tree bytes values) where
+module _ (format : FileFormat) (profile : Profile) (tree : Tree) (settled : IsOrderedTree tree) (bytes : List ℕ) (values : List UnitValue)
+    (reads : ReadsTo format profile tree bytes values) where
   fitting : FitsUsers (length tree.units) (λ u x. IsTrue (user_fits tree u x)) (file_assignment tree reads.meanings)
   fitting = file_fits format tree bytes reads.meanings settled.consistent reads.utf8 reads.says
 

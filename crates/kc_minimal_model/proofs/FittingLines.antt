@@ -39,9 +39,11 @@ letter_fits N = (omega arith, ascii_alone 110 (omega arith))
 letter_fits M = (omega arith, ascii_alone 109 (omega arith))
 letter_fits Y = (omega arith, ascii_alone 121 (omega arith))
 
-module _ (format : FileFormat) (valid : is_prefix format.prefix ≡ true) (name : List ℕ) (short : length name ≤ 256) (word : list_all is_name_byte name ≡ true) where
+module _ (format : FileFormat) (valid : is_prefix format.prefix ≡ true) (name : List ℕ) (short : length name ≤ 256)
+    (word : list_all is_name_byte name ≡ true) where
   -- a value line
-  pub value_fits : (text : List ℕ) → length format.prefix + length name + 1 + length text ≤ MAX_LINE_BYTES → IsUtf8 text → IsFitLine (value_line format.prefix name text)
+  pub value_fits : (text : List ℕ) → length format.prefix + length name + 1 + length text ≤ MAX_LINE_BYTES → IsUtf8 text
+      → IsFitLine (value_line format.prefix name text)
   value_fits text small u =
       let p = prefix_fits format.prefix valid in (
         omega (arith, small, length-append format.prefix (name ++ (61 ∷ text)), length-append name (61 ∷ text)),
@@ -74,14 +76,17 @@ module _ (format : FileFormat) (valid : is_prefix format.prefix ≡ true) (name 
   -- the line of a bool or tristate
   pub tri_fits_line : (kind : Kind) (t : Tri) → is_tri_kind kind ≡ true → IsFitLine (line_with format name (tri_symbol_value kind t))
   tri_fits_line Boolean t small =
-      let p = (prefix_fits format.prefix valid).0 in let l = letter_fits t in let one = l.0 in either_fits (is_n t) (letter t) (omega (arith, p, one, short)) l.1
+      let p = (prefix_fits format.prefix valid).0 in let l = letter_fits t in let one = l.0 in
+      either_fits (is_n t) (letter t) (omega (arith, p, one, short)) l.1
   tri_fits_line Tristate t small =
-      let p = (prefix_fits format.prefix valid).0 in let l = letter_fits t in let one = l.0 in either_fits (is_n t) (letter t) (omega (arith, p, one, short)) l.1
+      let p = (prefix_fits format.prefix valid).0 in let l = letter_fits t in let one = l.0 in
+      either_fits (is_n t) (letter t) (omega (arith, p, one, short)) l.1
   tri_fits_line Text t small = absurd (false≢true small)
   tri_fits_line Int t small = absurd (false≢true small)
   tri_fits_line Hex t small = absurd (false≢true small)
 
   -- the line of a text
-  pub text_fits_line : (kind : Kind) (text : List ℕ) → length format.prefix + length name + 1 + length (spelled format.strings kind text) ≤ MAX_LINE_BYTES → IsUtf8 (spelled format.strings kind text)
+  pub text_fits_line : (kind : Kind) (text : List ℕ) → length format.prefix + length name + 1 + length (spelled format.strings kind text) ≤ MAX_LINE_BYTES
+      → IsUtf8 (spelled format.strings kind text)
       → IsFitLine (line_with format name (record { kind = kind; tri = N; text = text }))
   text_fits_line kind text small u = either_fits (is_tri_kind kind && is_n N) (spelled format.strings kind text) small u

@@ -97,9 +97,13 @@ hidden_member tree values None s e = refl
 hidden_member tree values (Some choice) s e = ap MemberValue (hidden_choice (is_shown tree values choice) (is_visible_member tree values s) s _ e)
 
 module _ (profile : Profile) (tree : Tree) (settled : IsOrderedTree tree) (users : List (Option UserValue)) (values : List UnitValue)
-    (fitting : FitsUsers (length tree.units) (λ u x. IsTrue (user_fits tree u x)) users) (solved : Solves (length tree.units) (rule profile tree) users values) where
-  seen_is_written : (s : ℕ) (symbol : Symbol) → slice_get tree.symbols s ≡ Some symbol → is_visible tree values symbol ≡ true → is_unselected tree values symbol.choice ≡ false → is_written tree values s ≡ true
-  seen_is_written s symbol at seen selected = ap (λ o. unwrap_or (option_map (is_written_symbol tree values) o) false) at ∙ or_left (is_visible tree values symbol && not (is_unselected tree values symbol.choice)) _ (ap (λ b. b && not (is_unselected tree values symbol.choice)) seen ∙ ap not selected)
+    (fitting : FitsUsers (length tree.units) (λ u x. IsTrue (user_fits tree u x)) users)
+    (solved : Solves (length tree.units) (rule profile tree) users values) where
+  seen_is_written : (s : ℕ) (symbol : Symbol) → slice_get tree.symbols s ≡ Some symbol → is_visible tree values symbol ≡ true
+      → is_unselected tree values symbol.choice ≡ false → is_written tree values s ≡ true
+  seen_is_written s symbol at seen selected = ap (λ o. unwrap_or (option_map (is_written_symbol tree values) o) false) at
+      ∙ or_left (is_visible tree values symbol && not (is_unselected tree values symbol.choice)) _
+      (ap (λ b. b && not (is_unselected tree values symbol.choice)) seen ∙ ap not selected)
 
   -- a unit whose value is what it is without a user value isn't kept
   not_kept : (u : ℕ) → u < length tree.units → rule profile tree u (user_of users u) values ≡ rule profile tree u None values
@@ -114,7 +118,8 @@ module _ (profile : Profile) (tree : Tree) (settled : IsOrderedTree tree) (users
       (unit_is tree settled.consistent s own.0 symbol None at out own.1) ∙ own.1 in
       elim (cases_Bool (is_visible tree values symbol)) [
         | inl seen ↦ seen_is_written s symbol at seen (ap (is_unselected tree values) out)
-        | inr hidden ↦ absurd (not_kept (unit_of tree s) (inside tree.units (unit_of tree s) (of_symbol s) here) (hidden_values profile tree values (unit_of tree s) s symbol (user_of users (unit_of tree s)) here at hidden) kept)
+        | inr hidden ↦ absurd (not_kept (unit_of tree s) (inside tree.units (unit_of tree s) (of_symbol s) here)
+            (hidden_values profile tree values (unit_of tree s) s symbol (user_of users (unit_of tree s)) here at hidden) kept)
       ]
 
   member_written : (s c : ℕ) (symbol : Symbol) → slice_get tree.symbols s ≡ Some symbol → symbol.choice ≡ Some c → has_line profile tree values s ≡ true
@@ -133,7 +138,8 @@ module _ (profile : Profile) (tree : Tree) (settled : IsOrderedTree tree) (users
       (MemberValue (Some s)) has holds refl in
       elim (cases_Bool (is_visible_member tree values s)) [
         | inl seen ↦ seen_is_written s symbol at (sym (ap (λ o. unwrap_or (option_map (is_visible tree values) o) false) at) ∙ seen)
-            (ap (is_unselected tree values) within ∙ ap (λ o. is_optional_choice tree c && is_none (member_of o)) (chosen_is s (slice_get values (index_of_unit tree (of_choice c))) chosen) ∙ and_nothing (is_optional_choice tree c))
+            (ap (is_unselected tree values) within ∙ ap (λ o. is_optional_choice tree c && is_none (member_of o))
+            (chosen_is s (slice_get values (index_of_unit tree (of_choice c))) chosen) ∙ and_nothing (is_optional_choice tree c))
         | inr hidden ↦
             let same : rule profile tree (unit_of tree s) (user_of users (unit_of tree s)) values ≡ rule profile tree (unit_of tree s) None values =
             ap (λ x. rule_of_unit profile tree (slice_get tree.units (unit_of tree s)) x values) assigned
@@ -168,7 +174,17 @@ module _ (profile : Profile) (tree : Tree) (settled : IsOrderedTree tree) (users
 -- where nothing is lifted, reading the full file gives the values back
 pub full_files_back : FullFilesLeadBack
 full_files_back format profile tree users values valid whole fitting gives unlifted =
-    record { utf8 = full.utf8; meanings = full.meanings; says = full.says; gives = record { solves = solves; only = λ others solved_too. solving.unique (length tree.units) (dependencies tree) (rule profile tree) (λ u x. IsTrue (user_fits tree u x)) (ordered_tree tree whole).order (ordered_tree tree whole).ordered (rules_frame profile tree) again fits_again.1 others values solved_too solves } } where
+    record {
+      utf8 = full.utf8;
+      meanings = full.meanings;
+      says = full.says;
+      gives = record {
+        solves = solves;
+        only = λ others solved_too. solving.unique (length tree.units) (dependencies tree) (rule profile tree)
+            (λ u x. IsTrue (user_fits tree u x)) (ordered_tree tree whole).order (ordered_tree tree whole).ordered
+            (rules_frame profile tree) again fits_again.1 others values solved_too solves;
+      };
+    } where
       settled : IsOrderedTree tree
       settled = ordered_tree tree whole
 
@@ -180,9 +196,11 @@ full_files_back format profile tree users values valid whole fitting gives unlif
           and_from (not (has_newline title)) (is_utf8 title) (ap not (whole.consistent.titles_one_line k entry title at is))
           (whole.consistent.titles_utf8 k entry title at is)
 
-      full : HasOwnLines format tree values (λ s. (list_any (defines s) tree.entries ≡ true) × (list_any (nat_eq s) [] ≡ false) × (is_written tree values s ≡ true) × (has_line profile tree values s ≡ true)) (full_file format tree values)
+      full : HasOwnLines format tree values (λ s. (list_any (defines s) tree.entries ≡ true) × (list_any (nat_eq s) [] ≡ false)
+          × (is_written tree values s ≡ true) × (has_line profile tree values s ≡ true)) (full_file format tree values)
       full =
-          subst (HasOwnLines format tree values (λ s. (list_any (defines s) tree.entries ≡ true) × (list_any (nat_eq s) [] ≡ false) × (is_written tree values s ≡ true) × (has_line profile tree values s ≡ true))) (sym (full_file_by_entry format tree values))
+          subst (HasOwnLines format tree values (λ s. (list_any (defines s) tree.entries ≡ true) × (list_any (nat_eq s) [] ≡ false)
+          × (is_written tree values s ≡ true) × (has_line profile tree values s ≡ true))) (sym (full_file_by_entry format tree values))
           (own_lines format valid profile tree settled users values fitting solved (solutions_fit profile tree settled users fitting values solved) tree.entries
           [] false plain)
 
@@ -192,7 +210,8 @@ full_files_back format profile tree users values valid whole fitting gives unlif
       fits_again : FitsUsers (length tree.units) (λ u x. IsTrue (user_fits tree u x)) (file_assignment tree full.meanings)
       fits_again = file_fits format tree (full_file format tree values) full.meanings settled.consistent full.utf8 full.says
 
-      user_again : (u : ℕ) → u < length tree.units → user_of (file_assignment tree full.meanings) u ≡ cond (list_any (is_for u) full.meanings) (user_meant values u) None
+      user_again : (u : ℕ) → u < length tree.units → user_of (file_assignment tree full.meanings) u ≡ cond (list_any (is_for u) full.meanings)
+          (user_meant values u) None
       user_again u below =
           after_own values u full.meanings (empty_assignment tree) false (let len = none_length (length tree.units) in omega (arith, len, below)) full.own
           (none_held (length tree.units) u)

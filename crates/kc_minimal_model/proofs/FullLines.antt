@@ -88,7 +88,8 @@ module _ (format : FileFormat) (valid : is_prefix format.prefix ≡ true) (tree 
   silent_line C line rest one utf8 says t = own_lines_line C C line rest silent one utf8 says tt t (λ s c. inr c)
 
   -- of fewer symbols
-  own_lines_fewer : (C D : ℕ → Type 0) (bytes : List ℕ) → ((s : ℕ) → D s → C s) → HasOwnLines format tree values C bytes → HasOwnLines format tree values D bytes
+  own_lines_fewer : (C D : ℕ → Type 0) (bytes : List ℕ) → ((s : ℕ) → D s → C s) → HasOwnLines format tree values C bytes
+      → HasOwnLines format tree values D bytes
   own_lines_fewer C D bytes fewer t = record { meanings = t.meanings; says = t.says; utf8 = t.utf8; own = t.own; covers = λ s d. t.covers s (fewer s d) }
 
   title_lacks : (title : List ℕ) → lacks 10 title ≡ true → lacks 10 (heading_title format.prefix title) ≡ true
@@ -130,7 +131,8 @@ module _ (format : FileFormat) (valid : is_prefix format.prefix ≡ true) (tree 
       let same : end_line title ++ rest ≡ (codes "# end of " ++ title) ++ 10 ∷ rest = ap (λ l. codes "# end of " ++ l) (append_assoc title (10 ∷ []) rest) in
       subst (HasOwnLines format tree values C) (sym same) line
 
-module _ (format : FileFormat) (valid : is_prefix format.prefix ≡ true) (profile : Profile) (tree : Tree) (settled : IsOrderedTree tree) (users : List (Option UserValue)) (values : List UnitValue)
+module _ (format : FileFormat) (valid : is_prefix format.prefix ≡ true) (profile : Profile) (tree : Tree) (settled : IsOrderedTree tree)
+    (users : List (Option UserValue)) (values : List UnitValue)
     (fitting : FitsUsers (length tree.units) (λ u x. IsTrue (user_fits tree u x)) users) (solved : Solves (length tree.units) (rule profile tree) users values)
     (fits : FitsValues (length tree.units) (λ u v. IsTrue (value_fits tree u v)) values) where
   -- a symbol that is defined by these entries for the first time, is written, and has a line in the minimal file
@@ -193,7 +195,8 @@ module _ (format : FileFormat) (valid : is_prefix format.prefix ≡ true) (profi
         ]
 
         go : (g : Bool) → HasOwnLines format tree values (IsToCome seen (definition s ∷ entries)) (ended_line format tree values s ++ rest)
-            → HasOwnLines format tree values (IsToCome seen (definition s ∷ entries)) (cond g (10 ∷ ended_line format tree values s) (ended_line format tree values s) ++ rest)
+            → HasOwnLines format tree values (IsToCome seen (definition s ∷ entries))
+            (cond g (10 ∷ ended_line format tree values s) (ended_line format tree values s) ++ rest)
         go true ended = silent_line format valid tree values (IsToCome seen (definition s ∷ entries)) [] (ended_line format tree values s ++ rest) refl
             IsUtf8-nil (blank_says format tree) ended
         go false ended = ended

@@ -31,12 +31,14 @@ tree_three =
     (record (plain (codes "B") Boolean (name (codes "A") ∷ []) []) { direct = name (codes "A") ∷ [] })
     (plain (codes "C") Boolean [] (otherwise (name (codes "B")) ∷ []))
 
-plain_symbols : (full_file config tree_three (y ∷ y ∷ y ∷ []) ≡ codes "CONFIG_A=y\nCONFIG_B=y\nCONFIG_C=y\n") × (full_file config tree_a (n ∷ []) ≡ codes "# CONFIG_A is not set\n")
+plain_symbols : (full_file config tree_three (y ∷ y ∷ y ∷ []) ≡ codes "CONFIG_A=y\nCONFIG_B=y\nCONFIG_C=y\n")
+    × (full_file config tree_a (n ∷ []) ≡ codes "# CONFIG_A is not set\n")
     × (full_file config tree_lifted (y ∷ m ∷ y ∷ []) ≡ codes "CONFIG_MODULES=y\nCONFIG_D=m\nCONFIG_A=y\n")
 unfolding symbol_line
 plain_symbols = (refl, refl, refl)
 
-ints : (full_file config tree_int (text (codes "10") ∷ []) ≡ codes "CONFIG_N=10\n") × (full_file config (one_symbol (plain (codes "N") Int (always ∷ []) [])) (text [] ∷ []) ≡ codes "CONFIG_N=\n")
+ints : (full_file config tree_int (text (codes "10") ∷ []) ≡ codes "CONFIG_N=10\n")
+    × (full_file config (one_symbol (plain (codes "N") Int (always ∷ []) [])) (text [] ∷ []) ≡ codes "CONFIG_N=\n")
 unfolding symbol_line
 ints = (refl, refl)
 
@@ -60,7 +62,8 @@ unfolding symbol_line
 hidden_menu = refl
 
 -- a title that begins with the prefix comes after two spaces
-titles : (full_file config (tree_titled (codes "CONFIG_A is not set")) (y ∷ []) ≡ codes "\n#\n#  CONFIG_A is not set\n#\nCONFIG_A=y\n# end of CONFIG_A is not set\n")
+titles : (full_file config (tree_titled (codes "CONFIG_A is not set")) (y ∷ [])
+    ≡ codes "\n#\n#  CONFIG_A is not set\n#\nCONFIG_A=y\n# end of CONFIG_A is not set\n")
     × (full_file (escaped (codes "end")) (tree_titled (codes "CONFIG_A is not set")) (y ∷ []) ≡ codes
     "\n#\n# CONFIG_A is not set\n#\nendA=y\n# end of CONFIG_A is not set\n")
     × (full_file (escaped (codes "BOARD_")) (tree_titled (codes "BOARD_A is not set")) (y ∷ []) ≡ codes

@@ -83,7 +83,8 @@ pub heading_says : (format : FileFormat) (tree : Tree) (title : List ℕ) → is
 heading_says format tree title valid = says_comment format tree (32 ∷ heading_title format.prefix title) (λ name unset.
     let front = front_of (35 ∷ 32 ∷ heading_title format.prefix title) in
     let e = unset.2 in
-    no_title (heading_title format.prefix title) (without_white_end (35 ∷ 32 ∷ heading_title format.prefix title)) (name ++ codes " is not set") front.0 front.1 e
+    no_title (heading_title format.prefix title) (without_white_end (35 ∷ 32 ∷ heading_title format.prefix title))
+    (name ++ codes " is not set") front.0 front.1 e
     (λ rest same. heading_begins format.prefix title rest valid same)) where
       no_title : (t w x rest : List ℕ) → 35 ∷ 32 ∷ t ≡ w ++ rest → w ≡ 35 ∷ 32 ∷ (format.prefix ++ x) → ((more : List ℕ) → t ≡ format.prefix ++ more → ⊥) → ⊥
       no_title t w x rest whole e begins =
@@ -133,7 +134,8 @@ some_same : (a b : LineMeaning) → Some a ≡ Some b → a ≡ b
 some_same a b e = cc
 
 -- a line without an assignment has no other meaning
-pub says_nothing_else : (format : FileFormat) (tree : Tree) (line : List ℕ) (meaning : LineMeaning) → is_prefix format.prefix ≡ true → Means format tree line silent
+pub says_nothing_else : (format : FileFormat) (tree : Tree) (line : List ℕ) (meaning : LineMeaning) → is_prefix format.prefix ≡ true
+    → Means format tree line silent
     → Means format tree line meaning → meaning ≡ silent
 says_nothing_else format tree line meaning valid first second =
     some_same meaning silent (sym ((line_read format tree line meaning valid).1 second) ∙ (line_read format tree line silent valid).1 first)

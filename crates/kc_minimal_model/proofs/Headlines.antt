@@ -32,7 +32,8 @@ canonical format profile tree bytes valid settled accepted =
       canonical = canonical_text format valid profile tree ordered (file_assignment tree reads.meanings) found.0 fits reads.gives.solves;
     }
 
-pub compared : (format : FileFormat) (profile : Profile) (tree : Tree) (a b : List ℕ) → is_prefix format.prefix ≡ true → IsSettledTree tree → IsAccepted format tree a
+pub compared : (format : FileFormat) (profile : Profile) (tree : Tree) (a b : List ℕ) → is_prefix format.prefix ≡ true → IsSettledTree tree
+    → IsAccepted format tree a
     → IsAccepted format tree b → AreComparedByMinimalFiles format profile tree a b
 compared format profile tree a b valid settled accepted_a accepted_b =
     let left = canonical format profile tree a valid settled accepted_a in

@@ -76,8 +76,10 @@ text_kind Text t e = refl
 text_kind Int t e = refl
 text_kind Hex t e = refl
 
-module _ (format : FileFormat) (valid : is_prefix format.prefix ≡ true) (profile : Profile) (tree : Tree) (sound : IsConsistent tree) (users : List (Option UserValue)) (values : List UnitValue)
-    (fitting : FitsUsers (length tree.units) (λ u x. IsTrue (user_fits tree u x)) users) (solved : Solves (length tree.units) (rule profile tree) users values) where
+module _ (format : FileFormat) (valid : is_prefix format.prefix ≡ true) (profile : Profile) (tree : Tree) (sound : IsConsistent tree)
+    (users : List (Option UserValue)) (values : List UnitValue)
+    (fitting : FitsUsers (length tree.units) (λ u x. IsTrue (user_fits tree u x)) users)
+    (solved : Solves (length tree.units) (rule profile tree) users values) where
   -- a symbol outside choices, by the user value that gives its value again
   line_by_user : (s : ℕ) (symbol : Symbol) → slice_get tree.symbols s ≡ Some symbol → symbol.choice ≡ None → (held : UnitValue)
       → slice_get values (unit_of tree s) ≡ Some held

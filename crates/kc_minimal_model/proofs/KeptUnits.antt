@@ -23,7 +23,9 @@ pub record KeptUnit (tree : Tree) (values : List UnitValue) (u : ℕ) : Type 0 w
   pub assigned : as_user held ≡ Some again
   pub fits : user_fits tree u again ≡ true
 
-module _ (profile : Profile) (tree : Tree) (users : List (Option UserValue)) (values : List UnitValue) (fitting : FitsUsers (length tree.units) (λ u x. IsTrue (user_fits tree u x)) users) (solved : Solves (length tree.units) (rule profile tree) users values) where
+module _ (profile : Profile) (tree : Tree) (users : List (Option UserValue)) (values : List UnitValue)
+    (fitting : FitsUsers (length tree.units) (λ u x. IsTrue (user_fits tree u x)) users)
+    (solved : Solves (length tree.units) (rule profile tree) users values) where
   pub kept_unit : (u : ℕ) → u < length tree.units → is_kept profile tree values u ≡ true → KeptUnit tree values u
   kept_unit u inside kept =
       let without = rule profile tree u None values in

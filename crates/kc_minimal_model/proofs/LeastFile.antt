@@ -131,8 +131,10 @@ module _ (tree : Tree) (values : List UnitValue) where
   length_after (s ∷ xs) users =
       length_after xs (assigned (meant values (unit_of tree s)) users) ∙ same_length (unit_of tree s) (user_meant values (unit_of tree s)) users
 
-module _ (format : FileFormat) (valid : is_prefix format.prefix ≡ true) (profile : Profile) (tree : Tree) (sound : IsConsistent tree) (users : List (Option UserValue)) (values : List UnitValue)
-    (fitting : FitsUsers (length tree.units) (λ u x. IsTrue (user_fits tree u x)) users) (solved : Solves (length tree.units) (rule profile tree) users values) where
+module _ (format : FileFormat) (valid : is_prefix format.prefix ≡ true) (profile : Profile) (tree : Tree) (sound : IsConsistent tree)
+    (users : List (Option UserValue)) (values : List UnitValue)
+    (fitting : FitsUsers (length tree.units) (λ u x. IsTrue (user_fits tree u x)) users)
+    (solved : Solves (length tree.units) (rule profile tree) users values) where
   -- the lines of some symbols that have one
   pub lines_say : (xs : List ℕ) → list_all (has_line profile tree values) xs ≡ true
       → AllZip (λ line meaning. Means format tree (without_white_end line) meaning) (file_lines (flat_map (ended_line format tree values) xs))
@@ -193,7 +195,8 @@ module _ (format : FileFormat) (valid : is_prefix format.prefix ≡ true) (profi
       (let len = none_length (length tree.units) in omega (arith, len)) (none_held (length tree.units) u)
 
   -- what the lines of the minimal file assign
-  pub least_of_lines : IsLeastAssignment (length tree.units) (rule profile tree) as_user values (file_assignment tree (map (λ s. meant values (unit_of tree s)) (minimal_symbols profile tree values)))
+  pub least_of_lines : IsLeastAssignment (length tree.units) (rule profile tree) as_user values
+      (file_assignment tree (map (λ s. meant values (unit_of tree s)) (minimal_symbols profile tree values)))
   least_of_lines = record {
     one_each = length_after tree values (minimal_symbols profile tree values) (empty_assignment tree) ∙ none_length (length tree.units);
     kept = λ u value h has kept.

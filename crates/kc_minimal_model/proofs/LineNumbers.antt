@@ -67,7 +67,8 @@ at_numbers_filtered : (keeps p : ℕ → Bool) (k a n : ℕ)
 at_numbers_filtered keeps p k a zero = refl
 at_numbers_filtered keeps p k a (suc n) = go (p a) (λ h. at_numbers_filtered keeps p h (a + 1) n) where
   go : (t : Bool)
-      → ((h : ℕ) → at_numbers keeps h (filter p (range_with_len (a + 1) n)) ≡ filter (keeps_number_of keeps h (filter p (range_with_len (a + 1) n))) (filter p (range_with_len (a + 1) n)))
+      → ((h : ℕ) → at_numbers keeps h (filter p (range_with_len (a + 1) n)) ≡ filter (keeps_number_of keeps h (filter p (range_with_len (a + 1) n)))
+      (filter p (range_with_len (a + 1) n)))
       → at_numbers keeps k (cond t (a ∷ filter p (range_with_len (a + 1) n)) (filter p (range_with_len (a + 1) n)))
       ≡ filter (keeps_number_of keeps k (cond t (a ∷ filter p (range_with_len (a + 1) n)) (filter p (range_with_len (a + 1) n))))
       (cond t (a ∷ filter p (range_with_len (a + 1) n)) (filter p (range_with_len (a + 1) n)))
@@ -101,13 +102,16 @@ number_kept keeps p k a (suc n) j s at = go (p a) j at (λ h. number_kept keeps 
       ∙ next (k + 1) j s at ∙ ap keeps number
   go false j at next = next k j s at
 
-module _ (format : FileFormat) (valid : is_prefix format.prefix ≡ true) (profile : Profile) (tree : Tree) (sound : IsConsistent tree) (users : List (Option UserValue)) (values : List UnitValue)
-    (fitting : FitsUsers (length tree.units) (λ u x. IsTrue (user_fits tree u x)) users) (solved : Solves (length tree.units) (rule profile tree) users values) where
+module _ (format : FileFormat) (valid : is_prefix format.prefix ≡ true) (profile : Profile) (tree : Tree) (sound : IsConsistent tree)
+    (users : List (Option UserValue)) (values : List UnitValue)
+    (fitting : FitsUsers (length tree.units) (λ u x. IsTrue (user_fits tree u x)) users)
+    (solved : Solves (length tree.units) (rule profile tree) users values) where
   -- the test of the symbols whose lines have these numbers
   abbrev pub keeps_symbol : (ℕ → Bool) → ℕ → Bool
   keeps_symbol keeps = keeps_number_of keeps 0 (minimal_symbols profile tree values)
 
-  pub lines_kept : (keeps : ℕ → Bool) → with_lines keeps (minimal_file format profile tree values) ≡ symbol_lines (keeps_symbol keeps) format profile tree values
+  pub lines_kept : (keeps : ℕ → Bool) → with_lines keeps (minimal_file format profile tree values) ≡ symbol_lines
+      (keeps_symbol keeps) format profile tree values
   lines_kept keeps =
       let xs = minimal_symbols profile tree values in
       let ended : List ℕ → List ℕ = λ line. line ++ 10 ∷ [] in

@@ -91,7 +91,8 @@ pub record IsLine (format : FileFormat) (tree : Tree) (line : List ℕ) (meaning
 prefix_bytes : (prefix : List ℕ) → is_prefix prefix ≡ true → list_all is_name_byte prefix ≡ true
 prefix_bytes prefix e = (and_parts _ (list_all is_name_byte prefix) e).1
 
-module _ (format : FileFormat) (valid : is_prefix format.prefix ≡ true) (tree : Tree) (sound : IsConsistent tree) (s : ℕ) (symbol : Symbol) (at : slice_get tree.symbols s ≡ Some symbol) where
+module _ (format : FileFormat) (valid : is_prefix format.prefix ≡ true) (tree : Tree) (sound : IsConsistent tree) (s : ℕ) (symbol : Symbol)
+    (at : slice_get tree.symbols s ≡ Some symbol) where
   one_value_line : (text : List ℕ) → lacks 10 text ≡ true → lacks 10 (value_line format.prefix symbol.name text) ≡ true
   one_value_line text one =
       all_of_both (λ c. not (c == 10)) format.prefix (symbol.name ++ (61 ∷ text)) (name_lacks 10 refl format.prefix (prefix_bytes format.prefix valid))
@@ -105,7 +106,8 @@ module _ (format : FileFormat) (valid : is_prefix format.prefix ≡ true) (tree 
   split_value_line : (text : List ℕ) → value_line format.prefix symbol.name text ≡ (format.prefix ++ (symbol.name ++ 61 ∷ [])) ++ text
   split_value_line text = simp append_assoc
 
-  says_value : (text : List ℕ) (meaning : LineMeaning) → ValueMeans format.strings tree s symbol text meaning → Means format tree (value_line format.prefix symbol.name text) meaning
+  says_value : (text : List ℕ) (meaning : LineMeaning) → ValueMeans format.strings tree s symbol text meaning
+      → Means format tree (value_line format.prefix symbol.name text) meaning
   says_value text meaning says =
       value (value_line format.prefix symbol.name text) symbol.name text s symbol meaning
       ((sound.words s symbol at).0, name_lacks 61 refl symbol.name (sound.words s symbol at).1, refl)
@@ -116,7 +118,8 @@ module _ (format : FileFormat) (valid : is_prefix format.prefix ≡ true) (tree 
       → IsLine format tree (value_line format.prefix symbol.name text) meaning
   ink_line text meaning ink says = record {
     says = says_value text meaning says;
-    whole = ap without_white_end (split_value_line text) ∙ keeps_text (format.prefix ++ (symbol.name ++ 61 ∷ [])) text ink.some ink.ink ∙ sym (split_value_line text);
+    whole = ap without_white_end (split_value_line text) ∙ keeps_text (format.prefix ++ (symbol.name ++ 61 ∷ [])) text ink.some ink.ink
+        ∙ sym (split_value_line text);
     one = one_value_line text (all_weaker is_ink (λ c. not (c == 10)) ink_newline text ink.ink);
     utf8 = utf8_value_line text (low_utf8 text ink.low);
   } where
@@ -164,7 +167,8 @@ module _ (format : FileFormat) (valid : is_prefix format.prefix ≡ true) (tree 
             ((sound.words s symbol at).0, name_lacks 32 refl symbol.name (sound.words s symbol at).1, refl) (found_by_name tree sound s symbol at) at;
         whole = ap without_white_end same ∙ keeps_text front (codes "set") (omega arith) refl ∙ sym same;
         one = all_of_both (λ c. not (c == 10)) (codes "# ") (format.prefix ++ (symbol.name ++ codes " is not set")) refl
-            (all_of_both (λ c. not (c == 10)) format.prefix (symbol.name ++ codes " is not set") (name_lacks 10 refl format.prefix (prefix_bytes format.prefix valid))
+            (all_of_both (λ c. not (c == 10)) format.prefix (symbol.name ++ codes " is not set")
+            (name_lacks 10 refl format.prefix (prefix_bytes format.prefix valid))
             (all_of_both (λ c. not (c == 10)) symbol.name (codes " is not set") (name_lacks 10 refl symbol.name (sound.words s symbol at).1) refl));
         utf8 = IsUtf8-append (codes "# ") (format.prefix ++ (symbol.name ++ codes " is not set")) (low_utf8 (codes "# ") refl)
             (IsUtf8-append format.prefix (symbol.name ++ codes " is not set") (name_utf8 format.prefix (prefix_bytes format.prefix valid))

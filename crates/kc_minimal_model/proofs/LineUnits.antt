@@ -22,14 +22,16 @@ use Rattle.kc_minimal_model.proofs.KeptUnits.{kept_unit}
 use Rattle.kc_minimal_model.proofs.KeptLines.{user_meant, value_of_member}
 
 module _ (profile : Profile) (tree : Tree) (sound : IsConsistent tree) (users : List (Option UserValue)) (values : List UnitValue)
-    (fitting : FitsUsers (length tree.units) (λ u x. IsTrue (user_fits tree u x)) users) (solved : Solves (length tree.units) (rule profile tree) users values) where
+    (fitting : FitsUsers (length tree.units) (λ u x. IsTrue (user_fits tree u x)) users)
+    (solved : Solves (length tree.units) (rule profile tree) users values) where
   -- a symbol's unit is its own, or it is the selected member of its unit's choice
   abbrev SpeaksOf : ℕ → Type 0
   SpeaksOf s =
       (slice_get tree.units (unit_of tree s) ≡ Some (of_symbol s)) ⊎ ((c : ℕ) × (slice_get tree.units (unit_of tree s) ≡ Some (of_choice c))
       × (user_meant values (unit_of tree s) ≡ Some (MemberUser s)))
 
-  of_member : (s c : ℕ) (symbol : Symbol) → slice_get tree.symbols s ≡ Some symbol → symbol.choice ≡ Some c → is_kept profile tree values (unit_of tree s) ≡ true
+  of_member : (s c : ℕ) (symbol : Symbol) → slice_get tree.symbols s ≡ Some symbol → symbol.choice ≡ Some c
+      → is_kept profile tree values (unit_of tree s) ≡ true
       → not (is_n (value_in_unit tree values s symbol (Some c)).tri) ≡ true
       → (c : ℕ) × (slice_get tree.units (unit_of tree s) ≡ Some (of_choice c)) × (user_meant values (unit_of tree s) ≡ Some (MemberUser s))
   unfolding user_fits

@@ -53,7 +53,8 @@ use Rattle.kc_dotconfig_model.proofs.TrimmedLines.{name_utf8, trimmed_utf8, trim
 use Rattle.kc_value.proofs.UnquotedUtf8.{ascii_alone, utf8_after, unquoted_utf8, quoted_no_longer}
 
 abbrev TextStands : Strings → Symbol → List ℕ → List ℕ → Type 0
-TextStands strings symbol text means = (IsStringSpelling strings text means × (symbol.kind ≡ Text)) ⊎ ((text ≡ means) × (is_some (number_of_text symbol.kind text) ≡ true))
+TextStands strings symbol text means = (IsStringSpelling strings text means × (symbol.kind ≡ Text))
+    ⊎ ((text ≡ means) × (is_some (number_of_text symbol.kind text) ≡ true))
 
 not_bool : (strings : Strings) (symbol : Symbol) (text means : List ℕ) → TextStands strings symbol text means → symbol.kind ≡ Boolean → ⊥
 not_bool strings symbol text means (inl q) e = let is = q.1 in cc
@@ -71,13 +72,15 @@ string_no_longer : (strings : Strings) (text means : List ℕ) → IsStringSpell
 string_no_longer Escaped text means is u = (quoted_no_longer text means is, quoted_utf8 means (unquoted_utf8 text means is u))
 string_no_longer Raw text means is u = subst (λ l. (length l ≤ length text) × IsUtf8 l) is (omega arith, u)
 
-spelled_no_longer : (strings : Strings) (kind : Kind) (symbol : Symbol) (text means : List ℕ) → symbol.kind ≡ kind → TextStands strings symbol text means → IsUtf8 text
+spelled_no_longer : (strings : Strings) (kind : Kind) (symbol : Symbol) (text means : List ℕ) → symbol.kind ≡ kind → TextStands strings symbol text means
+    → IsUtf8 text
     → (length (spelled strings kind means) ≤ length text) × IsUtf8 (spelled strings kind means)
 spelled_no_longer strings kind symbol text means is (inl q) u =
     let same : spelled strings kind means ≡ string_spelling strings means = ap (λ k. spelled strings k means) (sym is ∙ q.1) in
     subst (λ l. (length l ≤ length text) × IsUtf8 l) (sym same) (string_no_longer strings text means q.0 u)
 spelled_no_longer strings kind symbol text means is (inr n) u =
-    let same : spelled strings kind means ≡ text = ap (spelled strings kind) (sym n.0) ∙ number_spelled strings kind text (ap (λ k. is_some (number_of_text k text)) (sym is) ∙ n.1) in
+    let same : spelled strings kind means ≡ text = ap (spelled strings kind) (sym n.0) ∙ number_spelled strings kind text
+    (ap (λ k. is_some (number_of_text k text)) (sym is) ∙ n.1) in
     subst (λ l. (length l ≤ length text) × IsUtf8 l) (sym same) (omega arith, u)
 
 text_held : (symbol : Symbol) (held : UnitValue) (again : UserValue) → is_tri_kind symbol.kind ≡ false → as_user held ≡ Some again
@@ -86,7 +89,8 @@ text_held symbol held (TriUser t) large e fits = absurd (false≢true (sym large
 text_held symbol held (TextUser text) large e fits = (text, value_of_text held text e)
 text_held symbol held (MemberUser m) large e fits = absurd (false≢true fits)
 
-module _ (format : FileFormat) (profile : Profile) (tree : Tree) (bytes : List ℕ) (values : List UnitValue) (valid : is_prefix format.prefix ≡ true) (settled : IsOrderedTree tree)
+module _ (format : FileFormat) (profile : Profile) (tree : Tree) (bytes : List ℕ) (values : List UnitValue) (valid : is_prefix format.prefix ≡ true)
+    (settled : IsOrderedTree tree)
     (accepted : IsAccepted format tree bytes) (reads : ReadsTo format profile tree bytes values) where
   abbrev held_users : List (Option UserValue)
   held_users = file_assignment tree reads.meanings
@@ -97,7 +101,8 @@ module _ (format : FileFormat) (profile : Profile) (tree : Tree) (bytes : List �
   -- a text that the file assigns to a symbol is on a short line
   text_is_short : (s : ℕ) (symbol : Symbol) (text : List ℕ) → slice_get tree.symbols s ≡ Some symbol → symbol.choice ≡ None → unit_of tree s < length tree.units
       → user_of (file_assignment tree reads.meanings) (unit_of tree s) ≡ Some (TextUser text)
-      → (length format.prefix + length symbol.name + 1 + length (spelled format.strings symbol.kind text) ≤ MAX_LINE_BYTES) × IsUtf8 (spelled format.strings symbol.kind text)
+      → (length format.prefix + length symbol.name + 1 + length (spelled format.strings symbol.kind text) ≤ MAX_LINE_BYTES)
+      × IsUtf8 (spelled format.strings symbol.kind text)
   text_is_short s symbol text at out below has =
       let u = unit_of tree s in
       let all = none_length (length tree.units) in
@@ -109,7 +114,8 @@ module _ (format : FileFormat) (profile : Profile) (tree : Tree) (bytes : List �
         some_not_none e = cc
 
         on_line : HasAssigningLine format tree (file_lines bytes) (unit_of tree s) (TextUser text)
-            → (length format.prefix + length symbol.name + 1 + length (spelled format.strings symbol.kind text) ≤ MAX_LINE_BYTES) × IsUtf8 (spelled format.strings symbol.kind text)
+            → (length format.prefix + length symbol.name + 1 + length (spelled format.strings symbol.kind text) ≤ MAX_LINE_BYTES)
+            × IsUtf8 (spelled format.strings symbol.kind text)
         on_line l =
             let fits = accepted_line format tree bytes valid accepted l.number l.line l.at in
             let t = text_line format tree (without_white_end l.line) (unit_of tree s) text l.says in
@@ -118,7 +124,8 @@ module _ (format : FileFormat) (profile : Profile) (tree : Tree) (bytes : List �
             let one : t.symbol ≡ symbol = only (sym t.at ∙ ap (slice_get tree.symbols) same ∙ at) in
             let name : t.name ≡ symbol.name = named_so tree t.name t.s t.symbol t.named t.at ∙ ap (λ (x : Symbol). x.name) one in
             let words = (settled.consistent.words s symbol at).1 in
-            let whole : without_white_end l.line ≡ format.prefix ++ (symbol.name ++ (61 ∷ t.text)) = t.whole ∙ ap (λ n. format.prefix ++ (n ++ (61 ∷ t.text))) name in
+            let whole : without_white_end l.line ≡ format.prefix ++ (symbol.name ++ (61 ∷ t.text)) =
+            t.whole ∙ ap (λ n. format.prefix ++ (n ++ (61 ∷ t.text))) name in
             let after_prefix = utf8_after (without_white_end l.line) format.prefix (symbol.name ++ (61 ∷ t.text)) (trimmed_utf8 l.line fits.utf8)
             (prefix_fits format.prefix valid).1 whole in
             let after_name = utf8_after (symbol.name ++ (61 ∷ t.text)) symbol.name (61 ∷ t.text) after_prefix (name_utf8 symbol.name words) refl in
@@ -142,10 +149,12 @@ module _ (format : FileFormat) (profile : Profile) (tree : Tree) (bytes : List �
               only : {a b : Symbol} → Some a ≡ Some b → a ≡ b
               only e = cc
 
-              outside : (r : ℕ) (other : Symbol) (written : List ℕ) → slice_get tree.symbols r ≡ Some other → TextStands format.strings other written text → (c : Option ℕ)
+              outside : (r : ℕ) (other : Symbol) (written : List ℕ) → slice_get tree.symbols r ≡ Some other → TextStands format.strings other written text
+                  → (c : Option ℕ)
                   → other.choice ≡ c → other.choice ≡ None
               outside r other written there stands None e = e
-              outside r other written there stands (Some c) e = absurd (not_bool format.strings other written text stands (settled.consistent.bool_members r c other there e))
+              outside r other written there stands (Some c) e = absurd
+                  (not_bool format.strings other written text stands (settled.consistent.bool_members r c other there e))
 
   outside_line : (s : ℕ) (symbol : Symbol) → slice_get tree.symbols s ≡ Some symbol → symbol.choice ≡ None → has_line profile tree values s ≡ true
       → is_kept profile tree values (unit_of tree s) ≡ true
@@ -214,7 +223,8 @@ short_each p q (x ∷ xs) each all =
     let parts = and_parts (p x) (list_all p xs) all in and_from (q x) (list_all q xs) (each x parts.0) (short_each p q xs each parts.1)
 
 -- so no line of the minimal file is too long
-pub lines_are_short : (format : FileFormat) (profile : Profile) (tree : Tree) (bytes : List ℕ) (values : List UnitValue) → (valid : is_prefix format.prefix ≡ true)
+pub lines_are_short : (format : FileFormat) (profile : Profile) (tree : Tree) (bytes : List ℕ) (values : List UnitValue)
+    → (valid : is_prefix format.prefix ≡ true)
     → IsOrderedTree tree → IsAccepted format tree bytes → ReadsTo format profile tree bytes values
     → list_all (λ s. nat_le (length (symbol_line format tree values s)) MAX_LINE_BYTES) (minimal_symbols profile tree values) ≡ true
 lines_are_short format profile tree bytes values valid settled accepted reads =
@@ -224,7 +234,8 @@ lines_are_short format profile tree bytes values valid settled accepted reads =
     (passes_filter (has_line profile tree values) (symbol_numbers tree))
 
 -- a minimal file has no more lines than the tree has symbols
-pub few_lines : (profile : Profile) (tree : Tree) (values : List UnitValue) → IsConsistent tree → length (minimal_symbols profile tree values) ≤ MAX_CONFIG_LINES
+pub few_lines : (profile : Profile) (tree : Tree) (values : List UnitValue) → IsConsistent tree → length
+    (minimal_symbols profile tree values) ≤ MAX_CONFIG_LINES
 few_lines profile tree values sound =
     let c = filter_shorter (has_line profile tree values) (symbol_numbers tree) in
     let d = length-range_with_len 0 (length tree.symbols) in

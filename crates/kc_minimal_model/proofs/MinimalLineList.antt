@@ -23,8 +23,10 @@ use Rattle.kc_minimal_model.proofs.Bytes.{first_line}
 use Rattle.kc_minimal_model.proofs.KeptLines.{line_reads}
 use Rattle.kc_minimal_model.proofs.LeastFile.{passes_filter}
 
-module _ (format : FileFormat) (valid : is_prefix format.prefix ≡ true) (profile : Profile) (tree : Tree) (sound : IsConsistent tree) (users : List (Option UserValue)) (values : List UnitValue)
-    (fitting : FitsUsers (length tree.units) (λ u x. IsTrue (user_fits tree u x)) users) (solved : Solves (length tree.units) (rule profile tree) users values) where
+module _ (format : FileFormat) (valid : is_prefix format.prefix ≡ true) (profile : Profile) (tree : Tree) (sound : IsConsistent tree)
+    (users : List (Option UserValue)) (values : List UnitValue)
+    (fitting : FitsUsers (length tree.units) (λ u x. IsTrue (user_fits tree u x)) users)
+    (solved : Solves (length tree.units) (rule profile tree) users values) where
   -- the ended lines of symbols that have one are cut into these lines
   pub lines_of_symbols : (xs : List ℕ) → list_all (has_line profile tree values) xs ≡ true
       → file_lines (flat_map (ended_line format tree values) xs) ≡ map (symbol_line format tree values) xs

@@ -32,25 +32,30 @@ without_user_values : (minimal_file config Present tree_a (n ∷ []) ≡ [])
 unfolding rule symbol_line
 without_user_values = (refl, refl, refl)
 
-against_defaults : (minimal_file config Present tree_default_y (n ∷ []) ≡ codes "# CONFIG_A is not set\n") × (minimal_file config Present tree_default_n (y ∷ []) ≡ codes "CONFIG_A=y\n")
+against_defaults : (minimal_file config Present tree_default_y (n ∷ []) ≡ codes "# CONFIG_A is not set\n")
+    × (minimal_file config Present tree_default_n (y ∷ []) ≡ codes "CONFIG_A=y\n")
 unfolding rule symbol_line
 against_defaults = (refl, refl)
 
 -- a default above the visibility has no line; the value below it has one
-below_a_lifted_default : (minimal_file config Present tree_lifted (y ∷ m ∷ y ∷ []) ≡ []) × (minimal_file config Present tree_lifted (y ∷ m ∷ m ∷ []) ≡ codes "CONFIG_A=m\n")
+below_a_lifted_default : (minimal_file config Present tree_lifted (y ∷ m ∷ y ∷ []) ≡ [])
+    × (minimal_file config Present tree_lifted (y ∷ m ∷ m ∷ []) ≡ codes "CONFIG_A=m\n")
 unfolding rule symbol_line
 below_a_lifted_default = (refl, refl)
 
-ints : (minimal_file config Present tree_int (text (codes "10") ∷ []) ≡ []) × (minimal_file config Present tree_int (text (codes "20") ∷ []) ≡ codes "CONFIG_N=20\n")
+ints : (minimal_file config Present tree_int (text (codes "10") ∷ []) ≡ [])
+    × (minimal_file config Present tree_int (text (codes "20") ∷ []) ≡ codes "CONFIG_N=20\n")
     × (minimal_file config Present tree_int (text (codes "010") ∷ []) ≡ codes "CONFIG_N=010\n")
 unfolding rule symbol_line int_text digits
 ints = (refl, refl, refl)
 
-hexes : (minimal_file config Present tree_hex (text (codes "0x1f") ∷ []) ≡ []) × (minimal_file config Present tree_hex (text (codes "1F") ∷ []) ≡ codes "CONFIG_H=1F\n")
+hexes : (minimal_file config Present tree_hex (text (codes "0x1f") ∷ []) ≡ [])
+    × (minimal_file config Present tree_hex (text (codes "1F") ∷ []) ≡ codes "CONFIG_H=1F\n")
 unfolding rule symbol_line hex_text digits
 hexes = (refl, refl)
 
-strings : (minimal_file config Present tree_string (text (codes "x") ∷ []) ≡ []) × (minimal_file config Present tree_string (text [] ∷ []) ≡ codes "CONFIG_S=\"\"\n")
+strings : (minimal_file config Present tree_string (text (codes "x") ∷ []) ≡ [])
+    × (minimal_file config Present tree_string (text [] ∷ []) ≡ codes "CONFIG_S=\"\"\n")
     × (minimal_file config Present tree_string (text (codes "a\"b\\c") ∷ []) ≡ codes "CONFIG_S=\"a\\\"b\\\\c\"\n")
 unfolding rule symbol_line
 strings = (refl, refl, refl)
@@ -62,7 +67,8 @@ unfolding rule symbol_line
 raw_strings = (refl, refl, refl)
 
 -- of a choice the selected member alone; lines are in order of definition
-choices : (minimal_file config Present tree_pick (picks 1 ∷ n ∷ []) ≡ []) × (minimal_file config Present tree_pick (picks 2 ∷ y ∷ []) ≡ codes "CONFIG_C=y\nCONFIG_X=y\n")
+choices : (minimal_file config Present tree_pick (picks 1 ∷ n ∷ []) ≡ [])
+    × (minimal_file config Present tree_pick (picks 2 ∷ y ∷ []) ≡ codes "CONFIG_C=y\nCONFIG_X=y\n")
 unfolding rule symbol_line
 choices = (refl, refl)
 

@@ -30,8 +30,10 @@ use Rattle.kc_minimal_model.proofs.LineNumbers.{keeps_symbol, lines_kept, line_c
 use Rattle.kc_minimal_model.proofs.Accepting.{is_short, accepted_symbols, shorts_of_file, file_of_shorts, filter_shorter, flat_shorter}
 use Rattle.kc_minimal_model.proofs.MinimalAccepted.{few_lines, lines_are_short}
 
-module _ (format : FileFormat) (valid : is_prefix format.prefix ≡ true) (profile : Profile) (tree : Tree) (settled : IsOrderedTree tree) (users : List (Option UserValue)) (values : List UnitValue)
-    (fitting : FitsUsers (length tree.units) (λ u x. IsTrue (user_fits tree u x)) users) (solved : Solves (length tree.units) (rule profile tree) users values) where
+module _ (format : FileFormat) (valid : is_prefix format.prefix ≡ true) (profile : Profile) (tree : Tree) (settled : IsOrderedTree tree)
+    (users : List (Option UserValue)) (values : List UnitValue)
+    (fitting : FitsUsers (length tree.units) (λ u x. IsTrue (user_fits tree u x)) users)
+    (solved : Solves (length tree.units) (rule profile tree) users values) where
   -- some of the lines, where each line is short
   pub part_accepted : (keeps : ℕ → Bool) → length (minimal_file format profile tree values) ≤ MAX_CONFIG_BYTES
       → list_all (is_short format valid profile tree settled.consistent users values fitting solved) (minimal_symbols profile tree values) ≡ true

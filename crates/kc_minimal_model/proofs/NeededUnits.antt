@@ -47,7 +47,8 @@ unfolding plain
 valid = refl
 
 module _ (profile : Profile) (tree : Tree) (users : List (Option UserValue)) (values : List UnitValue) (settled : IsOrderedTree tree)
-    (fitting : FitsUsers (length tree.units) (λ u x. IsTrue (user_fits tree u x)) users) (solved : Solves (length tree.units) (rule profile tree) users values) where
+    (fitting : FitsUsers (length tree.units) (λ u x. IsTrue (user_fits tree u x)) users)
+    (solved : Solves (length tree.units) (rule profile tree) users values) where
   -- a symbol with a line has a kept unit
   line_kept : (s : ℕ) → has_line profile tree values s ≡ true → (unit_of tree s < length tree.units) × IsKept (rule profile tree) values (unit_of tree s)
   line_kept s has =

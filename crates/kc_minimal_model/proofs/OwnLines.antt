@@ -49,7 +49,8 @@ no_bytes : (text : List ℕ) → (length text == 0) ≡ true → text ≡ []
 no_bytes [] e = refl
 no_bytes (b ∷ text) e = let zero_long = eqb-true (length (b ∷ text)) 0 e in absurd (omega (arith, zero_long))
 
-module _ (format : FileFormat) (valid : is_prefix format.prefix ≡ true) (tree : Tree) (sound : IsConsistent tree) (values : List UnitValue) (fits : FitsValues (length tree.units) (λ u v. IsTrue (value_fits tree u v)) values) where
+module _ (format : FileFormat) (valid : is_prefix format.prefix ≡ true) (tree : Tree) (sound : IsConsistent tree) (values : List UnitValue)
+    (fits : FitsValues (length tree.units) (λ u v. IsTrue (value_fits tree u v)) values) where
   -- the line of an int or hex without a number
   empty_line : (s : ℕ) (symbol : Symbol) → slice_get tree.symbols s ≡ Some symbol → ValueMeans format.strings tree s symbol [] silent
       → IsLine format tree (value_line format.prefix symbol.name []) silent
@@ -90,11 +91,17 @@ module _ (format : FileFormat) (valid : is_prefix format.prefix ≡ true) (tree 
         (empty_line s symbol at says) in
         let at_kind : IsLine format tree (line_with format symbol.name (of_text symbol.kind [])) silent = subst
         (λ k. IsLine format tree (line_with format symbol.name (of_text k [])) silent) (sym is) line in
-        record { meaning = silent; reads = subst (λ t. IsLine format tree (line_with format symbol.name (of_text symbol.kind t)) silent) (sym (no_bytes text none)) at_kind; own = tt }
+        record {
+          meaning = silent;
+          reads = subst (λ t. IsLine format tree (line_with format symbol.name (of_text symbol.kind t)) silent)
+              (sym (no_bytes text none)) at_kind;
+          own = tt;
+        }
     | inr some ↦ text_says s symbol at text held (ap (λ k. user_text_fits k text) is ∙ number some)
   ]
 
-  text_of_kind : (s : ℕ) (symbol : Symbol) → slice_get tree.symbols s ≡ Some symbol → (text : List ℕ) → user_meant values (unit_of tree s) ≡ Some (TextUser text)
+  text_of_kind : (s : ℕ) (symbol : Symbol) → slice_get tree.symbols s ≡ Some symbol → (text : List ℕ)
+      → user_meant values (unit_of tree s) ≡ Some (TextUser text)
       → (kind : Kind) → symbol.kind ≡ kind → text_fits kind text ≡ true
       → IsOwnLine format tree values (line_with format symbol.name (of_text symbol.kind text))
   text_of_kind s symbol at text held Boolean is good = absurd (false≢true good)
@@ -147,8 +154,14 @@ module _ (format : FileFormat) (valid : is_prefix format.prefix ≡ true) (tree 
   n_line s c symbol at within t is =
       let kind = sound.bool_members s c symbol at within in
       let line : IsLine format tree (line_with format symbol.name (tri_symbol_value Boolean N)) silent = subst
-      (IsLine format tree (unset_line format.prefix symbol.name)) (ap (unset_meaning tree s symbol) within) (not_set_line format valid tree sound s symbol at) in
-      record { meaning = silent; own = tt; reads = subst (λ k. IsLine format tree (line_with format symbol.name (tri_symbol_value k t)) silent) (sym kind) (subst (λ x. IsLine format tree (line_with format symbol.name (tri_symbol_value Boolean x)) silent) (sym is) line) }
+      (IsLine format tree (unset_line format.prefix symbol.name)) (ap (unset_meaning tree s symbol) within)
+      (not_set_line format valid tree sound s symbol at) in
+      record {
+        meaning = silent;
+        own = tt;
+        reads = subst (λ k. IsLine format tree (line_with format symbol.name (tri_symbol_value k t)) silent) (sym kind)
+            (subst (λ x. IsLine format tree (line_with format symbol.name (tri_symbol_value Boolean x)) silent) (sym is) line);
+      }
 
   member_by_held : (s c : ℕ) (symbol : Symbol) → slice_get tree.symbols s ≡ Some symbol → symbol.choice ≡ Some c → (o : Option UnitValue)
       → slice_get values (unit_of tree s) ≡ o

@@ -28,7 +28,8 @@ use Rattle.kc_minimal_model.proofs.Canonical.{decides}
 
 -- a bool: l and p as in `tri_rule`, t what is promoted to the visibility
 bool_table : (l : Bool) (t un s : Tri)
-    → promoted_if l (y_for_m (tri_or (cond (not (is_n (y_for_m t))) (tri_and (promoted_if l (y_for_m (tri_or un s))) (y_for_m t)) un) s)) ≡ promoted_if l (y_for_m (tri_or un s))
+    → promoted_if l (y_for_m (tri_or (cond (not (is_n (y_for_m t))) (tri_and (promoted_if l (y_for_m (tri_or un s))) (y_for_m t)) un) s))
+    ≡ promoted_if l (y_for_m (tri_or un s))
 bool_table true N N N = refl
 bool_table true N N M = refl
 bool_table true N N Y = refl
@@ -197,7 +198,8 @@ module _ (profile : Profile) (tree : Tree) (values : List UnitValue) where
       → is_visible tree values symbol ≡ true
       → Own (λ x. rule_of_unit profile tree unit x values)
 
-  own_symbol_at : (s : ℕ) (o : Option Symbol) → slice_get tree.symbols s ≡ o → NotLifted (Some (of_symbol s)) → Own (λ x. rule_of_symbol profile tree o x values)
+  own_symbol_at : (s : ℕ) (o : Option Symbol) → slice_get tree.symbols s ≡ o → NotLifted (Some (of_symbol s))
+      → Own (λ x. rule_of_symbol profile tree o x values)
   own_symbol_at s None e lifted = λ y h. refl
   own_symbol_at s (Some symbol) e lifted = own_symbol symbol symbol.kind refl (λ kind seen y h.
       let free = lifted s symbol refl e kind seen y (ap (λ o. as_user (rule_of_symbol profile tree o None values)) e ∙ h) in

@@ -130,7 +130,8 @@ linked tree u starts links units nextStarts nextLinks l e eLinks eStarts =
     ]
 
     rows : (k : ℕ) → k < u + 1
-        → take (slice_index (starts ++ length (links ++ units) ∷ []) (k + 1) - slice_index (starts ++ length (links ++ units) ∷ []) k) (drop (slice_index (starts ++ length (links ++ units) ∷ []) k) (links ++ units)) ≡ dependencies tree k
+        → take (slice_index (starts ++ length (links ++ units) ∷ []) (k + 1) - slice_index (starts ++ length (links ++ units) ∷ []) k)
+        (drop (slice_index (starts ++ length (links ++ units) ∷ []) k) (links ++ units)) ≡ dependencies tree k
     rows k h = elim (cases_lt k u) [
       | inl less ↦ old_row k less (before k h) (before (k + 1) (omega arith))
       | inr last ↦ let same : k ≡ u = omega arith in subst (λ j. take (slice_index (starts ++ length (links ++ units) ∷ []) (j + 1) - slice_index
@@ -154,7 +155,8 @@ linked tree u starts links units nextStarts nextLinks l e eLinks eStarts =
             ∙ take-append-le (slice_index starts (k + 1) - slice_index starts k) (drop (slice_index starts k) links) units room
             ∙ l.rows k less
 
-        new_row : take (slice_index (starts ++ length (links ++ units) ∷ []) (u + 1) - slice_index (starts ++ length (links ++ units) ∷ []) u) (drop (slice_index (starts ++ length (links ++ units) ∷ []) u) (links ++ units)) ≡ dependencies tree u
+        new_row : take (slice_index (starts ++ length (links ++ units) ∷ []) (u + 1) - slice_index (starts ++ length (links ++ units) ∷ []) u)
+            (drop (slice_index (starts ++ length (links ++ units) ∷ []) u) (links ++ units)) ≡ dependencies tree u
         new_row =
             let b : slice_index (starts ++ length (links ++ units) ∷ []) u ≡ length links = before u (omega arith) ∙ l.last in
             let size : length (links ++ units) - length links ≡ length units = omega (arith, length-append links units) in

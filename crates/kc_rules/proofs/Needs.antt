@@ -79,7 +79,9 @@ module _ (exprs : Exprs) (p : List ℕ → Bool) where
       (λ d. list_any-append p (names_in (node_expr exprs d.value)) (names_in (node_expr exprs d.condition))) ds
 
   of_range : (r : KeptRange) → HasOperands exprs r
-      → list_any p (operand_names (operand_or_empty (node_expr exprs r.low)) ++ operand_names (operand_or_empty (node_expr exprs r.high)) ++ names_in (node_expr exprs r.condition)) ≡ (mentions p (node_expr exprs r.low) || mentions p (node_expr exprs r.high) || mentions p (node_expr exprs r.condition))
+      → list_any p (operand_names (operand_or_empty (node_expr exprs r.low)) ++ operand_names (operand_or_empty (node_expr exprs r.high)) ++ names_in
+      (node_expr exprs r.condition)) ≡ (mentions p (node_expr exprs r.low) || mentions p (node_expr exprs r.high) || mentions p
+      (node_expr exprs r.condition))
   of_range r has =
       let low = operand_names (operand_or_empty (node_expr exprs r.low)) in
       let high = operand_names (operand_or_empty (node_expr exprs r.high)) in
@@ -90,7 +92,8 @@ module _ (exprs : Exprs) (p : List ℕ → Bool) where
       ∙ ap (λ t. mentions p (node_expr exprs r.low) || t || list_any p rest) (operand_mention p (node_expr exprs r.high) has.1)
 
   each_range : (rs : List KeptRange) → ((k : ℕ) (r : KeptRange) → slice_get rs k ≡ Some r → HasOperands exprs r)
-      → list_any (λ (r : KeptRange). list_any p (operand_names (operand_or_empty (node_expr exprs r.low)) ++ operand_names (operand_or_empty (node_expr exprs r.high)) ++ names_in (node_expr exprs r.condition))) rs ≡ in_ranges exprs p rs
+      → list_any (λ (r : KeptRange). list_any p (operand_names (operand_or_empty (node_expr exprs r.low)) ++ operand_names
+      (operand_or_empty (node_expr exprs r.high)) ++ names_in (node_expr exprs r.condition))) rs ≡ in_ranges exprs p rs
   each_range [] all = refl
   each_range (r ∷ rs) all =
       ap (λ t. t || list_any (λ (r : KeptRange). list_any p (operand_names (operand_or_empty (node_expr exprs r.low)) ++ operand_names
@@ -99,7 +102,8 @@ module _ (exprs : Exprs) (p : List ℕ → Bool) where
       (each_range rs (λ k q e. all (suc k) q e))
 
   in_each_range : (rs : List KeptRange) → ((k : ℕ) (r : KeptRange) → slice_get rs k ≡ Some r → HasOperands exprs r)
-      → list_any p (flat_map (λ (r : Range). operand_names r.low ++ operand_names r.high ++ names_in r.condition) (map (range_view exprs) rs)) ≡ in_ranges exprs p rs
+      → list_any p (flat_map (λ (r : Range). operand_names r.low ++ operand_names r.high ++ names_in r.condition) (map (range_view exprs) rs))
+      ≡ in_ranges exprs p rs
   in_each_range rs all =
       any_flat p (λ (r : Range). operand_names r.low ++ operand_names r.high ++ names_in r.condition) (map (range_view exprs) rs)
       ∙ any_map (λ (r : Range). list_any p (operand_names r.low ++ operand_names r.high ++ names_in r.condition)) (range_view exprs) rs
@@ -117,7 +121,8 @@ module _ (exprs : Exprs) (p : List ℕ → Bool) where
 
 -- the units of some selects or implies
 forces_needed : (tree : Tree) (exprs : Exprs) (d : ℕ) (fs : List KeptForce)
-    → has (units_of_reverse_dependencies tree (map (reverse_dependency_view exprs) fs)) d ≡ (depends_on_reverse tree d fs || in_reverse_dependencies exprs (is_of tree d) fs)
+    → has (units_of_reverse_dependencies tree (map (reverse_dependency_view exprs) fs)) d
+    ≡ (depends_on_reverse tree d fs || in_reverse_dependencies exprs (is_of tree d) fs)
 forces_needed tree exprs d fs =
     list_any-append (λ m. m == d) (map (λ (f : ReverseDependency). unit_of tree f.by) (map (reverse_dependency_view exprs) fs))
     (units_named tree (flat_map (λ (f : ReverseDependency). names_in f.condition) (map (reverse_dependency_view exprs) fs)))
@@ -127,7 +132,8 @@ forces_needed tree exprs d fs =
     ∙ ap (λ t. depends_on_reverse tree d fs || t) (units_of_names tree d
     (flat_map (λ (f : ReverseDependency). names_in f.condition) (map (reverse_dependency_view exprs) fs)) ∙ in_each_force exprs (is_of tree d) fs)
 
-modules_needed : (tree : Tree) (d : ℕ) (kind : Kind) → list_any (is_of tree d) (cond (is_tristate kind) (modules ∷ []) []) ≡ by_modules tree d kind (symbol_named tree modules)
+modules_needed : (tree : Tree) (d : ℕ) (kind : Kind) → list_any (is_of tree d) (cond (is_tristate kind) (modules ∷ []) [])
+    ≡ by_modules tree d kind (symbol_named tree modules)
 modules_needed tree d Boolean = refl
 modules_needed tree d Tristate = sym (nothing_more (is_of tree d modules))
 modules_needed tree d Text = refl
@@ -193,7 +199,8 @@ module _ (tree : Tree) (exprs : Exprs) (d : ℕ) where
   in_shown (Some i) = refl
 
   in_each_member_default : (ds : List KeptMemberDefault)
-      → list_any (is_of tree d) (flat_map (λ (d : MemberDefault). names_in d.condition ++ names_in_member_prompts tree d.member) (map (member_default_view exprs) ds)) ≡ in_member_defaults tree exprs (is_of tree d) ds
+      → list_any (is_of tree d) (flat_map (λ (d : MemberDefault). names_in d.condition ++ names_in_member_prompts tree d.member)
+      (map (member_default_view exprs) ds)) ≡ in_member_defaults tree exprs (is_of tree d) ds
   in_each_member_default ds =
       any_flat (is_of tree d) (λ (d : MemberDefault). names_in d.condition ++ names_in_member_prompts tree d.member) (map (member_default_view exprs) ds)
       ∙ any_map (λ (m : MemberDefault). list_any (is_of tree d) (names_in m.condition ++ names_in_member_prompts tree m.member)) (member_default_view exprs) ds

@@ -39,7 +39,8 @@ module _ (profile : Profile) (tree : Tree) (values : List UnitValue) where
       (unwrap_or (number_of_text symbol.kind text) (pos 0)) in
       sym (ap (λ r. Some (TextUser r)) (number_kept seen within t d (λ e. differs (ap (λ r. TextValue r) (e ∙ sym (no_number seen within d))))))
 
-  assigned_member : (choice : Choice) (x : Option UserValue) → MemberValue (choice_rule tree choice x values) ≢ MemberValue (choice_rule tree choice None values)
+  assigned_member : (choice : Choice) (x : Option UserValue) → MemberValue (choice_rule tree choice x values) ≢ MemberValue
+      (choice_rule tree choice None values)
       → x ≡ as_user (MemberValue (choice_rule tree choice x values))
   assigned_member choice None differs = absurd (differs refl)
   assigned_member choice (Some (TriUser t)) differs = absurd (differs refl)

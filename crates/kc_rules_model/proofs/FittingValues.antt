@@ -90,7 +90,8 @@ bound_printable Text text o large other e = absurd (other refl)
 bound_printable Int text o large other e = int_bound text o e
 bound_printable Hex text o large other e = hex_bound text o e
 
-module _ (tree : Tree) (sound : IsConsistent tree) (values : List UnitValue) (fitting : FitsValues (length tree.units) (λ u v. IsTrue (value_fits tree u v)) values) where
+module _ (tree : Tree) (sound : IsConsistent tree) (values : List UnitValue)
+    (fitting : FitsValues (length tree.units) (λ u v. IsTrue (value_fits tree u v)) values) where
   held_one_line : (s : ℕ) (symbol : Symbol) → slice_get tree.symbols s ≡ Some symbol → symbol.choice ≡ None
       → is_line (text_of (slice_get values (unit_of tree s))) ≡ true
   unfolding value_fits
@@ -112,7 +113,8 @@ module _ (tree : Tree) (sound : IsConsistent tree) (values : List UnitValue) (fi
   seen_one_line s symbol at (Some c) e = letter_one_line _
   seen_one_line s symbol at None e = go (is_tri_kind symbol.kind) where
     go : (t : Bool)
-        → is_line (cond {A = SymbolValue} t (tri_symbol_value symbol.kind (tri_of (slice_get values (unit_of tree s)))) (record { kind = symbol.kind; tri = N; text = text_of (slice_get values (unit_of tree s)) })).text ≡ true
+        → is_line (cond {A = SymbolValue} t (tri_symbol_value symbol.kind (tri_of (slice_get values (unit_of tree s))))
+        (record { kind = symbol.kind; tri = N; text = text_of (slice_get values (unit_of tree s)) })).text ≡ true
     go true = letter_one_line _
     go false = held_one_line s symbol at e
 
@@ -204,7 +206,8 @@ module _ (tree : Tree) (sound : IsConsistent tree) (values : List UnitValue) (fi
       → IfSome x (λ y. IsTrue (symbol_user_fits (Some symbol) y))
       → (length (number_rule tree symbol x values) == 0 || is_some (number_of_text symbol.kind (number_rule tree symbol x values))) ≡ true
   number_fits symbol large other x fits = go (is_visible tree values symbol) x fits where
-    user_number : (kind : Kind) (text : List ℕ) → is_tri_kind kind ≡ false → (kind ≡ Text → ⊥) → user_text_fits kind text ≡ true → is_some (number_of_text kind text) ≡ true
+    user_number : (kind : Kind) (text : List ℕ) → is_tri_kind kind ≡ false → (kind ≡ Text → ⊥) → user_text_fits kind text ≡ true
+        → is_some (number_of_text kind text) ≡ true
     user_number Boolean text large other e = e
     user_number Tristate text large other e = e
     user_number Text text large other e = absurd (other refl)
@@ -212,7 +215,8 @@ module _ (tree : Tree) (sound : IsConsistent tree) (values : List UnitValue) (fi
     user_number Hex text large other e = e
 
     go : (t : Bool) (x : Option UserValue) → IfSome x (λ y. IsTrue (symbol_user_fits (Some symbol) y))
-        → (length (unwrap_or (option_and_then (λ text. cond (is_within tree values symbol.kind (active_range tree values symbol) (unwrap_or (number_of_text symbol.kind text) (pos 0))) (Some text) None) (cond t (assigned_text x) None)) (number_default tree values symbol)) == 0
+        → (length (unwrap_or (option_and_then (λ text. cond (is_within tree values symbol.kind (active_range tree values symbol)
+        (unwrap_or (number_of_text symbol.kind text) (pos 0))) (Some text) None) (cond t (assigned_text x) None)) (number_default tree values symbol)) == 0
         || is_some (number_of_text symbol.kind (unwrap_or (option_and_then
         (λ text. cond (is_within tree values symbol.kind (active_range tree values symbol) (unwrap_or (number_of_text symbol.kind text) (pos 0)))
         (Some text) None) (cond t (assigned_text x) None)) (number_default tree values symbol)))) ≡ true
@@ -223,7 +227,8 @@ module _ (tree : Tree) (sound : IsConsistent tree) (values : List UnitValue) (fi
     go true (Some (TextUser text)) fits =
         kept (is_within tree values symbol.kind (active_range tree values symbol) (unwrap_or (number_of_text symbol.kind text) (pos 0))) where
           kept : (b : Bool)
-              → (length (unwrap_or (cond b (Some text) None) (number_default tree values symbol)) == 0 || is_some (number_of_text symbol.kind (unwrap_or (cond b (Some text) None) (number_default tree values symbol)))) ≡ true
+              → (length (unwrap_or (cond b (Some text) None) (number_default tree values symbol)) == 0 || is_some
+              (number_of_text symbol.kind (unwrap_or (cond b (Some text) None) (number_default tree values symbol)))) ≡ true
           kept true = or_right (length text == 0) _ (user_number symbol.kind text large other fits)
           kept false = default_fits symbol large other
 
@@ -250,21 +255,40 @@ module _ (tree : Tree) (sound : IsConsistent tree) (values : List UnitValue) (fi
     by_default (Some d) e =
         found_passes _ (λ (d : MemberDefault). list_any (λ m. m == d.member) choice.members) choice.defaults d (sound.default_members c choice at) e
 
-    others : (t : Bool) → choice_value_fits (Some choice) (MemberValue (cond t None (option_or (option_map (λ (d : MemberDefault). d.member) (find (λ (d : MemberDefault). not (is_n (condition tree values d.condition)) && is_visible_member tree values d.member) choice.defaults)) (find (is_visible_member tree values) choice.members)))) ≡ true
+    others : (t : Bool) → choice_value_fits (Some choice) (MemberValue
+        (cond t None (option_or (option_map (λ (d : MemberDefault). d.member)
+        (find (λ (d : MemberDefault). not (is_n (condition tree values d.condition)) && is_visible_member tree values d.member) choice.defaults))
+        (find (is_visible_member tree values) choice.members)))) ≡ true
     others true = refl
-    others false = by_default (find (λ (d : MemberDefault). not (is_n (condition tree values d.condition)) && is_visible_member tree values d.member) choice.defaults) refl
+    others false = by_default (find (λ (d : MemberDefault). not (is_n (condition tree values d.condition)) && is_visible_member tree values d.member)
+        choice.defaults) refl
 
     by_user : (x : Option UserValue) → IfSome x (λ y. IsTrue (choice_user_fits (Some choice) y))
-        → choice_value_fits (Some choice) (MemberValue (option_or (option_and_then (λ s. cond (is_visible_member tree values s) (Some s) None) (assigned_member x)) (cond choice.optional None (option_or (option_map (λ (d : MemberDefault). d.member) (find (λ (d : MemberDefault). not (is_n (condition tree values d.condition)) && is_visible_member tree values d.member) choice.defaults)) (find (is_visible_member tree values) choice.members))))) ≡ true
+        → choice_value_fits (Some choice)
+        (MemberValue (option_or (option_and_then (λ s. cond (is_visible_member tree values s) (Some s) None) (assigned_member x))
+        (cond choice.optional None
+        (option_or (option_map (λ (d : MemberDefault). d.member) (find
+        (λ (d : MemberDefault). not (is_n (condition tree values d.condition)) && is_visible_member tree values d.member) choice.defaults))
+        (find (is_visible_member tree values) choice.members))))) ≡ true
     by_user None fits = others choice.optional
     by_user (Some (TriUser t)) fits = others choice.optional
     by_user (Some (TextUser t)) fits = others choice.optional
     by_user (Some (MemberUser s)) fits = seen (is_visible_member tree values s) where
-      seen : (t : Bool) → choice_value_fits (Some choice) (MemberValue (option_or (cond t (Some s) None) (cond choice.optional None (option_or (option_map (λ (d : MemberDefault). d.member) (find (λ (d : MemberDefault). not (is_n (condition tree values d.condition)) && is_visible_member tree values d.member) choice.defaults)) (find (is_visible_member tree values) choice.members))))) ≡ true
+      seen : (t : Bool) → choice_value_fits (Some choice) (MemberValue
+          (option_or (cond t (Some s) None) (cond choice.optional None
+          (option_or (option_map (λ (d : MemberDefault). d.member) (find
+          (λ (d : MemberDefault). not (is_n (condition tree values d.condition)) && is_visible_member tree values d.member) choice.defaults))
+          (find (is_visible_member tree values) choice.members))))) ≡ true
       seen true = fits
       seen false = others choice.optional
 
-    shown_or_not : (t : Bool) → choice_value_fits (Some choice) (MemberValue (cond t (option_or (option_and_then (λ s. cond (is_visible_member tree values s) (Some s) None) (assigned_member x)) (cond choice.optional None (option_or (option_map (λ (d : MemberDefault). d.member) (find (λ (d : MemberDefault). not (is_n (condition tree values d.condition)) && is_visible_member tree values d.member) choice.defaults)) (find (is_visible_member tree values) choice.members)))) None)) ≡ true
+    shown_or_not : (t : Bool)
+        → choice_value_fits (Some choice)
+        (MemberValue (cond t (option_or (option_and_then (λ s. cond (is_visible_member tree values s) (Some s) None) (assigned_member x))
+        (cond choice.optional None
+        (option_or (option_map (λ (d : MemberDefault). d.member) (find
+        (λ (d : MemberDefault). not (is_n (condition tree values d.condition)) && is_visible_member tree values d.member) choice.defaults))
+        (find (is_visible_member tree values) choice.members)))) None)) ≡ true
     shown_or_not true = by_user x fits
     shown_or_not false = refl
 

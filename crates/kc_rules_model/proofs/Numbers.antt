@@ -54,7 +54,11 @@ digits_ink base limit xs most each e =
     let test = test_holds (nat_lt 0 (length xs) && list_all (λ c. is_digit c base) xs && nat_lt (digits_value base xs) limit) (digits_value base xs) e in
     let first = and_parts (nat_lt 0 (length xs) && list_all (λ c. is_digit c base) xs) (nat_lt (digits_value base xs) limit) test in
     let second = and_parts (nat_lt 0 (length xs)) (list_all (λ c. is_digit c base) xs) first.0 in
-    record { some = ltb-true 0 (length xs) second.0; ink = all_weaker (λ c. is_digit c base) is_ink each xs second.1; low = all_weaker (λ c. is_digit c base) (λ b. nat_lt b 128) (digit_low base most) xs second.1 }
+    record {
+      some = ltb-true 0 (length xs) second.0;
+      ink = all_weaker (λ c. is_digit c base) is_ink each xs second.1;
+      low = all_weaker (λ c. is_digit c base) (λ b. nat_lt b 128) (digit_low base most) xs second.1;
+    }
 
 decimal_ink : (b : ℕ) → is_digit b 10 ≡ true → is_ink b ≡ true
 decimal_ink = ink_of (λ c. is_digit c 10) refl refl refl refl refl refl

@@ -125,20 +125,38 @@ member x prompt = record (plain x Boolean (prompt ∷ []) []) { direct = shown a
 -- choice / prompt "pick" / default B / config A / bool "a" / config B / bool "b" / config C / bool "c" / depends on X / endchoice / config X / bool "x"
 abbrev pub tree_pick : Tree
 tree_pick = record {
-  symbols = member (codes "A") (shown always) ∷ member (codes "B") (shown always) ∷ member (codes "C") (both (name (codes "X")) (shown always)) ∷ plain (codes "X") Boolean (always ∷ []) [] ∷ [];
-  choices = record { file = 0; line = 1; members = 0 ∷ 1 ∷ 2 ∷ []; prompt = Some always; defaults = record { member = 1; condition = always } ∷ []; optional = false } ∷ [];
+  symbols = member (codes "A") (shown always) ∷ member (codes "B") (shown always) ∷ member (codes "C") (both (name (codes "X")) (shown always)) ∷ plain
+      (codes "X") Boolean (always ∷ []) [] ∷ [];
+  choices = record {
+    file = 0;
+    line = 1;
+    members = 0 ∷ 1 ∷ 2 ∷ [];
+    prompt = Some always;
+    defaults = record { member = 1; condition = always } ∷ [];
+    optional = false;
+  } ∷ [];
   entries = choice_begins 0 ∷ definition 0 ∷ definition 1 ∷ definition 2 ∷ definition 3 ∷ [];
   units = of_choice 0 ∷ of_symbol 3 ∷ [];
 }
 
 -- the same, with `optional`
 abbrev pub tree_optional_pick : Tree
-tree_optional_pick = record tree_pick { choices = record { file = 0; line = 1; members = 0 ∷ 1 ∷ 2 ∷ []; prompt = Some always; defaults = record { member = 1; condition = always } ∷ []; optional = true } ∷ [] }
+tree_optional_pick = record tree_pick {
+  choices = record {
+    file = 0;
+    line = 1;
+    members = 0 ∷ 1 ∷ 2 ∷ [];
+    prompt = Some always;
+    defaults = record { member = 1; condition = always } ∷ [];
+    optional = true;
+  } ∷ [];
+}
 
 -- choice / prompt "p" if X / config A / bool "a" / endchoice / config B / bool / default A / config X / bool "x"
 abbrev pub tree_shown_if : Tree
 tree_shown_if = record {
-  symbols = record (plain (codes "A") Boolean (shown (name (codes "X")) ∷ []) []) { direct = shown (name (codes "X")) ∷ []; choice = Some 0 } ∷ plain (codes "B") Boolean [] (otherwise (name (codes "A")) ∷ []) ∷ plain (codes "X") Boolean (always ∷ []) [] ∷ [];
+  symbols = record (plain (codes "A") Boolean (shown (name (codes "X")) ∷ []) []) { direct = shown (name (codes "X")) ∷ []; choice = Some 0 } ∷ plain
+      (codes "B") Boolean [] (otherwise (name (codes "A")) ∷ []) ∷ plain (codes "X") Boolean (always ∷ []) [] ∷ [];
   choices = record { file = 0; line = 1; members = 0 ∷ []; prompt = Some (name (codes "X")); defaults = []; optional = false } ∷ [];
   entries = choice_begins 0 ∷ definition 0 ∷ definition 1 ∷ definition 2 ∷ [];
   units = of_choice 0 ∷ of_symbol 1 ∷ of_symbol 2 ∷ [];

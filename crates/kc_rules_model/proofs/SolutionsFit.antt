@@ -48,7 +48,8 @@ kind_blank symbol Text e = ap (λ k. text_fits k []) e ∙ is_utf8-from_IsUtf8 [
 kind_blank symbol Int e = ap (λ k. text_fits k []) e
 kind_blank symbol Hex e = ap (λ k. text_fits k []) e
 
-module _ (profile : Profile) (tree : Tree) (settled : IsOrderedTree tree) (users : List (Option UserValue)) (fitting : FitsUsers (length tree.units) (λ u x. IsTrue (user_fits tree u x)) users) where
+module _ (profile : Profile) (tree : Tree) (settled : IsOrderedTree tree) (users : List (Option UserValue))
+    (fitting : FitsUsers (length tree.units) (λ u x. IsTrue (user_fits tree u x)) users) where
   abbrev Fits : ℕ → UnitValue → Type 0
   Fits u v = IsTrue (value_fits tree u v)
 

@@ -20,7 +20,8 @@ default_above_visibility : (by_rules Present tree_lifted (None ∷ None ∷ None
 unfolding rule
 default_above_visibility = (refl, refl)
 
-selected_over_dependency : (by_rules Present tree_select (sets Y ∷ None ∷ []) (y ∷ y ∷ []) ≡ y ∷ y ∷ []) × (by_rules Classic tree_select (sets Y ∷ None ∷ []) (y ∷ y ∷ []) ≡ y ∷ y ∷ [])
+selected_over_dependency : (by_rules Present tree_select (sets Y ∷ None ∷ []) (y ∷ y ∷ []) ≡ y ∷ y ∷ [])
+    × (by_rules Classic tree_select (sets Y ∷ None ∷ []) (y ∷ y ∷ []) ≡ y ∷ y ∷ [])
     × (unmet tree_select (y ∷ y ∷ []) ≡ 1 ∷ [])
 unfolding rule
 selected_over_dependency = (refl, refl, refl)

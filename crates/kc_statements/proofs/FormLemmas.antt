@@ -18,6 +18,7 @@ use Rattle.kc_tree_model.specs.declared.fault.TreeKind.TheVariants.{Malformed, O
 use Rattle.kc_tree_model.specs.Forms.{last_condition, optional_if, no_more, kind_of_fault, ParsedExpr, ◌>>=◌}
 use Rattle.kc_tree_model.specs.Keywords.{is_the_word}
 use Rattle.kc_expr.specs.between.Arena.{Exprs}
+use Rattle.kc_expr.proofs.FirstFaults.{fault_read}
 use Rattle.kc_tree_model.specs.Forms.{statement_of}
 use Rattle.kc_tree_model.specs.declared.keyword.Keyword.{Keyword}
 use Rattle.kc_statements.specs.declared.statement.Statement.{Statement as CodeStatement}
@@ -74,7 +75,7 @@ unread ps at e k given f q h = elim f [
   | inl m ↦ inl (q ∙ ap kind_of_fault m)
   | inr n ↦
       let told : e.kind ≡ n.fault.0 = ap (λ (y : ExprFault). y.kind) n.placed ∙ reported_kind (take (expr_end ps at) ps) n.fault in
-      inr (h n.fault n.reads ∙ ap Err (sym (q ∙ ap kind_of_fault told)))
+      inr (h n.fault (fault_read _ n.fault n.first) ∙ ap Err (sym (q ∙ ap kind_of_fault told)))
 ]
 
 -- the token at a place, and those after it

@@ -11,5 +11,6 @@ row_at-is (row ∷ rows) zero d h = refl
 row_at-is (row ∷ rows) (suc u) d h = row_at-is rows u d (omega arith)
 
 -- the list that the code reads from the rows
-pub row_is : (rows : List (Vec ℕ Global)) (row : List ℕ) (item : Vec ℕ Global) (u : ℕ) → u < length rows → item ≡ get_or rows u item → row ≡ item.items → row ≡ row_at rows u
+pub row_is : (rows : List (Vec ℕ Global)) (row : List ℕ) (item : Vec ℕ Global) (u : ℕ) → u < length rows → item ≡ get_or rows u item → row ≡ item.items
+    → row ≡ row_at rows u
 row_is rows row item u h is same = same ∙ ap (λ (v : Vec ℕ Global). v.items) is ∙ sym (row_at-is rows u item h)

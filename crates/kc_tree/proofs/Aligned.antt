@@ -43,7 +43,8 @@ end_is end (g ∷ gs) (suc k) h = end_is g.attributes gs k (omega arith)
 record IsNewestAt (e : Exprs) (names texts : List (List ℕ)) (lines : List CodeLine) (end : ℕ) (gs : List CodeGroup) (ms : List Group) (k : ℕ) : Type 0 where
   pub group : Group
   pub now : drop k ms ≡ group ∷ drop (suc k) ms
-  pub shown : RepresentsGroup e names texts (slice_range lines (get_or gs k no_group).attributes (end_at end gs k)) (length ms - suc k) (get_or gs k no_group) group
+  pub shown : RepresentsGroup e names texts (slice_range lines (get_or gs k no_group).attributes (end_at end gs k)) (length ms - suc k)
+      (get_or gs k no_group) group
   pub rising : (get_or gs k no_group).attributes ≤ end_at end gs k
   pub within : end_at end gs k ≤ end
 
@@ -54,7 +55,13 @@ newest_at e names texts lines end [] ms k l h = absurd (omega arith)
 newest_at e names texts lines end (g ∷ gs) [] k l h = absurd h
 newest_at e names texts lines end (g ∷ gs) (m ∷ ms) zero l h =
     let n : length ms ≡ suc (length ms) - 1 = omega arith in
-    record { group = m; now = refl; shown = subst (λ k. RepresentsGroup e names texts (slice_range lines g.attributes end) k g m) n h.0; rising = h.1; within = (let r : end ≤ end = omega arith in r) }
+    record {
+      group = m;
+      now = refl;
+      shown = subst (λ k. RepresentsGroup e names texts (slice_range lines g.attributes end) k g m) n h.0;
+      rising = h.1;
+      within = (let r : end ≤ end = omega arith in r);
+    }
 newest_at e names texts lines end (g ∷ gs) (m ∷ ms) (suc k) l h =
     let r = newest_at e names texts lines g.attributes gs ms k (omega arith) h.2 in
     let n : length ms - suc k ≡ suc (length ms) - suc (suc k) = omega arith in
@@ -68,7 +75,8 @@ newest_at e names texts lines end (g ∷ gs) (m ∷ ms) (suc k) l h =
     }
 
 -- the same in reading order
-module _ (e : Exprs) (names texts : List (List ℕ)) (lines : List CodeLine) (groups : List CodeGroup) (read : List Group) (h : RepresentsGroups e names texts lines (length lines) (reverse groups) read) where
+module _ (e : Exprs) (names texts : List (List ℕ)) (lines : List CodeLine) (groups : List CodeGroup) (read : List Group)
+    (h : RepresentsGroups e names texts lines (length lines) (reverse groups) read) where
   pub count_is : length groups ≡ length read
   count_is = sym (length-reverse groups) ∙ as_many e names texts lines (length lines) (reverse groups) read h
 

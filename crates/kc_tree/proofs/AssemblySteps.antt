@@ -96,8 +96,10 @@ rows_held e c (x ∷ names) [] h = absurd h
 rows_held e c (x ∷ names) (r ∷ rows) h = All-cons (λ (r : SymbolRow). r.name < length e.names) r rows h.0.held (rows_held e c names rows h.1)
 
 -- choices
-module _ (g : Gathered) (c : Contents) (sound : IsSound c) (keys : g.members.keys.items ≡ flat_map (member_keys_at c) c.places) (items : g.members.items.items ≡ flat_map (members_at c) c.places)
-    (d : (k : ℕ) → map (member_default_view g.arena) (items_of k g.member_defaults.keys.items g.member_defaults.items.items) ≡ elim (slice_get (filter opens c.places) k) as (λ _. List tree.MemberDefault) [ None ↦ [] | Some p ↦ (choice_of c p).defaults ]) where
+module _ (g : Gathered) (c : Contents) (sound : IsSound c) (keys : g.members.keys.items ≡ flat_map (member_keys_at c) c.places)
+    (items : g.members.items.items ≡ flat_map (members_at c) c.places)
+    (d : (k : ℕ) → map (member_default_view g.arena) (items_of k g.member_defaults.keys.items g.member_defaults.items.items)
+    ≡ elim (slice_get (filter opens c.places) k) as (λ _. List tree.MemberDefault) [ None ↦ [] | Some p ↦ (choice_of c p).defaults ]) where
   members_same : (k : ℕ) (p : GroupInContext) → slice_get (filter opens c.places) k ≡ Some p
       → items_of k g.members.keys.items g.members.items.items ≡ (choice_of c p).members
   members_same k p e =
@@ -110,7 +112,8 @@ module _ (g : Gathered) (c : Contents) (sound : IsSound c) (keys : g.members.key
   choice_same : (k : ℕ) (p : GroupInContext) (r : ChoiceRow) → slice_get (filter opens c.places) k ≡ Some p → IsChoiceRow g.arena p r
       → choice_gathered g k r ≡ choice_of c p
   choice_same k p r e h =
-      let defaults : map (member_default_view g.arena) (items_of k g.member_defaults.keys.items g.member_defaults.items.items) ≡ (choice_of c p).defaults = d k ∙ ap (λ o. elim o as (λ _. List tree.MemberDefault) [ None ↦ [] | Some q ↦ (choice_of c q).defaults ]) e in
+      let defaults : map (member_default_view g.arena) (items_of k g.member_defaults.keys.items g.member_defaults.items.items) ≡ (choice_of c p).defaults =
+      d k ∙ ap (λ o. elim o as (λ _. List tree.MemberDefault) [ None ↦ [] | Some q ↦ (choice_of c q).defaults ]) e in
       rw (h.file_is, h.line_is, h.prompt_is, h.optional_is, members_same k p e, defaults) refl
 
   choices_from : (n : ℕ) (ps : List GroupInContext) (rows : List ChoiceRow)
@@ -213,13 +216,20 @@ after_by (Some g) x e = cc
 
 pub faultless_of : (files : Files) (root : List ℕ) → first_tree_fault files root ≡ None → HasNoFaults (reading files root).read
 unfolding first_tree_fault
-faultless_of files root h = (files.language, no_first (tree_faults files.language (reading files root).read) (after_by (reading files root).fault (slice_get (tree_faults files.language (reading files root).read) 0) h))
+faultless_of files root h = (
+  files.language,
+  no_first (tree_faults files.language (reading files root).read)
+      (after_by (reading files root).fault (slice_get (tree_faults files.language (reading files root).read) 0) h),
+)
 
 -- the whole, part by part
 module _ (files : Files) (root : List ℕ) (l : Listing) (symbols : SymbolParts) (choices : ChoiceParts) (summary : Summary) (g : Gathered)
-    (arena_is : g.arena ≡ l.names.arena) (symbols_is : g.symbols ≡ symbols.rows) (attributes_is : g.attributes ≡ symbols.attributes) (choices_is : g.choices ≡ choices.rows) (members_is : g.members ≡ summary.members)
-    (defaults_is : g.member_defaults ≡ choices.defaults) (entries_is : g.entries ≡ choices.entries) (titles_is : g.titles ≡ l.texts) (units_is : g.units ≡ symbols.units)
-    (shows : RepresentsListing l (reading files root).read) (s : AreSymbolParts l.names.arena (reading files root).read symbols) (k : AreChoiceParts l (reading files root).read choices)
+    (arena_is : g.arena ≡ l.names.arena) (symbols_is : g.symbols ≡ symbols.rows) (attributes_is : g.attributes ≡ symbols.attributes)
+    (choices_is : g.choices ≡ choices.rows) (members_is : g.members ≡ summary.members)
+    (defaults_is : g.member_defaults ≡ choices.defaults) (entries_is : g.entries ≡ choices.entries) (titles_is : g.titles ≡ l.texts)
+    (units_is : g.units ≡ symbols.units)
+    (shows : RepresentsListing l (reading files root).read) (s : AreSymbolParts l.names.arena (reading files root).read symbols)
+    (k : AreChoiceParts l (reading files root).read choices)
     (m : IsSummary (reading files root).read summary) (few : length l.groups.items < 2 ^ 32) where
   abbrev read : List Group
   read = (reading files root).read
@@ -247,12 +257,14 @@ module _ (files : Files) (root : List ℕ) (l : Listing) (symbols : SymbolParts)
   unfolding IsSummary
   items = ap (λ v. v.items.items) members_is ∙ m.members
 
-  defaults_by : (o : Option GroupInContext) → choice_defaults_of c o ≡ elim o as (λ _. List tree.MemberDefault) [ None ↦ [] | Some p ↦ (choice_of c p).defaults ]
+  defaults_by : (o : Option GroupInContext) → choice_defaults_of c o ≡ elim o as (λ _. List tree.MemberDefault)
+      [ None ↦ [] | Some p ↦ (choice_of c p).defaults ]
   defaults_by None = refl
   defaults_by (Some p) = refl
 
   defaults : (j : ℕ)
-      → map (member_default_view g.arena) (items_of j g.member_defaults.keys.items g.member_defaults.items.items) ≡ elim (slice_get (filter opens c.places) j) as (λ _. List tree.MemberDefault) [ None ↦ [] | Some p ↦ (choice_of c p).defaults ]
+      → map (member_default_view g.arena) (items_of j g.member_defaults.keys.items g.member_defaults.items.items)
+      ≡ elim (slice_get (filter opens c.places) j) as (λ _. List tree.MemberDefault) [ None ↦ [] | Some p ↦ (choice_of c p).defaults ]
   defaults j = rw (arena_is, defaults_is) (k.defaults.are j ∙ defaults_by (slice_get (filter opens c.places) j))
 
   entries : map (entry_from_row g.arena g.titles.items) g.entries.items ≡ (tree_of_groups read).entries

@@ -87,7 +87,8 @@ kept_more n (l ∷ ls) (x ∷ cs) (suc i) d c h k =
     ∙ sym (cons_front (member_default_row n l x) (member_default_rows n (take i ls) (take i cs))
     (option_to_list (member_default_row n (get_or ls i d) (get_or cs i c))))
 
-pub items_more : (n : SymbolTable) (ls : List CodeLine) (cs : List ℕ) (i : ℕ) (d : CodeLine) (c : ℕ) (old mid new : List MemberDefault) (o : Option MemberDefault)
+pub items_more : (n : SymbolTable) (ls : List CodeLine) (cs : List ℕ) (i : ℕ) (d : CodeLine) (c : ℕ) (old mid new : List MemberDefault)
+    (o : Option MemberDefault)
     → i < length ls → length cs ≡ length ls → o ≡ member_default_row n (get_or ls i d) (get_or cs i c)
     → mid ≡ old ++ member_default_rows n (take i ls) (take i cs) → new ≡ mid ++ option_to_list o
     → new ≡ old ++ member_default_rows n (take (i + 1) ls) (take (i + 1) cs)
@@ -97,7 +98,8 @@ items_more n ls cs i d c old mid new o h k e m f =
     ∙ ap (λ xs. old ++ xs) (ap (λ x. member_default_rows n (take i ls) (take i cs) ++ option_to_list x) e ∙ sym (kept_more n ls cs i d c h (omega arith))
     ∙ ap (λ j. member_default_rows n (take j ls) (take j cs)) (sym s))
 
-pub keys_more : (n : SymbolTable) (choice : ℕ) (ls : List CodeLine) (cs : List ℕ) (i : ℕ) (d : CodeLine) (c : ℕ) (old mid new : List ℕ) (o : Option MemberDefault)
+pub keys_more : (n : SymbolTable) (choice : ℕ) (ls : List CodeLine) (cs : List ℕ) (i : ℕ) (d : CodeLine) (c : ℕ) (old mid new : List ℕ)
+    (o : Option MemberDefault)
     → i < length ls → length cs ≡ length ls → o ≡ member_default_row n (get_or ls i d) (get_or cs i c)
     → mid ≡ old ++ map (λ (_ : MemberDefault). choice) (member_default_rows n (take i ls) (take i cs))
     → new ≡ mid ++ map (λ (_ : MemberDefault). choice) (option_to_list o)
@@ -336,7 +338,8 @@ choice_given exprs names texts codes.Mainmenu m h e = cc
 choice_given exprs names texts (codes.Ends b) m h e = cc
 choice_given exprs names texts codes.FileEnd m h e = cc
 
-choice_group_faults : (language : Language) (c : Contents) (p : GroupInContext) → p.group.head ≡ of_head choice → faults_of_group language c p ≡ faults_of_lines p.group (choice_faults (member_names c p.group.number)) false p.group.attributes
+choice_group_faults : (language : Language) (c : Contents) (p : GroupInContext) → p.group.head ≡ of_head choice
+    → faults_of_group language c p ≡ faults_of_lines p.group (choice_faults (member_names c p.group.number)) false p.group.attributes
 choice_group_faults language c p e = rw e refl
 
 -- the defaults of the choices among the groups that were visited
@@ -377,15 +380,20 @@ module _ (l : Listing) (groups : List GroupConditions) (conditions : List ℕ) (
       let x = both_at l l.names.arena groups conditions read w.shows w.shown i h in
       let p : GroupInContext = group_in_context (open_blocks 0 (read_before i read)) x.group in
       let n = count_is l.names.arena (names_defined read) l.texts.items l.lines.items l.groups.items read w.shows.groups_are in
-      let faults = flat_none (faults_of_group none.0 (contents_of read)) (groups_in_context read) i p none.1 (place_numbered read i x.group (omega (arith, n, h)) x.now) in
+      let faults = flat_none (faults_of_group none.0 (contents_of read)) (groups_in_context read) i p none.1
+      (place_numbered read i x.group (omega (arith, n, h)) x.now) in
       let what = choice_given l.names.arena (names_defined read) l.texts.items (group_at l.groups.items i).head x.group x.shown.head b in
-      let lines : faults_of_lines p.group (choice_faults (member_names (contents_of read) p.group.number)) false p.group.attributes ≡ [] = sym (choice_group_faults none.0 (contents_of read) p what) ∙ faults in
-      let own : map (node_expr l.names.arena) (own_conditions groups conditions i) ≡ map (condition_at p) (map (line_in l.names.arena) (own_lines l i)) = x.conditioned.own_are ∙ ap (map (condition_at p)) x.shown.attributes in
-      all_defaults l.names l.names.symbols.items (contents_of read) w.shows.names p (own_lines l i) (own_conditions groups conditions i) false own (ap (λ ls. faults_of_lines p.group (choice_faults (member_names (contents_of read) p.group.number)) false ls) (sym x.shown.attributes) ∙ lines)
+      let lines : faults_of_lines p.group (choice_faults (member_names (contents_of read) p.group.number)) false p.group.attributes ≡ [] =
+      sym (choice_group_faults none.0 (contents_of read) p what) ∙ faults in
+      let own : map (node_expr l.names.arena) (own_conditions groups conditions i) ≡ map (condition_at p) (map (line_in l.names.arena) (own_lines l i)) =
+      x.conditioned.own_are ∙ ap (map (condition_at p)) x.shown.attributes in
+      all_defaults l.names l.names.symbols.items (contents_of read) w.shows.names p (own_lines l i) (own_conditions groups conditions i) false own
+      (ap (λ ls. faults_of_lines p.group (choice_faults (member_names (contents_of read) p.group.number)) false ls) (sym x.shown.attributes) ∙ lines)
       ∙ ap (λ ls. filter_map (member_default (contents_of read) p) (filter_map (λ (l : Line). default_of l.attribute) ls)) (sym x.shown.attributes)
 
   own_fit : (i : ℕ) → i < length l.groups.items
-      → All (MemberDefaultFits (length l.names.arena.nodes) (length l.names.symbols.items)) (member_default_rows l.names (own_lines l i) (own_conditions groups conditions i))
+      → All (MemberDefaultFits (length l.names.arena.nodes) (length l.names.symbols.items))
+      (member_default_rows l.names (own_lines l i) (own_conditions groups conditions i))
   unfolding RepresentsListing
   own_fit i h =
       let x = both_at l l.names.arena groups conditions read w.shows w.shown i h in
@@ -408,7 +416,8 @@ module _ (l : Listing) (groups : List GroupConditions) (conditions : List ℕ) (
   by_key m k false F p old xs e n o x =
       append-nil old ∙ o ∙ ap (choice_defaults_of (contents_of read)) (sym (get_other F p k (λ same. false≢true (sym e ∙ eq-eqb m k (n ∙ sym same)))))
 
-  more_defaults : (i n : ℕ) (old new : Keyed MemberDefault) → i < length l.groups.items → is_choice_code (group_at l.groups.items i).head ≡ true → n ≡ length (filter opens (groups_in_context (read_before i read))) → HasNoFaults read
+  more_defaults : (i n : ℕ) (old new : Keyed MemberDefault) → i < length l.groups.items → is_choice_code (group_at l.groups.items i).head ≡ true
+      → n ≡ length (filter opens (groups_in_context (read_before i read))) → HasNoFaults read
       → new.keys.items ≡ old.keys.items ++ map (λ (_ : MemberDefault). n) (member_default_rows l.names (own_lines l i) (own_conditions groups conditions i))
       → new.items.items ≡ old.items.items ++ member_default_rows l.names (own_lines l i) (own_conditions groups conditions i) → AreTo i n old
       → AreTo (i + 1) (n + 1) new
@@ -431,7 +440,8 @@ module _ (l : Listing) (groups : List GroupConditions) (conditions : List ℕ) (
       }
 
   -- one group more
-  pub one_more : (i n n2 : ℕ) (what : CodeWhat) (old new : Keyed MemberDefault) → i < length l.groups.items → what ≡ (group_at l.groups.items i).head → n ≡ length (numbers_of_choices (read_before i read)) → n2 ≡ choices_after what n → HasNoFaults read
+  pub one_more : (i n n2 : ℕ) (what : CodeWhat) (old new : Keyed MemberDefault) → i < length l.groups.items → what ≡ (group_at l.groups.items i).head
+      → n ≡ length (numbers_of_choices (read_before i read)) → n2 ≡ choices_after what n → HasNoFaults read
       → new.keys.items ≡ old.keys.items ++ map (λ (_ : MemberDefault). n) (group_default_rows what l.names (own_lines l i) (own_conditions groups conditions i))
       → new.items.items ≡ old.items.items ++ group_default_rows what l.names (own_lines l i) (own_conditions groups conditions i) → AreTo i n old
       → AreTo (i + 1) n2 new
@@ -442,7 +452,8 @@ module _ (l : Listing) (groups : List GroupConditions) (conditions : List ℕ) (
       behind x b e = choices_by x n ∙ ap (λ t. cond t (n + 1) n) e
 
       by : (b : Bool) → is_choice_code what ≡ b
-          → new.keys.items ≡ old.keys.items ++ map (λ (_ : MemberDefault). n) (cond (is_choice_code what) (member_default_rows l.names (own_lines l i) (own_conditions groups conditions i)) [])
+          → new.keys.items ≡ old.keys.items ++ map (λ (_ : MemberDefault). n)
+          (cond (is_choice_code what) (member_default_rows l.names (own_lines l i) (own_conditions groups conditions i)) [])
           → new.items.items ≡ old.items.items ++ cond (is_choice_code what) (member_default_rows l.names (own_lines l i) (own_conditions groups conditions i))
           [] → AreTo (i + 1) n2 new
       by true t e f =
@@ -454,7 +465,8 @@ module _ (l : Listing) (groups : List GroupConditions) (conditions : List ℕ) (
           subst (λ k. AreTo (i + 1) k new) (sym (m ∙ behind what false t))
           (same_defaults i n old new h (ap is_choice_code (sym v) ∙ t) ((rw t at e) ∙ append-nil old.keys.items) ((rw t at f) ∙ append-nil old.items.items) d)
 
-  pub all_gathered : (i n : ℕ) (found : Keyed MemberDefault) → i ≡ length l.groups.items → n ≡ length (numbers_of_choices (read_before i read)) → AreTo i n found
+  pub all_gathered : (i n : ℕ) (found : Keyed MemberDefault) → i ≡ length l.groups.items → n ≡ length (numbers_of_choices (read_before i read))
+      → AreTo i n found
       → AreDefaultsOf l (contents_of read) (groups_in_context read) (length (contents_of read).choices) found
   unfolding RepresentsListing
   all_gathered i n found e c d =

@@ -93,7 +93,8 @@ optional_one old attributes.Optional = refl
 
 optional_shown : (old : Exprs) (ls : List CodeLine) → list_any is_optional_line ls ≡ list_any (λ (l : Line). is_optional l.attribute) (map (line_in old) ls)
 optional_shown old [] = refl
-optional_shown old (l ∷ ls) = ap (λ b. b || list_any is_optional_line ls) (optional_one old l.attribute) ∙ ap (λ b. is_optional (attribute_in old l.attribute) || b) (optional_shown old ls)
+optional_shown old (l ∷ ls) = ap (λ b. b || list_any is_optional_line ls) (optional_one old l.attribute)
+    ∙ ap (λ b. is_optional (attribute_in old l.attribute) || b) (optional_shown old ls)
 
 prompt_held : (n : ℕ) (ls : List CodeLine) (os : List ℕ) → All (λ i. i < n) os → (i : ℕ) → first_prompt ls os ≡ Some i → i < n
 prompt_held n [] os h i e = cc
@@ -113,7 +114,8 @@ rows_pushed exprs (q ∷ ps) [] p r h k = absurd h
 rows_pushed exprs (q ∷ ps) (s ∷ rows) p r h k = (h.0, rows_pushed exprs ps rows p r h.1 k)
 
 -- a group and its conditions
-module _ (l : Listing) (exprs : Exprs) (groups : List GroupConditions) (conditions : List ℕ) (read : List Group) (s : RepresentsListing l read) (k : RepresentsAllConditions exprs l.texts.items conditions (length conditions) (reverse groups) read) where
+module _ (l : Listing) (exprs : Exprs) (groups : List GroupConditions) (conditions : List ℕ) (read : List Group) (s : RepresentsListing l read)
+    (k : RepresentsAllConditions exprs l.texts.items conditions (length conditions) (reverse groups) read) where
   pub as_many_conditions : length groups ≡ length l.groups.items
   unfolding RepresentsListing
   as_many_conditions =
@@ -125,7 +127,8 @@ module _ (l : Listing) (exprs : Exprs) (groups : List GroupConditions) (conditio
     pub group : Group
     pub now : read_before (i + 1) read ≡ group ∷ read_before i read
     pub shown : RepresentsGroup l.names.arena (names_defined read) l.texts.items (own_lines l i) i (group_at l.groups.items i) group
-    pub conditioned : RepresentsConditions exprs l.texts.items (own_conditions groups conditions i) (conditions_at groups i) (group_in_context (open_blocks 0 (read_before i read)) group)
+    pub conditioned : RepresentsConditions exprs l.texts.items (own_conditions groups conditions i) (conditions_at groups i)
+        (group_in_context (open_blocks 0 (read_before i read)) group)
 
   pub both_at : (i : ℕ) → i < length l.groups.items → IsBoth i
   unfolding RepresentsListing
@@ -152,7 +155,8 @@ module _ (l : Listing) (exprs : Exprs) (groups : List GroupConditions) (conditio
       ∙ length-map (own_lines l i) (line_in l.names.arena)
 
   pub row_shown : (i : ℕ) (h : i < length l.groups.items)
-      → IsChoiceRow exprs (group_in_context (open_blocks 0 (read_before i read)) (both_at i h).group) (choice_row (group_at l.groups.items i) (own_lines l i) (own_conditions groups conditions i))
+      → IsChoiceRow exprs (group_in_context (open_blocks 0 (read_before i read)) (both_at i h).group)
+      (choice_row (group_at l.groups.items i) (own_lines l i) (own_conditions groups conditions i))
   row_shown i h =
       let b = both_at i h in
       let p : GroupInContext = group_in_context (open_blocks 0 (read_before i read)) b.group in

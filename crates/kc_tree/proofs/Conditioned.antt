@@ -15,7 +15,8 @@ use Rattle.kc_tree.specs.declared.group_walk.GroupConditions.{GroupConditions}
 pub record IsConditionedAt (e : Exprs) (texts : List (List ℕ)) (conditions : List ℕ) (groups : List GroupConditions) (read : List Group) (i : ℕ) : Type 0 where
   pub group : Group
   pub now : read_before (i + 1) read ≡ group ∷ read_before i read
-  pub shown : RepresentsConditions e texts (own_conditions groups conditions i) (conditions_at groups i) (group_in_context (open_blocks 0 (read_before i read)) group)
+  pub shown : RepresentsConditions e texts (own_conditions groups conditions i) (conditions_at groups i)
+      (group_in_context (open_blocks 0 (read_before i read)) group)
   pub rising : (conditions_at groups i).first ≤ conditions_end groups conditions i
   pub within : conditions_end groups conditions i ≤ length conditions
 
@@ -41,7 +42,8 @@ end_is end (c ∷ cs) (suc k) h = end_is c.first cs k (omega arith)
 record IsNewestAt (e : Exprs) (texts : List (List ℕ)) (conditions : List ℕ) (end : ℕ) (cs : List GroupConditions) (ms : List Group) (k : ℕ) : Type 0 where
   pub group : Group
   pub now : drop k ms ≡ group ∷ drop (suc k) ms
-  pub shown : RepresentsConditions e texts (slice_range conditions (get_or cs k no_conditions).first (end_at end cs k)) (get_or cs k no_conditions) (group_in_context (open_blocks 0 (drop (suc k) ms)) group)
+  pub shown : RepresentsConditions e texts (slice_range conditions (get_or cs k no_conditions).first (end_at end cs k)) (get_or cs k no_conditions)
+      (group_in_context (open_blocks 0 (drop (suc k) ms)) group)
   pub rising : (get_or cs k no_conditions).first ≤ end_at end cs k
   pub within : end_at end cs k ≤ end
 
@@ -57,7 +59,8 @@ newest_at e texts conditions end (c ∷ cs) (m ∷ ms) (suc k) l h =
     record { group = r.group; now = r.now; shown = r.shown; rising = r.rising; within = (let a = r.within in let b = h.1 in omega arith) }
 
 -- the same in reading order
-module _ (e : Exprs) (texts : List (List ℕ)) (conditions : List ℕ) (groups : List GroupConditions) (read : List Group) (h : RepresentsAllConditions e texts conditions (length conditions) (reverse groups) read) where
+module _ (e : Exprs) (texts : List (List ℕ)) (conditions : List ℕ) (groups : List GroupConditions) (read : List Group)
+    (h : RepresentsAllConditions e texts conditions (length conditions) (reverse groups) read) where
   pub conditions_count : length groups ≡ length read
   conditions_count = sym (length-reverse groups) ∙ as_many e texts conditions (length conditions) (reverse groups) read h
 

@@ -321,7 +321,8 @@ module _ (e e2 : Exprs) (texts : List (List ℕ)) (lines : List CodeLine) (condi
   all_entries end end2 [] (x ∷ xs) [] rest h k c = absurd k
   all_entries end end2 (g ∷ gs) [] (m ∷ ms) rest h k c = absurd k
 
-  all_fit : (end end2 : ℕ) (gs : List CodeGroup) (cs : List GroupConditions) (ms : List Group) (rest : List ℕ) → RepresentsGroups e C.names texts lines end gs ms
+  all_fit : (end end2 : ℕ) (gs : List CodeGroup) (cs : List GroupConditions) (ms : List Group) (rest : List ℕ)
+      → RepresentsGroups e C.names texts lines end gs ms
       → RepresentsAllConditions e2 texts conditions end2 cs ms → C.choices ≡ numbers ms ++ rest
       → All (EntryRowFits (length e2.nodes) (length C.names) (length C.choices) (length texts)) (entries_back gs cs)
   all_fit end end2 [] [] [] rest h k c = All-nil (EntryRowFits (length e2.nodes) (length C.names) (length C.choices) (length texts))
@@ -350,7 +351,8 @@ rows_are gs cs rows n i m a e b =
     ∙ ap (λ xs. entries_from 0 (reverse (reverse gs)) xs) (sym (reverse-reverse cs))
     ∙ from_reverse (reverse gs) (reverse cs) (length-reverse gs ∙ sym m ∙ sym (length-reverse cs))
 
-module _ (l : Listing) (e2 : Exprs) (conditions : List ℕ) (end : ℕ) (cs : List GroupConditions) (read : List Group) (s : RepresentsListing l read) (k : RepresentsAllConditions e2 l.texts.items conditions end (reverse cs) read) (rows : List EntryRow)
+module _ (l : Listing) (e2 : Exprs) (conditions : List ℕ) (end : ℕ) (cs : List GroupConditions) (read : List Group) (s : RepresentsListing l read)
+    (k : RepresentsAllConditions e2 l.texts.items conditions end (reverse cs) read) (rows : List EntryRow)
     (r : rows ≡ entries_back (reverse l.groups.items) (reverse cs)) where
   pub entries_are : map (entry_from_row e2 l.texts.items) rows ≡ (tree_of_groups read).entries
   unfolding RepresentsListing tree_of_groups

@@ -46,12 +46,14 @@ four true b c d j k l m = refl
 four false b c d j k l m = three b c d k l m
 
 five : (a b c d e : Bool) (j k l m n : TreeKind)
-    → slice_get (when a j ++ when b k ++ when c l ++ when d m ++ when e n) 0 ≡ cond a (Some j) (cond b (Some k) (cond c (Some l) (cond d (Some m) (cond e (Some n) None))))
+    → slice_get (when a j ++ when b k ++ when c l ++ when d m ++ when e n) 0
+    ≡ cond a (Some j) (cond b (Some k) (cond c (Some l) (cond d (Some m) (cond e (Some n) None))))
 five true b c d e j k l m n = refl
 five false b c d e j k l m n = four b c d e k l m n
 
 six : (a b c d e f : Bool) (j k l m n o : TreeKind)
-    → slice_get (when a j ++ when b k ++ when c l ++ when d m ++ when e n ++ when f o) 0 ≡ cond a (Some j) (cond b (Some k) (cond c (Some l) (cond d (Some m) (cond e (Some n) (cond f (Some o) None)))))
+    → slice_get (when a j ++ when b k ++ when c l ++ when d m ++ when e n ++ when f o) 0 ≡ cond a (Some j)
+    (cond b (Some k) (cond c (Some l) (cond d (Some m) (cond e (Some n) (cond f (Some o) None)))))
 six true b c d e f j k l m n o = refl
 six false b c d e f j k l m n o = five b c d e f k l m n o
 
@@ -73,13 +75,15 @@ added_one old attributes.Optional = refl
 
 added_all : (old : Exprs) (ls : List CodeLine) → list_all is_added_line ls ≡ list_all (λ (l : Line). is_added_attribute l.attribute) (map (line_in old) ls)
 added_all old [] = refl
-added_all old (l ∷ ls) = ap (λ b. b && list_all is_added_line ls) (added_one old l.attribute) ∙ ap (λ b. is_added_attribute (attribute_in old l.attribute) && b) (added_all old ls)
+added_all old (l ∷ ls) = ap (λ b. b && list_all is_added_line ls) (added_one old l.attribute) ∙ ap (λ b. is_added_attribute (attribute_in old l.attribute) && b)
+    (added_all old ls)
 
 not_some : (o : Option ℕ) → not (is_some o) ≡ is_none o
 not_some None = refl
 not_some (Some n) = refl
 
-pub follow_is : (language : Language) (old : Exprs) (p : GroupInContext) (is_member : Bool) (ls : List CodeLine) → is_member ≡ is_some p.enclosing.choice → p.group.attributes ≡ map (line_in old) ls → may_follow_code language is_member ls ≡ may_follow_member language p
+pub follow_is : (language : Language) (old : Exprs) (p : GroupInContext) (is_member : Bool) (ls : List CodeLine) → is_member ≡ is_some p.enclosing.choice
+    → p.group.attributes ≡ map (line_in old) ls → may_follow_code language is_member ls ≡ may_follow_member language p
 follow_is Strict old p is_member ls m a = refl
 follow_is Linux old p is_member ls m a =
     ap (λ b. not b && list_all is_added_line ls) m
@@ -87,10 +91,13 @@ follow_is Linux old p is_member ls m a =
     ∙ ap (λ b. is_none p.enclosing.choice && b) (added_all old ls ∙ ap (list_all (λ (l : Line). is_added_attribute l.attribute)) (sym a))
 
 -- a definition
-pub definition_is : (language : Language) (c : Contents) (p : GroupInContext) (name : List ℕ) (about : SymbolSummary) (is_member is_first is_modules may_follow : Bool)
-    → about.given ≡ type_given c name → is_some about.choice ≡ is_some (choice_of_symbol c name) → is_member ≡ is_some p.enclosing.choice → is_first ≡ is_first_definition c name p → is_modules ≡ bytes_eq name modules_name → may_follow ≡ may_follow_member language p
+pub definition_is : (language : Language) (c : Contents) (p : GroupInContext) (name : List ℕ) (about : SymbolSummary)
+    (is_member is_first is_modules may_follow : Bool)
+    → about.given ≡ type_given c name → is_some about.choice ≡ is_some (choice_of_symbol c name) → is_member ≡ is_some p.enclosing.choice
+    → is_first ≡ is_first_definition c name p → is_modules ≡ bytes_eq name modules_name → may_follow ≡ may_follow_member language p
     → definition_kind about is_member is_first is_modules may_follow ≡ slice_get (definition_faults language c p name) 0
-definition_is language c p name about is_member is_first is_modules may_follow given choice member first modules follow = rw (given, choice, member, first, modules, follow) (sym (three _ _ _ _ _ _))
+definition_is language c p name about is_member is_first is_modules may_follow given choice member first modules follow =
+    rw (given, choice, member, first, modules, follow) (sym (three _ _ _ _ _ _))
 
 -- an attribute of a symbol
 pub typed_is : (c : Contents) (name : List ℕ) (k : Kind) (prompted is_modules is_wrong : Bool) (a : Attribute) → is_modules ≡ bytes_eq name modules_name
@@ -148,7 +155,8 @@ left_more e g f prompted prompted2 lines i l h at fault p =
     ∙ ap (λ b. first_left e g f b (drop (suc i) lines)) (sym p)
     ∙ ap (λ n. first_left e g f prompted2 (drop n lines)) (let n : suc i ≡ i + 1 = omega arith in n)
 
-pub left_reported : (e : Exprs) (g : Group) (f : Bool → Attribute → List TreeKind) (prompted : Bool) (lines : List CodeLine) (i : ℕ) (l : CodeLine) (kind : TreeKind)
+pub left_reported : (e : Exprs) (g : Group) (f : Bool → Attribute → List TreeKind) (prompted : Bool) (lines : List CodeLine) (i : ℕ) (l : CodeLine)
+    (kind : TreeKind)
     → i < length lines → l ≡ get_or lines i l → Some kind ≡ slice_get (f prompted (attribute_in e l.attribute)) 0
     → first_left e g f prompted (drop i lines) ≡ Some (fault_of g l.number kind)
 left_reported e g f prompted lines i l kind h at fault =

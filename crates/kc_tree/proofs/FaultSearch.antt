@@ -41,7 +41,8 @@ use Rattle.kc_tree.proofs.MemberLaw.{members_are}
 use Rattle.kc_tree.proofs.Symbols.{choice_is, place_is, statement_by}
 
 -- the group at a place, as it is stored
-pub record IsPlaceAt (e : Exprs) (names texts : List (List ℕ)) (lines : List CodeLine) (groups : List CodeGroup) (read : List Group) (i : ℕ) (p : GroupInContext) : Type 0 where
+pub record IsPlaceAt (e : Exprs) (names texts : List (List ℕ)) (lines : List CodeLine) (groups : List CodeGroup) (read : List Group) (i : ℕ)
+    (p : GroupInContext) : Type 0 where
   pub number : p.group.number ≡ i
   pub file : p.group.at.file ≡ (group_at groups i).file
   pub line : p.group.at.line ≡ (group_at groups i).line
@@ -49,8 +50,10 @@ pub record IsPlaceAt (e : Exprs) (names texts : List (List ℕ)) (lines : List C
   pub attributes : p.group.attributes ≡ map (line_in e) (slice_range lines (group_at groups i).attributes (attributes_end groups lines i))
   pub has : Has p (groups_in_context read)
 
-module _ (e : Exprs) (names texts : List (List ℕ)) (lines : List CodeLine) (groups : List CodeGroup) (read : List Group) (h : RepresentsGroups e names texts lines (length lines) (reverse groups) read) where
-  pub place_at : (i : ℕ) (p : GroupInContext) → i < length groups → slice_get (groups_in_context read) i ≡ Some p → IsPlaceAt e names texts lines groups read i p
+module _ (e : Exprs) (names texts : List (List ℕ)) (lines : List CodeLine) (groups : List CodeGroup) (read : List Group)
+    (h : RepresentsGroups e names texts lines (length lines) (reverse groups) read) where
+  pub place_at : (i : ℕ) (p : GroupInContext) → i < length groups → slice_get (groups_in_context read) i ≡ Some p
+      → IsPlaceAt e names texts lines groups read i p
   place_at i p l at =
       let t = shown_at e names texts lines groups read h i l in
       let n = count_is e names texts lines groups read h in
@@ -107,7 +110,8 @@ enclosing_some read p h = enclosing_by (contents_of read) p.enclosing.choice (λ
 
 -- whether a place is the first definition
 first_by : (ds : List GroupInContext) (n : ℕ)
-    → first_is (slice_get (flat_map number_at ds) 0) n ≡ elim (option_map (λ (q : GroupInContext). q.group) (slice_get ds 0)) as (λ _. Bool) [ None ↦ false | Some g ↦ g.number == n ]
+    → first_is (slice_get (flat_map number_at ds) 0) n ≡ elim (option_map (λ (q : GroupInContext). q.group) (slice_get ds 0)) as (λ _. Bool)
+    [ None ↦ false | Some g ↦ g.number == n ]
 first_by [] n = refl
 first_by (d ∷ ds) n = refl
 
@@ -116,8 +120,12 @@ pub first_reported : (c : Contents) (name : List ℕ) (p : GroupInContext) (i : 
 first_reported c name p i e = ap (first_is (first_in_definitions number_at c.places name)) (sym e) ∙ first_by (definitions_of c name) p.group.number
 
 -- the kind of fault of a definition
-pub definition_reported : (language : Language) (read : List Group) (p : GroupInContext) (name : List ℕ) (i : ℕ) (about : SymbolSummary) (is_member is_first is_modules may_follow : Bool) → Has p (groups_in_context read) → p.group.number ≡ i → about ≡ summary_in (contents_of read) (groups_in_context read) name
-    → is_member ≡ is_some (enclosing_choice (contents_of read) p) → is_first ≡ first_is about.first i → is_modules ≡ bytes_eq name modules_name → may_follow ≡ may_follow_member language p → definition_kind about is_member is_first is_modules may_follow ≡ slice_get (definition_faults language (contents_of read) p name) 0
+pub definition_reported : (language : Language) (read : List Group) (p : GroupInContext) (name : List ℕ) (i : ℕ) (about : SymbolSummary)
+    (is_member is_first is_modules may_follow : Bool) → Has p (groups_in_context read) → p.group.number ≡ i
+    → about ≡ summary_in (contents_of read) (groups_in_context read) name
+    → is_member ≡ is_some (enclosing_choice (contents_of read) p) → is_first ≡ first_is about.first i → is_modules ≡ bytes_eq name modules_name
+    → may_follow ≡ may_follow_member language p → definition_kind about is_member is_first is_modules may_follow
+    ≡ slice_get (definition_faults language (contents_of read) p name) 0
 definition_reported language read p name i about is_member is_first is_modules may_follow has n a m f o w =
     definition_is language (contents_of read) p name about is_member is_first is_modules may_follow
     (ap (λ (x : SymbolSummary). x.given) a)
@@ -130,18 +138,23 @@ definition_reported language read p name i about is_member is_first is_modules m
 -- the first fault of a definition with its attributes
 pub config_first : (language : Language) (c : Contents) (p : GroupInContext) (name : List ℕ) → p.group.head ≡ of_head (config name)
     → slice_get (faults_of_group language c p) 0
-    ≡ option_or (option_map (fault_of p.group p.group.at.line) (slice_get (definition_faults language c p name) 0)) (slice_get (faults_of_lines p.group (attribute_faults c name (kind_of c name)) false p.group.attributes) 0)
+    ≡ option_or (option_map (fault_of p.group p.group.at.line) (slice_get (definition_faults language c p name) 0))
+    (slice_get (faults_of_lines p.group (attribute_faults c name (kind_of c name)) false p.group.attributes) 0)
 config_first language c p name e =
     ap (λ w. slice_get (elim w as (λ _. List TreeFault) [ of_head h ↦ faults_of_head language c p h | file_end ↦ [] ]) 0) e
-    ∙ first_of_both (faults_at p.group p.group.at.line (definition_faults language c p name)) (faults_of_lines p.group (attribute_faults c name (kind_of c name)) false p.group.attributes)
-    ∙ ap (λ o. option_or o (slice_get (faults_of_lines p.group (attribute_faults c name (kind_of c name)) false p.group.attributes) 0)) (first_mapped (fault_of p.group p.group.at.line) (definition_faults language c p name))
+    ∙ first_of_both (faults_at p.group p.group.at.line (definition_faults language c p name))
+    (faults_of_lines p.group (attribute_faults c name (kind_of c name)) false p.group.attributes)
+    ∙ ap (λ o. option_or o (slice_get (faults_of_lines p.group (attribute_faults c name (kind_of c name)) false p.group.attributes) 0))
+    (first_mapped (fault_of p.group p.group.at.line) (definition_faults language c p name))
 
 pub choice_first : (language : Language) (c : Contents) (p : GroupInContext) → p.group.head ≡ of_head choice
-    → slice_get (faults_of_group language c p) 0 ≡ slice_get (faults_of_lines p.group (choice_faults (member_names c p.group.number)) false p.group.attributes) 0
+    → slice_get (faults_of_group language c p) 0 ≡ slice_get (faults_of_lines p.group (choice_faults (member_names c p.group.number)) false
+    p.group.attributes) 0
 choice_first language c p e = ap (λ w. slice_get (elim w as (λ _. List TreeFault) [ of_head h ↦ faults_of_head language c p h | file_end ↦ [] ]) 0) e
 
 -- the members of a choice at a place are those with its mark
-module _ (e : Exprs) (texts : List (List ℕ)) (lines : List CodeLine) (groups : List CodeGroup) (read : List Group) (h : RepresentsGroups e (names_defined read) texts lines (length lines) (reverse groups) read) where
+module _ (e : Exprs) (texts : List (List ℕ)) (lines : List CodeLine) (groups : List CodeGroup) (read : List Group)
+    (h : RepresentsGroups e (names_defined read) texts lines (length lines) (reverse groups) read) where
   pub choice_counted : (i choices : ℕ) (p : GroupInContext) → i < length groups → (group_at groups i).head ≡ codes.Choice
       → slice_get (groups_in_context read) i ≡ Some p → choices ≡ choices_before i read → choice_number (contents_of read) p.group.number ≡ Some choices
   choice_counted i choices p l w at c =
@@ -203,8 +216,10 @@ marks_small members old new choices small were = λ s. by_any s (list_any (λ m.
             omega arith
 
 -- the first fault of one group more, and of all
-pub fault_more : (language : Language) (read : List Group) (i : ℕ) (m : Group) → read_before (i + 1) read ≡ m ∷ read_before i read → slice_get (flat_map (faults_of_group language (contents_of read)) (groups_in_context (read_before i read))) 0 ≡ None
-    → slice_get (flat_map (faults_of_group language (contents_of read)) (groups_in_context (read_before (i + 1) read))) 0 ≡ slice_get (faults_of_group language (contents_of read) (group_in_context (open_blocks 0 (read_before i read)) m)) 0
+pub fault_more : (language : Language) (read : List Group) (i : ℕ) (m : Group) → read_before (i + 1) read ≡ m ∷ read_before i read
+    → slice_get (flat_map (faults_of_group language (contents_of read)) (groups_in_context (read_before i read))) 0 ≡ None
+    → slice_get (flat_map (faults_of_group language (contents_of read)) (groups_in_context (read_before (i + 1) read))) 0
+    ≡ slice_get (faults_of_group language (contents_of read) (group_in_context (open_blocks 0 (read_before i read)) m)) 0
 fault_more language read i m now none =
     let f = faults_of_group language (contents_of read) in
     let p : GroupInContext = group_in_context (open_blocks 0 (read_before i read)) m in
@@ -212,7 +227,9 @@ fault_more language read i m now none =
     ∙ first_of_both (flat_map f (groups_in_context (read_before i read))) (f p)
     ∙ ap (λ o. option_or o (slice_get (f p) 0)) none
 
-pub fault_all : (language : Language) (read : List Group) (i : ℕ) (t : TreeFault) → slice_get (flat_map (faults_of_group language (contents_of read)) (groups_in_context (read_before i read))) 0 ≡ Some t → slice_get (flat_map (faults_of_group language (contents_of read)) (groups_in_context read)) 0 ≡ Some t
+pub fault_all : (language : Language) (read : List Group) (i : ℕ) (t : TreeFault)
+    → slice_get (flat_map (faults_of_group language (contents_of read)) (groups_in_context (read_before i read))) 0 ≡ Some t
+    → slice_get (flat_map (faults_of_group language (contents_of read)) (groups_in_context read)) 0 ≡ Some t
 fault_all language read i t told =
     let f = faults_of_group language (contents_of read) in
     let r = placed_before (length read - i) read in
@@ -221,17 +238,24 @@ fault_all language read i t told =
     ∙ first_of_both (flat_map f (groups_in_context (read_before i read))) (flat_map f r.0)
     ∙ ap (λ o. option_or o (slice_get (flat_map f r.0) 0)) told
 
-pub fault_none : (language : Language) (read : List Group) (i : ℕ) → i ≡ length read → slice_get (flat_map (faults_of_group language (contents_of read)) (groups_in_context (read_before i read))) 0 ≡ None → slice_get (flat_map (faults_of_group language (contents_of read)) (groups_in_context read)) 0 ≡ None
-fault_none language read i e none = ap (λ r. slice_get (flat_map (faults_of_group language (contents_of read)) (groups_in_context r)) 0) (sym (ap (λ n. read_before n read) e ∙ all_before read)) ∙ none
+pub fault_none : (language : Language) (read : List Group) (i : ℕ) → i ≡ length read
+    → slice_get (flat_map (faults_of_group language (contents_of read)) (groups_in_context (read_before i read))) 0 ≡ None
+    → slice_get (flat_map (faults_of_group language (contents_of read)) (groups_in_context read)) 0 ≡ None
+fault_none language read i e none = ap (λ r. slice_get (flat_map (faults_of_group language (contents_of read)) (groups_in_context r)) 0)
+    (sym (ap (λ n. read_before n read) e ∙ all_before read)) ∙ none
 
-pub no_fault_yet : (language : Language) (read : List Group) → slice_get (flat_map (faults_of_group language (contents_of read)) (groups_in_context (read_before 0 read))) 0 ≡ None
+pub no_fault_yet : (language : Language) (read : List Group) → slice_get
+    (flat_map (faults_of_group language (contents_of read)) (groups_in_context (read_before 0 read))) 0 ≡ None
 no_fault_yet language read = ap (λ r. slice_get (flat_map (faults_of_group language (contents_of read)) (groups_in_context r)) 0) (none_before read)
 
 -- other groups have no fault
-other_first : (language : Language) (c : Contents) (p : GroupInContext) (w : GroupHead) → p.group.head ≡ w → slice_get (faults_of_group language c p) 0 ≡ slice_get (elim w as (λ _. List TreeFault) [ of_head h ↦ faults_of_head language c p h | file_end ↦ [] ]) 0
+other_first : (language : Language) (c : Contents) (p : GroupInContext) (w : GroupHead) → p.group.head ≡ w
+    → slice_get (faults_of_group language c p) 0 ≡ slice_get (elim w as (λ _. List TreeFault) [ of_head h ↦ faults_of_head language c p h | file_end ↦ [] ]) 0
 other_first language c p w e = ap (λ v. slice_get (elim v as (λ _. List TreeFault) [ of_head h ↦ faults_of_head language c p h | file_end ↦ [] ]) 0) e
 
-pub nothing_reported : (language : Language) (e : Exprs) (names texts : List (List ℕ)) (code : CodeWhat) (c : Contents) (p : GroupInContext) → RepresentsHead e names texts code p.group.head → ((s : ℕ) → code ≡ codes.Config s → ⊥) → (code ≡ codes.Choice → ⊥) → slice_get (faults_of_group language c p) 0 ≡ None
+pub nothing_reported : (language : Language) (e : Exprs) (names texts : List (List ℕ)) (code : CodeWhat) (c : Contents) (p : GroupInContext)
+    → RepresentsHead e names texts code p.group.head → ((s : ℕ) → code ≡ codes.Config s → ⊥) → (code ≡ codes.Choice → ⊥)
+    → slice_get (faults_of_group language c p) 0 ≡ None
 nothing_reported language e names texts (codes.Config s) c p h n m = absurd (n s refl)
 nothing_reported language e names texts codes.Choice c p h n m = absurd (m refl)
 nothing_reported language e names texts (codes.Menu t) c p h n m = other_first language c p _ h.2
@@ -285,9 +309,12 @@ few_choices read =
     omega arith
 
 -- the faults of one more group
-module _ (e : Exprs) (texts : List (List ℕ)) (lines : List CodeLine) (groups : List CodeGroup) (read : List Group) (h : RepresentsGroups e (names_defined read) texts lines (length lines) (reverse groups) read) where
-  pub fault_here : (language : Language) (i : ℕ) (told : Option TreeFault) → i < length groups → slice_get (flat_map (faults_of_group language (contents_of read)) (groups_in_context (read_before i read))) 0 ≡ None
-      → ((p : GroupInContext) → slice_get (groups_in_context read) i ≡ Some p → told ≡ slice_get (faults_of_group language (contents_of read) p) 0) → told ≡ slice_get (flat_map (faults_of_group language (contents_of read)) (groups_in_context (read_before (i + 1) read))) 0
+module _ (e : Exprs) (texts : List (List ℕ)) (lines : List CodeLine) (groups : List CodeGroup) (read : List Group)
+    (h : RepresentsGroups e (names_defined read) texts lines (length lines) (reverse groups) read) where
+  pub fault_here : (language : Language) (i : ℕ) (told : Option TreeFault) → i < length groups → slice_get
+      (flat_map (faults_of_group language (contents_of read)) (groups_in_context (read_before i read))) 0 ≡ None
+      → ((p : GroupInContext) → slice_get (groups_in_context read) i ≡ Some p → told ≡ slice_get (faults_of_group language (contents_of read) p) 0)
+      → told ≡ slice_get (flat_map (faults_of_group language (contents_of read)) (groups_in_context (read_before (i + 1) read))) 0
   fault_here language i told l none t =
       let s = shown_at e (names_defined read) texts lines groups read h i l in
       let n = count_is e (names_defined read) texts lines groups read h in

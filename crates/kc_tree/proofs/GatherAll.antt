@@ -53,18 +53,28 @@ dependency_meant p = dependency_of p.enclosing p.group
 
 -- the attributes of the first `i` places
 pub record AreGathered (e : Exprs) (names : List (List ℕ)) (places : List GroupInContext) (a : Attributes) : Type 0 where
-  pub prompts : AreListed (node_expr e) (own_keys prompt_of names) (own_items prompt_of prompt_meant) (λ k. k < length e.nodes) (length names) places a.prompts.keys.items a.prompts.items.items
-  pub defaults : AreListed (told.default_view e) (own_keys default_of names) (own_items default_of default_meant) (DefaultFits (length e.nodes)) (length names) places a.defaults.keys.items a.defaults.items.items
-  pub ranges : AreListed (told.range_view e) (own_keys range_of names) (own_items range_of range_meant) (RangeStands e) (length names) places a.ranges.keys.items a.ranges.items.items
-  pub selectors : AreListed (told.reverse_dependency_view e) (force_keys (aim_of Select) names) (force_items (aim_of Select) names) (ReverseDependencyFits (length e.nodes) (length names)) (length names) places a.selectors.keys.items a.selectors.items.items
-  pub impliers : AreListed (told.reverse_dependency_view e) (force_keys (aim_of Imply) names) (force_items (aim_of Imply) names) (ReverseDependencyFits (length e.nodes) (length names)) (length names) places a.impliers.keys.items a.impliers.items.items
-  pub direct : AreListed (node_expr e) (direct_keys names) (direct_items dependency_meant) (λ k. k < length e.nodes) (length names) places a.direct.keys.items a.direct.items.items
+  pub prompts : AreListed (node_expr e) (own_keys prompt_of names) (own_items prompt_of prompt_meant) (λ k. k < length e.nodes)
+      (length names) places a.prompts.keys.items a.prompts.items.items
+  pub defaults : AreListed (told.default_view e) (own_keys default_of names) (own_items default_of default_meant) (DefaultFits (length e.nodes))
+      (length names) places a.defaults.keys.items a.defaults.items.items
+  pub ranges : AreListed (told.range_view e) (own_keys range_of names) (own_items range_of range_meant) (RangeStands e)
+      (length names) places a.ranges.keys.items a.ranges.items.items
+  pub selectors : AreListed (told.reverse_dependency_view e) (force_keys (aim_of Select) names) (force_items (aim_of Select) names)
+      (ReverseDependencyFits (length e.nodes) (length names)) (length names) places a.selectors.keys.items a.selectors.items.items
+  pub impliers : AreListed (told.reverse_dependency_view e) (force_keys (aim_of Imply) names) (force_items (aim_of Imply) names)
+      (ReverseDependencyFits (length e.nodes) (length names)) (length names) places a.impliers.keys.items a.impliers.items.items
+  pub direct : AreListed (node_expr e) (direct_keys names) (direct_items dependency_meant) (λ k. k < length e.nodes)
+      (length names) places a.direct.keys.items a.direct.items.items
 
 -- a definition more
-module _ (n : SymbolTable) (names : List (List ℕ)) (h : HasNames n.arena n.symbols.items n.numbers.items names) (prior : List GroupInContext) (p : GroupInContext) (x : List ℕ) (s : ℕ) (ls : List CodeLine) (cs : List ℕ)
-    (name : defined_name p.group ≡ Some x) (number : number_of names x ≡ s) (below : s < length names) (many : length cs ≡ length ls) (held : All (LineNodesExist n.arena) ls) (there : All (λ i. i < length n.arena.nodes) cs)
-    (attributes : p.group.attributes ≡ map (line_in n.arena) ls) (conditions : map (node_expr n.arena) cs ≡ map (condition_at p) (map (line_in n.arena) ls)) where
-  own_step : {T B M : Type 0} (view : T → M) (G : Attribute → Option B) (m : GroupInContext → B → M) (P : T → Type 0) (item : CodeLine → ℕ → Option T) (old new : Keyed T)
+module _ (n : SymbolTable) (names : List (List ℕ)) (h : HasNames n.arena n.symbols.items n.numbers.items names) (prior : List GroupInContext)
+    (p : GroupInContext) (x : List ℕ) (s : ℕ) (ls : List CodeLine) (cs : List ℕ)
+    (name : defined_name p.group ≡ Some x) (number : number_of names x ≡ s) (below : s < length names) (many : length cs ≡ length ls)
+    (held : All (LineNodesExist n.arena) ls) (there : All (λ i. i < length n.arena.nodes) cs)
+    (attributes : p.group.attributes ≡ map (line_in n.arena) ls) (conditions : map (node_expr n.arena) cs
+    ≡ map (condition_at p) (map (line_in n.arena) ls)) where
+  own_step : {T B M : Type 0} (view : T → M) (G : Attribute → Option B) (m : GroupInContext → B → M) (P : T → Type 0) (item : CodeLine → ℕ → Option T)
+      (old new : Keyed T)
       → AreListed view (own_keys G names) (own_items G m) P (length names) prior old.keys.items old.items.items
       → HasAppended (own_key s item) item old new ls cs
       → ((l : CodeLine) (i : ℕ) → own_key s item l i ≡ own_key_of G names x (line_in n.arena l))
@@ -104,7 +114,8 @@ module _ (n : SymbolTable) (names : List (List ℕ)) (h : HasNames n.arena n.sym
       (pairs_fit (λ k. k < length names) (aimed_at n f) n.arena ls cs held there (λ y i w v. target_below n names h f y i))
 
   direct_step : (d : ℕ) (old new : Keyed ℕ)
-      → AreListed (node_expr n.arena) (direct_keys names) (direct_items dependency_meant) (λ k. k < length n.arena.nodes) (length names) prior old.keys.items old.items.items
+      → AreListed (node_expr n.arena) (direct_keys names) (direct_items dependency_meant) (λ k. k < length n.arena.nodes)
+      (length names) prior old.keys.items old.items.items
       → new.keys.items ≡ old.keys.items ++ s ∷ [] → new.items.items ≡ old.items.items ++ d ∷ [] → Represents n.arena d (dependency_meant p)
       → AreListed (node_expr n.arena) (direct_keys names) (direct_items dependency_meant) (λ k. k < length n.arena.nodes) (length names) (prior ++ p ∷ [])
       new.keys.items new.items.items
@@ -222,8 +233,10 @@ open_still : (w : GroupHead) (x : List ℕ) → w ≡ of_head (config x) → sid
 open_still w x e c = let d : inside ≡ closing = sym (ap side_of e) ∙ c in cc
 
 -- group by group
-module _ (n : SymbolTable) (read : List Group) (h : HasNames n.arena n.symbols.items n.numbers.items (names_defined read)) (texts : List (List ℕ)) (lines : List CodeLine) (groups : List CodeGroup) (conditioned : List GroupConditions) (conditions : List ℕ)
-    (shown : RepresentsGroups n.arena (names_defined read) texts lines (length lines) (reverse groups) read) (walked : RepresentsAllConditions n.arena texts conditions (length conditions) (reverse conditioned) read) where
+module _ (n : SymbolTable) (read : List Group) (h : HasNames n.arena n.symbols.items n.numbers.items (names_defined read)) (texts : List (List ℕ))
+    (lines : List CodeLine) (groups : List CodeGroup) (conditioned : List GroupConditions) (conditions : List ℕ)
+    (shown : RepresentsGroups n.arena (names_defined read) texts lines (length lines) (reverse groups) read)
+    (walked : RepresentsAllConditions n.arena texts conditions (length conditions) (reverse conditioned) read) where
   pub gathered_definition : (i s : ℕ) (old new : Attributes) → i < length groups → i < length conditioned → (group_at groups i).head ≡ codes.Config s
       → All (LineNodesExist n.arena) (slice_range lines (group_at groups i).attributes (attributes_end groups lines i))
       → AreGathered n.arena (names_defined read) (groups_in_context (read_before i read)) old

@@ -23,7 +23,8 @@ by_name f None = []
 by_name f (Some x) = f x
 
 -- items and their keys are those of places
-pub record AreListed {T M : Type 0} (view : T → M) (ks : GroupInContext → List ℕ) (xs : GroupInContext → List M) (P : T → Type 0) (count : ℕ) (places : List GroupInContext) (keys : List ℕ) (items : List T) : Type 0 where
+pub record AreListed {T M : Type 0} (view : T → M) (ks : GroupInContext → List ℕ) (xs : GroupInContext → List M) (P : T → Type 0) (count : ℕ)
+    (places : List GroupInContext) (keys : List ℕ) (items : List T) : Type 0 where
   pub keys_are : keys ≡ flat_map ks places
   pub items_are : map view items ≡ flat_map xs places
   pub fit : All P items
@@ -36,7 +37,8 @@ none_listed view ks xs P count = record { keys_are = refl; items_are = refl; fit
 flat_map-one : {A B : Type 0} (f : A → List B) (us : List A) (a : A) → flat_map f (us ++ a ∷ []) ≡ flat_map f us ++ f a
 flat_map-one f us a = flat_map-append f us (a ∷ []) ∙ ap (λ bs. flat_map f us ++ bs) (append-nil (f a))
 
-pub listed_more : {T M : Type 0} (view : T → M) (ks : GroupInContext → List ℕ) (xs : GroupInContext → List M) (P : T → Type 0) (count : ℕ) (places : List GroupInContext) (keys keys2 own : List ℕ) (items items2 mine : List T) (p : GroupInContext)
+pub listed_more : {T M : Type 0} (view : T → M) (ks : GroupInContext → List ℕ) (xs : GroupInContext → List M) (P : T → Type 0) (count : ℕ)
+    (places : List GroupInContext) (keys keys2 own : List ℕ) (items items2 mine : List T) (p : GroupInContext)
     → AreListed view ks xs P count places keys items → keys2 ≡ keys ++ own → items2 ≡ items ++ mine → own ≡ ks p → map view mine ≡ xs p → All P mine
     → All (λ k. k < count) own
     → AreListed view ks xs P count (places ++ p ∷ []) keys2 items2
@@ -48,7 +50,8 @@ listed_more view ks xs P count places keys keys2 own items items2 mine p l k i k
   below = subst (All (λ n. n < count)) (sym k) (All-append (λ n. n < count) keys own l.below po);
 }
 
-pub listed_same : {T M : Type 0} (view : T → M) (ks : GroupInContext → List ℕ) (xs : GroupInContext → List M) (P : T → Type 0) (count : ℕ) (places : List GroupInContext) (keys : List ℕ) (items : List T) (p : GroupInContext)
+pub listed_same : {T M : Type 0} (view : T → M) (ks : GroupInContext → List ℕ) (xs : GroupInContext → List M) (P : T → Type 0) (count : ℕ)
+    (places : List GroupInContext) (keys : List ℕ) (items : List T) (p : GroupInContext)
     → AreListed view ks xs P count places keys items → ks p ≡ [] → xs p ≡ [] → AreListed view ks xs P count (places ++ p ∷ []) keys items
 listed_same view ks xs P count places keys items p l k i = record {
   keys_are = l.keys_are ∙ sym (flat_map-one ks places p ∙ ap (λ z. flat_map ks places ++ z) k ∙ append-nil (flat_map ks places));
@@ -92,7 +95,8 @@ pointwise f h [] e = refl
 pointwise f h (p ∷ ps) e = ap (λ r. r ++ flat_map f ps) (e p (inl refl)) ∙ ap (λ r. h p ++ r) (pointwise f h ps (λ q k. e q (inr k)))
 
 -- what is listed under a number, place by place
-pub listed_law : {T M : Type 0} (view : T → M) (ks : GroupInContext → List ℕ) (xs h : GroupInContext → List M) (P : T → Type 0) (count : ℕ) (places : List GroupInContext) (keys : List ℕ) (items : List T) (t : ℕ)
+pub listed_law : {T M : Type 0} (view : T → M) (ks : GroupInContext → List ℕ) (xs h : GroupInContext → List M) (P : T → Type 0) (count : ℕ)
+    (places : List GroupInContext) (keys : List ℕ) (items : List T) (t : ℕ)
     → AreListed view ks xs P count places keys items → ((p : GroupInContext) → length (ks p) ≡ length (xs p))
     → ((p : GroupInContext) → Has p places → items_of t (ks p) (xs p) ≡ h p)
     → map view (items_of t keys items) ≡ flat_map h places
@@ -171,7 +175,8 @@ module _ {B M : Type 0} (G : Attribute → Option B) (h : GroupInContext → B �
   own_many p = by_case (defined_name p.group)
     where
       by_case : (o : Option (List ℕ))
-          → length (by_name (λ x. filter_map (own_key_of G names x) p.group.attributes) o) ≡ length (by_name (λ x. filter_map (own_item_of G h p) p.group.attributes) o)
+          → length (by_name (λ x. filter_map (own_key_of G names x) p.group.attributes) o)
+          ≡ length (by_name (λ x. filter_map (own_item_of G h p) p.group.attributes) o)
       by_case None = refl
       by_case (Some x) = as_many_lines p (number_of names x) p.group.attributes
 
@@ -202,7 +207,8 @@ module _ {B M : Type 0} (G : Attribute → Option B) (h : GroupInContext → B �
       own_lines p (number_of names x) t (bytes_eq x name) p.group.attributes (ap (λ k. k == t) n ∙ same_number names x name j.0 t d j.1 at)
 
 -- the lists of a symbol's own attributes are those of its definitions
-pub own_law : {T B M : Type 0} (view : T → M) (G : Attribute → Option B) (h : GroupInContext → B → M) (P : T → Type 0) (count : ℕ) (read : List Group) (keys : List ℕ) (items : List T) (t : ℕ) (name : List ℕ)
+pub own_law : {T B M : Type 0} (view : T → M) (G : Attribute → Option B) (h : GroupInContext → B → M) (P : T → Type 0) (count : ℕ) (read : List Group)
+    (keys : List ℕ) (items : List T) (t : ℕ) (name : List ℕ)
     → AreListed view (own_keys G (names_defined read)) (own_items G h) P count (groups_in_context read) keys items
     → slice_get (names_defined read) t ≡ Some name
     → map view (items_of t keys items) ≡ flat_map (λ p. map (h p) (attribute_values G p.group)) (definitions_of (contents_of read) name)
@@ -242,7 +248,8 @@ mapped_one : {M : Type 0} (f : GroupInContext → M) (ps : List GroupInContext) 
 mapped_one f [] = refl
 mapped_one f (p ∷ ps) = ap (λ r. f p ∷ r) (mapped_one f ps)
 
-pub direct_law : {T M : Type 0} (view : T → M) (f : GroupInContext → M) (P : T → Type 0) (count : ℕ) (read : List Group) (keys : List ℕ) (items : List T) (t : ℕ) (name : List ℕ)
+pub direct_law : {T M : Type 0} (view : T → M) (f : GroupInContext → M) (P : T → Type 0) (count : ℕ) (read : List Group) (keys : List ℕ) (items : List T)
+    (t : ℕ) (name : List ℕ)
     → AreListed view (direct_keys (names_defined read)) (direct_items f) P count (groups_in_context read) keys items
     → slice_get (names_defined read) t ≡ Some name
     → map view (items_of t keys items) ≡ map f (definitions_of (contents_of read) name)
@@ -295,7 +302,8 @@ module _ (S : Attribute → Option TargetAttribute) (names : List (List ℕ)) wh
   reverse_dependency_many p = by_case (defined_name p.group)
     where
       by_case : (o : Option (List ℕ))
-          → length (by_name (λ x. filter_map (force_key_of S names) p.group.attributes) o) ≡ length (by_name (λ x. filter_map (force_item_of S names p x) p.group.attributes) o)
+          → length (by_name (λ x. filter_map (force_key_of S names) p.group.attributes) o)
+          ≡ length (by_name (λ x. filter_map (force_item_of S names p x) p.group.attributes) o)
       by_case None = refl
       by_case (Some x) = selected_many p x p.group.attributes
 
@@ -319,12 +327,14 @@ module _ (S : Attribute → Option TargetAttribute) (names : List (List ℕ)) wh
     selected_here false (Some j) a ks xs us u e ih = rw (same_number names a.name name j t d e at ∙ u) ih
 
     selected_lines : (x : List ℕ) (ls : List Line) → number_of names x ≡ s
-        → items_of t (filter_map (force_key_of S names) ls) (filter_map (force_item_of S names p x) ls) ≡ map (force_by s p) (filter (λ (a : TargetAttribute). bytes_eq a.name name) (filter_map (λ (l : Line). S l.attribute) ls))
+        → items_of t (filter_map (force_key_of S names) ls) (filter_map (force_item_of S names p x) ls)
+        ≡ map (force_by s p) (filter (λ (a : TargetAttribute). bytes_eq a.name name) (filter_map (λ (l : Line). S l.attribute) ls))
     selected_lines x [] e = refl
     selected_lines x (l ∷ ls) e = by_aim (S l.attribute) (selected_lines x ls e)
       where
         by_aim : (o : Option TargetAttribute)
-            → items_of t (filter_map (force_key_of S names) ls) (filter_map (force_item_of S names p x) ls) ≡ map (force_by s p) (filter (λ (a : TargetAttribute). bytes_eq a.name name) (filter_map (λ (q : Line). S q.attribute) ls))
+            → items_of t (filter_map (force_key_of S names) ls) (filter_map (force_item_of S names p x) ls)
+            ≡ map (force_by s p) (filter (λ (a : TargetAttribute). bytes_eq a.name name) (filter_map (λ (q : Line). S q.attribute) ls))
             → items_of t (cons_option (option_and_then (λ (a : TargetAttribute). index_of_name a.name names) o) (filter_map (force_key_of S names) ls))
             (cons_option (option_and_then (λ (a : TargetAttribute). option_map (λ _. force_by (number_of names x) p a) (index_of_name a.name names)) o)
             (filter_map (force_item_of S names p x) ls))
@@ -358,7 +368,8 @@ reverse_dependency_here S c p (Some x) name t d at named =
           (filter (λ (a : TargetAttribute). bytes_eq a.name name) (attribute_values S p.group))
     ]) j.1)
 
-pub reverse_dependency_law : {T : Type 0} (view : T → ReverseDependency) (S : Attribute → Option TargetAttribute) (P : T → Type 0) (count : ℕ) (read : List Group) (keys : List ℕ) (items : List T) (t : ℕ) (name : List ℕ)
+pub reverse_dependency_law : {T : Type 0} (view : T → ReverseDependency) (S : Attribute → Option TargetAttribute) (P : T → Type 0) (count : ℕ)
+    (read : List Group) (keys : List ℕ) (items : List T) (t : ℕ) (name : List ℕ)
     → AreListed view (force_keys S (names_defined read)) (force_items S (names_defined read)) P count (groups_in_context read) keys items
     → slice_get (names_defined read) t ≡ Some name
     → map view (items_of t keys items) ≡ flat_map (reverse_dependencies_of S (contents_of read) name) (groups_in_context read)

@@ -43,7 +43,8 @@ pairs_keys key K e (l ∷ ls) [] n h = absurd (omega arith)
 pairs_keys key K e (l ∷ ls) (i ∷ cs) n h =
     ap (λ o. cons_option o (gathered_items key ls cs)) (h l i) ∙ ap (cons_option (K (line_in e l))) (pairs_keys key K e ls cs (omega arith) h)
 
-pub pairs_items : {T M : Type 0} (view : T → M) (item : CodeLine → ℕ → Option T) (I : Line → Option M) (C : Line → Expr) (e : Exprs) (ls : List CodeLine) (cs : List ℕ)
+pub pairs_items : {T M : Type 0} (view : T → M) (item : CodeLine → ℕ → Option T) (I : Line → Option M) (C : Line → Expr) (e : Exprs) (ls : List CodeLine)
+    (cs : List ℕ)
     → map (node_expr e) cs ≡ map C (map (line_in e) ls) → All (LineNodesExist e) ls
     → ((l : CodeLine) (i : ℕ) → LineNodesExist e l → node_expr e i ≡ C (line_in e l) → option_map view (item l i) ≡ I (line_in e l))
     → map view (gathered_items item ls cs) ≡ filter_map I (map (line_in e) ls)
@@ -215,7 +216,8 @@ aim_of Imply a = imply_of a
 
 module _ (n : SymbolTable) (names : List (List ℕ)) (h : HasNames n.arena n.symbols.items n.numbers.items names) where
   target_by : (f : ReverseKind) (a : CodeAttribute)
-      → option_and_then (λ id. number_in n.arena.names n.numbers.items (text_of_name n.arena id)) (gathered_target_name f a) ≡ option_and_then (λ (b : TargetAttribute). index_of_name b.name names) (aim_of f (attribute_in n.arena a))
+      → option_and_then (λ id. number_in n.arena.names n.numbers.items (text_of_name n.arena id)) (gathered_target_name f a)
+      ≡ option_and_then (λ (b : TargetAttribute). index_of_name b.name names) (aim_of f (attribute_in n.arena a))
   target_by Select (attributes.Select a) = h.numbered (text_of_name n.arena a.name)
   target_by Select a = refl
   target_by Imply (attributes.Imply a) = h.numbered (text_of_name n.arena a.name)

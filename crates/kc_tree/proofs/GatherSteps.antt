@@ -8,7 +8,8 @@ use Rattle.kc_tree.specs.declared.keyed.Keyed.{Keyed}
 use Rattle.kc_tree.specs.checker.GatheredItems.{gathered_items, HasAppended}
 
 -- the rest of attributes is left
-pub record IsRest {T : Type 0} (key : CodeLine → ℕ → Option ℕ) (item : CodeLine → ℕ → Option T) (old now : Keyed T) (lines : List CodeLine) (conditions : List ℕ) (i : ℕ) : Type 0 where
+pub record IsRest {T : Type 0} (key : CodeLine → ℕ → Option ℕ) (item : CodeLine → ℕ → Option T) (old now : Keyed T) (lines : List CodeLine)
+    (conditions : List ℕ) (i : ℕ) : Type 0 where
   pub keys : now.keys.items ++ gathered_items key (drop i lines) (drop i conditions) ≡ old.keys.items ++ gathered_items key lines conditions
   pub items : now.items.items ++ gathered_items item (drop i lines) (drop i conditions) ≡ old.items.items ++ gathered_items item lines conditions
 
@@ -30,7 +31,8 @@ pair_more item lines conditions i c d h k =
     ∙ ap (gathered_items item (get_or lines i d ∷ drop (suc i) lines)) (drop-cons conditions i c k)
     ∙ ap (λ m. cons_option (item (get_or lines i d) (get_or conditions i c)) (gathered_items item (drop m lines) (drop m conditions))) n
 
-pub rest_more : {T : Type 0} (key : CodeLine → ℕ → Option ℕ) (item : CodeLine → ℕ → Option T) (old now next : Keyed T) (lines : List CodeLine) (conditions : List ℕ) (i c : ℕ) (d : CodeLine)
+pub rest_more : {T : Type 0} (key : CodeLine → ℕ → Option ℕ) (item : CodeLine → ℕ → Option T) (old now next : Keyed T) (lines : List CodeLine)
+    (conditions : List ℕ) (i c : ℕ) (d : CodeLine)
     → i < length lines → length conditions ≡ length lines → IsRest key item old now lines conditions i
     → next.keys.items ≡ now.keys.items ++ option_to_list (key (get_or lines i d) (get_or conditions i c))
     → next.items.items ≡ now.items.items ++ option_to_list (item (get_or lines i d) (get_or conditions i c))
@@ -46,7 +48,8 @@ rest_more key item old now next lines conditions i c d h e r k m =
           ∙ ap (λ xs. now.items.items ++ xs) (sym (pair_more item lines conditions i c d h l)) ∙ r.items;
     }
 
-pub rest_done : {T : Type 0} (key : CodeLine → ℕ → Option ℕ) (item : CodeLine → ℕ → Option T) (old now : Keyed T) (lines : List CodeLine) (conditions : List ℕ) (i : ℕ)
+pub rest_done : {T : Type 0} (key : CodeLine → ℕ → Option ℕ) (item : CodeLine → ℕ → Option T) (old now : Keyed T) (lines : List CodeLine)
+    (conditions : List ℕ) (i : ℕ)
     → i ≡ length lines → IsRest key item old now lines conditions i
     → HasAppended key item old now lines conditions
 rest_done key item old now lines conditions i e r =

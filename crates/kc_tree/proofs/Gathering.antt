@@ -50,7 +50,8 @@ module _ (g : Gathered) (sound : IsConsistent (gathered_tree g)) where
       let t = sound.listed s c (symbol_gathered g s r) (symbol_at s r e) f in
       omega (arith, slice_get_within (gathered_tree g).choices c t.0 t.1, choices_count)
 
-  module _ (own choices new : List ℕ) (n : AreNumbered (length g.symbols.items) (length g.choices.items) g.units.items (length g.units.items) own choices) (same : length new ≡ length own)
+  module _ (own choices new : List ℕ) (n : AreNumbered (length g.symbols.items) (length g.choices.items) g.units.items (length g.units.items) own choices)
+      (same : length new ≡ length own)
       (m : (s : ℕ) (r : SymbolRow) → slice_get g.symbols.items s ≡ Some r → slice_index new s ≡ own_or_choice (slice_index own s) choices r.choice) where
     symbol_number : (s u : ℕ) → slice_get (gathered_tree g).units u ≡ Some (of_symbol s) → slice_index own s ≡ u
     symbol_number s u e = n.symbol_units u s (slice_get_within g.units.items u (of_symbol s) e) e

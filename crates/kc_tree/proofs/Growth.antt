@@ -51,7 +51,8 @@ joined_on old new g e ds vs own j = record {
 }
 
 -- what an attribute gives is there
-pub reported_there : (w : Conjuncts) (exprs : Exprs) (a : CodeAttribute) → AttributeNodesExist exprs a → IfSome (conjunct_view w a) (λ i. i < length exprs.nodes)
+pub reported_there : (w : Conjuncts) (exprs : Exprs) (a : CodeAttribute) → AttributeNodesExist exprs a
+    → IfSome (conjunct_view w a) (λ i. i < length exprs.nodes)
 reported_there Dependencies exprs (attributes.Typed k) h = tt
 reported_there Dependencies exprs (attributes.TypedPrompt k c) h = tt
 reported_there Dependencies exprs (attributes.TypedDefault k d) h = tt

@@ -67,15 +67,18 @@ module _ (c : Contents) (k g : ℕ) (number : choice_number c g ≡ Some k) wher
   here_by (Some n) (Some j) x e = ap (λ b. cond b (option_to_list (option_and_then (λ m. index_of_name m c.names) x)) []) (same_choice n j e)
 
   here : (p : GroupInContext)
-      → cond (member_key c p == k) (members_at c p) [] ≡ cond (is_member_of g p) (option_to_list (option_and_then (λ n. index_of_name n c.names) (defined_name p.group))) []
+      → cond (member_key c p == k) (members_at c p) [] ≡ cond (is_member_of g p)
+      (option_to_list (option_and_then (λ n. index_of_name n c.names) (defined_name p.group))) []
   here p = here_by p.enclosing.choice (option_and_then (choice_number c) p.enclosing.choice) (defined_name p.group) refl
 
   named_by : (x : Option (List ℕ)) (xs : List (List ℕ))
-      → filter_map (λ n. index_of_name n c.names) (cons_option x xs) ≡ option_to_list (option_and_then (λ n. index_of_name n c.names) x) ++ filter_map (λ n. index_of_name n c.names) xs
+      → filter_map (λ n. index_of_name n c.names) (cons_option x xs) ≡ option_to_list (option_and_then (λ n. index_of_name n c.names) x) ++ filter_map
+      (λ n. index_of_name n c.names) xs
   named_by None xs = refl
   named_by (Some n) xs = by_place (index_of_name n c.names)
     where
-      by_place : (o : Option ℕ) → cons_option o (filter_map (λ m. index_of_name m c.names) xs) ≡ option_to_list o ++ filter_map (λ m. index_of_name m c.names) xs
+      by_place : (o : Option ℕ) → cons_option o (filter_map (λ m. index_of_name m c.names) xs) ≡ option_to_list o ++ filter_map
+          (λ m. index_of_name m c.names) xs
       by_place None = refl
       by_place (Some s) = refl
 
@@ -87,7 +90,8 @@ module _ (c : Contents) (k g : ℕ) (number : choice_number c g ≡ Some k) wher
   some_named false p ps = refl
 
   members_among : (ps : List GroupInContext)
-      → flat_map (members_at c) (filter (λ p. member_key c p == k) ps) ≡ filter_map (λ n. index_of_name n c.names) (filter_map (λ (q : GroupInContext). defined_name q.group) (filter (is_member_of g) ps))
+      → flat_map (members_at c) (filter (λ p. member_key c p == k) ps) ≡ filter_map (λ n. index_of_name n c.names)
+      (filter_map (λ (q : GroupInContext). defined_name q.group) (filter (is_member_of g) ps))
   members_among [] = refl
   members_among (p ∷ ps) =
       some_of (member_key c p == k) (members_at c) p (filter (λ q. member_key c q == k) ps)
@@ -96,5 +100,6 @@ module _ (c : Contents) (k g : ℕ) (number : choice_number c g ≡ Some k) wher
       ∙ sym (some_named (is_member_of g p) p (filter (is_member_of g) ps))
 
   -- the items under the number of a choice
-  pub members_are : items_of k (flat_map (member_keys_at c) c.places) (flat_map (members_at c) c.places) ≡ filter_map (λ x. index_of_name x c.names) (member_names c g)
+  pub members_are : items_of k (flat_map (member_keys_at c) c.places) (flat_map (members_at c) c.places)
+      ≡ filter_map (λ x. index_of_name x c.names) (member_names c g)
   members_are = grouped_is (member_key c) (members_at c) k c.places ∙ members_among c.places

@@ -87,7 +87,8 @@ module _ (f : List ℕ → Bool) where
   append_nil (y ∷ l) = ap (λ m. y ∷ m) (append_nil l)
 
   pushed_kept : (x : List ℕ) (ys : List (List ℕ)) (t : Bool) → f x ≡ t → (a : Bool) → is_in_list x ys ≡ a
-      → filter f (cond a (without_repeats ys) (without_repeats ys ++ x ∷ [])) ≡ cond t (with_path x (filter f (without_repeats ys))) (filter f (without_repeats ys))
+      → filter f (cond a (without_repeats ys) (without_repeats ys ++ x ∷ [])) ≡ cond t (with_path x (filter f (without_repeats ys)))
+      (filter f (without_repeats ys))
   pushed_kept x ys true e true g =
       let n : is_in_list x (filter f (without_repeats ys)) ≡ true = among_kept x e (without_repeats ys) ∙ among_once x ys ∙ g in rw n refl
   pushed_kept x ys true e false g =

@@ -1,5 +1,5 @@
 -- The faults and the absent paths of files.
-use Rattle.std.proofs.Common.{◌≡◌, ◌≢◌, ◌⊎◌, inl, inr, ℕ, List, [], ◌∷◌, ◌++◌, refl, sym, ◌∙◌, Option, Some, None}
+use Rattle.std.proofs.Common.{◌≡◌, ◌≢◌, ◌⊎◌, inl, inr, ℕ, List, [], ◌∷◌, ◌++◌, refl, sym, ◌∙◌, Option, Some, None, Err}
 use Rattle.std.specs.Prelude.{slice_get, filter, filter_map}
 use Rattle.kc_expr.specs.declared.language.Language.{Language}
 use Rattle.kc_tree_model.specs.declared.fault.TreeFault.{TreeFault}
@@ -8,6 +8,8 @@ use Rattle.kc_tree_model.specs.Blocks.{Group, sourced_path}
 use Rattle.kc_tree_model.specs.Limits.{without_repeats}
 use Rattle.kc_tree_model.specs.Reading.{Outcome, reading, lenient_reading, wanted_by, paths_or_fault, files_wanted}
 use Rattle.kc_tree_model.specs.TreeFaults.{tree_faults, first_tree_fault, first_fault_after}
+use Rattle.kc_tree_model.specs.TreesOfFiles.{IsReportedFault, AreWanted}
+use Rattle.kc_tree_model.proofs.ReadingLaws.TreesRelated.{reported_related, wanted_related}
 use Rattle.kc_listing.specs.declared.listing.Listing.{Listing}
 use Rattle.kc_listing.specs.between.ListingView.{RepresentsListing}
 use Rattle.kc_listing.specs.between.MemoryFaults.{no_memory}
@@ -24,7 +26,8 @@ after_none language o e = rw e refl
 some_is : (f g : TreeFault) → Some f ≡ Some g → f ≡ g
 some_is f g e = cc
 
-module _ (files : Files) (root : List ℕ) (l : Listing) (given : Option TreeFault) (fault : (given ≡ Some no_memory) ⊎ (given ≡ (reading files root).fault)) (read : (given ≡ Some no_memory) ⊎ RepresentsListing l (reading files root).read) where
+module _ (files : Files) (root : List ℕ) (l : Listing) (given : Option TreeFault) (fault : (given ≡ Some no_memory) ⊎ (given ≡ (reading files root).fault))
+    (read : (given ≡ Some no_memory) ⊎ RepresentsListing l (reading files root).read) where
   reported_by : (f : TreeFault) → given ≡ Some f → (given ≡ Some no_memory) ⊎ (given ≡ (reading files root).fault)
       → (f ≡ no_memory) ⊎ (first_tree_fault files root ≡ Some f)
   unfolding first_tree_fault
@@ -53,12 +56,24 @@ module _ (files : Files) (root : List ℕ) (l : Listing) (given : Option TreeFau
   of_reading e = record { read = (reading files root).read; shows = shown_of_reading e }
 
   -- where reading met none, the first of the others
-  pub reported_behind : (o : Option TreeFault) → given ≡ None → o ≡ slice_get (tree_faults files.language (reading files root).read) 0 → first_tree_fault files root ≡ o
+  pub reported_behind : (o : Option TreeFault) → given ≡ None → o ≡ slice_get (tree_faults files.language (reading files root).read) 0
+      → first_tree_fault files root ≡ o
   unfolding first_tree_fault
   reported_behind o e h = after_none files.language (reading files root) (unfailed_of e) ∙ sym h
 
   pub of_tree : given ≡ None → None ≡ slice_get (tree_faults files.language (reading files root).read) 0 → IsOfTree l
   of_tree e h = record { files = files; root = root; untold = reported_behind None e h; shows = shown_of_reading e }
+
+-- the fault that is returned is the reported one
+pub reported_or_memory : (files : Files) (root : List ℕ) (f : TreeFault) → (f ≡ no_memory) ⊎ (first_tree_fault files root ≡ Some f)
+    → (f ≡ no_memory) ⊎ IsReportedFault files root f
+reported_or_memory files root f (inl m) = inl m
+reported_or_memory files root f (inr h) = inr ((reported_related files root f).0 h)
+
+pub wanted_or_memory : (files : Files) (root : List ℕ) (f : TreeFault) → (f ≡ no_memory) ⊎ (files_wanted files root ≡ Err f)
+    → (f ≡ no_memory) ⊎ AreWanted files root (Err f)
+wanted_or_memory files root f (inl m) = inl m
+wanted_or_memory files root f (inr h) = inr ((wanted_related files root (Err f)).0 h)
 
 -- the result for absent paths
 module _ (files : Files) (root : List ℕ) (l : Listing) (given : Option TreeFault) (ample : given ≢ Some no_memory) where

@@ -196,7 +196,8 @@ counted : (read : List Group) (i : ℕ) (m : Group) (b : Bool) (n : ℕ) → rea
 counted read i m true n now o e = ap (λ k. k + 1) e ∙ sym (ap (λ r. length (numbers_of_choices r)) now ∙ count_more m (read_before i read) o)
 counted read i m false n now o e = e ∙ sym (ap (λ r. length (numbers_of_choices r)) now ∙ ap length (choices_same m (read_before i read) o))
 
-module _ (e : Exprs) (names texts : List (List ℕ)) (lines : List CodeLine) (groups : List CodeGroup) (read : List Group) (h : RepresentsGroups e names texts lines (length lines) (reverse groups) read) where
+module _ (e : Exprs) (names texts : List (List ℕ)) (lines : List CodeLine) (groups : List CodeGroup) (read : List Group)
+    (h : RepresentsGroups e names texts lines (length lines) (reverse groups) read) where
   pub enclosing_more : (i : ℕ) (enclosing inner around2 inner2 : List (Option ℕ)) (choices choices2 : ℕ) (what : CodeWhat) → i < length groups
       → what ≡ (group_at groups i).head → AreRound read i enclosing inner choices
       → around2 ≡ enclosing ++ innermost_choice (reverse inner) ∷ [] → reverse inner2 ≡ choices_opened_after what choices (reverse inner)

@@ -85,7 +85,8 @@ line_of_first : (groups : List CodeGroup) (ds : List GroupInContext) → ((p : G
 line_of_first groups [] k = refl
 line_of_first groups (p ∷ ds) k = let q = k p (inl refl) in ap (λ o. (place_of_group o).1) q.at ∙ sym q.line_is
 
-module _ (e : Exprs) (symbols numbers : List ℕ) (texts : List (List ℕ)) (lines : List CodeLine) (groups : List CodeGroup) (read : List Group) (h : RepresentsLists e symbols numbers texts lines groups read) where
+module _ (e : Exprs) (symbols numbers : List ℕ) (texts : List (List ℕ)) (lines : List CodeLine) (groups : List CodeGroup) (read : List Group)
+    (h : RepresentsLists e symbols numbers texts lines groups read) where
   definition_kept : (name : List ℕ) (p : GroupInContext) → Has p (definitions_of (contents_of read) name) → IsKeptAs groups p.group
   definition_kept name p k =
       kept_as e (names_defined read) texts lines groups read p.group h.groups_are
@@ -117,7 +118,8 @@ module _ (e : Exprs) (symbols numbers : List ℕ) (texts : List (List ℕ)) (lin
   rows_shown known rows a r = rw (r, a) (rows_are (names_defined read) symbols h.names.words h.names.held)
 
 -- one row more
-pub row_more : (groups : List CodeGroup) (ids : List ℕ) (known : List SymbolSummary) (rows rows2 : List SymbolRow) (s d : ℕ) (b : SymbolSummary) → s < length ids
+pub row_more : (groups : List CodeGroup) (ids : List ℕ) (known : List SymbolSummary) (rows rows2 : List SymbolRow) (s d : ℕ) (b : SymbolSummary)
+    → s < length ids
     → s < length known
     → rows ++ rows_of_symbols groups (drop s ids) (drop s known) ≡ rows_of_symbols groups ids known
     → rows2 ≡ rows ++ row_of_symbol groups (get_or ids s d) (get_or known s b) ∷ []

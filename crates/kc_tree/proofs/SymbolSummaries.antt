@@ -139,7 +139,8 @@ abouts_same c ps p e = map_same (summary_in c ps) (summary_in c (ps ++ p ∷ [])
 
 -- types that lines give
 pub types_of_lines : (e : Exprs) (ls : List CodeLine)
-    → filter_map (λ (l : Line). type_of l.attribute) (map (λ (l : CodeLine). record { number = l.number; attribute = attribute_in e l.attribute }) ls) ≡ filter_map (type_in e) ls
+    → filter_map (λ (l : Line). type_of l.attribute) (map (λ (l : CodeLine). record { number = l.number; attribute = attribute_in e l.attribute }) ls)
+    ≡ filter_map (type_in e) ls
 types_of_lines e [] = refl
 types_of_lines e (l ∷ ls) = ap (cons_option (type_of (attribute_in e l.attribute))) (types_of_lines e ls)
 

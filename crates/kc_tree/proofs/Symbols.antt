@@ -177,7 +177,8 @@ name_some members d x s e =
     mapped (Some i) = refl
 
 -- the symbols that the first `i` groups define
-module _ (e : Exprs) (texts : List (List ℕ)) (lines : List CodeLine) (groups : List CodeGroup) (read : List Group) (h : RepresentsGroups e (names_defined read) texts lines (length lines) (reverse groups) read) where
+module _ (e : Exprs) (texts : List (List ℕ)) (lines : List CodeLine) (groups : List CodeGroup) (read : List Group)
+    (h : RepresentsGroups e (names_defined read) texts lines (length lines) (reverse groups) read) where
   pub enclosing_at : (i : ℕ) (enclosing : List (Option ℕ)) (p : GroupInContext) → enclosing ≡ map (enclosing_choice (contents_of read)) (groups_in_context read)
       → slice_get (groups_in_context read) i ≡ Some p → get_or enclosing i None ≡ enclosing_choice (contents_of read) p
   enclosing_at i enclosing p a at =
@@ -223,7 +224,8 @@ module _ (e : Exprs) (texts : List (List ℕ)) (lines : List CodeLine) (groups :
       ∙ abouts_more c (groups_in_context prior) p what.0 s (Differ-once (filter_map defined_name read)) what.2 what.1)
 
   pub symbols_kept : (i : ℕ) → i < length groups → ((s : ℕ) → (group_at groups i).head ≡ codes.Config s → ⊥)
-      → symbol_summaries (contents_of read) (groups_in_context (read_before i read)) ≡ symbol_summaries (contents_of read) (groups_in_context (read_before (i + 1) read))
+      → symbol_summaries (contents_of read) (groups_in_context (read_before i read)) ≡ symbol_summaries (contents_of read)
+      (groups_in_context (read_before (i + 1) read))
   symbols_kept i l w =
       let c = contents_of read in
       let t = shown_at e (names_defined read) texts lines groups read h i l in
@@ -251,7 +253,8 @@ pub all_abouts : (read : List Group) (i : ℕ) → i ≡ length read
     → symbol_summaries (contents_of read) (groups_in_context (read_before i read)) ≡ symbol_summaries (contents_of read) (groups_in_context read)
 all_abouts read i e = ap (λ r. symbol_summaries (contents_of read) (groups_in_context r)) (ap (λ n. read_before n read) e ∙ all_before read)
 
-pub as_many_abouts : (c : Contents) (ps : List GroupInContext) (symbols : List SymbolSummary) → symbols ≡ symbol_summaries c ps → length symbols ≡ length c.names
+pub as_many_abouts : (c : Contents) (ps : List GroupInContext) (symbols : List SymbolSummary) → symbols ≡ symbol_summaries c ps
+    → length symbols ≡ length c.names
 as_many_abouts c ps symbols e = ap length e ∙ length-map c.names (summary_in c ps)
 
 -- the summary with one more place
@@ -292,7 +295,8 @@ place_is names name s differ at =
     let r = has-place name names (has-at name names s at) in
     r.1 ∙ ap Some (at_most_once name names r.0 s differ (place-get name names r.0 r.1) at)
 
-module _ (e : Exprs) (texts : List (List ℕ)) (lines : List CodeLine) (groups : List CodeGroup) (read : List Group) (h : RepresentsGroups e (names_defined read) texts lines (length lines) (reverse groups) read) where
+module _ (e : Exprs) (texts : List (List ℕ)) (lines : List CodeLine) (groups : List CodeGroup) (read : List Group)
+    (h : RepresentsGroups e (names_defined read) texts lines (length lines) (reverse groups) read) where
   here_more : (i : ℕ) (m : Group) (ks ms keys members : List ℕ) → read_before (i + 1) read ≡ m ∷ read_before i read
       → member_keys_at (contents_of read) (group_in_context (open_blocks 0 (read_before i read)) m) ≡ ks
       → members_at (contents_of read) (group_in_context (open_blocks 0 (read_before i read)) m) ≡ ms

@@ -32,12 +32,14 @@ place_is names name s d e =
 
 -- whether a group is the first definition of a name
 first_by : (ds : List GroupInContext) (n : ℕ)
-    → is_number n (slice_get (flat_map number_at ds) 0) ≡ elim (option_map (λ (p : GroupInContext). p.group) (slice_get ds 0)) as (λ _. Bool) [ None ↦ false | Some g ↦ g.number == n ]
+    → is_number n (slice_get (flat_map number_at ds) 0) ≡ elim (option_map (λ (p : GroupInContext). p.group) (slice_get ds 0)) as (λ _. Bool)
+    [ None ↦ false | Some g ↦ g.number == n ]
 first_by [] n = refl
 first_by (p ∷ ds) n = refl
 
 unit_at : (read : List Group) (name : List ℕ) (p : GroupInContext)
-    → is_unit_at p.group.number (summary_in (contents_of read) (groups_in_context read) name) ≡ (is_first_definition (contents_of read) name p && is_none (choice_of_symbol (contents_of read) name))
+    → is_unit_at p.group.number (summary_in (contents_of read) (groups_in_context read) name)
+    ≡ (is_first_definition (contents_of read) name p && is_none (choice_of_symbol (contents_of read) name))
 unit_at read name p =
     ap (λ b. b && is_none (summary_in (contents_of read) (groups_in_context read) name).choice)
     (first_by (definitions_of (contents_of read) name) p.group.number)
@@ -48,7 +50,8 @@ reported_by true s o e = ap (option_map of_symbol) (sym e)
 reported_by false s o e = refl
 
 -- the unit of a group
-module _ (read : List Group) (symbols : List SymbolSummary) (a : symbols ≡ symbol_summaries (contents_of read) (groups_in_context read)) (e : Exprs) (texts : List (List ℕ)) (p : GroupInContext) (n choices : ℕ) (number : p.group.number ≡ n) where
+module _ (read : List Group) (symbols : List SymbolSummary) (a : symbols ≡ symbol_summaries (contents_of read) (groups_in_context read)) (e : Exprs)
+    (texts : List (List ℕ)) (p : GroupInContext) (n choices : ℕ) (number : p.group.number ≡ n) where
   symbol_unit : (s : ℕ) (name : List ℕ) → slice_get (names_defined read) s ≡ Some name
       → first_unit n s (slice_get symbols s) ≡ unit_of_head (contents_of read) p (config name)
   symbol_unit s name at =
@@ -100,7 +103,8 @@ counted : (read : List Group) (i : ℕ) (m : Group) (b : Bool) (n : ℕ) → rea
 counted read i m true n now o e = ap (λ k. k + 1) e ∙ sym (ap (λ r. length (numbers_of_choices r)) now ∙ count_more m (read_before i read) o)
 counted read i m false n now o e = e ∙ sym (ap (λ r. length (numbers_of_choices r)) now ∙ ap length (choices_same m (read_before i read) o))
 
-module _ (read : List Group) (symbols : List SymbolSummary) (a : symbols ≡ symbol_summaries (contents_of read) (groups_in_context read)) (e : Exprs) (texts : List (List ℕ)) (lines : List CodeLine) (groups : List CodeGroup)
+module _ (read : List Group) (symbols : List SymbolSummary) (a : symbols ≡ symbol_summaries (contents_of read) (groups_in_context read)) (e : Exprs)
+    (texts : List (List ℕ)) (lines : List CodeLine) (groups : List CodeGroup)
     (h : RepresentsGroups e (names_defined read) texts lines (length lines) (reverse groups) read) where
   pub units_more : (i : ℕ) (units units2 : List TreeUnit) (choices choices2 : ℕ) (what : CodeWhat) → i < length groups → what ≡ (group_at groups i).head
       → AreUnits read i units choices

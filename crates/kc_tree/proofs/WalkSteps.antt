@@ -183,7 +183,8 @@ held_later : (old new : Exprs) (lines : List CodeLine) → Grows old new → All
 held_later old new lines g h = lines_held old new g lines h
 
 -- the conditions of a group's attributes
-own_shown : (old mid far later : Exprs) (before after : List ℕ) (lines : List CodeLine) (m : Group) (opened : List Group) (b : AreAppended mid far before after (dependencies_of (context opened) m) (context opened).visibles lines)
+own_shown : (old mid far later : Exprs) (before after : List ℕ) (lines : List CodeLine) (m : Group) (opened : List Group)
+    (b : AreAppended mid far before after (dependencies_of (context opened) m) (context opened).visibles lines)
     → Grows old mid → Grows far later → All (LineNodesExist old) lines → m.attributes ≡ map (line_in old) lines
     → map (node_expr later) b.own ≡ map (condition_at (group_in_context opened m)) m.attributes
 own_shown old mid far later before after lines m opened b g h held e =
@@ -233,7 +234,8 @@ end_side exprs names texts codes.Mainmenu m h e = cc
 end_side exprs names texts (codes.Ends b) m h e = rw h refl
 end_side exprs names texts codes.FileEnd m h e = rw h refl
 
-pub other_side : (exprs : Exprs) (names texts : List (List ℕ)) (what : CodeWhat) (m : Group) → RepresentsHead exprs names texts what m.head → is_end what ≡ false
+pub other_side : (exprs : Exprs) (names texts : List (List ℕ)) (what : CodeWhat) (m : Group) → RepresentsHead exprs names texts what m.head
+    → is_end what ≡ false
     → side_of m.head ≡ closing → ⊥
 other_side exprs names texts (codes.Config s) m h e f = let k : inside ≡ closing = ap side_of (sym h.2) ∙ f in cc
 other_side exprs names texts codes.Choice m h e f = let k : opening ≡ closing = ap side_of (sym h) ∙ f in cc
@@ -256,7 +258,8 @@ not_opened exprs texts y stack m before opening e f g h = absurd (g refl)
 not_opened exprs texts y stack m before closing e f g h = absurd (f refl)
 not_opened exprs texts y stack m before inside e f g h = rw (open_inside 0 m before e, append-nil stack) h
 
-stack_entered : (exprs : Exprs) (texts : List (List ℕ)) (y : ℕ) (stack : List EnclosingConditions) (o : Option EnclosingConditions) (m : Group) (before : List Group)
+stack_entered : (exprs : Exprs) (texts : List (List ℕ)) (y : ℕ) (stack : List EnclosingConditions) (o : Option EnclosingConditions) (m : Group)
+    (before : List Group)
     → (side_of m.head ≡ closing → ⊥) → RepresentsInside exprs texts y m (open_blocks 0 before) o
     → RepresentsEnclosings exprs texts y (reverse stack) (open_blocks 0 before)
     → RepresentsEnclosings exprs texts y (reverse (stack ++ option_to_list o)) (open_blocks 0 (m ∷ before))
@@ -265,14 +268,16 @@ stack_entered exprs texts y stack (Some a) m before side h s = rw (pushed m befo
 
 -- the attributes' conditions in an entry
 module _ (w new : GroupWalk) (texts : List (List ℕ)) (before : List Group) (m : Group) (mid far : Exprs) (e : EntryConditions) (lines : List CodeLine)
-    (walked : HasWalked texts w before) (held : All (LineNodesExist w.arena) lines) (attributes_are : m.attributes ≡ map (line_in w.arena) lines) (to_mid : Grows w.arena mid) (to_far : Grows mid far) where
+    (walked : HasWalked texts w before) (held : All (LineNodesExist w.arena) lines) (attributes_are : m.attributes ≡ map (line_in w.arena) lines)
+    (to_mid : Grows w.arena mid) (to_far : Grows mid far) where
   here : IsWalked w.arena texts w before
   here = walked w.arena (grows_same w.arena)
 
   top : RepresentsEnclosing w.arena texts w.yes (innermost_enclosing (reverse w.stack.items)) (open_blocks 0 before)
   top = top_shown w.arena texts w.yes (reverse w.stack.items) (open_blocks 0 before) here.stack_is
 
-  pub entry_is : ((ds vs : List Expr) → Conjoins w.arena (innermost_enclosing (reverse w.stack.items)).dependencies ds → Conjoins w.arena (innermost_enclosing (reverse w.stack.items)).visibles vs
+  pub entry_is : ((ds vs : List Expr) → Conjoins w.arena (innermost_enclosing (reverse w.stack.items)).dependencies ds
+      → Conjoins w.arena (innermost_enclosing (reverse w.stack.items)).visibles vs
       → AreJoined mid e (ds ++ conjunct_views Dependencies w.arena lines) vs (conjunct_views Visibles w.arena lines))
       → AreJoined mid e (dependencies_of (context (open_blocks 0 before)) m) (context (open_blocks 0 before)).visibles (attribute_values visible_of m)
   entry_is f =
@@ -286,7 +291,8 @@ module _ (w new : GroupWalk) (texts : List (List ℕ)) (before : List Group) (m 
       (subst (λ vs. AreJoined mid e ((context (open_blocks 0 before)).dependencies ++ conjunct_views Dependencies w.arena lines)
       (context (open_blocks 0 before)).visibles vs) v j)
 
-  module _ (b : AreAppended mid far w.conditions.items new.conditions.items (dependencies_of (context (open_blocks 0 before)) m) (context (open_blocks 0 before)).visibles lines)
+  module _ (b : AreAppended mid far w.conditions.items new.conditions.items (dependencies_of (context (open_blocks 0 before)) m)
+      (context (open_blocks 0 before)).visibles lines)
       (to_new : Grows far new.arena) (yes_same : new.yes ≡ w.yes) (no_same : new.no ≡ w.no) where
     to_all : Grows w.arena new.arena
     to_all = grows_on w.arena mid new.arena to_mid (grows_on mid far new.arena to_far to_new)

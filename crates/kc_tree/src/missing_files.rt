@@ -4,6 +4,7 @@ ghost use Rattle.kc_tree_model.specs.declared.fault.TreeKind.TheVariants.{OutOfM
 ghost use Rattle.kc_tree_model.specs.Blocks.{Group, sourced_path};
 ghost use Rattle.kc_tree_model.specs.Limits.{without_repeats};
 ghost use Rattle.kc_tree_model.specs.Reading.{lenient_reading, paths_or_fault, files_wanted};
+ghost use Rattle.kc_tree_model.specs.TreesOfFiles.{AreWanted};
 ghost use Rattle.kc_listing.specs.between.ListingView.{RepresentsListing};
 ghost use Rattle.kc_listing.specs.between.MemoryFaults.{no_memory};
 ghost use Rattle.kc_tree.specs.checker.MissingPaths.{paths_in, is_absent, with_absent, path_in};
@@ -141,8 +142,8 @@ fn missing_paths(
 /// Where no path is absent, the first fault that reading meets, with its file and line (kconfig-language.rst, "Kconfig
 /// syntax"); where memory runs out, `OutOfMemory` with no file.
 pub fn wanted(alloc: Global, texts: &Texts, root: &str) -> Result<Vec<String>, TreeFault>
-    ensures paths { IfOk result (λ paths. files_wanted texts.now root.now ≡ Ok (map string_bytes paths.items)) }
-    ensures fault { IfErr result (λ f. (f ≡ no_memory) ⊎ (files_wanted texts.now root.now ≡ Err f)) }
+    ensures paths { IfOk result (λ paths. AreWanted texts.now root.now (Ok (map string_bytes paths.items))) }
+    ensures fault { IfErr result (λ f. (f ≡ no_memory) ⊎ AreWanted texts.now root.now (Err f)) }
 {
     let read = read_files_leniently(alloc, texts, root);
     missing_paths(alloc, texts, root, &read.0, read.1)

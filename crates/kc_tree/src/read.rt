@@ -1,7 +1,6 @@
 //! The tree of files.
-ghost use Rattle.std.specs.Prelude.{◌≡◌, ◌⊎◌, Some, None, IfOk, IfErr};
-ghost use Rattle.kc_tree_model.specs.Contents.{tree_of_files};
-ghost use Rattle.kc_tree_model.specs.TreeFaults.{first_tree_fault};
+ghost use Rattle.std.specs.Prelude.{◌≡◌, ◌⊎◌, IfOk, IfErr};
+ghost use Rattle.kc_tree_model.specs.TreesOfFiles.{IsTreeOfFiles, IsReportedFault};
 ghost use Rattle.kc_listing.specs.between.MemoryFaults.{no_memory};
 
 use super::builder::tree_of;
@@ -24,9 +23,8 @@ use std::alloc::Global;
 /// end, or if there is none the first fault of the checks on the whole tree, as a symbol without a
 /// type. Where memory runs out, `OutOfMemory` with no file.
 pub fn read_tree(alloc: Global, texts: &Texts, root: &str) -> Result<Tree, TreeFault>
-    ensures accepted { IfOk result (λ tree. first_tree_fault texts.now root.now ≡ None) }
-    ensures tree { IfOk result (λ tree. tree.tree ≡ tree_of_files texts.now root.now) }
-    ensures fault { IfErr result (λ fault. (fault ≡ no_memory) ⊎ (first_tree_fault texts.now root.now ≡ Some fault)) }
+    ensures tree { IfOk result (λ tree. IsTreeOfFiles texts.now root.now tree.tree) }
+    ensures fault { IfErr result (λ fault. (fault ≡ no_memory) ⊎ IsReportedFault texts.now root.now fault) }
 {
     let (listing, fault) = read_files(alloc, texts, root);
     match fault {

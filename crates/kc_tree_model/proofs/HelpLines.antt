@@ -17,7 +17,8 @@ abbrev the_lexed : Lexed → Lexed
 the_lexed r = r
 
 -- a line of one such word has no quoted token
-unquoted_kind : (kind : TokenKind) (text : List ℕ) (start stop : ℕ) → is_help_word (keyword_of (record { kind = kind; start = start; stop = stop; text = text })) ≡ true → IsUnquoted kind
+unquoted_kind : (kind : TokenKind) (text : List ℕ) (start stop : ℕ) → is_help_word
+    (keyword_of (record { kind = kind; start = start; stop = stop; text = text })) ≡ true → IsUnquoted kind
 unquoted_kind Word text start stop h = λ e. cc
 unquoted_kind Quoted text start stop h = cc
 unquoted_kind (Relation op) text start stop h = λ e. cc

@@ -8,3 +8,4 @@ pub mod LineLaws
 pub mod NothingWanted
 pub mod StrictTrees
 pub mod MoreFiles
+pub mod ReadingLaws

@@ -2,4 +2,5 @@
 pub mod CutLines
 pub mod JoinedLines
 pub mod HelpTexts
+pub mod HelpWords
 pub mod LogicalLines

@@ -22,16 +22,19 @@ passed false true rest e = refl
 passed false false rest e = cc
 
 -- an absent file is a loop or missing
-absent : (loop : Bool) (rest : Option TreeKind) → cond loop (Some SourceLoop) (Some MissingFile) ≢ Some MissingFile → cond loop (Some SourceLoop) rest ≡ cond loop (Some SourceLoop) (Some MissingFile)
+absent : (loop : Bool) (rest : Option TreeKind) → cond loop (Some SourceLoop) (Some MissingFile) ≢ Some MissingFile
+    → cond loop (Some SourceLoop) rest ≡ cond loop (Some SourceLoop) (Some MissingFile)
 absent true rest h = refl
 absent false rest h = absurd (h refl)
 
 -- a file without a fault after these
-sub_lacks : (rest : List Group → Outcome) (at : Position) (o : Outcome) (k : Option TreeFault) → o.fault ≡ k → LacksNoFile (continue_after_file rest at o k) → LacksNoFile o
+sub_lacks : (rest : List Group → Outcome) (at : Position) (o : Outcome) (k : Option TreeFault) → o.fault ≡ k → LacksNoFile (continue_after_file rest at o k)
+    → LacksNoFile o
 sub_lacks rest at o (Some fault) e lacks = lacks
 sub_lacks rest at o None e lacks = λ f h. (let z : Some f ≡ None = sym h ∙ e in cc)
 
-kind_lacks : (sub : List ℕ → List Group → Outcome) (rest : List Group → Outcome) (at : Position) (path : List ℕ) (read : List Group) (k : Option TreeKind) → LacksNoFile (continue_after_source sub rest at path read k) → k ≢ Some MissingFile
+kind_lacks : (sub : List ℕ → List Group → Outcome) (rest : List Group → Outcome) (at : Position) (path : List ℕ) (read : List Group) (k : Option TreeKind)
+    → LacksNoFile (continue_after_source sub rest at path read k) → k ≢ Some MissingFile
 kind_lacks sub rest at path read None lacks = λ e. cc
 kind_lacks sub rest at path read (Some kind) lacks = λ e. lacks _ refl (let z : kind ≡ MissingFile = cc in z)
 
@@ -53,7 +56,8 @@ module _ (language : Language) (bytes more : List ℕ → Option (List ℕ)) (nu
   same_bytes : (path : List ℕ) → IsThere path → bytes_in few path ≡ bytes_in many path
   same_bytes path h = bytes_by path (bytes path) refl h
 
-  same_folds : (paths : List (List ℕ)) (n : ℕ) → AllByRecursion IsThere paths → fold (λ a x. a + size_in few x) n paths ≡ fold (λ a x. a + size_in many x) n paths
+  same_folds : (paths : List (List ℕ)) (n : ℕ) → AllByRecursion IsThere paths → fold (λ a x. a + size_in few x) n paths
+      ≡ fold (λ a x. a + size_in many x) n paths
   same_folds [] n all = refl
   same_folds (path ∷ paths) n all =
       ap (λ k. fold (λ a x. a + size_in few x) (n + k) paths) (ap length (same_bytes path all.0)) ∙ same_folds paths (n + size_in many path) all.1
@@ -65,12 +69,14 @@ module _ (language : Language) (bytes more : List ℕ → Option (List ℕ)) (nu
   abbrev AreThere : List Group → Type 0
   AreThere read = AllByRecursion IsThere (filter_map sourced_path read)
 
-  fault_by : (read : List Group) (path : List ℕ) (o : Option (List ℕ)) → bytes path ≡ o → IsThere root → AreThere read → source_fault few read path ≢ Some MissingFile → source_fault many read path ≡ source_fault few read path
+  fault_by : (read : List Group) (path : List ℕ) (o : Option (List ℕ)) → bytes path ≡ o → IsThere root → AreThere read
+      → source_fault few read path ≢ Some MissingFile → source_fault many read path ≡ source_fault few read path
   unfolding source_fault
   fault_by read path None e first there lacks = rw e (absent (is_in_list path (open_files few read)) _ (rw e at lacks))
   fault_by read path (Some text) e first there lacks = rw (e, among path text e, same_sizes (files_read few read) (first, there)) refl
 
-  same_fault : (read : List Group) (path : List ℕ) → IsThere root → AreThere read → source_fault few read path ≢ Some MissingFile → source_fault many read path ≡ source_fault few read path
+  same_fault : (read : List Group) (path : List ℕ) → IsThere root → AreThere read → source_fault few read path ≢ Some MissingFile
+      → source_fault many read path ≡ source_fault few read path
   same_fault read path first there lacks = fault_by read path (bytes path) refl first there lacks
 
   there_unless_fault : (read : List Group) (path : List ℕ) → source_fault few read path ≡ None → IsThere path
@@ -94,18 +100,21 @@ module _ (language : Language) (bytes more : List ℕ → Option (List ℕ)) (nu
   there_by_line [] at (Some (attribute a)) e all = all
   there_by_line (g ∷ before) at (Some (attribute a)) e all = all
 
-  there_by_source : (read : List Group) (at : Position) (s : Option Statement) (path : List ℕ) → path_to_read s ≡ Some path → IsThere path → AreThere read → AreThere (with_statement at s read)
+  there_by_source : (read : List Group) (at : Position) (s : Option Statement) (path : List ℕ) → path_to_read s ≡ Some path → IsThere path → AreThere read
+      → AreThere (with_statement at s read)
   there_by_source read at None path e one all = cc
   there_by_source read at (Some (attribute a)) path e one all = cc
   there_by_source read at (Some (head h)) path e one all = subst (λ o. AllByRecursion IsThere (cons_option o (filter_map sourced_path read))) (sym e) (one, all)
 
   module _ (first : IsThere root) (f g : List ℕ → List Group → Outcome) (subs : (path : List ℕ) → IsThere path → GoesOnAs (f path) (g path)) where
-    after_file : (p q : List Group → Outcome) (at : Position) (o : Outcome) (k : Option TreeFault) → o.fault ≡ k → GoesOnAs p q → (o.fault ≡ None → AreThere o.read)
+    after_file : (p q : List Group → Outcome) (at : Position) (o : Outcome) (k : Option TreeFault) → o.fault ≡ k → GoesOnAs p q
+        → (o.fault ≡ None → AreThere o.read)
         → LacksNoFile (continue_after_file p at o k) → IsSame (continue_after_file p at o k) (continue_after_file q at o k)
     after_file p q at o (Some fault) e same there lacks = (refl, there)
     after_file p q at o None e same there lacks = same (with_group at file_end o.read) (there e) lacks
 
-    after_source : (p q : List Group → Outcome) (at : Position) (path : List ℕ) (read : List Group) (k : Option TreeKind) → GoesOnAs p q → (k ≡ None → IsThere path × AreThere read)
+    after_source : (p q : List Group → Outcome) (at : Position) (path : List ℕ) (read : List Group) (k : Option TreeKind) → GoesOnAs p q
+        → (k ≡ None → IsThere path × AreThere read)
         → LacksNoFile (continue_after_source f p at path read k) → IsSame (continue_after_source f p at path read k) (continue_after_source g q at path read k)
     after_source p q at path read (Some kind) same there lacks = (refl, λ e. cc)
     after_source p q at path read None same there lacks =
@@ -113,13 +122,19 @@ module _ (language : Language) (bytes more : List ℕ → Option (List ℕ)) (nu
         let after = after_file p q at (f path read) (f path read).fault refl same sub.1 lacks in
         (ap (λ (o : Outcome). continue_after_file q at o o.fault) sub.0 ∙ after.0, after.1)
 
-    after_statement : (p q : List Group → Outcome) (at : Position) (read : List Group) (s : Option Statement) (path : Option (List ℕ)) → path_to_read s ≡ path → GoesOnAs p q → AreThere read
-        → LacksNoFile (continue_after_statement f p few at read s path) → IsSame (continue_after_statement f p few at read s path) (continue_after_statement g q many at read s path)
+    after_statement : (p q : List Group → Outcome) (at : Position) (read : List Group) (s : Option Statement) (path : Option (List ℕ)) → path_to_read s ≡ path
+        → GoesOnAs p q → AreThere read
+        → LacksNoFile (continue_after_statement f p few at read s path) → IsSame (continue_after_statement f p few at read s path)
+        (continue_after_statement g q many at read s path)
     after_statement p q at read s None e same there lacks = same (with_statement at s read) (there_by_line read at s e there) lacks
     after_statement p q at read s (Some path) e same there lacks =
         let k = source_fault few read path in
-        let after = after_source p q at path (with_statement at s read) k same (λ none. (let one = there_unless_fault read path none in (one, there_by_source read at s path e one there))) lacks in
-        (ap (continue_after_source g q at path (with_statement at s read)) (same_fault read path first there (kind_lacks f p at path (with_statement at s read) k lacks)) ∙ after.0, after.1)
+        let after = after_source p q at path (with_statement at s read) k same
+        (λ none. (let one = there_unless_fault read path none in (one, there_by_source read at s path e one there))) lacks in (
+          ap (continue_after_source g q at path (with_statement at s read))
+              (same_fault read path first there (kind_lacks f p at path (with_statement at s read) k lacks)) ∙ after.0,
+          after.1,
+        )
 
     after_line : (p q : List Group → Outcome) (at : Position) (read : List Group) (x : Result (Option Statement) TreeKind) → GoesOnAs p q → AreThere read
         → LacksNoFile (continue_after_line f p few at read x) → IsSame (continue_after_line f p few at read x) (continue_after_line g q many at read x)
@@ -133,7 +148,8 @@ module _ (language : Language) (bytes more : List ℕ → Option (List ℕ)) (nu
     after_lines : (file : ℕ) (ls : List LogicalLine) → GoesOnAs (read_lines f few file ls) (read_lines g many file ls)
     after_lines file [] = λ read there lacks. (refl, λ e. there_at_end file read (innermost read) there)
     after_lines file (l ∷ ls) = λ read there lacks.
-        after_line (read_lines f few file ls) (read_lines g many file ls) (record { file = file; line = l.number }) read (statement_on_line language read l) (after_lines file ls) there lacks
+        after_line (read_lines f few file ls) (read_lines g many file ls) (record { file = file; line = l.number }) read (statement_on_line language read l)
+        (after_lines file ls) there lacks
 
   same_file : IsThere root → (n : ℕ) (path : List ℕ) → IsThere path → GoesOnAs (read_file n few path) (read_file n many path)
   same_file first zero path here = λ read there lacks. (refl, λ e. there)
@@ -150,7 +166,8 @@ module _ (language : Language) (bytes more : List ℕ → Option (List ℕ)) (nu
   root_by (Some text) e lacks =
       let first : IsThere root = ap is_some e in
       ap (read_root many) (among root text e)
-      ∙ either_same (nat_lt MAX_TREE_BYTES (length text)) _ (read_file MAX_OPEN_FILES many root []) (read_file MAX_OPEN_FILES few root []) (λ l. (same_file first MAX_OPEN_FILES root first [] tt l).0) lacks
+      ∙ either_same (nat_lt MAX_TREE_BYTES (length text)) _ (read_file MAX_OPEN_FILES many root []) (read_file MAX_OPEN_FILES few root [])
+      (λ l. (same_file first MAX_OPEN_FILES root first [] tt l).0) lacks
 
 pub more_files : MoreFilesChangeNothing
 more_files language bytes more number root among lacks = root_by language bytes more number root among (bytes root) refl lacks

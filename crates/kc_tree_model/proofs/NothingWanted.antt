@@ -70,7 +70,8 @@ path_pushed path read at None e = cc
 path_pushed path read at (Some (attribute a)) e = cc
 path_pushed path read at (Some (head x)) e = subst (λ o. Has path (cons_option o (filter_map sourced_path read))) (sym e) (inl refl)
 
-module _ (files : Files) (root : List ℕ) (f g : List ℕ → List Group → Outcome) (within : (path : List ℕ) → Agree files (f path) (g path)) (subs : (path : List ℕ) → Stays (g path)) where
+module _ (files : Files) (root : List ℕ) (f g : List ℕ → List Group → Outcome) (within : (path : List ℕ) → Agree files (f path) (g path))
+    (subs : (path : List ℕ) → Stays (g path)) where
   same_after : (p q : List Group → Outcome) (at : Position) (o : Outcome) (k : Option TreeFault) → Agree files p q
       → AllThere files (continue_after_file q at o k) → continue_after_file p at o k ≡ continue_after_file q at o k
   same_after p q at o (Some k) agree all = refl
@@ -107,7 +108,8 @@ module _ (files : Files) (root : List ℕ) (f g : List ℕ → List Group → Ou
   same_lines : (file : ℕ) (ls : List LogicalLine) → AreOneLine ls
       → Agree files (read_lines f (found files root) file ls) (read_lines g (empty files root) file ls)
   same_lines file [] one = λ read all. refl
-  same_lines file (l ∷ ls) one = λ read all. same_line (read_lines f (found files root) file ls) (read_lines g (empty files root) file ls) (record { file = file; line = l.number }) read (statement_on_line files.language read l) (same_lines file ls one.1) (stays_after file ls one.1) all
+  same_lines file (l ∷ ls) one = λ read all. same_line (read_lines f (found files root) file ls) (read_lines g (empty files root) file ls)
+      (record { file = file; line = l.number }) read (statement_on_line files.language read l) (same_lines file ls one.1) (stays_after file ls one.1) all
 
 file_stays : (n : ℕ) (files : Files) (root path : List ℕ) → Stays (read_file n (empty files root) path)
 unfolding Keeps

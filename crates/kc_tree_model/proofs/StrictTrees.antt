@@ -66,24 +66,29 @@ after_test read k ts left_out =
     unless left_out LeftOut >>= λ _. unless (not (is_allowed read k)) Misplaced >>= λ _. unless (is_stray_end read k) StrayEnd >>= λ _.
     statement_of k ts >>= λ s. unless (is_too_deep read s) TooDeep >>= λ _. unless (is_too_many read s) TooMany >>= λ _. Ok (Some s)
 
-keyword_same : (read : List Group) (k : Keyword) (ts : List Lexeme) (s : Option Statement) → statement_by_keyword Strict read k ts ≡ Ok s → statement_by_keyword Linux read k ts ≡ Ok s
+keyword_same : (read : List Group) (k : Keyword) (ts : List Lexeme) (s : Option Statement) → statement_by_keyword Strict read k ts ≡ Ok s
+    → statement_by_keyword Linux read k ts ≡ Ok s
 keyword_same read k ts s h =
     let strict : is_left_out Strict read k ts ≡ false = (unless_ok (is_left_out Strict read k ts) LeftOut _ s h).0 in
     ap (after_test read k ts) (kept read k ts strict) ∙ sym (ap (after_test read k ts) strict) ∙ h
 
-word_same : (read : List Group) (w : Option Keyword) (ts : List Lexeme) (s : Option Statement) → statement_by_word Strict read ts w ≡ Ok s → statement_by_word Linux read ts w ≡ Ok s
+word_same : (read : List Group) (w : Option Keyword) (ts : List Lexeme) (s : Option Statement) → statement_by_word Strict read ts w ≡ Ok s
+    → statement_by_word Linux read ts w ≡ Ok s
 word_same read None ts s h = cc
 word_same read (Some k) ts s h = keyword_same read k ts s h
 
-tokens_same : (read : List Group) (ts : List Lexeme) (s : Option Statement) → statement_of_tokens Strict read ts ≡ Ok s → statement_of_tokens Linux read ts ≡ Ok s
+tokens_same : (read : List Group) (ts : List Lexeme) (s : Option Statement) → statement_of_tokens Strict read ts ≡ Ok s
+    → statement_of_tokens Linux read ts ≡ Ok s
 tokens_same read [] s h = h
 tokens_same read (t ∷ ts) s h = word_same read (keyword_of t) ts s h
 
-lexed_same : (read : List Group) (text : List ℕ) (r : Result (List Lexeme) ExprFault) (s : Option Statement) → lexemes_from Strict 0 0 text ≡ r → statement_or_fault Strict read r ≡ Ok s → statement_or_fault Linux read (lexemes_from Linux 0 0 text) ≡ Ok s
+lexed_same : (read : List Group) (text : List ℕ) (r : Result (List Lexeme) ExprFault) (s : Option Statement) → lexemes_from Strict 0 0 text ≡ r
+    → statement_or_fault Strict read r ≡ Ok s → statement_or_fault Linux read (lexemes_from Linux 0 0 text) ≡ Ok s
 lexed_same read text (Err e) s l h = cc
 lexed_same read text (Ok ts) s l h = ap (statement_or_fault Linux read) (strict_in_linux 0 0 text ts l) ∙ tokens_same read ts s h
 
-past_all : (a b c : Bool) (x y : Result (Option Statement) TreeKind) (s : Option Statement) → (x ≡ Ok s → y ≡ Ok s) → cond a (Err LineTooLong) (cond b (Err NotUtf8) (cond c (Ok None) x)) ≡ Ok s → cond a (Err LineTooLong) (cond b (Err NotUtf8) (cond c (Ok None) y)) ≡ Ok s
+past_all : (a b c : Bool) (x y : Result (Option Statement) TreeKind) (s : Option Statement) → (x ≡ Ok s → y ≡ Ok s)
+    → cond a (Err LineTooLong) (cond b (Err NotUtf8) (cond c (Ok None) x)) ≡ Ok s → cond a (Err LineTooLong) (cond b (Err NotUtf8) (cond c (Ok None) y)) ≡ Ok s
 past_all true b c x y s f h = cc
 past_all false true c x y s f h = cc
 past_all false false true x y s f h = h
@@ -92,51 +97,66 @@ past_all false false false x y s f h = f h
 line_same : (read : List Group) (l : LogicalLine) (s : Option Statement) → statement_on_line Strict read l ≡ Ok s → statement_on_line Linux read l ≡ Ok s
 unfolding statement_on_line
 line_same read l s h =
-    past_all (nat_lt MAX_LINE_BYTES (length l.text)) (not (is_utf8 l.text)) l.help (statement_or_fault Strict read (lexemes_from Strict 0 0 l.text)) (statement_or_fault Linux read (lexemes_from Linux 0 0 l.text)) s (lexed_same read l.text (lexemes_from Strict 0 0 l.text) s refl) h
+    past_all (nat_lt MAX_LINE_BYTES (length l.text)) (not (is_utf8 l.text)) l.help (statement_or_fault Strict read (lexemes_from Strict 0 0 l.text))
+    (statement_or_fault Linux read (lexemes_from Linux 0 0 l.text)) s (lexed_same read l.text (lexemes_from Strict 0 0 l.text) s refl) h
 
 -- the same files in a language, from a first path on
 abbrev pub in_language : Language → List (List ℕ × List ℕ) → Files
 in_language language list = record { language = language; list = list }
 
 abbrev origin : Language → List (List ℕ × List ℕ) → List ℕ → FileSource
-origin language list root = record { language = language; bytes = file_at (in_language language list); number = index_of_file (in_language language list); root = root }
+origin language list root = record {
+  language = language;
+  bytes = file_at (in_language language list);
+  number = index_of_file (in_language language list);
+  root = root;
+}
 
 -- a reading without a fault is the other reading, too
 abbrev Alike : (f g : List Group → Outcome) → Type 0
 Alike f g = (read : List Group) → (f read).fault ≡ None → g read ≡ f read
 
-unfailed : (p : List Group → Outcome) (at : Position) (o : Outcome) (k : Option TreeFault) → o.fault ≡ k → (continue_after_file p at o k).fault ≡ None → o.fault ≡ None
+unfailed : (p : List Group → Outcome) (at : Position) (o : Outcome) (k : Option TreeFault) → o.fault ≡ k → (continue_after_file p at o k).fault ≡ None
+    → o.fault ≡ None
 unfailed p at o (Some t) e h = h
 unfailed p at o None e h = e
 
 module _ (list : List (List ℕ × List ℕ)) (root : List ℕ) (f g : List ℕ → List Group → Outcome) (within : (path : List ℕ) → Alike (f path) (g path)) where
-  alike_after : (p q : List Group → Outcome) (at : Position) (o : Outcome) (k : Option TreeFault) → Alike p q → (continue_after_file p at o k).fault ≡ None → continue_after_file q at o k ≡ continue_after_file p at o k
+  alike_after : (p q : List Group → Outcome) (at : Position) (o : Outcome) (k : Option TreeFault) → Alike p q → (continue_after_file p at o k).fault ≡ None
+      → continue_after_file q at o k ≡ continue_after_file p at o k
   alike_after p q at o (Some t) agree h = refl
   alike_after p q at o None agree h = agree (with_group at file_end o.read) h
 
-  alike_source : (p q : List Group → Outcome) (at : Position) (path : List ℕ) (read : List Group) (k : Option TreeKind) → Alike p q → (continue_after_source f p at path read k).fault ≡ None → continue_after_source g q at path read k ≡ continue_after_source f p at path read k
+  alike_source : (p q : List Group → Outcome) (at : Position) (path : List ℕ) (read : List Group) (k : Option TreeKind) → Alike p q
+      → (continue_after_source f p at path read k).fault ≡ None → continue_after_source g q at path read k ≡ continue_after_source f p at path read k
   alike_source p q at path read (Some t) agree h = refl
   alike_source p q at path read None agree h =
       let none = unfailed p at (f path read) (f path read).fault refl h in
       ap (λ (o : Outcome). continue_after_file q at o o.fault) (within path read none) ∙ alike_after p q at (f path read) (f path read).fault agree h
 
-  alike_statement : (p q : List Group → Outcome) (at : Position) (read : List Group) (s : Option Statement) (path : Option (List ℕ)) → Alike p q → (continue_after_statement f p (origin Strict list root) at read s path).fault ≡ None
+  alike_statement : (p q : List Group → Outcome) (at : Position) (read : List Group) (s : Option Statement) (path : Option (List ℕ)) → Alike p q
+      → (continue_after_statement f p (origin Strict list root) at read s path).fault ≡ None
       → continue_after_statement g q (origin Linux list root) at read s path ≡ continue_after_statement f p (origin Strict list root) at read s path
   unfolding source_fault
   alike_statement p q at read s None agree h = agree (with_statement at s read) h
-  alike_statement p q at read s (Some path) agree h = alike_source p q at path (with_statement at s read) (source_fault (origin Strict list root) read path) agree h
+  alike_statement p q at read s (Some path) agree h = alike_source p q at path (with_statement at s read)
+      (source_fault (origin Strict list root) read path) agree h
 
-  alike_line : (p q : List Group → Outcome) (at : Position) (read : List Group) (x y : Result (Option Statement) TreeKind) → ((s : Option Statement) → x ≡ Ok s → y ≡ Ok s) → Alike p q → (continue_after_line f p (origin Strict list root) at read x).fault ≡ None
+  alike_line : (p q : List Group → Outcome) (at : Position) (read : List Group) (x y : Result (Option Statement) TreeKind)
+      → ((s : Option Statement) → x ≡ Ok s → y ≡ Ok s) → Alike p q → (continue_after_line f p (origin Strict list root) at read x).fault ≡ None
       → continue_after_line g q (origin Linux list root) at read y ≡ continue_after_line f p (origin Strict list root) at read x
   alike_line p q at read (Err k) y same agree h = cc
-  alike_line p q at read (Ok s) y same agree h = ap (continue_after_line g q (origin Linux list root) at read) (same s refl) ∙ alike_statement p q at read s (path_to_read s) agree h
+  alike_line p q at read (Ok s) y same agree h = ap (continue_after_line g q (origin Linux list root) at read) (same s refl)
+      ∙ alike_statement p q at read s (path_to_read s) agree h
 
   alike_lines : (file : ℕ) (ls : List LogicalLine) → Alike (read_lines f (origin Strict list root) file ls) (read_lines g (origin Linux list root) file ls)
   alike_lines file [] = λ read h. refl
   alike_lines file (l ∷ ls) = λ read h.
-      alike_line (read_lines f (origin Strict list root) file ls) (read_lines g (origin Linux list root) file ls) (record { file = file; line = l.number }) read (statement_on_line Strict read l) (statement_on_line Linux read l) (line_same read l) (alike_lines file ls) h
+      alike_line (read_lines f (origin Strict list root) file ls) (read_lines g (origin Linux list root) file ls) (record { file = file; line = l.number }) read
+      (statement_on_line Strict read l) (statement_on_line Linux read l) (line_same read l) (alike_lines file ls) h
 
-alike_file : (n : ℕ) (list : List (List ℕ × List ℕ)) (root path : List ℕ) → Alike (read_file n (origin Strict list root) path) (read_file n (origin Linux list root) path)
+alike_file : (n : ℕ) (list : List (List ℕ × List ℕ)) (root path : List ℕ) → Alike (read_file n (origin Strict list root) path)
+    (read_file n (origin Linux list root) path)
 alike_file zero list root path = λ read h. refl
 alike_file (suc n) list root path =
     alike_lines list root (read_file n (origin Strict list root)) (read_file n (origin Linux list root)) (λ p. alike_file n list root p)
@@ -146,11 +166,14 @@ alike_either : (b : Bool) (x y z : Outcome) → (y.fault ≡ None → z ≡ y) �
 alike_either true x y z f h = refl
 alike_either false x y z f h = f h
 
-alike_root : (list : List (List ℕ × List ℕ)) (root : List ℕ) (o : Option (List ℕ)) → (read_root (origin Strict list root) o).fault ≡ None → read_root (origin Linux list root) o ≡ read_root (origin Strict list root) o
+alike_root : (list : List (List ℕ × List ℕ)) (root : List ℕ) (o : Option (List ℕ)) → (read_root (origin Strict list root) o).fault ≡ None
+    → read_root (origin Linux list root) o ≡ read_root (origin Strict list root) o
 alike_root list root None h = refl
-alike_root list root (Some bytes) h = alike_either (nat_lt MAX_TREE_BYTES (length bytes)) _ (read_file MAX_OPEN_FILES (origin Strict list root) root []) (read_file MAX_OPEN_FILES (origin Linux list root) root []) (alike_file MAX_OPEN_FILES list root root []) h
+alike_root list root (Some bytes) h = alike_either (nat_lt MAX_TREE_BYTES (length bytes)) _ (read_file MAX_OPEN_FILES (origin Strict list root) root [])
+    (read_file MAX_OPEN_FILES (origin Linux list root) root []) (alike_file MAX_OPEN_FILES list root root []) h
 
-reading_same : (list : List (List ℕ × List ℕ)) (root : List ℕ) → (reading (in_language Strict list) root).fault ≡ None → reading (in_language Linux list) root ≡ reading (in_language Strict list) root
+reading_same : (list : List (List ℕ × List ℕ)) (root : List ℕ) → (reading (in_language Strict list) root).fault ≡ None
+    → reading (in_language Linux list) root ≡ reading (in_language Strict list) root
 unfolding reading
 reading_same list root h = alike_root list root (lookup (bytes_eq root) list) h
 
@@ -172,11 +195,14 @@ module _ (c : Contents) (p : GroupInContext) where
 
   lines_same : (name : List ℕ) → faults_of_head Strict c p (config name) ≡ [] → faults_of_head Linux c p (config name) ≡ []
   lines_same name h =
-      let parts = nothing_left (faults_at p.group p.group.at.line (definition_faults Strict c p name)) (faults_of_lines p.group (attribute_faults c name (kind_of c name)) false p.group.attributes) h in
+      let parts = nothing_left (faults_at p.group p.group.at.line (definition_faults Strict c p name))
+      (faults_of_lines p.group (attribute_faults c name (kind_of c name)) false p.group.attributes) h in
       let own = nothing_mapped _ (definition_faults Strict c p name) parts.0 in
-      ap (λ ks. faults_at p.group p.group.at.line ks ++ faults_of_lines p.group (attribute_faults c name (kind_of c name)) false p.group.attributes) (definition_same name own ∙ sym own) ∙ h
+      ap (λ ks. faults_at p.group p.group.at.line ks ++ faults_of_lines p.group (attribute_faults c name (kind_of c name)) false p.group.attributes)
+      (definition_same name own ∙ sym own) ∙ h
 
-  head_same : (w : GroupHead) → elim w as (λ _. List TreeFault) [ of_head h ↦ faults_of_head Strict c p h | file_end ↦ [] ] ≡ [] → elim w as (λ _. List TreeFault) [ of_head h ↦ faults_of_head Linux c p h | file_end ↦ [] ] ≡ []
+  head_same : (w : GroupHead) → elim w as (λ _. List TreeFault) [ of_head h ↦ faults_of_head Strict c p h | file_end ↦ [] ] ≡ []
+      → elim w as (λ _. List TreeFault) [ of_head h ↦ faults_of_head Linux c p h | file_end ↦ [] ] ≡ []
   head_same (of_head (config name)) h = lines_same name h
   head_same (of_head choice) h = h
   head_same (of_head (menu title)) h = h
@@ -194,7 +220,8 @@ groups_same c (p ∷ ps) h =
     ap (λ fs. fs ++ flat_map (faults_of_group Linux c) ps) (head_same c p p.group.head parts.0) ∙ groups_same c ps parts.1
 
 -- the parts of a tree without a fault
-both_none : (o : Outcome) (k : Option TreeFault) (t : Option TreeFault) → o.fault ≡ k → elim k as (λ _. Option TreeFault) [ None ↦ t | Some f ↦ Some f ] ≡ None → (o.fault ≡ None) × (t ≡ None)
+both_none : (o : Outcome) (k : Option TreeFault) (t : Option TreeFault) → o.fault ≡ k → elim k as (λ _. Option TreeFault) [ None ↦ t | Some f ↦ Some f ] ≡ None
+    → (o.fault ≡ None) × (t ≡ None)
 both_none o None t e h = (e, h)
 both_none o (Some f) t e h = cc
 

@@ -16,14 +16,17 @@ insert_by : (b : Bool) (e : String Global × Vec ℕ Global) (es fs : List (Stri
 insert_by true e es fs v = refl
 insert_by false e es fs v = refl
 
-insert_paths : (es : List (String Global × Vec ℕ Global)) (k : String Global) (v : Vec ℕ Global) → map file_of (insert_entry string_eq es k v) ≡ with_path (map file_of es) (string_bytes k) v.items
+insert_paths : (es : List (String Global × Vec ℕ Global)) (k : String Global) (v : Vec ℕ Global) → map file_of (insert_entry string_eq es k v)
+    ≡ with_path (map file_of es) (string_bytes k) v.items
 insert_paths [] k v = refl
-insert_paths (e ∷ es) k v = insert_by (string_eq k e.0) e es (insert_entry string_eq es k v) v ∙ ap (λ fs. cond (string_eq k e.0) ((string_bytes e.0, v.items) ∷ map file_of es) (file_of e ∷ fs)) (insert_paths es k v)
+insert_paths (e ∷ es) k v = insert_by (string_eq k e.0) e es (insert_entry string_eq es k v) v
+    ∙ ap (λ fs. cond (string_eq k e.0) ((string_bytes e.0, v.items) ∷ map file_of es) (file_of e ∷ fs)) (insert_paths es k v)
 
 abbrev files_with : Language → List (List ℕ × List ℕ) → Files
 files_with language list = record { language = language; list = list }
 
-pub insert_files : (language : Language) (es : List (String Global × Vec ℕ Global)) (k : String Global) (v : Vec ℕ Global) → files_of language (insert_entry string_eq es k v) ≡ with_file (files_of language es) (string_bytes k) v.items
+pub insert_files : (language : Language) (es : List (String Global × Vec ℕ Global)) (k : String Global) (v : Vec ℕ Global)
+    → files_of language (insert_entry string_eq es k v) ≡ with_file (files_of language es) (string_bytes k) v.items
 insert_files language es k v = ap (files_with language) (insert_paths es k v)
 
 -- a look-up by the bytes of a path
@@ -32,14 +35,16 @@ find_by : (b : Bool) (e : String Global × Vec ℕ Global) (o : Option (Vec ℕ 
 find_by true e o = refl
 find_by false e o = refl
 
-pub find_file : (path : List ℕ) (es : List (String Global × Vec ℕ Global)) → option_map (λ (v : Vec ℕ Global). v.items) (lookup (λ k. bytes_eq path (string_bytes k)) es) ≡ lookup (bytes_eq path) (map file_of es)
+pub find_file : (path : List ℕ) (es : List (String Global × Vec ℕ Global)) → option_map (λ (v : Vec ℕ Global). v.items)
+    (lookup (λ k. bytes_eq path (string_bytes k)) es) ≡ lookup (bytes_eq path) (map file_of es)
 find_file path [] = refl
 find_file path (e ∷ es) =
     find_by (bytes_eq path (string_bytes e.0)) e (lookup (λ k. bytes_eq path (string_bytes k)) es)
     ∙ ap (λ o. cond (bytes_eq path (string_bytes e.0)) (Some e.1.items) o) (find_file path es)
 
 -- the path of an entry
-pub path_of_entry : (es : List (String Global × Vec ℕ Global)) (i : ℕ) → option_map (λ (e : String Global × Vec ℕ Global). string_bytes e.0) (slice_get es i) ≡ option_map (λ (f : List ℕ × List ℕ). f.0) (slice_get (map file_of es) i)
+pub path_of_entry : (es : List (String Global × Vec ℕ Global)) (i : ℕ) → option_map (λ (e : String Global × Vec ℕ Global). string_bytes e.0) (slice_get es i)
+    ≡ option_map (λ (f : List ℕ × List ℕ). f.0) (slice_get (map file_of es) i)
 path_of_entry [] i = refl
 path_of_entry (e ∷ es) zero = refl
 path_of_entry (e ∷ es) (suc i) = path_of_entry es i
@@ -50,7 +55,8 @@ others : (e : String Global × Vec ℕ Global) (es : List (String Global × Vec 
 others e [] h = tt
 others e (f ∷ fs) h = (h.0, others e fs h.1)
 
-pub distinct_paths : (es : List (String Global × Vec ℕ Global)) → IsDistinct string_eq (keys_of es) → IsDistinct bytes_eq (map (λ (f : List ℕ × List ℕ). f.0) (map file_of es))
+pub distinct_paths : (es : List (String Global × Vec ℕ Global)) → IsDistinct string_eq (keys_of es) → IsDistinct bytes_eq
+    (map (λ (f : List ℕ × List ℕ). f.0) (map file_of es))
 unfolding IsDistinct
 distinct_paths [] h = tt
 distinct_paths (e ∷ es) h = (others e es h.0, distinct_paths es h.1)
@@ -64,7 +70,8 @@ no_files [] h = refl
 no_files (e ∷ es) h = absurd (omega arith)
 
 -- the number of a path is its position among the keys
-number_of_key : (path : List ℕ) (es : List (String Global × Vec ℕ Global)) → position_or_len (λ (f : List ℕ × List ℕ). bytes_eq path f.0) (map file_of es) ≡ position_or_len (λ k. bytes_eq path (string_bytes k)) (keys_of es)
+number_of_key : (path : List ℕ) (es : List (String Global × Vec ℕ Global)) → position_or_len (λ (f : List ℕ × List ℕ). bytes_eq path f.0) (map file_of es)
+    ≡ position_or_len (λ k. bytes_eq path (string_bytes k)) (keys_of es)
 number_of_key path [] = refl
 number_of_key path (e ∷ es) = ap (λ m. cond (not (bytes_eq path (string_bytes e.0))) (1 + m) 0) (number_of_key path es)
 
@@ -74,7 +81,8 @@ within_by false m n h = omega arith
 
 number_within : (path : List ℕ) (fs : List (List ℕ × List ℕ)) → position_or_len (λ (f : List ℕ × List ℕ). bytes_eq path f.0) fs ≤ length fs
 number_within path [] = omega arith
-number_within path (f ∷ fs) = within_by (not (bytes_eq path f.0)) (position_or_len (λ (f : List ℕ × List ℕ). bytes_eq path f.0) fs) (length fs) (number_within path fs)
+number_within path (f ∷ fs) = within_by (not (bytes_eq path f.0)) (position_or_len (λ (f : List ℕ × List ℕ). bytes_eq path f.0) fs) (length fs)
+    (number_within path fs)
 
 found_by : (b : Bool) (n i : ℕ) → cond b (Some n) None ≡ Some i → i ≡ n
 found_by true n i e = cc
@@ -88,10 +96,13 @@ length-keys : (es : List (String Global × Vec ℕ Global)) → length (keys_of 
 length-keys [] = refl
 length-keys (e ∷ es) = ap suc (length-keys es)
 
-pub number_found : (path : List ℕ) (es : List (String Global × Vec ℕ Global)) (i : ℕ) → position (λ k. bytes_eq path (string_bytes k)) (keys_of es) ≡ Some i → i ≡ position_or_len (λ (f : List ℕ × List ℕ). bytes_eq path f.0) (map file_of es)
-number_found path es i e = found_by (nat_lt (position_or_len (λ k. bytes_eq path (string_bytes k)) (keys_of es)) (length (keys_of es))) (position_or_len (λ k. bytes_eq path (string_bytes k)) (keys_of es)) i e ∙ sym (number_of_key path es)
+pub number_found : (path : List ℕ) (es : List (String Global × Vec ℕ Global)) (i : ℕ) → position (λ k. bytes_eq path (string_bytes k)) (keys_of es) ≡ Some i
+    → i ≡ position_or_len (λ (f : List ℕ × List ℕ). bytes_eq path f.0) (map file_of es)
+number_found path es i e = found_by (nat_lt (position_or_len (λ k. bytes_eq path (string_bytes k)) (keys_of es)) (length (keys_of es)))
+    (position_or_len (λ k. bytes_eq path (string_bytes k)) (keys_of es)) i e ∙ sym (number_of_key path es)
 
-pub number_absent : (path : List ℕ) (es : List (String Global × Vec ℕ Global)) → position (λ k. bytes_eq path (string_bytes k)) (keys_of es) ≡ None → length es ≡ position_or_len (λ (f : List ℕ × List ℕ). bytes_eq path f.0) (map file_of es)
+pub number_absent : (path : List ℕ) (es : List (String Global × Vec ℕ Global)) → position (λ k. bytes_eq path (string_bytes k)) (keys_of es) ≡ None
+    → length es ≡ position_or_len (λ (f : List ℕ × List ℕ). bytes_eq path f.0) (map file_of es)
 number_absent path es e =
     let a = absent_by (nat_lt (position_or_len (λ k. bytes_eq path (string_bytes k)) (keys_of es)) (length (keys_of es)))
     (position_or_len (λ k. bytes_eq path (string_bytes k)) (keys_of es)) (length (keys_of es)) refl e in

@@ -184,6 +184,6 @@ tree_of_groups read =
       units = filter_map (λ (p : GroupInContext). from_head (unit_of_head c p) p.group.head) c.places;
     }
 
--- what the tree of these files holds
+-- what the tree of these files holds; `IsTreeOfFiles` by the law `trees_are_of_the_relation`, where they have no fault
 unfoldable pub tree_of_files : Files → List ℕ → Tree
 tree_of_files files root = tree_of_groups (reading files root).read

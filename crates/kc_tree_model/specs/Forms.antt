@@ -1,4 +1,5 @@
--- The form of each line, by the tokens after its first word ("Kconfig syntax", "Menu attributes").
+-- The form of each line, by the tokens after its first word ("Kconfig syntax", "Menu attributes"). It computes what `FormGrammar` has, by
+-- the law `forms_are_of_the_grammar`.
 use Rattle.std.specs.Prelude.{ℕ, Bool, ◌||◌, ◌==◌, List, [], ◌∷◌, length, drop, Option, Some, None, codes, Result, Ok, Err, if◌then◌else◌}
 use Rattle.std.specs.List.{list_any}
 use Rattle.kc_value.specs.declared.value.Kind.{Kind}

@@ -1,8 +1,13 @@
 -- The lines of a file, apart from how they are read.
-use Rattle.std.specs.Prelude.{◌≡◌, ℕ, ◌+◌, ◌<◌, Bool, true, false, ◌&&◌, ◌||◌, nat_lt, nat_le, List, [], ◌∷◌, ◌++◌, length, map}
+use Rattle.std.specs.Prelude.{◌≡◌, ℕ, ◌+◌, ◌<◌, Bool, true, false, ◌&&◌, ◌||◌, nat_lt, nat_le, List, [], ◌∷◌, ◌++◌, length, map, Some}
 use Rattle.std.specs.List.{list_all}
+use Rattle.kc_expr.specs.declared.language.Language.TheVariants.{Strict}
+use Rattle.kc_expr.specs.Token.{Lexeme}
+use Rattle.kc_expr.specs.TokenGrammar.{IsCut}
 use Rattle.kc_tree_model.specs.TreeLookup.{has_newline}
-use Rattle.kc_tree_model.specs.LogicalLines.{PhysicalLine, LogicalLine, without_last, without_return, is_continued, is_blank, indentation, first_indentation, begins_help}
+use Rattle.kc_tree_model.specs.Keywords.{keyword_of}
+use Rattle.kc_tree_model.specs.declared.keyword.Keyword.TheVariants as words
+use Rattle.kc_tree_model.specs.LogicalLines.{PhysicalLine, LogicalLine, without_last, without_return, is_continued, is_blank, indentation, first_indentation}
 
 -- bytes are these physical lines: a newline ends each but the last, which may want it
 pub data AreLines : List ℕ → List PhysicalLine → Type 0 where
@@ -31,6 +36,10 @@ pub record IsHelpText (help rest : List PhysicalLine) : Type 0 where
   pub within : list_all (is_of_help (first_indentation (help ++ rest))) help ≡ true
   pub ends : begins_of_help (first_indentation (help ++ rest)) rest ≡ false
 
+-- a line whose one token is the word of a help text begins one, in every language ("Menu attributes", help text)
+abbrev pub BeginsHelp : List ℕ → Type 0
+BeginsHelp text = (t : Lexeme) × IsCut Strict 0 text (t ∷ []) × (keyword_of t ≡ Some words.Help)
+
 -- the lines of a help text, from a number on
 abbrev pub help_lines : ℕ → List PhysicalLine → List LogicalLine
 help_lines n [] = []
@@ -39,9 +48,9 @@ help_lines n (l ∷ ls) = record { number = n; text = l.text; help = true } ∷ 
 -- physical lines, from a number on, are these logical lines
 pub data AreLogical : ℕ → List PhysicalLine → List LogicalLine → Type 0 where
   none : {n : ℕ} → AreLogical n [] []
-  line : {n : ℕ} {front rest : List PhysicalLine} {text : List ℕ} {more : List LogicalLine} → IsJoined rest front text → begins_help text ≡ false
+  line : {n : ℕ} {front rest : List PhysicalLine} {text : List ℕ} {more : List LogicalLine} → IsJoined rest front text → (BeginsHelp text → ⊥)
       → AreLogical (n + length front) rest more → AreLogical n (front ++ rest) (record { number = n; text = text; help = false } ∷ more)
-  with_help : {n : ℕ} {front help rest : List PhysicalLine} {text : List ℕ} {more : List LogicalLine} → IsJoined (help ++ rest) front text → begins_help text ≡ true → IsHelpText help rest
+  with_help : {n : ℕ} {front help rest : List PhysicalLine} {text : List ℕ} {more : List LogicalLine} → IsJoined (help ++ rest) front text → BeginsHelp text → IsHelpText help rest
       → AreLogical (n + length front + length help) rest more
       → AreLogical n (front ++ (help ++ rest)) (record { number = n; text = text; help = false } ∷ (help_lines (n + length front) help ++ more))
 

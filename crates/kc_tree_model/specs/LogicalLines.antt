@@ -121,6 +121,6 @@ logical_lines_from zero zero n (l ∷ ls) =
     let more = continuation_count (l ∷ ls) in
     record { number = n; text = text; help = false } ∷ logical_lines_from more (if begins_help text then help_line_count (drop more ls) else 0) (n + 1) ls
 
--- the logical lines of a file
+-- the logical lines of a file; `IsInLines` by the law `lines_are_of_the_grammar`
 unfoldable pub lines_of : List ℕ → List LogicalLine
 lines_of bytes = logical_lines_from 0 0 1 (physical_lines bytes)

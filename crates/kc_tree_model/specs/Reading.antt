@@ -1,4 +1,5 @@
--- Reads the files of a tree into statements, or finds the first fault.
+-- Reads the files of a tree into statements, or finds the first fault. It computes what `ReadingRelation` and `ReadingFaults` have, by
+-- the laws `reading_is_the_relation` and `reading_ends_at_the_first_fault`.
 use Rattle.std.specs.Prelude.{ℕ, zero, suc, Bool, true, false, not, nat_lt, List, [], ◌∷◌, ◌++◌, length, filter, filter_map, Option, Some, None, is_some, Result, Ok, Err, if◌then◌else◌}
 use Rattle.std.specs.Str.{is_utf8}
 use Rattle.kc_expr.specs.Token.{Lexeme, lexemes_from}
@@ -153,6 +154,6 @@ paths_or_fault [] (Some f) = Err f
 paths_or_fault [] None = Ok []
 paths_or_fault (path ∷ paths) f = Ok (path ∷ paths)
 
--- the result of `wanted`: the absent paths, or if there are none, the fault of reading
+-- the result of `wanted`: the absent paths, or if there are none, the fault of reading; `AreWanted` by the law `trees_are_of_the_relation`
 unfoldable pub files_wanted : Files → List ℕ → Result (List (List ℕ)) TreeFault
 files_wanted files root = paths_or_fault (wanted_by files root) (lenient_reading files root).fault

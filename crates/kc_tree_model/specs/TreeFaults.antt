@@ -128,6 +128,6 @@ tree_faults language read = let c = contents_of read in flat_map (faults_of_grou
 abbrev pub first_fault_after : Language → Outcome → Option TreeFault
 first_fault_after language o = elim o.fault [ None ↦ slice_get (tree_faults language o.read) 0 | Some f ↦ Some f ]
 
--- the fault reported for the files of a tree, unless memory runs out
+-- the fault reported for the files of a tree, unless memory runs out; `IsReportedFault` by the law `trees_are_of_the_relation`
 unfoldable pub first_tree_fault : Files → List ℕ → Option TreeFault
 first_tree_fault files root = first_fault_after files.language (reading files root)

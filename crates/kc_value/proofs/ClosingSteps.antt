@@ -15,5 +15,6 @@ further_more n (Some k) = ap Some (omega arith)
 pub closing_escaped : (n quote c : ℕ) (cs : List ℕ) → further n (closing quote true (c ∷ cs)) ≡ further (n + 1) (closing quote false cs)
 closing_escaped n quote c cs = further_more n (closing quote false cs)
 
-pub closing_other : (n quote c : ℕ) (cs : List ℕ) → (c == quote) ≡ false → further n (closing quote false (c ∷ cs)) ≡ further (n + 1) (closing quote (c == 92) cs)
+pub closing_other : (n quote c : ℕ) (cs : List ℕ) → (c == quote) ≡ false → further n (closing quote false (c ∷ cs))
+    ≡ further (n + 1) (closing quote (c == 92) cs)
 closing_other n quote c cs e = rw e (further_more n (closing quote (c == 92) cs))

@@ -26,27 +26,33 @@ pub none_above : (base limit n : ℕ) (ds : List ℕ) → 1 ≤ base → limit �
 none_above base limit n ds h k =
     let r = no_less base n ds h in
     let f : nat_lt (digits_value_after base n ds) limit ≡ false = le-ltb _ _ (let q : limit ≤ digits_value_after base n ds = omega (arith, r, k) in q) in
-    elim (list_all (λ c. is_digit c base) ds) as (λ b. cond (b && nat_lt (digits_value_after base n ds) limit) (Some (digits_value_after base n ds)) None ≡ None) [ true ↦ rw f refl | false ↦ refl ]
+    elim (list_all (λ c. is_digit c base) ds) as (λ b. cond (b && nat_lt (digits_value_after base n ds) limit) (Some (digits_value_after base n ds)) None
+    ≡ None) [ true ↦ rw f refl | false ↦ refl ]
 
 -- where a digit can't follow, there is no number
 below_cases : (limit m base : ℕ) (cs : List ℕ) (t : Bool) → 1 ≤ base → nat_lt m limit ≡ t → cond t (Some m) None ≡ None → magnitude_after base limit m cs ≡ None
 below_cases limit m base cs true h f e = cc
 below_cases limit m base cs false h f e = none_above base limit m cs h (ltb-false m limit f)
 
-none_from : (b : Bool) (limit m base : ℕ) (cs : List ℕ) → 1 ≤ base → cond (b && nat_lt m limit) (Some m) None ≡ None → cond ((b && list_all (λ c. is_digit c base) cs) && nat_lt (digits_value_after base m cs) limit) (Some (digits_value_after base m cs)) None ≡ None
+none_from : (b : Bool) (limit m base : ℕ) (cs : List ℕ) → 1 ≤ base → cond (b && nat_lt m limit) (Some m) None ≡ None
+    → cond ((b && list_all (λ c. is_digit c base) cs) && nat_lt (digits_value_after base m cs) limit) (Some (digits_value_after base m cs)) None ≡ None
 none_from false limit m base cs h e = refl
 none_from true limit m base cs h e = below_cases limit m base cs (nat_lt m limit) h refl e
 
 pub none_from_digit : (base limit n c : ℕ) (cs : List ℕ) → 1 ≤ base → with_digit base limit n c ≡ None → magnitude_after base limit n (c ∷ cs) ≡ None
 none_from_digit base limit n c cs h e = none_from (is_digit c base) limit (n * base + digit_value c) base cs h e
 
-some_from : (b : Bool) (limit m r base : ℕ) (cs : List ℕ) → cond (b && nat_lt m limit) (Some m) None ≡ Some r → cond ((b && list_all (λ c. is_digit c base) cs) && nat_lt (digits_value_after base m cs) limit) (Some (digits_value_after base m cs)) None ≡ magnitude_after base limit r cs
+some_from : (b : Bool) (limit m r base : ℕ) (cs : List ℕ) → cond (b && nat_lt m limit) (Some m) None ≡ Some r
+    → cond ((b && list_all (λ c. is_digit c base) cs) && nat_lt (digits_value_after base m cs) limit) (Some (digits_value_after base m cs)) None
+    ≡ magnitude_after base limit r cs
 some_from false limit m r base cs e = cc
 some_from true limit m r base cs e =
-    elim (nat_lt m limit) as (λ t. cond t (Some m) None ≡ Some r → magnitude_after base limit m cs ≡ magnitude_after base limit r cs) [ true ↦ λ k. let q : m ≡ r = cc in rw q refl | false ↦ λ k. cc ] e
+    elim (nat_lt m limit) as (λ t. cond t (Some m) None ≡ Some r → magnitude_after base limit m cs ≡ magnitude_after base limit r cs)
+    [ true ↦ λ k. let q : m ≡ r = cc in rw q refl | false ↦ λ k. cc ] e
 
 -- where a digit follows, reading goes on after it
-pub goes_on : (base limit n c r : ℕ) (cs : List ℕ) → with_digit base limit n c ≡ Some r → magnitude_after base limit n (c ∷ cs) ≡ magnitude_after base limit r cs
+pub goes_on : (base limit n c r : ℕ) (cs : List ℕ) → with_digit base limit n c ≡ Some r → magnitude_after base limit n (c ∷ cs)
+    ≡ magnitude_after base limit r cs
 goes_on base limit n c r cs e = some_from (is_digit c base) limit (n * base + digit_value c) r base cs e
 
 -- no digit is left

@@ -25,8 +25,20 @@ record IsWide (c : ℕ) : Type 0 where
 parts_of : (c : ℕ) (a b : Bool) → ltb c 2048 ≡ a → ltb c 65536 ≡ b → ltb c 128 ≡ false → IsWide c
 unfolding encode_utf8
 parts_of c true b e f g = record { first = 192 + c / 64; more = next c ∷ []; parts = rw (g, e) refl; high = omega arith; all = (omega arith, tt) }
-parts_of c false true e f g = record { first = 224 + c / 4096; more = next (c / 64) ∷ next c ∷ []; parts = rw (g, e, f) refl; high = omega arith; all = (omega arith, (omega arith, tt)) }
-parts_of c false false e f g = record { first = 240 + c / 262144; more = next (c / 4096) ∷ next (c / 64) ∷ next c ∷ []; parts = rw (g, e, f) refl; high = omega arith; all = (omega arith, (omega arith, (omega arith, tt))) }
+parts_of c false true e f g = record {
+  first = 224 + c / 4096;
+  more = next (c / 64) ∷ next c ∷ [];
+  parts = rw (g, e, f) refl;
+  high = omega arith;
+  all = (omega arith, (omega arith, tt));
+}
+parts_of c false false e f g = record {
+  first = 240 + c / 262144;
+  more = next (c / 4096) ∷ next (c / 64) ∷ next c ∷ [];
+  parts = rw (g, e, f) refl;
+  high = omega arith;
+  all = (omega arith, (omega arith, (omega arith, tt)));
+}
 
 wide : (c : ℕ) → 128 ≤ c → IsWide c
 wide c h = parts_of c (ltb c 2048) (ltb c 65536) refl refl (le-ltb c 128 h)
@@ -69,16 +81,21 @@ backslash rest = rw (encode_ascii 92 (omega arith)) refl
 pub chars_spell : (text : List ℕ) → IsUtf8 text → encode_utf8_all (chars text) ≡ text
 chars_spell text u = rw (← u.1.1) (ap encode_utf8_all (chars-encodes u.0 u.1.0))
 
-spelled_from : (cs : List ℕ) (n m c : ℕ) → n < length cs → c ≡ get_or cs n c → m ≡ n + 1 → encode_utf8_all (drop n cs) ≡ encode_utf8 c ++ encode_utf8_all (drop m cs)
-spelled_from cs n m c h e k = ap encode_utf8_all (drop_more cs n c h) ∙ ap (λ d. encode_utf8 d ++ encode_utf8_all (drop (n + 1) cs)) (sym e) ∙ ap (λ i. encode_utf8 c ++ encode_utf8_all (drop i cs)) (sym k)
+spelled_from : (cs : List ℕ) (n m c : ℕ) → n < length cs → c ≡ get_or cs n c → m ≡ n + 1 → encode_utf8_all (drop n cs)
+    ≡ encode_utf8 c ++ encode_utf8_all (drop m cs)
+spelled_from cs n m c h e k = ap encode_utf8_all (drop_more cs n c h) ∙ ap (λ d. encode_utf8 d ++ encode_utf8_all (drop (n + 1) cs)) (sym e)
+    ∙ ap (λ i. encode_utf8 c ++ encode_utf8_all (drop i cs)) (sym k)
 
 -- one character on, after the text read before it
-module _ (cs read all : List ℕ) (escaped : Bool) (n m c : ℕ) (so_far : read ++ unescaped escaped (encode_utf8_all (drop n cs)) ≡ all) (within : n < length cs) (here : c ≡ get_or cs n c) (next_place : m ≡ n + 1) where
+module _ (cs read all : List ℕ) (escaped : Bool) (n m c : ℕ) (so_far : read ++ unescaped escaped (encode_utf8_all (drop n cs)) ≡ all) (within : n < length cs)
+    (here : c ≡ get_or cs n c) (next_place : m ≡ n + 1) where
   pub step_backslash : c ≡ 92 → escaped ≡ false → read ++ unescaped true (encode_utf8_all (drop m cs)) ≡ all
   step_backslash e f =
-      ap (λ t. read ++ t) (sym (backslash (encode_utf8_all (drop m cs))) ∙ ap (λ d. unescaped false (encode_utf8 d ++ encode_utf8_all (drop m cs))) (sym e) ∙ ap (unescaped false) (sym (spelled_from cs n m c within here next_place)) ∙ ap (λ b. unescaped b (encode_utf8_all (drop n cs))) (sym f)) ∙ so_far
+      ap (λ t. read ++ t) (sym (backslash (encode_utf8_all (drop m cs))) ∙ ap (λ d. unescaped false (encode_utf8 d ++ encode_utf8_all (drop m cs))) (sym e)
+      ∙ ap (unescaped false) (sym (spelled_from cs n m c within here next_place)) ∙ ap (λ b. unescaped b (encode_utf8_all (drop n cs))) (sym f)) ∙ so_far
 
-  char_read : (b : Bool) → b ≡ escaped → (escaped ≡ true) ⊎ (c ≡ 92 → ⊥) → unescaped b (encode_utf8 c ++ encode_utf8_all (drop m cs)) ≡ encode_utf8 c ++ unescaped false (encode_utf8_all (drop m cs))
+  char_read : (b : Bool) → b ≡ escaped → (escaped ≡ true) ⊎ (c ≡ 92 → ⊥) → unescaped b (encode_utf8 c ++ encode_utf8_all (drop m cs))
+      ≡ encode_utf8 c ++ unescaped false (encode_utf8_all (drop m cs))
   char_read true e h = escaped_char c (encode_utf8_all (drop m cs))
   char_read false e (inr h) = plain_char c (encode_utf8_all (drop m cs)) h
   char_read false e (inl h) = cc
@@ -92,7 +109,8 @@ module _ (cs read all : List ℕ) (escaped : Bool) (n m c : ℕ) (so_far : read 
 
 -- no character is left
 pub step_end : (cs read all : List ℕ) (escaped : Bool) (n : ℕ) → read ++ unescaped escaped (encode_utf8_all (drop n cs)) ≡ all → n ≡ length cs → read ≡ all
-step_end cs read all escaped n h e = sym (append-nil read) ∙ ap (λ t. read ++ t) (sym (none_left escaped (encode_utf8_all (drop n cs)) (ap encode_utf8_all (drop_of_length-le cs (omega (arith, e)))))) ∙ h
+step_end cs read all escaped n h e = sym (append-nil read) ∙ ap (λ t. read ++ t)
+    (sym (none_left escaped (encode_utf8_all (drop n cs)) (ap encode_utf8_all (drop_of_length-le cs (omega (arith, e)))))) ∙ h
   where
     none_left : (b : Bool) (bs : List ℕ) → bs ≡ [] → unescaped b bs ≡ []
     none_left true bs e = rw e refl

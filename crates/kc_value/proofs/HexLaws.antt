@@ -69,10 +69,12 @@ pub hex_complete : (text : List ℕ) (z : ℤ) → IsHex text z → hex_text tex
 unfolding hex_text
 hex_complete text z (bare n w l e short) =
     let s : leb (length text) 64 ≡ true = le-leb _ _ short in
-    rw s (ap (λ t. option_map pos (magnitude 16 (2 ^ 64) t)) (plain_front text n (front text) w) ∙ ap (option_map pos) (writes_magnitude 16 (2 ^ 64) text n w l) ∙ ap Some (sym e))
+    rw s (ap (λ t. option_map pos (magnitude 16 (2 ^ 64) t)) (plain_front text n (front text) w) ∙ ap (option_map pos) (writes_magnitude 16 (2 ^ 64) text n w l)
+    ∙ ap Some (sym e))
 hex_complete text z (prefixed digits n p w l e short) =
     let s : leb (length text) 64 ≡ true = le-leb _ _ short in
-    rw s (ap (λ t. option_map pos (magnitude 16 (2 ^ 64) t)) (prefix_dropped text digits p) ∙ ap (option_map pos) (writes_magnitude 16 (2 ^ 64) digits n w l) ∙ ap Some (sym e))
+    rw s (ap (λ t. option_map pos (magnitude 16 (2 ^ 64) t)) (prefix_dropped text digits p) ∙ ap (option_map pos) (writes_magnitude 16 (2 ^ 64) digits n w l)
+    ∙ ap Some (sym e))
 
 shorter : (text rest : List ℕ) → IsPrefixed text rest → length rest < length text
 shorter text rest p = omega (arith, ap length p.parts)

@@ -29,7 +29,8 @@ hex_len (suc k) zero n acc h =
     let low : n < 16 = h in
     let none : eqb (n / 16) 0 ≡ true = eq-eqb (n / 16) 0 (omega arith) in
     rw none (omega arith)
-hex_len (suc k) (suc j) n acc h = by_rest (eqb (n / 16) 0) (hex_len k j (n / 16) (digit_glyph false (n % 16) ∷ acc) (shr_below n (4 * j + 4) 4 (subst (λ e. n < 2 ^ e) (let q : 4 * suc j + 4 ≡ (4 * j + 4) + 4 = omega arith in q) h)))
+hex_len (suc k) (suc j) n acc h = by_rest (eqb (n / 16) 0) (hex_len k j (n / 16) (digit_glyph false (n % 16) ∷ acc)
+    (shr_below n (4 * j + 4) 4 (subst (λ e. n < 2 ^ e) (let q : 4 * suc j + 4 ≡ (4 * j + 4) + 4 = omega arith in q) h)))
   where
     by_rest : (b : Boolean) → length (digits_onto k 16 false (n / 16) (digit_glyph false (n % 16) ∷ acc)) ≤ j + 1 + length (digit_glyph false (n % 16) ∷ acc)
         → length (cond b (digit_glyph false (n % 16) ∷ acc) (digits_onto k 16 false (n / 16) (digit_glyph false (n % 16) ∷ acc))) ≤ suc j + 1 + length acc
@@ -45,7 +46,8 @@ hex_read_back (pos n) low high =
     let h : n < 2 ^ 64 = omega (arith, ints) in
     let w = digits_is_IsNumeral 16 false (omega arith) (omega arith) n (omega arith) in
     let l = hex_length n h in
-    hex_complete (48 ∷ 120 ∷ digits 16 false n) (pos n) (prefixed (digits 16 false n) n (record { letter = 120; is_x = inl refl; parts = refl }) w h refl (omega arith))
+    hex_complete (48 ∷ 120 ∷ digits 16 false n) (pos n) (prefixed (digits 16 false n) n (record { letter = 120; is_x = inl refl; parts = refl }) w h refl
+    (omega arith))
 hex_read_back (negsuc n) low high = absurd (omega (arith, ints))
 
 -- the text of a number is read back as that number

@@ -38,7 +38,8 @@ one_meaning whole a b (x, p, h) (y, q, k) =
     sym (body_means 34 x a h) ∙ ap (unescaped false) e ∙ body_means 34 y b k
 
 -- a body is closed by the quote after it
-pub body_closes : (quote : ℕ) (body means rest : List ℕ) → eqb 92 quote ≡ false → IsBody quote body means → closing quote false (body ++ quote ∷ rest) ≡ Some (suc (length body))
+pub body_closes : (quote : ℕ) (body means rest : List ℕ) → eqb 92 quote ≡ false → IsBody quote body means
+    → closing quote false (body ++ quote ∷ rest) ≡ Some (suc (length body))
 body_closes quote body means rest d none = let same : eqb quote quote ≡ true = eq-eqb quote quote refl in rw same refl
 body_closes quote body means rest d (plain {c = c} {bs = bs} {cs = cs} q s h) = rw (q, s) (ap (option_map suc) (body_closes quote bs cs rest d h))
 body_closes quote body means rest d (pair {c = c} {bs = bs} {cs = cs} h) = rw d (ap (λ o. option_map suc (option_map suc o)) (body_closes quote bs cs rest d h))
@@ -59,7 +60,8 @@ one_more : (o : Option ℕ) (n : ℕ) → option_map suc o ≡ Some n → (m : �
 one_more None n e = cc
 one_more (Some m) n e = (m, refl, cc)
 
-closed_plain : (t : Bool) (quote c : ℕ) (cs : List ℕ) (n m : ℕ) → eqb c quote ≡ false → eqb c 92 ≡ t → n ≡ suc m → IsClosed quote t cs m → IsClosed quote false (c ∷ cs) n
+closed_plain : (t : Bool) (quote c : ℕ) (cs : List ℕ) (n m : ℕ) → eqb c quote ≡ false → eqb c 92 ≡ t → n ≡ suc m → IsClosed quote t cs m
+    → IsClosed quote false (c ∷ cs) n
 closed_plain true quote c cs n m q s e h = record {
   body = c ∷ h.body;
   rest = h.rest;
@@ -78,7 +80,8 @@ closed_plain false quote c cs n m q s e h = record {
 first_one : (n : ℕ) → Some 1 ≡ Some n → n ≡ 1
 first_one n e = cc
 
-closed_at : (b : Bool) (quote c : ℕ) (cs : List ℕ) (n : ℕ) → ((m : ℕ) → closing quote (eqb c 92) cs ≡ Some m → IsClosed quote (eqb c 92) cs m) → eqb c quote ≡ b → cond b (Some 1) (option_map suc (closing quote (eqb c 92) cs)) ≡ Some n → IsClosed quote false (c ∷ cs) n
+closed_at : (b : Bool) (quote c : ℕ) (cs : List ℕ) (n : ℕ) → ((m : ℕ) → closing quote (eqb c 92) cs ≡ Some m → IsClosed quote (eqb c 92) cs m) → eqb c quote ≡ b
+    → cond b (Some 1) (option_map suc (closing quote (eqb c 92) cs)) ≡ Some n → IsClosed quote false (c ∷ cs) n
 closed_at true quote c cs n ih e g = record { body = []; rest = cs; parts = ap (λ d. d ∷ cs) (eqb-true c quote e); len = first_one n g; is_body = none }
 closed_at false quote c cs n ih e g =
     let (m, k, f) = one_more (closing quote (eqb c 92) cs) n g in
@@ -124,7 +127,8 @@ nil_of [] e = refl
 nil_of (x ∷ xs) e = absurd (omega (arith, e))
 
 -- the body of a text that is closed by its last byte
-pub body_between : (text : List ℕ) (n : ℕ) → get_or text 0 0 ≡ 34 → closing 34 false (drop 1 text) ≡ Some n → length text ≤ n + 1 → HasBody text (take (n - 1) (drop 1 text))
+pub body_between : (text : List ℕ) (n : ℕ) → get_or text 0 0 ≡ 34 → closing 34 false (drop 1 text) ≡ Some n → length text ≤ n + 1
+    → HasBody text (take (n - 1) (drop 1 text))
 body_between text n e k l = by_parts (closed 34 false (drop 1 text) n k)
   where
     by_parts : IsClosed 34 false (drop 1 text) n → HasBody text (take (n - 1) (drop 1 text))
@@ -132,7 +136,8 @@ body_between text n e k l = by_parts (closed 34 false (drop 1 text) n k)
         let sizes : length (drop 1 text) ≡ length text - 1 = length-drop 1 text in
         let none_left : length c.rest ≡ 0 = omega (arith, ap length c.parts, length-append c.body (34 ∷ c.rest), c.len, sizes) in
         let all : drop 1 text ≡ c.body ++ 34 ∷ [] = c.parts ∙ ap (λ t. c.body ++ 34 ∷ t) (nil_of c.rest none_left) in
-        let middle : take (n - 1) (drop 1 text) ≡ c.body = ap (λ t. take (n - 1) t) all ∙ ap (λ m. take m (c.body ++ 34 ∷ [])) (omega (arith, c.len)) ∙ take-append_seam c.body (34 ∷ []) in
+        let middle : take (n - 1) (drop 1 text) ≡ c.body = ap (λ t. take (n - 1) t) all ∙ ap (λ m. take m (c.body ++ 34 ∷ [])) (omega (arith, c.len))
+        ∙ take-append_seam c.body (34 ∷ []) in
         rw middle (record { parts = opened text e ∙ ap (λ t. 34 ∷ t) all; is_body = c.is_body })
 
 -- where the text may be cut

@@ -10,7 +10,8 @@ use std::io::ErrorKind;
 use std::random::RandomSource;
 use std::{env, fs, io};
 
-/// The files and the environment of the system, of which nothing is known. Paths and names are hashed by a seed of this run's own.
+/// The files and the environment of the system, of which contracts know nothing. Paths and names are hashed by a seed
+/// of this run's own.
 #[derive(Drop)]
 pub(crate) struct Disk<'a> {
     runtime: &'a HostRuntime,
@@ -27,7 +28,7 @@ impl<'a> Disk<'a> {
     }
 }
 
-/// A seed of random bytes, and the fixed one where the system gives none.
+/// A seed of random bytes, or the fixed seed if the system gives none.
 pub(crate) fn new_seed(runtime: &HostRuntime) -> Seed {
     let mut first = [0; 8];
     let mut second = [0; 8];
@@ -54,7 +55,7 @@ impl Source for OpenFile {
     }
 }
 
-/// The number of bytes of a file, and 0 where it can't be had.
+/// The number of bytes of a file; 0 if the system doesn't give it.
 fn size_now(file: &File) -> usize {
     match file.metadata() {
         Ok(metadata) => usize::try_from(metadata.len()).unwrap_or(usize::MAX),

@@ -22,7 +22,7 @@ fn main(rt: HostRuntime) -> ExitCode {
 fn run_words(rt: &HostRuntime) -> io::Result<u8> {
     let words: Vec<String> = env::args(rt)?.skip(1).collect(rt.alloc())?;
     let words: Vec<&str> = words.iter().map(|word| word.as_str()).collect(rt.alloc())?;
-    tell_waiting(rt, &words);
+    write_waiting(rt, &words);
     let mut input = FromRead::new(rt.stdin());
     let mut out = ToWrite::new(rt.stdout());
     let mut err = ToWrite::new(rt.stderr());
@@ -39,8 +39,8 @@ fn run_words(rt: &HostRuntime) -> io::Result<u8> {
     ))
 }
 
-/// A line that a bundle is waited for, where there are no words and standard input is a terminal.
-fn tell_waiting(rt: &HostRuntime, words: &[&str]) {
+/// Writes that the program waits for a bundle, if there are no words and standard input is a terminal.
+fn write_waiting(rt: &HostRuntime, words: &[&str]) {
     if words.is_empty() && rt.stdin().is_terminal() {
         let _ = eprintln!(rt;
             "kmin: waits for a bundle at the terminal; `kmin --help` has the commands"
@@ -48,7 +48,7 @@ fn tell_waiting(rt: &HostRuntime, words: &[&str]) {
     }
 }
 
-/// Words that can't be read: 6 for lack of memory, and else 2, since some word isn't UTF-8.
+/// Reports words that can't be read, and returns the status: 6 if memory ran out, and else 2, since a word isn't UTF-8.
 fn refuse_words(rt: &HostRuntime, error: &io::Error) -> ExitCode {
     if error.kind() == io::ErrorKind::OutOfMemory {
         let _ = eprintln!(rt; "out of memory");

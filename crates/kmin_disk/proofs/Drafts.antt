@@ -24,7 +24,8 @@ pub takes_next : (a b c : Draft) (text : List ℕ) (n m : ℕ) → Takes a b (ta
 takes_next a b c text n m first next = record {
   own = next.own ∙ first.own;
   target = next.target ∙ first.target;
-  bytes = next.bytes ∙ (ap (λ bytes. and_then bytes (take m (drop n text))) first.bytes ∙ (and_then-append a.bytes (take n text) (take m (drop n text)) ∙ ap (and_then a.bytes) (sym (take-add n m text))));
+  bytes = next.bytes ∙ (ap (λ bytes. and_then bytes (take m (drop n text))) first.bytes
+      ∙ (and_then-append a.bytes (take n text) (take m (drop n text)) ∙ ap (and_then a.bytes) (sym (take-add n m text))));
 }
 
 -- a write that takes some bytes is no failure

@@ -1,4 +1,4 @@
--- What one change more leaves of a disk in memory.
+-- A disk in memory after one more change.
 use Rattle.std.proofs.Common.{◌≡◌, ◌≢◌, ℕ, Bool, true, false, List, [], ◌∷◌, ◌++◌, Some, refl, ap, sym, ◌∙◌, subst, string_bytes, if◌then◌else◌, length, get_or, take, ◌<◌, ◌+◌, add-one}
 use Rattle.std.proofs.Math.Seq.{take-suc}
 use Rattle.std.specs.Bool.{Decides}
@@ -25,37 +25,48 @@ pub newest-with_newest : (content before : Content) (history : History) → newe
 newest-with_newest content before [] known = (cc)
 newest-with_newest content before (last ∷ earlier) known = refl
 
-pub history_from-append : (history : History) (events : List Event) (event : Event) (path : List ℕ) → history_from history (events ++ event ∷ []) path ≡ history_after event path (history_from history events path)
+pub history_from-append : (history : History) (events : List Event) (event : Event) (path : List ℕ) → history_from history (events ++ event ∷ []) path
+    ≡ history_after event path (history_from history events path)
 history_from-append history [] event path = refl
 history_from-append history (first ∷ events) event path = history_from-append (history_after first path history) events event path
 
 -- the history of a path that holds a content now
-pub holds_there : (old new : List Event) (path : List ℕ) (content : MemoryContent) → AppendsHolds old new path content → (memory_state new).history path ≡ with_newest (content_view content) ((memory_state old).history path)
+pub holds_there : (old new : List Event) (path : List ℕ) (content : MemoryContent) → AppendsHolds old new path content
+    → (memory_state new).history path ≡ with_newest (content_view content) ((memory_state old).history path)
 holds_there old new path content adds =
     let before = history_from (nothing ∷ []) old path in
-    ap (λ (es : List Event). history_from (nothing ∷ []) es path) adds.appended ∙ (history_from-append (nothing ∷ []) old adds.event path ∙ (adds.change path before ∙ ap (λ (b : Bool). if b then with_newest (content_view content) before else before) (bytes_eq-self path)))
+    ap (λ (es : List Event). history_from (nothing ∷ []) es path) adds.appended
+    ∙ (history_from-append (nothing ∷ []) old adds.event path ∙ (adds.change path before
+    ∙ ap (λ (b : Bool). if b then with_newest (content_view content) before else before) (bytes_eq-self path)))
 
 -- the history of every other path
-pub holds_elsewhere : (old new : List Event) (path : List ℕ) (content : MemoryContent) → AppendsHolds old new path content → (place : List ℕ) → place ≢ path → (memory_state new).history place ≡ (memory_state old).history place
+pub holds_elsewhere : (old new : List Event) (path : List ℕ) (content : MemoryContent) → AppendsHolds old new path content → (place : List ℕ) → place ≢ path
+    → (memory_state new).history place ≡ (memory_state old).history place
 holds_elsewhere old new path content adds place other =
     let before = history_from (nothing ∷ []) old place in
-    ap (λ (es : List Event). history_from (nothing ∷ []) es place) adds.appended ∙ (history_from-append (nothing ∷ []) old adds.event place ∙ (adds.change place before ∙ ap (λ (b : Bool). if b then with_newest (content_view content) before else before) (bytes_eq-other path place (λ e. other (sym e)))))
+    ap (λ (es : List Event). history_from (nothing ∷ []) es place) adds.appended
+    ∙ (history_from-append (nothing ∷ []) old adds.event place ∙ (adds.change place before
+    ∙ ap (λ (b : Bool). if b then with_newest (content_view content) before else before) (bytes_eq-other path place (λ e. other (sym e)))))
 
 -- a new file is made in memory
-pub creates_in_memory : (old new : List Event) (path new_path : List ℕ) (made : MemoryNewFile) → AppendsHolds old new new_path Unfinished → string_bytes made.path ≡ new_path → string_bytes made.target ≡ path → made.bytes.items ≡ [] → new_path ≢ path → newest ((memory_state old).history new_path) ≡ Some nothing → Creates (memory_state old) (memory_state new) path new_path (memory_draft made)
+pub creates_in_memory : (old new : List Event) (path new_path : List ℕ) (made : MemoryNewFile) → AppendsHolds old new new_path Unfinished
+    → string_bytes made.path ≡ new_path → string_bytes made.target ≡ path → made.bytes.items ≡ [] → new_path ≢ path
+    → newest ((memory_state old).history new_path) ≡ Some nothing → Creates (memory_state old) (memory_state new) path new_path (memory_draft made)
 creates_in_memory old new path new_path made adds own target empty apart free = record {
   places = λ any. refl;
   own = own;
   target = target;
   apart = λ e. apart (sym own ∙ (e ∙ target));
   free = λ known. subst (λ (p : List ℕ). newest ((memory_state old).history p) ≡ Some nothing) (sym own) free;
-  made = subst (λ (p : List ℕ). (memory_state new).history p ≡ with_newest unfinished ((memory_state old).history p)) (sym own) (holds_there old new new_path Unfinished adds);
+  made = subst (λ (p : List ℕ). (memory_state new).history p ≡ with_newest unfinished ((memory_state old).history p)) (sym own)
+      (holds_there old new new_path Unfinished adds);
   others = λ place other. holds_elsewhere old new new_path Unfinished adds place (λ e. other (e ∙ sym own));
   empty = λ known. ap Some empty;
 }
 
 -- a new file is removed in memory
-pub removes_in_memory : (old new : List Event) (made : MemoryNewFile) → AppendsHolds old new (string_bytes made.path) Nothing → Removes (memory_state old) (memory_state new) (memory_draft made)
+pub removes_in_memory : (old new : List Event) (made : MemoryNewFile) → AppendsHolds old new (string_bytes made.path) Nothing
+    → Removes (memory_state old) (memory_state new) (memory_draft made)
 removes_in_memory old new made adds = record {
   places = λ any. refl;
   gone = holds_there old new (string_bytes made.path) Nothing adds;
@@ -63,13 +74,19 @@ removes_in_memory old new made adds = record {
 }
 
 -- the history of any path after a rename
-pub renamed_history : (old new : List Event) (made : MemoryNewFile) → AppendsRename old new made → (place : List ℕ) → (memory_state new).history place ≡ (if bytes_eq (string_bytes made.target) place then with_newest (file made.bytes.items) ((memory_state old).history place) else (if bytes_eq (string_bytes made.path) place then with_newest nothing ((memory_state old).history place) else (memory_state old).history place))
+pub renamed_history : (old new : List Event) (made : MemoryNewFile) → AppendsRename old new made → (place : List ℕ)
+    → (memory_state new).history place ≡ (if bytes_eq (string_bytes made.target) place then with_newest (file made.bytes.items)
+    ((memory_state old).history place) else (if bytes_eq (string_bytes made.path) place then with_newest nothing ((memory_state old).history place)
+    else (memory_state old).history place))
 renamed_history old new made adds place =
     let before = history_from (nothing ∷ []) old place in
-    ap (λ (es : List Event). history_from (nothing ∷ []) es place) adds.appended ∙ (history_from-append (nothing ∷ []) old adds.event place ∙ adds.change place before)
+    ap (λ (es : List Event). history_from (nothing ∷ []) es place) adds.appended
+    ∙ (history_from-append (nothing ∷ []) old adds.event place ∙ adds.change place before)
 
 -- a log with a content more
-pub appends_holds : (old new : List Event) (event : Event) (at path : List ℕ) (content : MemoryContent) → ((any : List ℕ) (history : History) → history_after event any history ≡ (if bytes_eq at any then with_newest (content_view content) history else history)) → at ≡ path → new ≡ old ++ event ∷ [] → AppendsHolds old new path content
+pub appends_holds : (old new : List Event) (event : Event) (at path : List ℕ) (content : MemoryContent)
+    → ((any : List ℕ) (history : History) → history_after event any history ≡ (if bytes_eq at any then with_newest (content_view content) history else history))
+    → at ≡ path → new ≡ old ++ event ∷ [] → AppendsHolds old new path content
 appends_holds old new event at path content change is appended = record {
   event = event;
   change = λ any history. change any history ∙ ap (λ (p : List ℕ). if bytes_eq p any then with_newest (content_view content) history else history) is;
@@ -77,7 +94,10 @@ appends_holds old new event at path content change is appended = record {
 }
 
 -- a log with a rename more
-pub appends_rename : (old new : List Event) (event : Event) (from to bytes : List ℕ) (made : MemoryNewFile) → ((any : List ℕ) (history : History) → history_after event any history ≡ (if bytes_eq to any then with_newest (file bytes) history else (if bytes_eq from any then with_newest nothing history else history))) → from ≡ string_bytes made.path → to ≡ string_bytes made.target → bytes ≡ made.bytes.items → new ≡ old ++ event ∷ [] → AppendsRename old new made
+pub appends_rename : (old new : List Event) (event : Event) (from to bytes : List ℕ) (made : MemoryNewFile)
+    → ((any : List ℕ) (history : History) → history_after event any history ≡ (if bytes_eq to any then with_newest (file bytes) history
+    else (if bytes_eq from any then with_newest nothing history else history))) → from ≡ string_bytes made.path → to ≡ string_bytes made.target
+    → bytes ≡ made.bytes.items → new ≡ old ++ event ∷ [] → AppendsRename old new made
 appends_rename old new event from to bytes made change is_from is_to are_bytes appended = record {
   event = event;
   change = λ any history. change any history ∙ (cc);
@@ -85,7 +105,8 @@ appends_rename old new event from to bytes made change is_from is_to are_bytes a
 }
 
 -- a new file is renamed in memory
-pub renames_in_memory : (old new : List Event) (made : MemoryNewFile) → string_bytes made.path ≢ string_bytes made.target → AppendsRename old new made → Renames (memory_state old) (memory_state new) (memory_draft made)
+pub renames_in_memory : (old new : List Event) (made : MemoryNewFile) → string_bytes made.path ≢ string_bytes made.target → AppendsRename old new made
+    → Renames (memory_state old) (memory_state new) (memory_draft made)
 renames_in_memory old new made apart adds =
     let own = string_bytes made.path in
     let target = string_bytes made.target in
@@ -93,15 +114,24 @@ renames_in_memory old new made apart adds =
     record {
       places = λ any. refl;
       target = (let h = (memory_state old).history target in
-          renamed_history old new made adds target ∙ ap (λ (b : Bool). if b then with_newest (file bytes) h else (if bytes_eq own target then with_newest nothing h else h)) (bytes_eq-self target));
+          renamed_history old new made adds target ∙ ap (λ (b : Bool). if b then with_newest (file bytes) h
+          else (if bytes_eq own target then with_newest nothing h else h)) (bytes_eq-self target));
       gone = (let h = (memory_state old).history own in
-          renamed_history old new made adds own ∙ (ap (λ (b : Bool). if b then with_newest (file bytes) h else (if bytes_eq own own then with_newest nothing h else h)) (bytes_eq-other target own (λ e. apart (sym e))) ∙ ap (λ (b : Bool). if b then with_newest nothing h else h) (bytes_eq-self own)));
+          renamed_history old new made adds own ∙ (ap (λ (b : Bool). if b then with_newest (file bytes) h
+          else (if bytes_eq own own then with_newest nothing h else h)) (bytes_eq-other target own (λ e. apart (sym e)))
+          ∙ ap (λ (b : Bool). if b then with_newest nothing h else h) (bytes_eq-self own)));
       others = λ place not_own not_target. (let h = (memory_state old).history place in
-          renamed_history old new made adds place ∙ (ap (λ (b : Bool). if b then with_newest (file bytes) h else (if bytes_eq own place then with_newest nothing h else h)) (bytes_eq-other target place (λ e. not_target (sym e))) ∙ ap (λ (b : Bool). if b then with_newest nothing h else h) (bytes_eq-other own place (λ e. not_own (sym e)))));
+          renamed_history old new made adds place ∙ (ap (λ (b : Bool). if b then with_newest (file bytes) h
+          else (if bytes_eq own place then with_newest nothing h else h)) (bytes_eq-other target place (λ e. not_target (sym e)))
+          ∙ ap (λ (b : Bool). if b then with_newest nothing h else h) (bytes_eq-other own place (λ e. not_own (sym e)))));
     }
 
 -- the newest content after one change more
-pub newest-next : (events : List Event) (index : ℕ) (event : Event) (path : List ℕ) (before after : Content) → index < length events → event ≡ get_or events index event → ((history : History) → newest history ≡ Some before → newest (history_after event path history) ≡ Some after) → newest (history_from (nothing ∷ []) (take index events) path) ≡ Some before → newest (history_from (nothing ∷ []) (take (index + 1) events) path) ≡ Some after
+pub newest-next : (events : List Event) (index : ℕ) (event : Event) (path : List ℕ) (before after : Content) → index < length events
+    → event ≡ get_or events index event → ((history : History) → newest history ≡ Some before → newest (history_after event path history) ≡ Some after)
+    → newest (history_from (nothing ∷ []) (take index events) path) ≡ Some before → newest (history_from (nothing ∷ []) (take (index + 1) events) path)
+    ≡ Some after
 newest-next events index event path before after within is changes known =
-    let more : take (index + 1) events ≡ take index events ++ event ∷ [] = rw add-one (take-suc events index event within ∙ ap (λ (e : Event). take index events ++ e ∷ []) (sym is)) in
+    let more : take (index + 1) events ≡ take index events ++ event ∷ [] =
+    rw add-one (take-suc events index event within ∙ ap (λ (e : Event). take index events ++ e ∷ []) (sym is)) in
     rw more (rw (history_from-append (nothing ∷ []) (take index events) event path) (changes (history_from (nothing ∷ []) (take index events) path) known))

@@ -1,4 +1,4 @@
--- What a name in a folder holds, and what of it is known.
+-- The content of a name in a folder, as far as it is known.
 use Rattle.std.specs.Prelude.{◌≡◌, ℕ, List, Option, Some, None}
 use Rattle.kmin_disk.specs.declared.kind.FileKind.{FileKind}
 use Rattle.kmin_disk.specs.declared.kind.FileKind.TheVariants.{Missing, Regular, NotRegular}
@@ -10,7 +10,7 @@ pub data Content : Type 0 where
   unfinished : Content
   special : Content
 
--- a file is of the kind that is known of it, if anything is
+-- the kind of a file agrees with its content, if that is known
 abbrev pub IsOfKind : Option Content → FileKind → Type 0
 IsOfKind None kind = Unit {0}
 IsOfKind (Some nothing) kind = kind ≡ Missing
@@ -18,18 +18,18 @@ IsOfKind (Some (file bytes)) kind = kind ≡ Regular
 IsOfKind (Some unfinished) kind = kind ≡ Regular
 IsOfKind (Some special) kind = kind ≡ NotRegular
 
--- what a reader is known to find: nothing known, no such file, or a file's bytes
+-- the known result of opening a content for reading: none known, no reader, or a reader of these bytes
 abbrev pub readable : Option Content → Option (Option (List ℕ))
 readable (Some nothing) = Some None
 readable (Some (file bytes)) = Some (Some bytes)
 readable _ = None
 
--- a path opens as is known: its reader has these bytes left, or there is no reader
+-- a file opens as is known: there is no reader, or one that has these bytes left
 abbrev pub OpensAs : Option (Option (List ℕ)) → Option (Option (List ℕ)) → Type 0
 OpensAs None reader = Unit {0}
 OpensAs (Some None) reader = reader ≡ None
 OpensAs (Some (Some bytes)) reader = reader ≡ Some (Some bytes)
 
--- a reader may find just these bytes, by what is known of the file
+-- a reader may get exactly these bytes, as far as the content is known
 abbrev pub MayRead : Option Content → List ℕ → Type 0
 MayRead content bytes = OpensAs (readable content) (Some (Some bytes))

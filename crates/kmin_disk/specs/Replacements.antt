@@ -1,11 +1,11 @@
--- What the replacing of a file leaves.
+-- The disk after the replacing of a file.
 use Rattle.std.specs.Prelude.{ℕ, List, string_bytes}
 use Rattle.kmin_disk.specs.Disks.{DiskState, IsUnchanged, Replaces, Leaves}
 use Rattle.kmin_disk.specs.NewFiles.{Draft, IsNewPath, IsTaken, Takes, Renames}
 use Rattle.kmin_disk.specs.declared.fault.ReplaceFault.{ReplaceFault}
 use Rattle.kmin_disk.specs.declared.fault.ReplaceFault.TheVariants.{NotRegular, Unchanged, NamesTaken, Left, FolderNotSynced, OutOfMemory}
 
--- What a fault leaves: all as it was, all but one new file in the folder of the path, or the new bytes in a folder that isn't synced.
+-- The disk after a fault: unchanged, or with one new file left in the folder of the path, or with the new bytes in a folder that isn't synced.
 abbrev pub FaultLeaves : DiskState → DiskState → List ℕ → List ℕ → ReplaceFault → Type 0
 FaultLeaves old new path bytes (Left new_path) = Leaves old new (string_bytes new_path) × IsNewPath path (string_bytes new_path)
 FaultLeaves old new path bytes FolderNotSynced = Replaces old new path bytes
@@ -14,13 +14,13 @@ FaultLeaves old new path bytes Unchanged = IsUnchanged old new
 FaultLeaves old new path bytes NamesTaken = IsUnchanged old new
 FaultLeaves old new path bytes OutOfMemory = IsUnchanged old new
 
--- Some name of a new file in the folder of a path is taken.
+-- Some name for a new file in the folder of a path is in use.
 pub record HasTakenName (disk : DiskState) (path : List ℕ) : Type 0 where
   pub new_path : List ℕ
   pub is_new_path : IsNewPath path new_path
   pub taken : IsTaken disk path new_path
 
--- A fault comes before a new file is made.
+-- A fault that comes before a new file is made.
 abbrev pub IsBeforeNewFile : ReplaceFault → Type 0
 IsBeforeNewFile Unchanged = Unit {0}
 IsBeforeNewFile NamesTaken = Unit {0}

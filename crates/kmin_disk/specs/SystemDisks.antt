@@ -3,7 +3,7 @@ use Rattle.std.specs.Prelude.{ℕ, List, [], None, true}
 use Rattle.kmin_disk.specs.Disks.{DiskState}
 use Rattle.kmin_disk.specs.NewFiles.{Draft}
 
--- nothing is known of any place
+-- the state of a disk of which nothing is known
 abbrev pub unknown_state : DiskState
 unknown_state = record { place = λ path. path; history = λ place. [] }
 

@@ -1,4 +1,4 @@
-//! All that touches files: what reads them, and what replaces them.
+//! The traits of a disk: reading its files, and replacing them.
 ghost use Rattle.std.specs.Prelude.{◌≡◌, List, ℕ, true, take, option_map, IfOk, OnOk, OnErr, IfErr, IsErrOf};
 ghost use Rattle.std.specs.Io.{WritesAtMost};
 ghost use Rattle.kc_value.specs.Streams.{failures_after_read, failures_after_write};
@@ -12,12 +12,12 @@ use crate::fault::CreateFault;
 use crate::kind::FileKind;
 use kc_value::{Failed, Seed, Source};
 
-/// The files of a disk as they are read. Nothing here changes a file.
+/// A disk whose files can be read. No method changes a file.
 pub trait ReadDisk {
     /// The reader of an open file.
     type File: Source + Drop;
 
-    /// Where paths lead, and what has been there.
+    /// The place to which each path leads, and the history of each place, as far as it is known.
     ghost state: { Self → DiskState };
 
     /// The seed of this run. Names of new files are made from it.
@@ -27,7 +27,8 @@ pub trait ReadDisk {
     fn kind(&self, path: &str) -> FileKind
         ensures { IsOfKind (content_at (state self.now) path.now) result };
 
-    /// A reader of the file's bytes, and nothing where it can't be opened. A link at the end of the path is followed.
+    /// A reader of the bytes of the file at a path; `None` if it can't be opened. A link at the end of the path is
+    /// followed.
     fn open(&self, path: &str) -> Option<Self::File>
         ensures { OpensAs (readable (content_at (state self.now) path.now)) (option_map Self.File.Source.left result) };
 
@@ -37,21 +38,21 @@ pub trait ReadDisk {
     }
 }
 
-/// The files of a disk as they are replaced, by new files that are renamed.
+/// A disk whose files can be replaced: a new file is written in the folder of the old one, and renamed over it.
 ///
-/// No clause can show that a real disk is like its `state`: that a rename is done at once or not at all, that synced
-/// bytes last, and that nobody else changes the files meanwhile.
+/// No contract can show that a real disk behaves like its `state`: that a rename is done at once or not at all, that
+/// synced bytes last, and that nobody else changes the files meanwhile.
 pub trait WriteDisk: ReadDisk {
-    /// A new file that isn't at its place yet.
+    /// A new file that hasn't been renamed yet.
     type NewFile: Drop;
 
     /// A rename that may not last yet. It can't be dropped: `sync_folder` takes it.
     type Renamed;
 
-    /// How many calls failed, up to 2^64 - 1.
+    /// The count of failed calls, up to 2^64 - 1.
     ghost failures: { Self → ℕ };
 
-    /// What is known of a new file.
+    /// The paths and the bytes of a new file, as far as they are known, and whether the bytes are synced.
     ghost draft: { Self.NewFile → Draft };
 
     /// Makes an empty new file at `new_path`, where nothing is, that is to replace the file at `path`. Only its owner
@@ -59,7 +60,7 @@ pub trait WriteDisk: ReadDisk {
     fn create(&mut self, path: &str, new_path: &str) -> Result<Self::NewFile, CreateFault>
         ensures made { IfOk result (λ new. Creates (Self.state self.old) (Self.state self.new) path.now new_path.now (draft new)) }
         ensures err { OnErr result (Self.state self.new ≡ Self.state self.old) }
-        ensures taken { IsErrOf result Taken → IsTaken (Self.state self.old) path.now new_path.now }
+        ensures name_taken { IsErrOf result Taken → IsTaken (Self.state self.old) path.now new_path.now }
         ensures failures { failures self.new ≡ failures_after_create (failures self.old) result };
 
     /// Writes some bytes from the front of `bytes` at the end of a new file.
@@ -70,8 +71,8 @@ pub trait WriteDisk: ReadDisk {
         ensures same { Self.state self.new ≡ Self.state self.old }
         ensures failures { failures self.new ≡ failures_after_write (failures self.old) result bytes.now };
 
-    /// Gives a new file the owner and the mode of the file that it is to replace, if there is one, and waits until all
-    /// that it took lasts.
+    /// Gives a new file the owner and the mode of the file that it is to replace, if there is one, and waits until its
+    /// bytes last.
     fn sync(&mut self, new: &mut Self::NewFile) -> Result<(), Failed>
         ensures synced { OnOk result (IsSynced (draft new.old) (draft new.new)) }
         ensures err { OnErr result (IsSameDraft (draft new.old) (draft new.new)) }
@@ -80,7 +81,7 @@ pub trait WriteDisk: ReadDisk {
 
     /// Renames a new file over the one that it is to replace. Where that fails the new file is returned.
     fn rename(&mut self, new: Self::NewFile) -> Result<Self::Renamed, Self::NewFile>
-        requires { (draft new).synced ≡ true }
+        requires synced { (draft new).synced ≡ true }
         ensures renamed { OnOk result (Renames (Self.state self.old) (Self.state self.new) (draft new)) }
         ensures returned { IfErr result (λ back. draft back ≡ draft new) }
         ensures err { OnErr result (Self.state self.new ≡ Self.state self.old) }

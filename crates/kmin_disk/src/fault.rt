@@ -1,47 +1,47 @@
 //! Faults of replacing a file.
 use thiserror::Error;
 
-/// No new file was made.
+/// Why no new file was made.
 #[derive(Clone, Copy, Debug, PartialEq, Eq, Error)]
 pub enum CreateFault {
-    /// Its name is in use. This is no failure of the disk.
+    /// The name of the new file is in use. This is no failure of the disk.
     #[error("Taken")]
     Taken,
-    /// The call failed.
+    /// The call to make the new file failed.
     #[error("Failed")]
     Failed,
 }
 
-/// A file wasn't replaced, or not for good.
+/// Why a file wasn't replaced, or not for good.
 #[derive(Debug, Drop, PartialEq, Eq, Error)]
 pub enum ReplaceFault {
-    /// It is no regular file. All is as it was.
+    /// The path leads to a link, a folder, a pipe or a device. Nothing changed.
     #[error("NotRegular")]
     NotRegular,
-    /// A call failed. All is as it was.
+    /// A call failed. Nothing changed.
     #[error("Write")]
     Unchanged,
-    /// Each of the names that were tried for a new file is taken. All is as it was.
+    /// Each of the names that were tried for a new file is in use. Nothing changed.
     #[error("Write")]
     NamesTaken,
-    /// A call failed, and the new file, at this path, couldn't be removed. All else is as it was.
+    /// A call failed, and the new file, at this path, couldn't be removed. Nothing else changed.
     #[error("Left")]
     Left(String),
     /// The file has its new bytes, but its folder couldn't be synced: after a power cut it may have its old ones.
     #[error("Write")]
     FolderNotSynced,
-    /// All is as it was.
+    /// Memory ran out. Nothing changed.
     #[error("OutOfMemory")]
     OutOfMemory,
 }
 
-/// A file wasn't given its bytes, or not for good.
+/// Why a file wasn't updated to given bytes, or not for good.
 #[derive(Debug, Drop, PartialEq, Eq, Error)]
 pub enum UpdateFault {
-    /// A read of the file that is there failed, before it was known whether it has these bytes. All is as it was.
+    /// A read of the present file failed, before it was known whether it has the bytes. Nothing changed.
     #[error("Write")]
     Unread,
-    /// It has other bytes or none, and wasn't replaced, or not for good.
+    /// The file has other bytes or is missing, and wasn't replaced, or not for good.
     #[error("{0}")]
     Replace(ReplaceFault),
 }

@@ -1,9 +1,9 @@
 //! Kinds of files.
 
-/// What a path leads to, where a link at its end isn't followed.
+/// The kind of the file at a path, where a link at its end isn't followed.
 #[derive(Clone, Copy, Debug, PartialEq, Eq)]
 pub enum FileKind {
-    /// Nothing that can be found.
+    /// No file that can be found.
     Missing,
     /// A regular file.
     Regular,

@@ -1,22 +1,25 @@
-//! Files that are replaced whole or not at all, over a disk whose reading and whose writing are traits.
+//! Files that are replaced whole or not at all, over a disk whose reading and whose writing are traits; and a reader of bytes
+//! in memory.
 #![tactic(auto)]
 
-mod comparing;
+mod comparison;
 mod disk;
 mod fault;
+mod file_update;
 mod kind;
 mod memory_disk;
+mod memory_reader;
 mod new_path;
-mod read_only;
+mod read_only_disk;
 mod replacement;
 mod system_disk;
-mod updating;
 
 pub use disk::{ReadDisk, WriteDisk};
 pub use fault::{CreateFault, ReplaceFault, UpdateFault};
+pub use file_update::update;
 pub use kind::FileKind;
 pub use memory_disk::{MemoryDisk, MemoryFile, MemoryNewFile, MemoryRename};
-pub use read_only::ReadOnly;
+pub use memory_reader::MemoryReader;
+pub use read_only_disk::ReadOnly;
 pub use replacement::replace;
 pub use system_disk::{SystemDisk, SystemFile, SystemNewFile, SystemRename};
-pub use updating::update;

@@ -1,4 +1,4 @@
-//! A disk in memory, for tests: all that has happened on it is known, and chosen calls fail.
+//! A disk in memory, for tests: its history is known, and chosen calls fail.
 ghost use Rattle.std.specs.Prelude.{◌≡◌, ◌∷◌, ◌++◌, [], List, ℕ, Some, ◌≢◌, OnOk, OnErr, IfOk, IfSome, OnSome, string_bytes};
 ghost use Rattle.kc_value.specs.Streams.{one_failure_more};
 ghost use Rattle.kmin_disk.specs.Disks.{History, newest};
@@ -10,7 +10,7 @@ use crate::kind::FileKind;
 use kc_value::{Failed, Seed, Source};
 use std::alloc::{AllocError, Global};
 
-/// What a path of a disk in memory holds.
+/// The content of a path of a disk in memory. A file is `Unfinished` from its making until it is renamed.
 #[derive(Clone, Copy)]
 pub(crate) enum MemoryContent<'a> {
     Nothing,
@@ -19,7 +19,7 @@ pub(crate) enum MemoryContent<'a> {
     Special,
 }
 
-/// One change of a disk in memory.
+/// One change of a disk in memory: a path gets a content, or a new file is renamed.
 #[derive(Drop)]
 pub(crate) enum Event<'a> {
     Holds {
@@ -34,7 +34,7 @@ pub(crate) enum Event<'a> {
 }
 
 impl<'a> Event<'a> {
-    /// What a path holds after this, by what it held before.
+    /// The content of a path after this change, given its content before.
     fn content_after(&self, path: &str, before: MemoryContent<'a>) -> MemoryContent<'a>
         ensures { (history : History) → newest history ≡ Some (content_view before.entry) → newest (history_after self.now path.now history) ≡ Some (content_view result) }
     {
@@ -59,8 +59,8 @@ impl<'a> Event<'a> {
     }
 }
 
-/// A disk that begins empty. Each path is a place of its own. A rename fails where the new file's bytes are none of
-/// the disk's `texts`.
+/// A disk in memory, which begins empty. Each path is a place of its own. The bytes of all files are borrowed, so a
+/// rename fails unless the new file has the bytes of one of `texts`.
 #[derive(Drop)]
 pub struct MemoryDisk<'a> {
     alloc: Global,
@@ -73,7 +73,7 @@ pub struct MemoryDisk<'a> {
     failed: u64,
 }
 
-/// A new file of a disk in memory.
+/// A new file of a disk in memory, which hasn't been renamed yet.
 #[derive(Drop)]
 pub struct MemoryNewFile {
     path: String,
@@ -82,10 +82,10 @@ pub struct MemoryNewFile {
     synced: bool,
 }
 
-/// A rename whose folder isn't synced yet.
+/// A rename on a disk in memory whose folder isn't synced yet.
 pub struct MemoryRename {}
 
-/// A reader of a file of a disk in memory.
+/// A reader of a file of a disk in memory, whose reads fail after a chosen number.
 #[derive(Drop)]
 pub struct MemoryFile<'a> {
     left: &'a [u8],
@@ -113,7 +113,7 @@ impl Source for MemoryFile<'_> {
 }
 
 impl<'a> MemoryDisk<'a> {
-    /// An empty disk. A write takes at most `most` bytes.
+    /// An empty disk, on which a write takes at most `most` bytes.
     pub fn new(alloc: Global, texts: &'a [&'a [u8]], most: usize) -> MemoryDisk<'a>
         ensures state { ⟦<MemoryDisk<'a> as ReadDisk>⟧.state result ≡ memory_state [] }
         ensures failures { ⟦<MemoryDisk<'a> as WriteDisk>⟧.failures result ≡ 0 }
@@ -130,16 +130,17 @@ impl<'a> MemoryDisk<'a> {
         }
     }
 
-    /// Adds a regular file.
+    /// Adds a regular file of these bytes.
     pub fn add_file(&mut self, path: &str, bytes: &'a [u8]) -> Result<(), AllocError> {
         self.add(path, MemoryContent::File(bytes))
     }
 
-    /// Adds a link, folder, pipe or device.
+    /// Adds a file that isn't regular: a link, a folder, a pipe or a device.
     pub fn add_special(&mut self, path: &str) -> Result<(), AllocError> {
         self.add(path, MemoryContent::Special)
     }
 
+    /// Gives a path a content.
     fn add(&mut self, path: &str, content: MemoryContent<'a>) -> Result<(), AllocError>
         ensures added { OnOk result (AppendsHolds self.old.log.items self.new.log.items path.now content.entry) }
         ensures err { OnErr result (self.new.log.items ≡ self.old.log.items) }
@@ -150,18 +151,18 @@ impl<'a> MemoryDisk<'a> {
         Ok(())
     }
 
-    /// After `calls` more calls that change files, the next `failing` ones fail.
+    /// Lets `calls` more calls that change files pass, and then the next `failing` ones fail.
     pub fn fail_after(&mut self, calls: u64, failing: u64) {
         self.calls_before_failing = calls;
         self.failing_calls = failing;
     }
 
-    /// Of each file that is opened from now on the reads after so many fail.
+    /// Lets all reads but the first `reads` fail, in each file that is opened from now on.
     pub fn fail_reads_after(&mut self, reads: u64) {
         self.reads_before_failing = reads;
     }
 
-    /// The bytes of the regular file at a path.
+    /// The bytes of the regular file at a path; `None` if there is none.
     pub fn bytes_at(&self, path: &str) -> Option<&'a [u8]> {
         match self.content(path) {
             MemoryContent::File(bytes) => Some(bytes),
@@ -169,17 +170,17 @@ impl<'a> MemoryDisk<'a> {
         }
     }
 
-    /// How many changes there were.
+    /// The number of changes so far: files added, made, renamed and removed.
     pub fn changes(&self) -> usize {
         self.log.len()
     }
 
-    /// How many calls failed.
+    /// The number of calls that failed.
     pub fn failures(&self) -> u64 {
         self.failed
     }
 
-    /// What a path holds.
+    /// The present content of a path.
     fn content(&self, path: &str) -> MemoryContent<'a>
         ensures { newest ((memory_state self.now.log.items).history path.now) ≡ Some (content_view result) }
     {
@@ -190,7 +191,7 @@ impl<'a> MemoryDisk<'a> {
         content
     }
 
-    /// Whether this call is one that fails.
+    /// Whether the call that asks this is to fail, as `fail_after` chose.
     fn fails(&mut self) -> bool
         ensures log { self.new.log ≡ self.old.log }
         ensures failed { self.new.failed ≡ self.old.failed }
@@ -215,7 +216,7 @@ impl<'a> MemoryDisk<'a> {
         Failed
     }
 
-    /// Makes an empty new file at a path that holds nothing.
+    /// Makes an empty new file at `new_path`, which is to replace the file at `path`.
     fn begin(&mut self, path: &str, new_path: &str) -> Result<MemoryNewFile, AllocError>
         ensures began { OnOk result (AppendsHolds self.old.log.items self.new.log.items new_path.now MemoryContent.Unfinished) }
         ensures draft { IfOk result (λ new. (string_bytes new.path ≡ new_path.now) × (string_bytes new.target ≡ path.now) × (new.bytes.items ≡ [])) }
@@ -232,9 +233,9 @@ impl<'a> MemoryDisk<'a> {
         Ok(new)
     }
 
-    /// Renames a new file over its target, which holds these bytes then.
+    /// Renames a new file of these bytes over its target.
     fn move_to_target(&mut self, new: &MemoryNewFile, bytes: &'a [u8]) -> Result<(), AllocError>
-        requires { bytes.now ≡ new.now.bytes.items }
+        requires bytes { bytes.now ≡ new.now.bytes.items }
         ensures moved { OnOk result (AppendsRename self.old.log.items self.new.log.items new.now) }
         ensures err { OnErr result (self.new.log.items ≡ self.old.log.items) }
         ensures failed { self.new.failed ≡ self.old.failed }
@@ -245,7 +246,7 @@ impl<'a> MemoryDisk<'a> {
         Ok(())
     }
 
-    /// The text of which a new file has the bytes, unless it is at its own target.
+    /// The text that equals the bytes of a new file; `None` if there is none, or the file is at its target already.
     fn text_for(&self, new: &MemoryNewFile) -> Option<&'a [u8]>
         ensures text { IfSome result (λ text. text.now ≡ new.now.bytes.items) }
         ensures apart { OnSome result (string_bytes new.now.path ≢ string_bytes new.now.target) }
@@ -256,7 +257,7 @@ impl<'a> MemoryDisk<'a> {
         self.text_of(&new.bytes)
     }
 
-    /// One of the texts that equals the bytes.
+    /// The first of the disk's `texts` that equals these bytes.
     fn text_of(&self, bytes: &[u8]) -> Option<&'a [u8]>
         ensures { IfSome result (λ text. text.now ≡ bytes.now) }
     {

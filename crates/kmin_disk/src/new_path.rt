@@ -50,10 +50,10 @@ fn push_hex(text: &mut String, count: u8, number: u64) -> Result<(), AllocError>
     text.push(hex_digit((number % 16) as u8))
 }
 
-/// A digit in base 16.
+/// The character of a digit in base 16.
 fn hex_digit(digit: u8) -> char
-    requires { digit < 16 }
-    ensures { result ≡ hex_digit digit }
+    requires in_base { digit < 16 }
+    ensures value { result ≡ hex_digit digit }
 {
     if digit < 10 {
         (b'0' + digit) as char

@@ -24,11 +24,11 @@ pub fn replace<D: WriteDisk>(
     path: &str,
     bytes: &[u8],
 ) -> Result<(), ReplaceFault>
-    // Up to a moment the old bytes were at the path, and from then on these.
+    // The old bytes are at the path up to some moment, and from then on the new ones.
     ensures ok { OnOk result (Replaces (D.state disk.old) (D.state disk.new) path.now bytes.now) }
     ensures err { IfErr result (FaultLeaves (D.state disk.old) (D.state disk.new) path.now bytes.now) }
 
-    // An `Ok` has no failed call, and each fault of the disk has one.
+    // No call failed where the result is `Ok`, and one or two did at a fault of the disk.
     ensures failures { D.failures disk.new ≡ failures_after_replace (D.failures disk.old) result }
 
     ensures not_regular { IsErrOf result ReplaceFault.NotRegular → IsOfKind (content_at (D.state disk.old) path.now) FileKind.NotRegular }
@@ -41,7 +41,7 @@ pub fn replace<D: WriteDisk>(
     }
 }
 
-/// Replaces what is no link, folder, pipe or device.
+/// Replaces a regular or missing file.
 fn replace_regular<D: WriteDisk>(
     alloc: Global,
     disk: &mut D,
@@ -70,7 +70,7 @@ fn replace_regular<D: WriteDisk>(
 /// How many names are tried for a new file.
 const ATTEMPTS: u8 = 8;
 
-/// Makes a new file in the folder of a path, and gives its path too.
+/// Makes a new file in the folder of a path, and returns it with its own path.
 fn create_beside<D: WriteDisk>(
     alloc: Global,
     disk: &mut D,

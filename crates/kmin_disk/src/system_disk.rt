@@ -13,7 +13,7 @@ use std::os::unix::fs::{MetadataExt, OpenOptionsExt, fchown};
 use std::path::Path;
 use std::{fs, io};
 
-/// The disk of the system, of which nothing is known.
+/// The disk of the system. Contracts know nothing of its files.
 #[derive(Drop)]
 pub struct SystemDisk<'a> {
     runtime: &'a HostRuntime,
@@ -37,7 +37,7 @@ pub struct SystemNewFile {
     old: Option<Metadata>,
 }
 
-/// A rename whose folder isn't synced yet.
+/// A rename on the disk of the system whose folder isn't synced yet.
 pub struct SystemRename {
     target: String,
 }
@@ -73,7 +73,7 @@ impl<'a> SystemDisk<'a> {
     }
 }
 
-/// How many bytes a file has, and 0 where the system doesn't tell.
+/// The number of bytes of a file; 0 if the system doesn't give it.
 fn size_now(file: &File) -> usize {
     match file.metadata() {
         Ok(metadata) => usize::try_from(metadata.len()).unwrap_or(usize::MAX),
@@ -81,7 +81,7 @@ fn size_now(file: &File) -> usize {
     }
 }
 
-/// The regular file at a path, nothing where no file is, and an error where there is anything else.
+/// The metadata of the regular file at a path; `None` if there is no file, and an error for any other kind of file.
 fn regular_file(runtime: &HostRuntime, path: &str) -> io::Result<Option<Metadata>> {
     match fs::symlink_metadata(runtime, path) {
         Ok(old) if old.is_file() => Ok(Some(old)),
@@ -91,7 +91,7 @@ fn regular_file(runtime: &HostRuntime, path: &str) -> io::Result<Option<Metadata
     }
 }
 
-/// Makes an empty new file, only for this user where it is to replace another.
+/// Makes an empty new file. If it is to replace another file, only this user can read it yet.
 fn new_file(runtime: &HostRuntime, path: &str, new_path: &str) -> io::Result<SystemNewFile>
     ensures { IfOk result (λ new. (string_bytes new.path ≡ new_path.now) × (string_bytes new.target ≡ path.now)) }
 {
@@ -121,7 +121,7 @@ fn copy_rights(file: &File, old: &Metadata) -> io::Result<()> {
     file.set_permissions(old.permissions())
 }
 
-/// Gives a new file the rights of the one that it is to replace, and waits until it lasts.
+/// Gives a new file the owner and the mode of the file that it is to replace, if there is one, and syncs it.
 fn finish(new: &SystemNewFile) -> io::Result<()> {
     if let Some(old) = &new.old {
         copy_rights(&new.file, old)?;
@@ -129,7 +129,7 @@ fn finish(new: &SystemNewFile) -> io::Result<()> {
     new.file.sync_all()
 }
 
-/// Waits until the names in the folder of a path last.
+/// Syncs the folder of a path, so that renames in it last.
 fn sync_folder_of(runtime: &HostRuntime, path: &str) -> io::Result<()> {
     let folder = match Path::new(path).parent() {
         Some(folder) => folder.as_str(),

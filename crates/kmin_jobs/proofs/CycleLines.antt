@@ -1,7 +1,7 @@
 -- The line of a cycle, written in three parts.
 use Rattle.std.proofs.Common.{◌≡◌, ℕ, List, ◌∷◌, [], ◌++◌, Option, codes, subst, append_assoc}
-use Rattle.kmin_jobs.specs.StandardError.{TakesWhole, TakesPart}
-use Rattle.kmin_jobs.proofs.Taking.{whole_whole, whole_part, part_more}
+use Rattle.kmin_tidy.specs.StandardError.{TakesWhole, TakesPart}
+use Rattle.kmin_tidy.proofs.WriterLemmas.{whole_whole, whole_part, part_more}
 
 -- the parts, joined
 parts_joined : (path number units : List ℕ)

@@ -27,7 +27,8 @@ with_next files n texts h =
     ∙ with_more (take n files) (f ∷ []) texts ∙ sym (ap (λ o. with_file_at o before) at)
 
 -- the name of a file by its number
-pub named_at : (files : List ExpandedFile) (texts : Files) (number : ℕ) → path_at (named_texts files texts) number ≡ option_map (name_of_key files) (path_at texts number)
+pub named_at : (files : List ExpandedFile) (texts : Files) (number : ℕ) → path_at (named_texts files texts) number
+    ≡ option_map (name_of_key files) (path_at texts number)
 named_at files texts number =
     ap (option_map (λ (f : List ℕ × List ℕ). f.0)) (slice_get-map (λ (f : List ℕ × List ℕ). (name_of_key files f.0, f.1)) texts.list number)
     ∙ twice (slice_get texts.list number)

@@ -17,7 +17,7 @@ use Rattle.kmin_jobs.specs.JobTexts.{TreeTexts, AreExpandedTexts, AreTextsOfJob,
 use Rattle.kmin_jobs.specs.TreesBelow.{contents_below}
 use Rattle.kmin_jobs.specs.Answers.{AreAccepted}
 use Rattle.kmin_jobs.specs.MacroReports.{macro_notice_line}
-use Rattle.kmin_jobs.specs.StandardError.{TakesLines}
+use Rattle.kmin_tidy.specs.StandardError.{TakesLines}
 use Rattle.kmin_jobs.specs.Stops.{StopsInExpansion, StopsAtTree}
 use Rattle.kmin_jobs.specs.Stops as stops
 use Rattle.kmin_jobs.specs.between.ExpansionStops.{StopsExpanding}
@@ -27,13 +27,14 @@ use Rattle.kmin_jobs.specs.between.ExpansionStops as expanding
 use Rattle.kmin_jobs.specs.between.RunErrors.{status_of}
 use Rattle.kmin_jobs.specs.between.TreeStops.{StopsAtTexts}
 use Rattle.kmin_jobs.specs.between.TreeStops as tree_stops
-use Rattle.kmin_jobs.proofs.Taking.{lines_append}
+use Rattle.kmin_tidy.proofs.WriterLemmas.{lines_append}
 
 -- texts as they are
 abbrev pub plain_texts : Files → TreeTexts
 plain_texts texts = record { texts = texts; names = texts; lines = [] }
 
-pub are_plain : (known : Known) (settings : Settings) (texts : Files) → settings.expansion ≡ None → AreTextsBelow known.content settings.root settings.language texts
+pub are_plain : (known : Known) (settings : Settings) (texts : Files) → settings.expansion ≡ None
+    → AreTextsBelow known.content settings.root settings.language texts
     → AreTextsOfJob known settings (plain_texts texts)
 are_plain known settings texts e h = as_they_are e h refl refl
 
@@ -48,7 +49,8 @@ module _ (known : Known) (settings : Settings) (taken taken_after : Option (List
   -- without the stage
   module _ (e : settings.expansion ≡ None) where
     pub plain_accepted : (r : Result Settled RunError)
-        → IfOk r (λ settled. (texts : Files) × AreTextsBelow known.content settings.root settings.language texts × AreAccepted texts settings.tree (tree_of_settled settled))
+        → IfOk r (λ settled. (texts : Files) × AreTextsBelow known.content settings.root settings.language texts
+        × AreAccepted texts settings.tree (tree_of_settled settled))
         → IfOk r (λ settled. TakesLines taken failed [] taken_after failed_after)
         → IfOk r (λ settled. (t : TreeTexts) × AreTextsOfJob known settings t × AreAccepted t.texts settings.tree (tree_of_settled settled)
         × TakesLines taken failed t.lines taken_after failed_after)
@@ -117,7 +119,7 @@ module _ (known : Known) (root first : List ℕ) (language : Language) (expansio
         lines_append taken middle failed failed_middle h.0.lines s.0 taken_after failed_after h.4 s.2,
       )
 
--- the expansion of a job, after its answers
+-- the expansion of a tree, after the answers are read
 module _ (known others : Known) (root first : List ℕ) (language : Language) (expansion : Expansion) (answers : Recorded) (same : others ≡ known)
     (answered : AreJobAnswers known.content known.variable expansion answers)
     (taken middle taken_after : Option (List ℕ)) (failed failed_middle failed_after : ℕ) (before : TakesLines taken failed [] middle failed_middle) where

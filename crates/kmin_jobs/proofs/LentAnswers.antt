@@ -1,4 +1,4 @@
--- Answers of definitions, of files and of the environment, one after another.
+-- Answers from definitions, answer files and the environment, one after another.
 use Rattle.std.proofs.Common.{◌≡◌, ℕ, suc, ◌+◌, ◌<◌, Bool, true, false, List, [], ◌∷◌, ◌++◌, length, map, take, get_or, Option, Some, None, refl, sym, ap, ◌∙◌, subst, arith}
 use Rattle.std.proofs.lemmas.List.{map-append}
 use Rattle.std.proofs.Math.Seq.{take-suc}
@@ -93,7 +93,8 @@ module _ (variable_of : List ℕ → VariableContent) (before after : Recorded) 
 
   new_each : (t : Bool) (question : List ℕ) → bytes_eq question name ≡ t → keyword_in_table before name ≡ None
       → (if t then Some (answer_of_variable value) else keyword_in_table before question)
-      ≡ or_else (keyword_in_table before question) (if (bytes_eq name question || false) then Some (answer_of_variable (if t then value else known_value (variable_of question))) else None)
+      ≡ or_else (keyword_in_table before question) (if (bytes_eq name question || false)
+      then Some (answer_of_variable (if t then value else known_value (variable_of question))) else None)
   new_each true question e absent =
       let same : question ≡ name = (bytes_eq-Decides question name).0 e in
       let f : bytes_eq name question ≡ true = same_name true question name e in
@@ -103,7 +104,8 @@ module _ (variable_of : List ℕ → VariableContent) (before after : Recorded) 
       rw f (sym (or_none (keyword_in_table before question)))
 
   pub lent_new : keyword_in_table before name ≡ None → MatchVariable (variable_of name) value
-      → ((question : List ℕ) → keyword_in_table after question ≡ (if bytes_eq question name then Some (answer_of_variable value) else keyword_in_table before question))
+      → ((question : List ℕ) → keyword_in_table after question ≡ (if bytes_eq question name then Some (answer_of_variable value)
+      else keyword_in_table before question))
       → AreLent variable_of (name ∷ []) before after
   unfolding new_value
   lent_new absent m h = record {
@@ -113,7 +115,8 @@ module _ (variable_of : List ℕ → VariableContent) (before after : Recorded) 
   }
 
 -- names after names
-module _ (variable_of : List ℕ → VariableContent) (xs ys : List (List ℕ)) (a b c : Recorded) (h : AreLent variable_of xs a b) (k : AreLent variable_of ys b c) where
+module _ (variable_of : List ℕ → VariableContent) (xs ys : List (List ℕ)) (a b c : Recorded) (h : AreLent variable_of xs a b)
+    (k : AreLent variable_of ys b c) where
   both : List ℕ → Option (List ℕ)
   both n = if is_in_list n xs then h.values n else k.values n
 
@@ -141,7 +144,7 @@ module _ (variable_of : List ℕ → VariableContent) (xs ys : List (List ℕ)) 
         (sym (list_any-append (λ y. bytes_eq y question) xs ys));
   }
 
--- all answers of a job
+-- each answer of a job
 pub answers_of_job : (content_of : List ℕ → FileContent) (variable_of : List ℕ → VariableContent) (expansion : Expansion) (recorded defined answers : Recorded)
     → FilesRecord content_of expansion.answers [] recorded
     → ((question : List ℕ) → keyword_in_table defined question ≡ or_else (defined_answer expansion.definitions question) (keyword_in_table recorded question))
@@ -156,11 +159,13 @@ answers_of_job content_of variable_of expansion recorded defined answers f d l =
       ∙ or_assoc (defined_answer expansion.definitions question) (keyword_in_table recorded question) (lent_answer expansion.environment l.values question);
 }
 
--- one definition more over the answers before
+-- one definition more, over earlier answers
 pub defined_next : (definitions : List DeclaredDefinition) (k : ℕ) (absent : DeclaredDefinition) (before answers : Recorded) → k < length definitions
-    → ((question : List ℕ) → keyword_in_table answers question ≡ or_else (defined_answer (map definition_view (take k definitions)) question) (keyword_in_table before question))
+    → ((question : List ℕ) → keyword_in_table answers question ≡ or_else (defined_answer (map definition_view (take k definitions)) question)
+    (keyword_in_table before question))
     → (question : List ℕ)
-    → (if bytes_eq question (get_or definitions k absent).name.now then Some (Some (get_or definitions k absent).value.now) else keyword_in_table answers question)
+    → (if bytes_eq question (get_or definitions k absent).name.now then Some (Some (get_or definitions k absent).value.now)
+    else keyword_in_table answers question)
     ≡ or_else (defined_answer (map definition_view (take (k + 1) definitions)) question) (keyword_in_table before question)
 defined_next definitions k absent before answers n h question =
     let next : k + 1 ≡ suc k = omega arith in

@@ -27,9 +27,11 @@ line_more f xs k d text after h e a =
     ∙ ap (λ z. flat_map f (take k xs) ++ z) (append-nil (f (get_or xs k d)))))
 
 -- each difference has the values of its symbol
-has_values_of : (strings : Strings) (tree : Tree) (v w : List UnitValue) (s : ℕ) (a b : SymbolValue) (d : Difference) (same : Bool) → value_of_symbol tree v s ≡ Some a
+has_values_of : (strings : Strings) (tree : Tree) (v w : List UnitValue) (s : ℕ) (a b : SymbolValue) (d : Difference) (same : Bool)
+    → value_of_symbol tree v s ≡ Some a
     → value_of_symbol tree w s ≡ Some b
-    → (if same then None else Some (record { symbol = s; left = a; right = b })) ≡ Some d → difference_line strings tree d ≡ line_between strings tree v w d.symbol
+    → (if same then None else Some (record { symbol = s; left = a; right = b })) ≡ Some d → difference_line strings tree d
+    ≡ line_between strings tree v w d.symbol
 has_values_of strings tree v w s a b d true e f h = cc
 has_values_of strings tree v w s a b d false e f h =
     let same : record { symbol = s; left = a; right = b } ≡ d = cc in
@@ -69,5 +71,6 @@ pub compared_text : (strings : Strings) (tree whole : Tree) (v w a b : List Unit
     → text ≡ flat_map (λ (d : ToldDifference). line_between strings whole a b d.symbol) given
     → text ≡ flat_map (difference_line strings tree) (differences tree v w)
 compared_text strings tree whole v w a b listed given text t e f g l h =
-    let k : text ≡ flat_map (λ (d : ToldDifference). line_between strings tree v w d.symbol) (map difference_view (differences tree v w)) = rw (t, e, f, g, l) at h in
+    let k : text ≡ flat_map (λ (d : ToldDifference). line_between strings tree v w d.symbol) (map difference_view (differences tree v w)) =
+    rw (t, e, f, g, l) at h in
     k ∙ sym (difference_lines_are strings tree v w (symbol_numbers tree))

@@ -11,13 +11,14 @@ use Rattle.kmin_jobs.specs.declared.run_error.RunError.{RunError}
 use Rattle.kmin_jobs.specs.FileContents.{Known}
 use Rattle.kmin_jobs.specs.JobAnswers.{AreJobAnswers}
 use Rattle.kmin_jobs.specs.TreesBelow.{contents_below}
-use Rattle.kmin_jobs.specs.Reports.{output_line, last_lines}
-use Rattle.kmin_jobs.specs.StandardError.{TakesLines}
+use Rattle.kmin_jobs.specs.Reports.{last_lines}
+use Rattle.kmin_tidy.specs.Reports.{output_line}
+use Rattle.kmin_tidy.specs.StandardError.{TakesLines}
 use Rattle.kmin_jobs.specs.WantedQuestions.{AreAsked, StopsWanting, at_write, question_line, questions_text}
 use Rattle.kmin_jobs.specs.between.RunErrors.{status_of}
-use Rattle.kmin_jobs.proofs.Taking.{lines_append}
+use Rattle.kmin_tidy.proofs.WriterLemmas.{lines_append}
 
--- the questions by answers that were read before
+-- the open questions, after the answers are read
 pub are_asked : (known others : Known) (questions : Questions) (answers : Recorded) (asked : Result (List (List ℕ)) Fault) → others ≡ known
     → AreJobAnswers known.content known.variable questions.expansion answers → AreWanted (contents_below others questions.root) answers questions.tree asked
     → AreAsked known questions asked
@@ -25,7 +26,8 @@ are_asked known others questions answers asked same a w =
     record { answers = answers; answered = a; wanted = subst (λ (k : Known). AreWanted (contents_below k questions.root) answers questions.tree asked) same w }
 
 -- a write of the questions failed
-pub write_stops : (known : Known) (questions : Questions) (asked : List (List ℕ)) (status : ℕ) (taken middle taken_after : Option (List ℕ)) (failed failed_middle failed_after : ℕ)
+pub write_stops : (known : Known) (questions : Questions) (asked : List (List ℕ)) (status : ℕ) (taken middle taken_after : Option (List ℕ))
+    (failed failed_middle failed_after : ℕ)
     → status ≡ 5 → AreAsked known questions (Ok asked) → TakesLines taken failed [] middle failed_middle
     → TakesLines middle failed_middle (output_line ∷ []) taken_after failed_after
     → (lines : List (List ℕ)) × StopsWanting known questions status lines × TakesLines taken failed (lines ++ last_lines status) taken_after failed_after
@@ -36,7 +38,8 @@ write_stops known questions asked status taken middle taken_after failed failed_
 )
 
 -- the listing ended, and its last line is reported
-pub questions_end : (known : Known) (questions : Questions) (stop : RunError) (status : ℕ) (taken middle taken_after : Option (List ℕ)) (failed failed_middle failed_after : ℕ)
+pub questions_end : (known : Known) (questions : Questions) (stop : RunError) (status : ℕ) (taken middle taken_after : Option (List ℕ))
+    (failed failed_middle failed_after : ℕ)
     → status ≡ status_of stop
     → (lines : List (List ℕ)) × StopsWanting known questions (status_of stop) lines × TakesLines taken failed lines middle failed_middle
     → TakesLines middle failed_middle (last_lines status) taken_after failed_after

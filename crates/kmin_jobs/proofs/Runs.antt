@@ -6,7 +6,7 @@ use Rattle.bstr.specs.Find.{IsFirstByte, is_byte}
 use Rattle.std.specs.List.{list_all, prefix_len}
 use Rattle.kmin_jobs.specs.between.LineEnds.{begins_after_line, is_inline}
 
--- what passes stands in the run
+-- each byte of the run passes
 run_cases : (p : ℕ → Bool) (c : ℕ) (cs : List ℕ) (b : Bool) → p c ≡ b → list_all p (take (prefix_len p cs) cs) ≡ true
     → list_all p (take (cond b (1 + prefix_len p cs) 0) (c ∷ cs)) ≡ true
 run_cases p c cs true e h = let n : 1 + prefix_len p cs ≡ suc (prefix_len p cs) = omega arith in rw n (rw e h)

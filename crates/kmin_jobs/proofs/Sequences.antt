@@ -19,18 +19,20 @@ use Rattle.kc_dotconfig.specs.Fragments.{users_of, notice_pair}
 use Rattle.kc_dotconfig.specs.ReadResults.{IsReadAs, IsRefused, ReportsFault}
 use Rattle.kmin_jobs.specs.declared.run_error.RunError.{RunError}
 use Rattle.kmin_jobs.specs.declared.run_error.RunError.TheVariants.{Memory}
-use Rattle.kmin_jobs.specs.FileContents.{FileContent, MatchContent, OpensAs}
-use Rattle.kmin_jobs.specs.Reports.{file_notices, notice_line, notice_lines, fault_line}
-use Rattle.kmin_jobs.specs.StandardError.{TakesLines, TakesLine}
-use Rattle.kmin_jobs.specs.StandardError as taking
+use Rattle.kmin_jobs.specs.FileContents.{FileContent, MatchContent}
+use Rattle.kmin_disk.specs.Contents.{OpensAs}
+use Rattle.kmin_jobs.specs.Reports.{file_notices, notice_lines}
+use Rattle.kmin_tidy.specs.Reports.{notice_line, fault_line}
+use Rattle.kmin_tidy.specs.StandardError.{TakesLines}
+use Rattle.kmin_tidy.specs.StandardError as taking
 use Rattle.kmin_jobs.specs.Answers.{FilesMean, none, file, overlaid_by}
 use Rattle.kmin_jobs.specs.Stops as stops
 use Rattle.kmin_jobs.specs.Stops.{StopsAtFile, StopsAmongFiles, refused, unread, noticed}
 use Rattle.kmin_jobs.specs.Strictness.{AllowsNotices}
-use Rattle.kmin_jobs.specs.between.Loaded.{IsLoaded, AreLoaded}
+use Rattle.kmin_jobs.specs.between.LoadResults.{IsLoaded, AreLoaded}
 use Rattle.kmin_jobs.specs.between.LoadStops.{StopsLoad, StopsAtPath, at_file, for_memory, fragment_notices, load_lines, load_status}
 use Rattle.kmin_jobs.specs.between.RunErrors.{status_of}
-use Rattle.kmin_jobs.proofs.Taking.{lines_append}
+use Rattle.kmin_tidy.proofs.WriterLemmas.{lines_append}
 
 -- the bytes that were read of an opened file begin what is known of it; at its end they are all of it
 pub rest_of : (content : FileContent) (before after : Option (List ℕ)) (bytes : List ℕ) → OpensAs content (Some before) → Consumes before after bytes
@@ -63,7 +65,8 @@ notices_are : (path : List ℕ) (fragment : Fragment) (meanings : List LineMeani
     → fragment_notices path fragment ≡ file_notices path meanings
 notices_are path fragment meanings e = map_twice (notice_line path) notice_pair fragment.notices.items ∙ ap (map (notice_line path)) e
 
-module _ (content : FileContent) (format : FileFormat) (tree : Tree) (path : List ℕ) (before after : Option (List ℕ)) (opens : OpensAs content (Some before)) where
+module _ (content : FileContent) (format : FileFormat) (tree : Tree) (path : List ℕ) (before after : Option (List ℕ))
+    (opens : OpensAs content (Some before)) where
   -- a file that was opened and read
   pub loaded_from : (taken taken_after : Option (List ℕ)) (failed failed_after : ℕ) (fragment : Fragment) → IsReadAs format tree before after fragment
       → TakesLines taken failed (fragment_notices path fragment) taken_after failed_after
@@ -95,7 +98,8 @@ module _ (content : FileContent) (format : FileFormat) (tree : Tree) (path : Lis
       → StopsAtPath content format strict tree path (load_status kind) (load_lines path number kind)
   refused_file strict kind number r s l = refused_sides strict r.known kind number r.consumed r.first s l
 
-  by_kind : (strict : Bool) (read_failed read_failed_after : ℕ) (kind : LoadKind) (number : ℕ) → ReportsFault format tree before after read_failed read_failed_after kind number
+  by_kind : (strict : Bool) (read_failed read_failed_after : ℕ) (kind : LoadKind) (number : ℕ)
+      → ReportsFault format tree before after read_failed read_failed_after kind number
       → StopsAtPath content format strict tree path (load_status kind) (load_lines path number kind)
   by_kind strict f g OutOfMemory number t = for_memory refl refl
   by_kind strict f g Read number t =
@@ -127,7 +131,8 @@ notices_there : (fragment : Fragment) (meanings : List LineMeaning) → map noti
     → fragment.notices.items ≢ [] → notices_from 1 meanings ≢ []
 notices_there fragment meanings e h n = h (map_nil notice_pair fragment.notices.items (e ∙ n))
 
-pub stopped_noticed : (content : FileContent) (format : FileFormat) (strict : Bool) (tree : Tree) (path : List ℕ) (fragment : Fragment) (status : ℕ) (taken taken_after : Option (List ℕ)) (failed failed_after : ℕ)
+pub stopped_noticed : (content : FileContent) (format : FileFormat) (strict : Bool) (tree : Tree) (path : List ℕ) (fragment : Fragment) (status : ℕ)
+    (taken taken_after : Option (List ℕ)) (failed failed_after : ℕ)
     → IsLoaded content format tree path fragment taken failed taken_after failed_after → strict ≡ true → fragment.notices.items ≢ [] → status ≡ 4
     → (lines : List (List ℕ)) × StopsAtPath content format strict tree path status lines × TakesLines taken failed lines taken_after failed_after
 stopped_noticed content format strict tree path fragment status taken taken_after failed failed_after l s h e = (
@@ -137,16 +142,20 @@ stopped_noticed content format strict tree path fragment status taken taken_afte
 )
 
 -- meanings by what is known of the same files
-pub mean_again : (content_of others : List ℕ → FileContent) (format : FileFormat) (strict : Bool) (tree : Tree) (paths : List (List ℕ)) (meanings : List (List LineMeaning))
-    → ((path : List ℕ) → others path ≡ content_of path) → FilesMean others format strict tree paths meanings → FilesMean content_of format strict tree paths meanings
+pub mean_again : (content_of others : List ℕ → FileContent) (format : FileFormat) (strict : Bool) (tree : Tree) (paths : List (List ℕ))
+    (meanings : List (List LineMeaning))
+    → ((path : List ℕ) → others path ≡ content_of path) → FilesMean others format strict tree paths meanings
+    → FilesMean content_of format strict tree paths meanings
 mean_again content_of others format strict tree paths meanings same none = none
 mean_again content_of others format strict tree paths meanings same (file path bytes more own rest matches accepted means allowed h) =
     file path bytes more own rest (subst (λ content. MatchContent content bytes) (same path) matches) accepted means allowed
     (mean_again content_of others format strict tree more rest same h)
 
 -- files after files
-mean_append : (content_of : List ℕ → FileContent) (format : FileFormat) (strict : Bool) (tree : Tree) (ys : List (List ℕ)) (ns : List (List LineMeaning)) (xs : List (List ℕ)) (ms : List (List LineMeaning))
-    → FilesMean content_of format strict tree ys ns → FilesMean content_of format strict tree xs ms → FilesMean content_of format strict tree (xs ++ ys) (ms ++ ns)
+mean_append : (content_of : List ℕ → FileContent) (format : FileFormat) (strict : Bool) (tree : Tree) (ys : List (List ℕ)) (ns : List (List LineMeaning))
+    (xs : List (List ℕ)) (ms : List (List LineMeaning))
+    → FilesMean content_of format strict tree ys ns → FilesMean content_of format strict tree xs ms → FilesMean content_of format strict tree (xs ++ ys)
+    (ms ++ ns)
 mean_append content_of format strict tree ys ns xs ms k none = k
 mean_append content_of format strict tree ys ns xs ms k (file path bytes more own rest matches accepted means allowed h) =
     file path bytes (more ++ ys) own (rest ++ ns) matches accepted means allowed (mean_append content_of format strict tree ys ns more rest k h)
@@ -156,14 +165,16 @@ overlaid_append : (tree : Tree) (users : List (Option UserValue)) (ms ns : List 
 overlaid_append tree users [] ns = refl
 overlaid_append tree users (m ∷ ms) ns = overlaid_append tree (overlay (file_assignment tree m) users) ms ns
 
-notices_append : (content_of : List ℕ → FileContent) (format : FileFormat) (strict : Bool) (tree : Tree) (ys : List (List ℕ)) (ns : List (List LineMeaning)) (xs : List (List ℕ)) (ms : List (List LineMeaning))
+notices_append : (content_of : List ℕ → FileContent) (format : FileFormat) (strict : Bool) (tree : Tree) (ys : List (List ℕ)) (ns : List (List LineMeaning))
+    (xs : List (List ℕ)) (ms : List (List LineMeaning))
     → FilesMean content_of format strict tree xs ms → notice_lines (xs ++ ys) (ms ++ ns) ≡ notice_lines xs ms ++ notice_lines ys ns
 notices_append content_of format strict tree ys ns xs ms none = refl
 notices_append content_of format strict tree ys ns xs ms (file path bytes more own rest matches accepted means allowed h) =
     ap (λ lines. file_notices path own ++ lines) (notices_append content_of format strict tree ys ns more rest h)
     ∙ sym (append_assoc (file_notices path own) (notice_lines more rest) (notice_lines ys ns))
 
-pub loaded_one : (content_of others : List ℕ → FileContent) (format : FileFormat) (strict : Bool) (tree : Tree) (path : List ℕ) (before after : List (Option UserValue)) (fragment : Fragment) (taken taken_after : Option (List ℕ)) (failed failed_after : ℕ)
+pub loaded_one : (content_of others : List ℕ → FileContent) (format : FileFormat) (strict : Bool) (tree : Tree) (path : List ℕ)
+    (before after : List (Option UserValue)) (fragment : Fragment) (taken taken_after : Option (List ℕ)) (failed failed_after : ℕ)
     → others path ≡ content_of path → IsLoaded (others path) format tree path fragment taken failed taken_after failed_after
     → AllowsNotices strict (map notice_pair fragment.notices.items)
     → after ≡ overlay (users_of tree fragment.assigns.items) before
@@ -175,32 +186,41 @@ loaded_one content_of others format strict tree path before after fragment taken
   reported = subst (λ lines. TakesLines taken failed lines taken_after failed_after) (sym (append-nil (file_notices path l.meanings))) l.reported;
 }
 
-pub loaded_none : (content_of : List ℕ → FileContent) (format : FileFormat) (strict : Bool) (tree : Tree) (paths : List (Bor (List ℕ))) (before users : List (Option UserValue)) (taken : Option (List ℕ)) (failed : ℕ)
-    → length paths ≡ 0 → users ≡ before → AreLoaded content_of format strict tree (map (λ (path : Bor (List ℕ)). path.now) paths) before users taken failed taken
+pub loaded_none : (content_of : List ℕ → FileContent) (format : FileFormat) (strict : Bool) (tree : Tree) (paths : List (Bor (List ℕ)))
+    (before users : List (Option UserValue)) (taken : Option (List ℕ)) (failed : ℕ)
+    → length paths ≡ 0 → users ≡ before → AreLoaded content_of format strict tree (map (λ (path : Bor (List ℕ)). path.now) paths) before users taken
+    failed taken
     failed
 loaded_none content_of format strict tree paths before users taken failed n e =
     rw (nil_from_length paths n) (record { meanings = []; mean = none; users_are = e; reported = taking.none })
 
-pub loaded_append : (content_of others : List ℕ → FileContent) (format : FileFormat) (strict : Bool) (tree : Tree) (xs ys : List (List ℕ)) (before between after : List (Option UserValue)) (taken middle taken_after : Option (List ℕ)) (failed failed_middle failed_after : ℕ)
+pub loaded_append : (content_of others : List ℕ → FileContent) (format : FileFormat) (strict : Bool) (tree : Tree) (xs ys : List (List ℕ))
+    (before between after : List (Option UserValue)) (taken middle taken_after : Option (List ℕ)) (failed failed_middle failed_after : ℕ)
     → ((path : List ℕ) → others path ≡ content_of path) → AreLoaded content_of format strict tree xs before between taken failed middle failed_middle
     → AreLoaded others format strict tree ys between after middle failed_middle taken_after failed_after
     → AreLoaded content_of format strict tree (xs ++ ys) before after taken failed taken_after failed_after
 loaded_append content_of others format strict tree xs ys before between after taken middle taken_after failed failed_middle failed_after same h k = record {
   meanings = h.meanings ++ k.meanings;
-  mean = mean_append content_of format strict tree ys k.meanings xs h.meanings (mean_again content_of others format strict tree ys k.meanings same k.mean) h.mean;
+  mean = mean_append content_of format strict tree ys k.meanings xs h.meanings
+      (mean_again content_of others format strict tree ys k.meanings same k.mean) h.mean;
   users_are = k.users_are ∙ ap (λ users. overlaid_by tree users k.meanings) h.users_are ∙ sym (overlaid_append tree before h.meanings k.meanings);
   reported =
-      subst (λ lines. TakesLines taken failed lines taken_after failed_after) (sym (notices_append content_of format strict tree ys k.meanings xs h.meanings h.mean))
+      subst (λ lines. TakesLines taken failed lines taken_after failed_after)
+      (sym (notices_append content_of format strict tree ys k.meanings xs h.meanings h.mean))
       (lines_append taken middle failed failed_middle _ _ taken_after failed_after h.reported k.reported);
 }
 
-pub loaded_rest : (content_of others : List ℕ → FileContent) (format : FileFormat) (strict : Bool) (tree : Tree) (xs ys all : List (List ℕ)) (before between : List (Option UserValue)) (taken middle taken_after : Option (List ℕ)) (failed failed_middle failed_after : ℕ) (r : Result Configured RunError)
-    → ((path : List ℕ) → others path ≡ content_of path) → all ≡ xs ++ ys → AreLoaded content_of format strict tree xs before between taken failed middle failed_middle
+pub loaded_rest : (content_of others : List ℕ → FileContent) (format : FileFormat) (strict : Bool) (tree : Tree) (xs ys all : List (List ℕ))
+    (before between : List (Option UserValue)) (taken middle taken_after : Option (List ℕ)) (failed failed_middle failed_after : ℕ)
+    (r : Result Configured RunError)
+    → ((path : List ℕ) → others path ≡ content_of path) → all ≡ xs ++ ys
+    → AreLoaded content_of format strict tree xs before between taken failed middle failed_middle
     → IfOk r (λ config. AreLoaded others format strict tree ys between config.users middle failed_middle taken_after failed_after)
     → IfOk r (λ config. AreLoaded content_of format strict tree all before config.users taken failed taken_after failed_after)
 loaded_rest content_of others format strict tree xs ys all before between taken middle taken_after failed failed_middle failed_after (Err e) same s h k = tt
 loaded_rest content_of others format strict tree xs ys all before between taken middle taken_after failed failed_middle failed_after (Ok config) same s h k =
-    rw s (loaded_append content_of others format strict tree xs ys before between config.users taken middle taken_after failed failed_middle failed_after same h k)
+    rw s (loaded_append content_of others format strict tree xs ys before between config.users taken middle taken_after failed failed_middle failed_after
+    same h k)
 
 -- at the one file of these
 path_stops : (content_of others : List ℕ → FileContent) (format : FileFormat) (strict : Bool) (tree : Tree) (path : List ℕ) (status : ℕ) (lines : List (List ℕ))
@@ -211,7 +231,8 @@ path_stops content_of others format strict tree path status lines same (at_file 
 path_stops content_of others format strict tree path status lines same (for_memory s e) = stops.for_memory [] (path ∷ []) [] refl none s e
 
 -- with more files after these
-more_stops : (content_of : List ℕ → FileContent) (format : FileFormat) (strict : Bool) (tree : Tree) (xs more : List (List ℕ)) (status : ℕ) (lines : List (List ℕ))
+more_stops : (content_of : List ℕ → FileContent) (format : FileFormat) (strict : Bool) (tree : Tree) (xs more : List (List ℕ)) (status : ℕ)
+    (lines : List (List ℕ))
     → StopsAmongFiles content_of format strict tree xs status lines → StopsAmongFiles content_of format strict tree (xs ++ more) status lines
 more_stops content_of format strict tree xs more status lines (stops.at_file front back path own meanings p m s e) =
     stops.at_file front (back ++ more) path own meanings (ap (λ ps. ps ++ more) p ∙ append_assoc front (path ∷ back) more) m s e
@@ -219,7 +240,8 @@ more_stops content_of format strict tree xs more status lines (stops.for_memory 
     stops.for_memory front (back ++ more) meanings (ap (λ ps. ps ++ more) p ∙ append_assoc front back more) m s e
 
 -- after files that were accepted
-later_stops : (content_of others : List ℕ → FileContent) (format : FileFormat) (strict : Bool) (tree : Tree) (xs ys : List (List ℕ)) (ms : List (List LineMeaning)) (status : ℕ) (lines : List (List ℕ))
+later_stops : (content_of others : List ℕ → FileContent) (format : FileFormat) (strict : Bool) (tree : Tree) (xs ys : List (List ℕ))
+    (ms : List (List LineMeaning)) (status : ℕ) (lines : List (List ℕ))
     → ((path : List ℕ) → others path ≡ content_of path) → FilesMean content_of format strict tree xs ms
     → StopsAmongFiles others format strict tree ys status lines → StopsAmongFiles content_of format strict tree (xs ++ ys) status (notice_lines xs ms ++ lines)
 later_stops content_of others format strict tree xs ys ms status lines same h (stops.at_file front back path own meanings p m s e) =
@@ -233,10 +255,12 @@ later_stops content_of others format strict tree xs ys ms status lines same h (s
     (mean_append content_of format strict tree front meanings xs ms (mean_again content_of others format strict tree front meanings same m) h) s
     (ap (λ ls. notice_lines xs ms ++ ls) e ∙ sym (notices_append content_of format strict tree front meanings xs ms h))
 
-module _ (content_of others : List ℕ → FileContent) (format : FileFormat) (strict : Bool) (tree : Tree) (status : ℕ) (taken : Option (List ℕ)) (failed : ℕ) (taken_after : Option (List ℕ)) (failed_after : ℕ) where
+module _ (content_of others : List ℕ → FileContent) (format : FileFormat) (strict : Bool) (tree : Tree) (status : ℕ) (taken : Option (List ℕ)) (failed : ℕ)
+    (taken_after : Option (List ℕ)) (failed_after : ℕ) where
   pub stopped_path : (path : List ℕ) → others path ≡ content_of path
       → (lines : List (List ℕ)) × StopsAtPath (others path) format strict tree path status lines × TakesLines taken failed lines taken_after failed_after
-      → (lines : List (List ℕ)) × StopsAmongFiles content_of format strict tree (path ∷ []) status lines × TakesLines taken failed lines taken_after failed_after
+      → (lines : List (List ℕ)) × StopsAmongFiles content_of format strict tree (path ∷ []) status lines
+      × TakesLines taken failed lines taken_after failed_after
   stopped_path path same h = (h.0, path_stops content_of others format strict tree path status h.0 same h.1, h.2)
 
   pub stopped_more : (xs more all : List (List ℕ)) → all ≡ xs ++ more

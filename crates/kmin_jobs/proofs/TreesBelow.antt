@@ -14,10 +14,11 @@ use Rattle.kc_macros_model.specs.Worlds.{World}
 use Rattle.kc_expansion.specs.Expansions.{IsExpansion, AreWanted}
 use Rattle.kc_expansion.specs.TreeContents.{FolderContent, ListsAs, IsWorldOf}
 use Rattle.kc_expansion.specs.TreeContents as tree
-use Rattle.kmin_jobs.specs.FileContents.{FileContent, OpensAs, VariableContent, Known, known_by, path_below}
+use Rattle.kmin_jobs.specs.FileContents.{FileContent, VariableContent, Known, known_by, path_below}
+use Rattle.kmin_disk.specs.Contents.{OpensAs}
 use Rattle.kmin_jobs.specs.TreesBelow.{regular_below, names_below, contents_through, contents_below}
 
--- the same is known of all
+-- all is known as before
 pub known_same : (c d r s : List ℕ → FileContent) (m n : List ℕ → FolderContent) (v w : List ℕ → VariableContent)
     → ((path : List ℕ) → d path ≡ c path) → ((path : List ℕ) → s path ≡ r path) → ((path : List ℕ) → n path ≡ m path) → ((name : List ℕ) → w name ≡ v name)
     → known_by d s n w ≡ known_by c r m v
@@ -76,8 +77,10 @@ through_any reference known root first answers notices r h = record {
   ends_so = h.ends_so;
 }
 
-pub expansion_below : (reference : ℕ) (known : Known) (root first path : List ℕ) (answers : Recorded) (notices : List Notice) (r : Result (List ExpandedFile) Fault)
-    → path ≡ first → IsExpansion (contents_through reference known root) answers path notices r → IsExpansion (contents_below known root) answers first notices r
+pub expansion_below : (reference : ℕ) (known : Known) (root first path : List ℕ) (answers : Recorded) (notices : List Notice)
+    (r : Result (List ExpandedFile) Fault)
+    → path ≡ first → IsExpansion (contents_through reference known root) answers path notices r → IsExpansion
+    (contents_below known root) answers first notices r
 expansion_below reference known root first path answers notices r e h =
     subst (λ p. IsExpansion (contents_below known root) answers p notices r) e (through_any reference known root path answers notices r h)
 

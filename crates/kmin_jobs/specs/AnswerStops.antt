@@ -1,35 +1,36 @@
--- Files of answers that end a job.
+-- Answer files that end a job.
 use Rattle.std.specs.Prelude.{◌≡◌, ℕ, ◌<◌, List, [], ◌∷◌, ◌++◌, None, Err, length}
 use Rattle.kc_macros_model.specs.declared.fault.AnswersKind.{AnswersKind}
 use Rattle.kc_macros_model.specs.declared.fault.AnswersKind.TheVariants.{TooLarge, Read, OutOfMemory}
 use Rattle.kc_macros_model.specs.declared.fault.AnswersFault.{AnswersFault}
 use Rattle.kc_macros_model.specs.Limits.{max_answer_bytes}
 use Rattle.kc_macros_model.specs.AnswerFiles.{Recorded, FileEnd, complete, cut_by, answers_read}
-use Rattle.kmin_jobs.specs.FileContents.{FileContent, MatchContent, OpensAs}
+use Rattle.kmin_jobs.specs.FileContents.{FileContent, MatchContent}
+use Rattle.kmin_disk.specs.Contents.{OpensAs}
 use Rattle.kmin_jobs.specs.JobAnswers.{FilesRecord}
 use Rattle.kmin_jobs.specs.MacroReports.{answers_line}
 
--- the exit status of a file of answers that is refused, or can't be read
+-- the exit status for a fault of an answer file
 abbrev pub answers_status : AnswersKind → ℕ
 answers_status Read = 5
 answers_status OutOfMemory = 6
 answers_status _ = 4
 
--- bytes of a file were read up to its end, up to a failed read, or up to a byte too many
-abbrev pub EndsSo : FileEnd → (bytes rest : List ℕ) → Type 0
-EndsSo complete bytes rest = rest ≡ []
-EndsSo (cut_by Read) bytes rest = Unit {0}
-EndsSo (cut_by TooLarge) bytes rest = max_answer_bytes < length bytes
-EndsSo (cut_by kind) bytes rest = ⊥
+-- the end of a reading agrees with the bytes that were read of a file and the rest of it: it is at the end of the file, at a failed read, or past the limit
+abbrev pub IsReadUntil : FileEnd → (bytes rest : List ℕ) → Type 0
+IsReadUntil complete bytes rest = rest ≡ []
+IsReadUntil (cut_by Read) bytes rest = Unit {0}
+IsReadUntil (cut_by TooLarge) bytes rest = max_answer_bytes < length bytes
+IsReadUntil (cut_by kind) bytes rest = ⊥
 
--- A file of answers after others ends a job with this status and this line: by its first fault, or since it can't be opened.
+-- An answer file, after earlier ones, ends a job with this status and this line: by its first fault, or since it can't be opened.
 pub data StopsAtAnswers (content : FileContent) (earlier : Recorded) (path : List ℕ) (status : ℕ) (line : List ℕ) : Type 0 where
-  refused : (bytes rest : List ℕ) (end : FileEnd) (fault : AnswersFault) → MatchContent content (bytes ++ rest) → EndsSo end bytes rest
+  refused : (bytes rest : List ℕ) (end : FileEnd) (fault : AnswersFault) → MatchContent content (bytes ++ rest) → IsReadUntil end bytes rest
       → answers_read end bytes earlier ≡ Err fault → status ≡ answers_status fault.kind → line ≡ answers_line path fault.line fault.kind
       → StopsAtAnswers content earlier path status line
   unopened : OpensAs content None → status ≡ 5 → line ≡ answers_line path 0 Read → StopsAtAnswers content earlier path status line
 
--- A job ends among its files of answers: at one of them, or for lack of memory.
+-- A job ends among its answer files: at one of them, or since memory ran out.
 pub data StopsAmongAnswers (content_of : List ℕ → FileContent) (paths : List (List ℕ)) (status : ℕ) (lines : List (List ℕ)) : Type 0 where
   at_file : (front back : List (List ℕ)) (path line : List ℕ) (recorded : Recorded) → paths ≡ front ++ path ∷ back
       → FilesRecord content_of front [] recorded → StopsAtAnswers (content_of path) recorded path status line

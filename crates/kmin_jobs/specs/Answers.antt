@@ -1,4 +1,4 @@
--- The answer to a job.
+-- The output of a command over configuration files.
 use Rattle.std.specs.Prelude.{◌≡◌, ℕ, Bool, true, List, [], ◌∷◌, ◌++◌, Option, None, length, codes}
 use Rattle.std.specs.List.{flat_map}
 use Rattle.kc_tree_model.specs.TreeFiles.{Files}
@@ -35,8 +35,7 @@ pub record AreAccepted (texts : Files) (first : List ℕ) (tree : Tree) : Type 0
   pub tree_is : tree ≡ tree_of_files texts first
   pub settled : IsSettledTree tree
 
--- Configuration files are accepted, and none is refused for its notices; this is the meaning of each line of each. Their
--- bytes match their known content.
+-- Configuration files, whose bytes match their known content, are accepted, none is refused for its notices, and these are the meanings of the lines of each.
 pub data FilesMean (content_of : List ℕ → FileContent) (format : FileFormat) (strict : Bool) (tree : Tree) : List (List ℕ) → List (List LineMeaning) → Type 0 where
   none : FilesMean content_of format strict tree [] []
   file : (path bytes : List ℕ) (paths : List (List ℕ)) (meanings : List LineMeaning) (others : List (List LineMeaning))
@@ -44,12 +43,12 @@ pub data FilesMean (content_of : List ℕ → FileContent) (format : FileFormat)
       → AllowsNotices strict (notices_from 1 meanings)
       → FilesMean content_of format strict tree paths others → FilesMean content_of format strict tree (path ∷ paths) (meanings ∷ others)
 
--- an assignment with those of files laid over it, one after another
+-- an assignment, overridden by those of files, one after another
 abbrev pub overlaid_by : Tree → List (Option UserValue) → List (List LineMeaning) → List (Option UserValue)
 overlaid_by tree users [] = users
 overlaid_by tree users (meanings ∷ others) = overlaid_by tree (overlay (file_assignment tree meanings) users) others
 
--- the assignment of some files, each laid over those before it
+-- the assignment of files, each of which overrides those before it
 abbrev pub files_assignment : Tree → List (List LineMeaning) → List (Option UserValue)
 files_assignment tree meanings = overlaid_by tree (empty_assignment tree) meanings
 
@@ -58,7 +57,7 @@ pub record Resolve (content_of : List ℕ → FileContent) (settings : Settings)
   pub mean : FilesMean content_of settings.format settings.strict tree paths meanings
   pub gives : UniquelySolves (length tree.units) (rule settings.profile tree) (files_assignment tree meanings) values
 
--- a line of some text and the name of a symbol
+-- a line with the text `front` and the name of a symbol
 abbrev pub name_line : List ℕ → Tree → ℕ → List ℕ
 name_line front tree s = front ++ (name_at tree s ++ 10 ∷ [])
 
@@ -67,15 +66,14 @@ abbrev pub difference_line : Strings → Tree → Difference → List ℕ
 difference_line strings tree d = name_at tree d.symbol ++ (codes ": " ++ (spelled strings d.left.kind d.left.text
     ++ (codes " -> " ++ (spelled strings d.right.kind d.right.text ++ 10 ∷ []))))
 
--- A text is that of a verb, over a tree, its assignment and its values: for `min` the canonical file of the values.
+-- A text is the output of a verb over a tree, an assignment and its values: for `min` the canonical file of the values.
 abbrev pub IsTextOfVerb : Settings → Tree → List (Option UserValue) → List UnitValue → Verb → (text : List ℕ) → Type 0
 IsTextOfVerb settings tree users values Min text = IsCanonicalText settings.format settings.profile tree values text
 IsTextOfVerb settings tree users values Full text = text ≡ full_file settings.format tree values
 IsTextOfVerb settings tree users values Missed text = text ≡ flat_map (name_line [] tree) (missed tree users values)
 IsTextOfVerb settings tree users values Check text = text ≡ flat_map (name_line (codes "unmet ") tree) (unmet tree values)
 
--- The text, the exit status and the lines of the notices that answer a command over the texts of a tree: of all files, each
--- over those before it, or for a comparison of two files, each by itself.
+-- The output, the status and the lines of notices of a command: of a verb over one configuration of all files, or of a comparison of two with one file each.
 pub data Answer (content_of : List ℕ → FileContent) (settings : Settings) (texts : Files) (task : Task) (text : List ℕ) (status : ℕ) (notices : List (List ℕ)) : Type 0 where
   of_files : (tree : Tree) (verb : Verb) (paths : List (List ℕ)) (exit_code : Bool) (meanings : List (List LineMeaning)) (values : List UnitValue)
       → task ≡ over verb paths exit_code → AreAccepted texts settings.tree tree → Resolve content_of settings tree paths meanings values

@@ -1,4 +1,4 @@
--- The answer to a bundle, and when a bundle is refused.
+-- The output for a bundle, and the ends of a bundle without one.
 use Rattle.std.specs.Prelude.{◌≡◌, ℕ, false, ◌<◌, List, [], ◌∷◌, ◌++◌, Option, Some, None, take, length, codes}
 use Rattle.std.specs.Io.KnownBytes.{Appends, Consumes}
 use Rattle.kc_value.specs.declared.limits.TheConstants.{MAX_BUNDLE_BYTES}
@@ -12,7 +12,7 @@ use Rattle.kc_dotconfig_model.specs.declared.fault.LoadKind.TheVariants.{Read, T
 use Rattle.kmin_words.specs.Jobs.{Settings, Task, over}
 use Rattle.kmin_words.specs.declared.job.Verb.TheVariants.{Full}
 use Rattle.kmin_jobs.specs.FileContents.{FileContent}
-use Rattle.kmin_jobs.specs.Reports.{fault_line, output_line}
+use Rattle.kmin_tidy.specs.Reports.{fault_line, output_line}
 use Rattle.kmin_jobs.specs.Bundles.{IsBundle, ReadsToEnd}
 use Rattle.kmin_jobs.specs.Answers.{Answer, AreAccepted}
 use Rattle.kmin_jobs.specs.Stops.{RefusesTexts, StopsAmongFiles}
@@ -45,15 +45,14 @@ large_line = bundle_line TooLarge
 abbrev pub unread_line : List ℕ
 unread_line = bundle_line Read
 
--- The full file of the bundle's configuration over its tree, with the lines of its notices.
+-- The output for a bundle: the full file of its configuration over its tree, and the lines of its notices.
 pub record AnswersBundle (bundle text : List ℕ) (notices : List (List ℕ)) : Type 0 where
   pub tree : List ℕ
   pub configuration : List ℕ
   pub parts : IsBundle bundle tree configuration
   pub answers : Answer (bundle_content configuration) bundle_settings (bundle_files tree) bundle_task text 0 notices
 
--- A bundle ends without an answer, with this exit status and these lines before those of `last_lines`: its tree is refused,
--- or its configuration, or memory runs out.
+-- A bundle ends without an output, with this status and these lines before those of `last_lines`: its tree or configuration is refused, or memory ran out.
 pub data StopsInBundle (bundle : List ℕ) (status : ℕ) (lines : List (List ℕ)) : Type 0 where
   at_tree : (tree configuration line : List ℕ) → IsBundle bundle tree configuration
       → RefusesTexts (bundle_files tree) (bundle_files tree) (codes "Kconfig") line → status ≡ 3 → lines ≡ line ∷ [] → StopsInBundle bundle status lines
@@ -63,7 +62,7 @@ pub data StopsInBundle (bundle : List ℕ) (status : ℕ) (lines : List (List �
       → StopsInBundle bundle status lines
   for_memory : status ≡ 6 → lines ≡ [] → StopsInBundle bundle status lines
 
--- Reading a bundle and answering it ends so: it has too many bytes, a read fails, it has no answer, or a write fails.
+-- A run on a bundle ends early, with this status and these lines: it is too large, a read fails, it has no output, a write fails, or memory ran out.
 pub data StopsOnBundle (left left_after : Option (List ℕ)) (status : ℕ) (lines : List (List ℕ)) : Type 0 where
   too_large : (bytes : List ℕ) → Consumes left left_after bytes → MAX_BUNDLE_BYTES < length bytes → status ≡ 4 → lines ≡ large_line ∷ []
       → StopsOnBundle left left_after status lines

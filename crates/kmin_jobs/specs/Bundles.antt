@@ -22,7 +22,7 @@ has_no_marker text = list_all (λ line. not (bytes_eq line marker)) (file_lines 
 
 -- A bundle is cut at its first line of just `%%`. Without such a line it is a tree, and the configuration is empty.
 pub data IsBundle (bundle tree configuration : List ℕ) : Type 0 where
-  parted : (behind : List ℕ) → IsTrue (has_no_marker tree) → HasWholeLines tree → bundle ≡ tree ++ behind → BeginsWithLine behind marker configuration
+  parted : (rest : List ℕ) → IsTrue (has_no_marker tree) → HasWholeLines tree → bundle ≡ tree ++ rest → BeginsWithLine rest marker configuration
       → IsBundle bundle tree configuration
   unparted : IsTrue (has_no_marker tree) → bundle ≡ tree → configuration ≡ [] → IsBundle bundle tree configuration
 

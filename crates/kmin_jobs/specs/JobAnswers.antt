@@ -1,4 +1,4 @@
--- The answers to the questions of a job's tree.
+-- The answers to the questions of the macros of a job's tree.
 use Rattle.std.specs.Prelude.{◌≡◌, ℕ, ◌||◌, nat_lt, List, [], ◌∷◌, length, Option, Some, None, Ok, bytes_eq, if◌then◌else◌}
 use Rattle.kc_tree_model.specs.Keywords.{keyword_in_table}
 use Rattle.kc_tree_model.specs.Limits.{is_in_list}
@@ -9,38 +9,38 @@ use Rattle.kc_macros_model.specs.AnswerFiles.{Recorded, complete, answers_read}
 use Rattle.kmin_words.specs.Jobs.{Definition, Expansion}
 use Rattle.kmin_jobs.specs.FileContents.{FileContent, MatchContent, VariableContent, MatchVariable}
 
--- Files of answers are accepted, and record this after earlier ones. Their bytes match their known content.
+-- Answer files, whose bytes match their known content, are accepted, and add to what earlier ones recorded.
 pub data FilesRecord (content_of : List ℕ → FileContent) : List (List ℕ) → (earlier recorded : Recorded) → Type 0 where
   none : (recorded : Recorded) → FilesRecord content_of [] recorded recorded
   file : (path bytes : List ℕ) (paths : List (List ℕ)) (earlier middle recorded : Recorded) → MatchContent (content_of path) bytes
       → answers_read complete bytes earlier ≡ Ok middle → FilesRecord content_of paths middle recorded → FilesRecord content_of (path ∷ paths) earlier recorded
 
--- an answer, or where there is none another one
+-- the first answer, or if there is none the other one
 abbrev pub or_else : Option Answer → Option Answer → Option Answer
 or_else (Some a) other = Some a
 or_else None other = other
 
--- the value that definitions give a name: that of its last one
+-- the answer of definitions to a name: the value of its last one
 abbrev pub defined_answer : List Definition → (name : List ℕ) → Option Answer
 defined_answer [] name = None
 defined_answer (d ∷ ds) name = or_else (defined_answer ds name) (if bytes_eq name d.name then Some (Some d.value) else None)
 
--- the answer that a variable of the environment gives: its value; one with a newline, or that is too long, counts as not set
+-- the answer of a variable of the environment: its value; one with a newline, or with more than `max_text_bytes` bytes, counts as not set
 abbrev pub answer_of_variable : Option (List ℕ) → Answer
 answer_of_variable None = None
 answer_of_variable (Some value) = if has_newline value || nat_lt max_text_bytes (length value) then None else Some value
 
--- the answer of the environment to a name that it may be asked for
+-- the answer of the environment, which it gives to these names alone
 abbrev pub lent_answer : (names : List (List ℕ)) → (values : List ℕ → Option (List ℕ)) → (name : List ℕ) → Option Answer
 lent_answer names values name = if is_in_list name names then Some (answer_of_variable (values name)) else None
 
--- the answer to a question: of the definitions, else of the files, else of the environment
+-- the answer to a question: of the definitions, else of the answer files, else of the environment
 abbrev pub answer_to : Expansion → Recorded → (values : List ℕ → Option (List ℕ)) → (question : List ℕ) → Option Answer
 answer_to expansion recorded values question =
     or_else (defined_answer expansion.definitions question)
     (or_else (keyword_in_table recorded question) (lent_answer expansion.environment values question))
 
--- the answers of a job are those of its definitions, of its files, and of an environment that matches what is known of it
+-- each question has the answer of a job's definitions, answer files and environment, whose values agree with what is known of it
 pub record AreJobAnswers (content_of : List ℕ → FileContent) (variable_of : List ℕ → VariableContent) (expansion : Expansion) (answers : Recorded) : Type 0 where
   pub recorded : Recorded
   pub files : FilesRecord content_of expansion.answers [] recorded

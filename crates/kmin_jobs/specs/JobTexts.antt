@@ -1,4 +1,4 @@
--- The texts of a job's tree: as they are, or expanded.
+-- The texts of a job's tree, with or without the expansion of macros.
 use Rattle.std.specs.Prelude.{◌≡◌, ℕ, List, [], ◌∷◌, Some, None, Ok, map, unwrap_or, if◌then◌else◌}
 use Rattle.std.specs.Str.{is_utf8}
 use Rattle.kc_expr.specs.declared.language.Language.{Language}
@@ -14,11 +14,11 @@ use Rattle.kmin_jobs.specs.TreesBelow.{contents_below}
 use Rattle.kmin_jobs.specs.JobAnswers.{AreJobAnswers}
 use Rattle.kmin_jobs.specs.MacroReports.{macro_notice_line}
 
--- texts and an expanded file more under its key; a key that isn't UTF-8 can't be asked for, and is left out
+-- texts and one more expanded file by its key; a file whose key isn't UTF-8 can't be sourced, and is left out
 abbrev pub with_expanded_file : ExpandedFile → Files → Files
 with_expanded_file f texts = if is_utf8 f.key then with_file texts f.key f.text else texts
 
--- texts and expanded files more, in order
+-- texts and more expanded files, in order
 abbrev pub with_expanded_files : List ExpandedFile → Files → Files
 with_expanded_files [] texts = texts
 with_expanded_files (f ∷ fs) texts = with_expanded_files fs (with_expanded_file f texts)
@@ -31,21 +31,21 @@ no_texts language = record { language = language; list = [] }
 abbrev pub expanded_texts : Language → List ExpandedFile → Files
 expanded_texts language files = with_expanded_files files (no_texts language)
 
--- the path that was read for a key
+-- the path that was read for the key of an expanded file
 abbrev pub name_of_key : List ExpandedFile → (key : List ℕ) → List ℕ
 name_of_key files key = unwrap_or (path_of_key files key) key
 
--- texts by the paths that were read for their keys, by which messages name them
+-- texts by the paths that were read for their keys, which are their names in messages
 abbrev pub named_texts : List ExpandedFile → Files → Files
 named_texts files texts = record { language = texts.language; list = map (λ (f : List ℕ × List ℕ). (name_of_key files f.0, f.1)) texts.list }
 
--- texts that are read as a tree, the same texts as messages name them, and the lines of the notices before the reading
+-- texts that are read as a tree, these texts by their names in messages, and the lines of the notices of their expansion
 pub record TreeTexts : Type 0 where
   pub texts : Files
   pub names : Files
   pub lines : List (List ℕ)
 
--- the texts are the expanded files of a tree in a language, by the answers of a job
+-- texts are the expanded files of a job's tree, in a language
 pub record AreExpandedTexts (known : Known) (root first : List ℕ) (language : Language) (expansion : Expansion) (t : TreeTexts) : Type 0 where
   pub answers : Recorded
   pub answered : AreJobAnswers known.content known.variable expansion answers
@@ -56,7 +56,7 @@ pub record AreExpandedTexts (known : Known) (root first : List ℕ) (language : 
   pub names : t.names ≡ named_texts files t.texts
   pub lines : t.lines ≡ map macro_notice_line notices
 
--- the texts of a job's tree are those of the files as they are, or where its settings say so the expanded files
+-- texts are those of a job's tree: of its files as they are, or where an option turns the expansion of macros on, expanded
 pub data AreTextsOfJob (known : Known) (settings : Settings) (t : TreeTexts) : Type 0 where
   as_they_are : settings.expansion ≡ None → AreTextsBelow known.content settings.root settings.language t.texts → t.names ≡ t.texts → t.lines ≡ []
       → AreTextsOfJob known settings t

@@ -15,12 +15,11 @@ known_bytes None = None
 known_bytes (Some None) = None
 known_bytes (Some (Some content)) = Some (take (MAX_TREE_BYTES + 1) content)
 
--- the tree of files in a language, with these bytes and these numbers
+-- the tree of files in a language, of which each path has these bytes and this number
 abbrev pub tree_of_bytes : Language → (bytes : List ℕ → Option (List ℕ)) → (number : List ℕ → ℕ) → (first : List ℕ) → Tree
 tree_of_bytes language bytes number first = tree_of_groups (reading_from (record { language = language; bytes = bytes; number = number; root = first })).read
 
--- Where all is known of each path below the root, texts that are accepted have the tree of the known bytes: whichever files
--- are among the texts, it is one tree, but for the numbers of its files, which are their places among the texts.
+-- Where each path below the root is known, accepted texts, whichever they are, have the tree of the known bytes, by the numbers of their files.
 abbrev pub KnownFilesDetermineTheTree : Type 0
 KnownFilesDetermineTheTree = (content_of : List ℕ → FileContent) (root first : List ℕ) (texts : Files) (tree : Tree)
     → ((path : List ℕ) → content_of (path_below root path) ≢ None) → AreTextsBelow content_of root texts.language texts → AreAccepted texts first tree

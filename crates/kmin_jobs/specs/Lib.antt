@@ -1,4 +1,3 @@
-pub mod StandardError
 pub mod Reports
 pub mod Bundles
 pub mod FileContents

@@ -1,4 +1,4 @@
--- The lines of standard error for macros and for files of answers.
+-- The lines of standard error for macros and for answer files.
 use Rattle.std.specs.Prelude.{ℕ, List, [], ◌∷◌, ◌++◌, codes}
 use Rattle.kc_macros_model.specs.declared.fault.MacroKind.{MacroKind}
 use Rattle.kc_macros_model.specs.declared.fault.MacroKind.TheVariants as faults
@@ -7,7 +7,7 @@ use Rattle.kc_macros_model.specs.declared.fault.MacroNoticeKind.TheVariants as n
 use Rattle.kc_macros_model.specs.declared.fault.AnswersKind.{AnswersKind}
 use Rattle.kc_macros_model.specs.declared.fault.AnswersKind.TheVariants as answers
 use Rattle.kc_macros_model.specs.Programs.{Fault, Notice}
-use Rattle.kmin_jobs.specs.Reports.{place_line}
+use Rattle.kmin_tidy.specs.Reports.{place_line}
 
 -- the name of a kind of fault of an expansion
 abbrev pub macro_kind_name : MacroKind → List ℕ
@@ -30,7 +30,7 @@ abbrev pub macro_notice_name : MacroNoticeKind → List ℕ
 macro_notice_name notices.Info = codes "Info"
 macro_notice_name notices.Warning = codes "Warning"
 
--- the name of a kind of fault of a file of answers
+-- the name of a kind of fault of an answer file
 abbrev pub answers_kind_name : AnswersKind → List ℕ
 answers_kind_name answers.Malformed = codes "Malformed"
 answers_kind_name answers.TwoAnswers = codes "TwoAnswers"
@@ -58,6 +58,6 @@ macro_fault_line fault = message_line fault.at.file fault.at.line (macro_kind_na
 abbrev pub macro_notice_line : Notice → List ℕ
 macro_notice_line notice = message_line notice.at.file notice.at.line (macro_notice_name notice.kind) notice.text
 
--- the line of a fault of a file of answers
+-- the line of a fault of an answer file
 abbrev pub answers_line : (path : List ℕ) (line : ℕ) → AnswersKind → List ℕ
 answers_line path line kind = place_line path line (answers_kind_name kind)

@@ -1,4 +1,4 @@
--- Answers of which a part is written.
+-- Outputs of which a part is written.
 use Rattle.std.specs.Prelude.{ℕ, ◌<◌, List, Option, length, take}
 use Rattle.std.specs.Io.KnownBytes.{Appends}
 use Rattle.kmin_words.specs.Jobs.{Settings, Task}
@@ -6,7 +6,7 @@ use Rattle.kmin_jobs.specs.FileContents.{Known}
 use Rattle.kmin_jobs.specs.JobTexts.{TreeTexts, AreTextsOfJob}
 use Rattle.kmin_jobs.specs.Answers.{Answer}
 
--- the writer took the first bytes of the answer over the texts of the job's tree, and not all of them
+-- the writer took the first bytes of the output of a command over the texts of its tree, and not all of them
 pub record AnswersInPart (known : Known) (settings : Settings) (task : Task) (taken taken_after : Option (List ℕ)) : Type 0 where
   pub read : TreeTexts
   pub are : AreTextsOfJob known settings read

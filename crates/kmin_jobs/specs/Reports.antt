@@ -1,24 +1,17 @@
 -- The lines of standard error.
 use Rattle.std.specs.Prelude.{ℕ, List, [], ◌∷◌, ◌++◌, Option, Some, None, codes, map, slice_get, unwrap_or, option_and_then, ◌==◌, if◌then◌else◌}
 use Rattle.std.specs.List.{flat_map}
-use Rattle.std.specs.Fmt.{decimal}
 use Rattle.kc_tree_model.specs.TreeFiles.{Files, path_at}
 use Rattle.kc_tree_model.specs.Trees.{Tree, Symbol, Choice}
 use Rattle.kc_tree_model.specs.declared.ids.Unit.TheVariants.{Symbol as of_symbol, Choice as of_choice}
 use Rattle.kc_tree_model.specs.declared.ids.Unit.{Unit as TreeUnit}
 use Rattle.kc_tree_model.specs.declared.fault.TreeFault.{TreeFault}
-use Rattle.kc_dotconfig_model.specs.declared.fault.LoadKind.{LoadKind}
-use Rattle.kc_dotconfig_model.specs.declared.notice.NoticeKind.{NoticeKind}
 use Rattle.kc_dotconfig_model.specs.ConfigLines.{LineMeaning}
 use Rattle.kc_dotconfig_model.specs.ConfigFiles.{notices_from}
 use Rattle.kc_tree_model.specs.FaultNames.{tree_kind_name}
-use Rattle.kc_dotconfig_model.specs.KindNames.{load_kind_name, notice_kind_name}
+use Rattle.kmin_tidy.specs.Reports.{place_line, notice_line, memory_line}
 
--- `FILE:LINE: KIND`
-abbrev pub place_line : (file : List ℕ) (line : ℕ) (kind : List ℕ) → List ℕ
-place_line file line kind = file ++ (codes ":" ++ (decimal line ++ (codes ": " ++ (kind ++ codes "\n"))))
-
--- the path of a tree's file by its number; the first file's where there is no such number
+-- the path of the file of this number; the first file's if there is none
 abbrev pub path_or_first : Files → (first : List ℕ) → Option ℕ → List ℕ
 path_or_first texts first None = first
 path_or_first texts first (Some number) = unwrap_or (path_at texts number) first
@@ -52,7 +45,7 @@ abbrev pub choice_place : Option Choice → ℕ × ℕ
 choice_place None = (0, 0)
 choice_place (Some choice) = (choice.file, choice.line)
 
--- the file and the line of a unit
+-- the file and the line at which a unit begins
 abbrev pub unit_place : Tree → Option TreeUnit → ℕ × ℕ
 unit_place tree None = (0, 0)
 unit_place tree (Some (of_symbol s)) = symbol_place (slice_get tree.symbols s)
@@ -62,7 +55,7 @@ unit_place tree (Some (of_choice c)) = choice_place (slice_get tree.choices c)
 abbrev pub units_text : Tree → List ℕ → List ℕ
 units_text tree units = flat_map (λ u. unit_text tree (slice_get tree.units u)) units
 
--- the place of a cycle: its first unit's
+-- the file and the line of a cycle: those of its first unit
 abbrev pub cycle_place : Tree → List ℕ → ℕ × ℕ
 cycle_place tree units = unit_place tree (option_and_then (slice_get tree.units) (slice_get units 0))
 
@@ -70,14 +63,6 @@ cycle_place tree units = unit_place tree (option_and_then (slice_get tree.units)
 abbrev pub cycle_line : Files → (first : List ℕ) → Tree → List ℕ → List ℕ
 cycle_line texts first tree units =
     place_line (path_or_first texts first (Some (cycle_place tree units).0)) (cycle_place tree units).1 (codes "Cycle" ++ units_text tree units)
-
--- the line of a fault of a configuration file
-abbrev pub fault_line : (path : List ℕ) (number : ℕ) → LoadKind → List ℕ
-fault_line path number kind = place_line path number (load_kind_name kind)
-
--- the line of a notice, which has the number of a line and a kind
-abbrev pub notice_line : (path : List ℕ) → ℕ × NoticeKind → List ℕ
-notice_line path notice = place_line path notice.0 (notice_kind_name notice.1)
 
 -- the lines of a file's notices
 abbrev pub file_notices : (path : List ℕ) → List LineMeaning → List (List ℕ)
@@ -89,14 +74,6 @@ notice_lines [] meanings = []
 notice_lines (path ∷ paths) [] = []
 notice_lines (path ∷ paths) (meanings ∷ others) = file_notices path meanings ++ notice_lines paths others
 
--- the line of a failed write of the answer
-abbrev pub output_line : List ℕ
-output_line = codes "output: Write\n"
-
--- the line where memory ran out
-abbrev pub memory_line : List ℕ
-memory_line = codes "out of memory\n"
-
--- what follows all other lines by the exit status: status 6 has the line where memory ran out
+-- the lines after all others, by the exit status: status 6 has the line where memory ran out
 abbrev pub last_lines : (status : ℕ) → List (List ℕ)
 last_lines status = if status == 6 then memory_line ∷ [] else []

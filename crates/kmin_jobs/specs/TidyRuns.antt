@@ -1,4 +1,4 @@
--- Files that are each compared with their minimal file or replaced by it: their paths, and how a run over them ends.
+-- The command `tidy`: the list of further paths, and the ends of a run over files.
 use Rattle.std.specs.Prelude.{◌≡◌, ℕ, ◌<◌, ◌≤◌, Bool, true, false, List, [], ◌∷◌, ◌++◌, Option, Some, None, codes, length, bytes_eq, option_map, if◌then◌else◌, ◌⊎◌}
 use Rattle.std.specs.List.{list_all}
 use Rattle.std.specs.Str.{is_utf8}
@@ -13,28 +13,29 @@ use Rattle.kmin_tidy.specs.Ends.{Ends}
 use Rattle.kmin_tidy.specs.Promises.{Became, AreTidy}
 use Rattle.kmin_words.specs.declared.job.TidyFlags.{TidyFlags}
 use Rattle.kmin_words.specs.Jobs.{Settings, PathList, Tidying}
-use Rattle.kmin_jobs.specs.declared.tidying.TheConstants.{MAX_LIST_BYTES}
+use Rattle.kmin_jobs.specs.declared.tidy_command.TheConstants.{MAX_LIST_BYTES}
 use Rattle.kmin_jobs.specs.FileContents.{FileContent, MatchContent, Known}
 use Rattle.kmin_jobs.specs.JobTexts.{TreeTexts, AreTextsOfJob}
 use Rattle.kmin_jobs.specs.Answers.{AreAccepted}
-use Rattle.kmin_jobs.specs.Reports.{fault_line, last_lines}
+use Rattle.kmin_jobs.specs.Reports.{last_lines}
+use Rattle.kmin_tidy.specs.Reports.{fault_line}
 use Rattle.kmin_jobs.specs.Stops.{StopsAtTree}
 
--- what is known of a list of paths: as `-` what standard input has left, and else the file at its path
+-- the content of a list, as far as it is known: that of standard input if its path is `-`, and else that of the file
 abbrev pub list_content : (content_of : List ℕ → FileContent) → (left : Option (List ℕ)) → (path : List ℕ) → FileContent
 list_content content_of left path = if bytes_eq path (codes "-") then option_map (λ (bytes : List ℕ). Some bytes) left else content_of path
 
--- the bytes match what is known of the list, and are none where no list is named
+-- bytes agree with the content of the list, if that is known; without a list there are none
 abbrev pub MatchList : (content_of : List ℕ → FileContent) → (left : Option (List ℕ)) → Option PathList → (bytes : List ℕ) → Type 0
 MatchList content_of left None bytes = bytes ≡ []
 MatchList content_of left (Some list) bytes = MatchContent (list_content content_of left list.path) bytes
 
--- the bytes are those of the list, and no more than a list may have
+-- bytes are those of the list, and no more than a list may have
 pub record AreListBytes (content_of : List ℕ → FileContent) (left : Option (List ℕ)) (list : Option PathList) (bytes : List ℕ) : Type 0 where
   pub known : MatchList content_of left list bytes
   pub within : length bytes ≤ MAX_LIST_BYTES
 
--- whether the paths of a list end with the byte 0
+-- whether the paths of a list end with the byte 0 in place of a newline
 abbrev pub is_ended_by_nul : Option PathList → Bool
 is_ended_by_nul None = false
 is_ended_by_nul (Some list) = list.ended_by_nul
@@ -52,20 +53,18 @@ pub record AreNamed (paths : List (List ℕ)) : Type 0 where
 abbrev pub AreMalformed : (paths : List (List ℕ)) → Type 0
 AreMalformed paths = (list_all is_utf8 paths ≡ false) ⊎ (list_all is_one_line paths ≡ false)
 
--- the line of a list with such a path
+-- the line of a list with a path that isn't UTF-8 or has a newline
 abbrev pub malformed_line : List ℕ
 malformed_line = codes "from: Malformed\n"
 
--- A list of a path can't be had, with this status and this line: it has too many bytes, it can't be opened or read, or
--- memory runs out.
+-- A list can't be read, with this status and these lines: it has too many bytes, it can't be opened or read, or memory ran out.
 pub data StopsReadingList (content : FileContent) (path : List ℕ) (status : ℕ) (lines : List (List ℕ)) : Type 0 where
   too_large : (front rest : List ℕ) → MatchContent content (front ++ rest) → MAX_LIST_BYTES < length front → status ≡ 4
       → lines ≡ fault_line path 0 TooLarge ∷ [] → StopsReadingList content path status lines
   unread : status ≡ 5 → lines ≡ fault_line path 0 Read ∷ [] → StopsReadingList content path status lines
   for_memory : status ≡ 6 → lines ≡ [] → StopsReadingList content path status lines
 
--- A list ends a run, with this status and these lines before those of `last_lines`: it can't be had, or a path in it is
--- refused.
+-- A list ends a run, with this status and these lines before those of `last_lines`: it can't be read, a path in it is refused, or memory ran out.
 pub data StopsAtList (content_of : List ℕ → FileContent) (left : Option (List ℕ)) (list : Option PathList) (status : ℕ) (lines : List (List ℕ)) : Type 0 where
   reading : (named : PathList) → list ≡ Some named → StopsReadingList (list_content content_of left named.path) named.path status lines
       → StopsAtList content_of left list status lines
@@ -73,33 +72,32 @@ pub data StopsAtList (content_of : List ℕ → FileContent) (left : Option (Lis
       → lines ≡ malformed_line ∷ [] → StopsAtList content_of left list status lines
   for_memory : status ≡ 6 → lines ≡ [] → StopsAtList content_of left list status lines
 
--- the options of a run
+-- the options of a run over files, by those of the command
 abbrev pub options_of : (strict : Bool) → TidyFlags → TidyOptions
 options_of strict flags = record { write = flags.write; drop = flags.drop; strict = strict }
 
--- what a run over files goes by, over a tree
+-- the settings of a run over files, by those of the command and its tree
 abbrev pub run_settings : Settings → TidyFlags → Tree → RunSettings
 run_settings settings flags tree = record { format = settings.format; profile = settings.profile; tree = tree; options = options_of settings.strict flags }
 
--- the disk, and what standard output took and how many of its writes failed
+-- all that a run changes: the disk, and standard output with the bytes that it took and the count of its failed writes
 pub record Outside : Type 0 where
   pub disk : Disk
   pub taken : Option (List ℕ)
   pub failures : ℕ
 
--- such a moment
+-- all that a run changes, from its parts
 abbrev pub outside_of : Disk → (taken : Option (List ℕ)) → (failures : ℕ) → Outside
 outside_of disk taken failures = record { disk = disk; taken = taken; failures = failures }
 
--- A run over files of these paths ended with these lines of standard error: file by file by the bytes of each, each place
--- of the disk as it was or with its minimal file, and nothing changed or written where each file is minimal or refused.
+-- A run over files ended as `tidy_files` promises: each place is as it was or has its minimal file, and nothing changes if each file is minimal or refused.
 pub record GoesOver (s : RunSettings) (old new : Outside) (paths : List (List ℕ)) (reports : List (List ℕ)) (status : ℕ) : Type 0 where
   pub ends : Ends s old.disk new.disk paths old.taken new.taken old.failures new.failures reports status
   pub became : (place : List ℕ) → Became s (old.disk.state.history place) (new.disk.state.history place)
   pub again : AreTidy s old.disk.state paths → new.disk.state ≡ old.disk.state
   pub silent : AreTidy s old.disk.state paths → Appends old.taken new.taken []
 
--- The files of these paths are gone over by a job's tree, or nothing is, since the tree is refused.
+-- The files of these paths are tidied over the tree of the command; or the tree is refused, and nothing changes.
 pub data PathsEnd (known : Known) (settings : Settings) (flags : TidyFlags) (paths : List (List ℕ)) (old new : Outside) (lines : List (List ℕ)) (status : ℕ) : Type 0 where
   at_tree : (own : List (List ℕ)) → StopsAtTree known settings status own → lines ≡ own ++ last_lines status → new ≡ old
       → PathsEnd known settings flags paths old new lines status
@@ -107,7 +105,7 @@ pub data PathsEnd (known : Known) (settings : Settings) (flags : TidyFlags) (pat
       → AreAccepted texts.texts settings.tree tree → GoesOver (run_settings settings flags tree) old new paths reports status
       → lines ≡ texts.lines ++ reports → PathsEnd known settings flags paths old new lines status
 
--- The files of `tidy` are gone over, and then those that its list names; or nothing is, since the list is refused.
+-- The files of the command are tidied, and then those that its list names; or the list is refused, and nothing changes.
 pub data TidyEnds (known : Known) (left : Option (List ℕ)) (t : Tidying) (old new : Outside) (lines : List (List ℕ)) (status : ℕ) : Type 0 where
   at_list : (own : List (List ℕ)) → StopsAtList known.content left t.list status own → lines ≡ own ++ last_lines status → new ≡ old
       → TidyEnds known left t old new lines status
@@ -115,10 +113,10 @@ pub data TidyEnds (known : Known) (left : Option (List ℕ)) (t : Tidying) (old 
       → PathsEnd known t.settings t.flags (t.files ++ listed_paths t.list bytes) old new lines status
       → TidyEnds known left t old new lines status
 
--- a run of `tidy` ended with this status
+-- some command `tidy` ended with this status
 abbrev pub EndsTidying : Known → (left : Option (List ℕ)) → (old new : Outside) → (status : ℕ) → Type 0
 EndsTidying known left old new status = (t : Tidying) × (lines : List (List ℕ)) × TidyEnds known left t old new lines status
 
--- a run of `tidy` that may write files ended with this status
+-- some command `tidy --write` ended with this status
 abbrev pub EndsWriting : Known → (left : Option (List ℕ)) → (old new : Outside) → (status : ℕ) → Type 0
 EndsWriting known left old new status = (t : Tidying) × (t.flags.write ≡ true) × (lines : List (List ℕ)) × TidyEnds known left t old new lines status

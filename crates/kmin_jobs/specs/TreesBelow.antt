@@ -1,4 +1,4 @@
--- What is known of a tree below a root.
+-- The files and folders of a tree below its root, as far as they are known.
 use Rattle.std.specs.Prelude.{ℕ, List, [], Some, None, if◌then◌else◌}
 use Rattle.std.specs.Str.{is_utf8}
 use Rattle.kc_expansion.specs.TreeContents.{FolderContent, TreeContents}
@@ -12,11 +12,11 @@ regular_below regular root path = if is_utf8 path then regular (path_below root 
 abbrev pub names_below : (List ℕ → FolderContent) → (root folder : List ℕ) → FolderContent
 names_below names root folder = if is_utf8 folder then names (path_below root folder) else Some []
 
--- what is known of a tree below a root, whose files are read through a reference of this name
+-- the files and folders of a tree below a root, as an expansion sees them that reads files through a reference of this number
 abbrev pub contents_through : (reference : ℕ) → Known → (root : List ℕ) → TreeContents
 contents_through reference known root =
     record { file = regular_below known.regular root; folder = names_below known.names root; beside = known.content; reference = reference }
 
--- the same, whatever the files are read through
+-- the files and folders of a tree below a root, as an expansion sees them
 abbrev pub contents_below : Known → (root : List ℕ) → TreeContents
 contents_below known root = contents_through 0 known root

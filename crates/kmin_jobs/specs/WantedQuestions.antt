@@ -1,4 +1,4 @@
--- The questions of a tree that have no answer.
+-- The open questions of a tree's macros.
 use Rattle.std.specs.Prelude.{◌≡◌, ℕ, ◌<◌, List, [], ◌∷◌, ◌++◌, Option, Result, Ok, Err, length, take}
 use Rattle.std.specs.List.{flat_map}
 use Rattle.std.specs.Io.KnownBytes.{Appends}
@@ -11,9 +11,9 @@ use Rattle.kmin_jobs.specs.JobAnswers.{AreJobAnswers}
 use Rattle.kmin_jobs.specs.TreesBelow.{contents_below}
 use Rattle.kmin_jobs.specs.AnswerStops.{StopsAmongAnswers}
 use Rattle.kmin_jobs.specs.MacroReports.{macro_fault_line}
-use Rattle.kmin_jobs.specs.Reports.{output_line}
+use Rattle.kmin_tidy.specs.Reports.{output_line}
 
--- the questions of the tree that the answers of a job leave open, or where there are none the fault of its reading
+-- the questions of a tree's macros that are open, or if there are none the fault of the expansion
 pub record AreAsked (known : Known) (questions : Questions) (asked : Result (List (List ℕ)) Fault) : Type 0 where
   pub answers : Recorded
   pub answered : AreJobAnswers known.content known.variable questions.expansion answers
@@ -27,8 +27,7 @@ question_line question = question ++ 10 ∷ []
 abbrev pub questions_text : List (List ℕ) → List ℕ
 questions_text asked = flat_map question_line asked
 
--- The listing of questions ends without its text: among the files of answers, at the fault of the reading where no question
--- is open, at a write of the text, or for lack of memory.
+-- The command `wants` ends early: at an answer file, by the fault of an expansion without open questions, at a failed write, or since memory ran out.
 pub data StopsWanting (known : Known) (questions : Questions) (status : ℕ) (lines : List (List ℕ)) : Type 0 where
   among_answers : StopsAmongAnswers known.content questions.expansion.answers status lines → StopsWanting known questions status lines
   at_fault : (fault : Fault) → AreAsked known questions (Err fault) → status ≡ 3 → lines ≡ macro_fault_line fault ∷ []
@@ -37,7 +36,7 @@ pub data StopsWanting (known : Known) (questions : Questions) (status : ℕ) (li
       → StopsWanting known questions status lines
   for_memory : status ≡ 6 → lines ≡ [] → StopsWanting known questions status lines
 
--- the writer took the first bytes of the questions, and not all of them
+-- the writer took the first bytes of the list of open questions, and not all of them
 pub record AsksInPart (known : Known) (questions : Questions) (taken taken_after : Option (List ℕ)) : Type 0 where
   pub asked : List (List ℕ)
   pub are : AreAsked known questions (Ok asked)

@@ -1,6 +1,6 @@
 pub mod LineEnds
 pub mod Lines
-pub mod Loaded
+pub mod LoadResults
 pub mod LoadStops
 pub mod Readings
 pub mod ReportLines

@@ -2,7 +2,7 @@
 ghost use Rattle.std.specs.Prelude.{◌≡◌, ◌≤◌, [], IfOk, IfErr, OnOk, ℕ, List, length};
 ghost use Rattle.kmin_jobs.specs.Bundles.{IsBundle, ReadsToEnd};
 ghost use Rattle.kmin_jobs.specs.BundleAnswers.{StopsOnBundle, bundle_line};
-ghost use Rattle.kmin_jobs.specs.StandardError.{Rises, TakesLine, TakesLines};
+ghost use Rattle.kmin_tidy.specs.StandardError.{Rises, TakesLine, TakesLines};
 ghost use Rattle.kmin_jobs.specs.between.RunErrors.{status_of};
 
 use crate::lines::first_line;
@@ -15,7 +15,7 @@ use std::alloc::Global;
 /// The line that ends the tree.
 const MARKER: &[u8] = b"%%";
 
-/// Reads all that a reader has left. Where a read fails, and where that is more than `MAX_BUNDLE_BYTES` bytes, this is reported.
+/// Reads a bundle to its end. Reports a failed read, and a bundle of more than `MAX_BUNDLE_BYTES` bytes.
 pub(crate) fn read_whole<S: Source, E: Sink>(
     alloc: Global,
     source: &mut S,

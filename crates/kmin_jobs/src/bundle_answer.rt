@@ -1,4 +1,4 @@
-//! The answer to a bundle.
+//! The output for a bundle.
 ghost use Rattle.std.specs.Prelude.{◌≡◌, ◌≢◌, ◌≤◌, ◌⊎◌, ◌∷◌, [], List, ℕ, false, codes, length, IfOk, IfErr, OnOk};
 ghost use Rattle.std.specs.Io.KnownBytes.{Appends};
 ghost use Rattle.kc_value.specs.declared.limits.TheConstants.{MAX_BUNDLE_BYTES};
@@ -12,15 +12,14 @@ ghost use Rattle.kmin_jobs.specs.Answers.{AreAccepted, Resolve};
 ghost use Rattle.kmin_jobs.specs.Bundles.{ReadsToEnd};
 ghost use Rattle.kmin_jobs.specs.BundleAnswers.{AnswersBundle, StopsInBundle, StopsOnBundle, WritesPart, bundle_content, bundle_files, bundle_settings};
 ghost use Rattle.kmin_jobs.specs.Reports.{notice_lines};
-ghost use Rattle.kmin_jobs.specs.StandardError.{Rises, TakesLines};
+ghost use Rattle.kmin_tidy.specs.StandardError.{Rises, TakesLines};
 ghost use Rattle.kmin_jobs.specs.Stops.{StopsAmongFiles};
 ghost use Rattle.kmin_jobs.specs.between.RunErrors.{status_of};
 ghost use Rattle.kmin_jobs.specs.between.TreeStops.{StopsAtTexts};
 
 use crate::bundle::{cut, read_whole};
+use crate::configurations::load;
 use crate::file_names::FileNames;
-use crate::loading::load;
-use crate::memory_reader::MemoryReader;
 use crate::output::write_answer;
 use crate::run_error::RunError;
 use crate::trees::{read_texts, settled_tree};
@@ -29,6 +28,7 @@ use kc_minimal::full_text;
 use kc_rules::{Profile, Settled};
 use kc_tree::Texts;
 use kc_value::{Seed, Sink, Source};
+use kmin_disk::MemoryReader;
 use std::alloc::Global;
 
 /// Reads a bundle and writes its full file.
@@ -54,7 +54,7 @@ pub(crate) fn run_bundle<I: Source, O: Sink, E: Sink>(
     }
 }
 
-/// The full file that a bundle asks for; reports its notices and faults.
+/// The full file of a bundle's configuration over its tree. Reports the notices, or the fault of the bundle.
 fn bundle_text<E: Sink>(
     alloc: Global,
     seed: Seed,
@@ -72,7 +72,7 @@ fn bundle_text<E: Sink>(
     text
 }
 
-/// The settled tree of a bundle's one file; reports why it is refused.
+/// The settled tree of a bundle, whose one file is `Kconfig`. Reports why it is refused.
 fn bundle_tree<E: Sink>(
     alloc: Global,
     seed: Seed,
@@ -99,7 +99,8 @@ fn bundle_tree<E: Sink>(
     )
 }
 
-/// The full file of a configuration over a settled tree, in the plain form; reports its notices and its fault.
+/// The full file of a bundle's configuration over a settled tree, in the plain format. Reports the configuration's
+/// notices, or its fault.
 fn full_over<E: Sink>(
     alloc: Global,
     settled: &Settled,

@@ -1,4 +1,4 @@
-//! The expanded files of a tree, and the questions that it leaves open.
+//! The expansion of a tree: its expanded files, and the questions of its macros that are open.
 ghost use Rattle.std.specs.Prelude.{◌≡◌, ◌∷◌, ◌++◌, [], ℕ, List, Ok, IfOk, IfErr, OnOk, map, slice_get, if◌then◌else◌};
 ghost use Rattle.std.specs.Str.{is_utf8};
 ghost use Rattle.kc_macros_model.specs.Programs.{Notice};
@@ -9,7 +9,7 @@ ghost use Rattle.kmin_jobs.specs.FileContents.{known_by};
 ghost use Rattle.kmin_jobs.specs.JobTexts.{expanded_texts};
 ghost use Rattle.kmin_jobs.specs.TreesBelow.{contents_below};
 ghost use Rattle.kmin_jobs.specs.MacroReports.{macro_notice_line};
-ghost use Rattle.kmin_jobs.specs.StandardError.{TakesLines};
+ghost use Rattle.kmin_tidy.specs.StandardError.{TakesLines};
 ghost use Rattle.kmin_jobs.specs.between.FilesByPlace.{with_file_at};
 ghost use Rattle.kmin_jobs.specs.between.ExpansionStops.{StopsExpanding};
 ghost use Rattle.kmin_jobs.specs.between.RunErrors.{status_of};
@@ -26,14 +26,14 @@ use kc_value::{Seed, Sink};
 use kmin_words::Settings;
 use std::alloc::{AllocError, Global};
 
-/// An expanded tree, and the texts that are read of it.
+/// An expanded tree, and its files as the texts that are read.
 #[derive(Drop)]
 pub(crate) struct ExpandedTexts {
     pub(crate) tree: ExpandedTree,
     pub(crate) texts: Texts,
 }
 
-/// Expands the tree of a job. Reports its notices and its fault.
+/// Expands the macros of a job's tree. Reports the notices of the expansion, and its fault.
 pub(crate) fn expanded_tree<F: Files, E: Sink>(
     alloc: Global,
     settings: &Settings<'_>,
@@ -86,7 +86,7 @@ fn expansion_below<F: Files>(
     expand(alloc, &mut tree, first.as_bytes(), answers)
 }
 
-/// The questions without an answer that the tree below a folder asks, or the fault of its reading.
+/// The open questions of the macros of the tree below a folder, or the fault of its expansion.
 pub(crate) fn wanted_below<F: Files>(
     alloc: Global,
     root: &str,
@@ -100,7 +100,7 @@ pub(crate) fn wanted_below<F: Files>(
     wants(alloc, &mut tree, first.as_bytes(), answers)
 }
 
-/// The texts of expanded files by their keys, in a language; a key that isn't UTF-8 is left out.
+/// The texts of expanded files by their keys, in a language; a file whose key isn't UTF-8 is left out.
 fn texts_of(
     alloc: Global,
     seed: Seed,
@@ -116,7 +116,7 @@ fn texts_of(
     Ok(texts)
 }
 
-/// Inserts an expanded file by its place, if there are so many.
+/// Inserts the expanded file at a place of the tree, if there is one.
 fn insert_at(tree: &ExpandedTree, at: usize, texts: &mut Texts) -> Result<(), AllocError>
     ensures { OnOk result (texts.new ≡ with_file_at (slice_get tree.now at) texts.old) }
 {

@@ -7,14 +7,15 @@ ghost use Rattle.kmin_jobs.specs.between.FileNames.{names_of};
 use kc_expansion::ExpandedTree;
 use kc_tree::Texts;
 
-/// The names of files in messages: their paths among the texts, or where the texts are expanded the paths that were read.
+/// The names of a tree's files in messages: their paths among the texts, or for expanded files the paths that were
+/// read.
 #[derive(Drop)]
 pub(crate) struct FileNames<'a> {
     texts: &'a Texts,
     expanded: Option<&'a ExpandedTree>,
 }
 
-/// The path that was read for a key.
+/// The path that was read for the key of an expanded file.
 fn name_of_key<'a>(tree: &'a ExpandedTree, key: &'a str) -> &'a [u8]
     ensures { result.now ≡ name_of_key tree.now key.now }
 {
@@ -22,7 +23,7 @@ fn name_of_key<'a>(tree: &'a ExpandedTree, key: &'a str) -> &'a [u8]
 }
 
 impl<'a> FileNames<'a> {
-    /// The paths of texts.
+    /// Files are named by their paths among the texts.
     pub(crate) fn of_texts(texts: &'a Texts) -> FileNames<'a>
         ensures { names_of result ≡ texts.now }
     {
@@ -32,7 +33,7 @@ impl<'a> FileNames<'a> {
         }
     }
 
-    /// The paths that were read for the keys of texts.
+    /// Files are named by the paths that were read for their keys.
     pub(crate) fn of_expanded(texts: &'a Texts, tree: &'a ExpandedTree) -> FileNames<'a>
         ensures { names_of result ≡ named_texts tree.now texts.now }
     {
@@ -42,7 +43,7 @@ impl<'a> FileNames<'a> {
         }
     }
 
-    /// The name of a file by its number.
+    /// The name of the file of this number among the texts.
     pub(crate) fn name_at(&self, number: u32) -> Option<&'a [u8]>
         ensures { option_map (λ name. name.now) result ≡ path_at (names_of self.now) number }
     {

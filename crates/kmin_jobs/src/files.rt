@@ -2,32 +2,33 @@
 ghost use Rattle.std.specs.Prelude.{◌≡◌, List, ℕ, IfOk, option_map, string_bytes};
 ghost use Rattle.kc_expansion.specs.TextViews.{texts_of};
 ghost use Rattle.kc_expansion.specs.TreeContents.{FolderContent, ListsAs};
-ghost use Rattle.kmin_jobs.specs.FileContents.{OpensAs, FileContent, VariableContent, MatchVariable};
+ghost use Rattle.kmin_jobs.specs.FileContents.{FileContent, VariableContent, MatchVariable};
+ghost use Rattle.kmin_disk.specs.Contents.{OpensAs};
 
 use kc_value::{Seed, Source};
 use std::alloc::{AllocError, Global};
 
-/// Opens files by their paths, lists folders, and looks up variables of the environment.
+/// The surroundings of a job that can be read: files by their paths, folders, and variables of the environment.
 pub trait Files {
     /// The reader of an open file.
     type File: Source + Drop;
 
-    /// The known content of each path.
+    /// The content of each path, as far as it is known.
     ghost content_of: { Self → List ℕ → FileContent };
 
-    /// The known content of each path as a regular file; of any other it is known that there is no such file.
+    /// The content of each path as a regular file, as far as it is known; anything else counts as a missing file.
     ghost regular_content_of: { Self → List ℕ → FileContent };
 
-    /// The known names in each folder.
+    /// The names in each folder, as far as they are known.
     ghost names_of: { Self → List ℕ → FolderContent };
 
-    /// What is known of each variable of the environment.
+    /// The value of each variable of the environment, as far as it is known.
     ghost variable_of: { Self → List ℕ → VariableContent };
 
-    /// The seed by which the paths and names of a tree are hashed; it changes no answer.
+    /// The seed by which the paths and names of a tree are hashed; it has no influence on any result.
     fn seed(&self) -> Seed;
 
-    /// A reader of the file's bytes, and nothing where it can't be opened.
+    /// A reader of the bytes of the file at a path; `None` if it can't be opened.
     fn reader_for(&mut self, path: &str) -> Option<Self::File>
         ensures same { (other : List ℕ) → content_of self.new other ≡ content_of self.old other }
         ensures regular { (other : List ℕ) → regular_content_of self.new other ≡ regular_content_of self.old other }
@@ -35,8 +36,8 @@ pub trait Files {
         ensures variables { (other : List ℕ) → variable_of self.new other ≡ variable_of self.old other }
         ensures opens { OpensAs (content_of self.old path.now) (option_map Self.File.Source.left result) };
 
-    /// A reader of the bytes of a regular file, also of one that a link leads to. Anything else (a folder, a pipe, a device),
-    /// and what can't be opened, has none.
+    /// A reader of the bytes of the regular file at a path, or at the end of its links; `None` for a folder, a pipe or
+    /// a device, and if the file can't be opened.
     fn regular_reader_for(&mut self, path: &str) -> Option<Self::File>
         ensures same { (other : List ℕ) → content_of self.new other ≡ content_of self.old other }
         ensures regular { (other : List ℕ) → regular_content_of self.new other ≡ regular_content_of self.old other }
@@ -44,7 +45,7 @@ pub trait Files {
         ensures variables { (other : List ℕ) → variable_of self.new other ≡ variable_of self.old other }
         ensures opens { OpensAs (regular_content_of self.old path.now) (option_map Self.File.Source.left result) };
 
-    /// The names in a folder in any order; those that aren't UTF-8 are left out. `None` where there are more than `most`. A
+    /// The names in a folder in any order, without those that aren't UTF-8; `None` if there are more than `most`. A
     /// folder that can't be listed has no names.
     ///
     /// # Errors
@@ -62,7 +63,7 @@ pub trait Files {
         ensures variables { (other : List ℕ) → variable_of self.new other ≡ variable_of self.old other }
         ensures lists { IfOk result (λ names. ListsAs (names_of self.old folder.now) most (option_map texts_of names)) };
 
-    /// The value of a variable of the environment; `None` where it isn't set, or its value isn't UTF-8.
+    /// The value of a variable of the environment; `None` if it isn't set, or its value isn't UTF-8.
     ///
     /// # Errors
     ///
@@ -74,7 +75,7 @@ pub trait Files {
         ensures variables { (other : List ℕ) → variable_of self.new other ≡ variable_of self.old other }
         ensures value { IfOk result (λ value. MatchVariable (variable_of self.old name.now) (option_map string_bytes value)) };
 
-    /// How many bytes an open file is likely to have, and 0 where that isn't known; it changes no answer.
+    /// The likely number of bytes of an open file, 0 if it isn't known; it has no influence on any result.
     fn size_of(&self, _file: &Self::File) -> usize {
         0
     }

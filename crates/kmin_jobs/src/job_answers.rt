@@ -1,16 +1,17 @@
-//! The answers of a job: of its definitions, its files of answers and the environment.
+//! The answers to the questions of a job's tree, from definitions, answer files and the environment.
 ghost use Rattle.std.specs.Prelude.{◌≡◌, ◌∷◌, [], ℕ, List, Some, None, IfOk, IfErr, OnOk, map, bytes_eq, option_map, string_bytes, if◌then◌else◌};
 ghost use Rattle.std.specs.Borrow.{Bor};
 ghost use Rattle.kc_tree_model.specs.Keywords.{keyword_in_table};
 ghost use Rattle.kc_tree_model.specs.TreeLookup.{has_newline};
 ghost use Rattle.kc_macros_model.specs.AnswerFiles.{Recorded};
 ghost use Rattle.kmin_words.specs.Jobs.{Expansion as ExpansionView, definition_view, expansion_view};
-ghost use Rattle.kmin_jobs.specs.FileContents.{known_by, FileContent, OpensAs};
+ghost use Rattle.kmin_jobs.specs.FileContents.{known_by, FileContent};
+ghost use Rattle.kmin_disk.specs.Contents.{OpensAs};
 ghost use Rattle.kmin_jobs.specs.JobAnswers.{FilesRecord, AreJobAnswers, defined_answer, or_else, lent_answer, answer_of_variable};
 ghost use Rattle.kc_macros.specs.ReadAnswers.{AreRecorded};
 ghost use Rattle.kmin_jobs.specs.AnswerStops.{StopsAmongAnswers, answers_status};
 ghost use Rattle.kmin_jobs.specs.MacroReports.{answers_line};
-ghost use Rattle.kmin_jobs.specs.StandardError.{TakesLine, TakesLines};
+ghost use Rattle.kmin_tidy.specs.StandardError.{TakesLine, TakesLines};
 ghost use Rattle.kmin_jobs.specs.between.AnswerSteps.{StopsReading, StopsAtAnswersPath, AreLent, answers_lines};
 ghost use Rattle.kmin_jobs.specs.between.RunErrors.{status_of};
 
@@ -22,11 +23,11 @@ use kc_value::{Sink, Source};
 use kmin_words::{Definition, Expansion};
 use std::alloc::{AllocError, Global};
 
-/// The most bytes of a variable of the environment; a longer one counts as not set.
+/// The most bytes of the value of a variable of the environment; one with a longer value counts as not set.
 const MAX_VARIABLE_BYTES: usize = 65_536;
 
-/// The answers of a job: of its definitions, else of its files of answers, else of the environment. Reports why a file of
-/// answers is refused.
+/// The answers to the questions of a job's tree: by its definitions, else by its answer files, else by the environment.
+/// Reports why an answer file is refused.
 pub(crate) fn job_answers<F: Files, E: Sink>(
     alloc: Global,
     expansion: &Expansion<'_>,
@@ -44,7 +45,7 @@ pub(crate) fn job_answers<F: Files, E: Sink>(
     Ok(answers)
 }
 
-/// The answers of files, each after those before it. Reports why one is refused.
+/// Reads answer files, one after another. Reports why one is refused.
 fn file_answers<F: Files, E: Sink>(
     alloc: Global,
     paths: &[&str],
@@ -63,7 +64,7 @@ fn file_answers<F: Files, E: Sink>(
     Ok(answers)
 }
 
-/// Records the answers of the file of a path after others. Reports why it is refused.
+/// Reads one more answer file by its path. Reports why it is refused.
 fn record_path<F: Files, E: Sink>(
     path: &str,
     files: &mut F,
@@ -85,7 +86,7 @@ fn record_path<F: Files, E: Sink>(
     }
 }
 
-/// Records the answers that a reader has after others. Reports why they are refused.
+/// Reads one more answer file from a reader. Reports why it is refused.
 fn record<S: Source, E: Sink>(
     path: &str,
     source: &mut S,
@@ -102,7 +103,7 @@ fn record<S: Source, E: Sink>(
     }
 }
 
-/// Reports a fault of a file of answers, and returns the error of the run; memory that was refused is reported later.
+/// Reports a fault of an answer file, and returns the error that ends the run. Out of memory is reported later.
 fn report_answers_fault<E: Sink>(path: &str, fault: AnswersFault, err: &mut E) -> RunError
     ensures status { status_of result ≡ answers_status fault.kind }
     ensures reported { TakesLines (E.taken err.old) (E.failures err.old) (answers_lines path.now fault.line fault.kind) (E.taken err.new) (E.failures err.new) }
@@ -121,7 +122,7 @@ fn report_answers_fault<E: Sink>(path: &str, fault: AnswersFault, err: &mut E) -
     }
 }
 
-/// Gives names the values of definitions, in place of answers that they have; the last definition of a name counts.
+/// Gives names the values of definitions, in place of those that they have. The last definition of a name counts.
 fn define(definitions: &[Definition<'_>], answers: &mut Answers) -> Result<(), AllocError>
     ensures { OnOk result ((question : List ℕ) → keyword_in_table answers.new question ≡ or_else (defined_answer (map definition_view definitions.now) question) (keyword_in_table answers.old question)) }
 {
@@ -132,7 +133,7 @@ fn define(definitions: &[Definition<'_>], answers: &mut Answers) -> Result<(), A
     Ok(())
 }
 
-/// Gives names without an answer the values of the environment.
+/// Gives each of these names that has no answer its value in the environment.
 fn lend<F: Files>(
     alloc: Global,
     names: &[&str],
@@ -148,7 +149,7 @@ fn lend<F: Files>(
     Ok(())
 }
 
-/// Gives a name without an answer its value of the environment.
+/// Gives a name that has no answer its value in the environment.
 fn lend_one<F: Files>(
     alloc: Global,
     name: &str,
@@ -166,7 +167,7 @@ fn lend_one<F: Files>(
     answers.set(question, usable_value(&value))
 }
 
-/// The value of a variable as an answer; one with a newline, or that is too long, counts as not set.
+/// The value of a variable, if it can be an answer: it has no newline, and at most `MAX_VARIABLE_BYTES` bytes.
 fn usable_value(value: &Option<String>) -> Option<&[u8]>
     ensures { option_map (λ t. t.now) result ≡ answer_of_variable (option_map string_bytes value.now) }
 {

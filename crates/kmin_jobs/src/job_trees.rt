@@ -1,4 +1,4 @@
-//! The tree of a job: of its files as they are, or expanded.
+//! The tree of a job, read with or without the expansion of macros.
 ghost use Rattle.std.specs.Prelude.{◌≡◌, ◌++◌, [], ℕ, List, IfOk, IfErr};
 ghost use Rattle.kc_tree_model.specs.TreeFiles as trees;
 ghost use Rattle.kc_rules.specs.between.SettledViews.{tree_of_settled, profile_of};
@@ -6,7 +6,7 @@ ghost use Rattle.kmin_words.specs.Jobs.{expansion_view, settings_view};
 ghost use Rattle.kmin_jobs.specs.Answers.{AreAccepted};
 ghost use Rattle.kmin_jobs.specs.FileContents.{AreTextsBelow, known_by};
 ghost use Rattle.kmin_jobs.specs.JobTexts.{TreeTexts, AreExpandedTexts, AreTextsOfJob, expanded_texts, named_texts};
-ghost use Rattle.kmin_jobs.specs.StandardError.{TakesLines};
+ghost use Rattle.kmin_tidy.specs.StandardError.{TakesLines};
 ghost use Rattle.kmin_jobs.specs.Stops.{StopsAtTree, StopsInExpansion};
 ghost use Rattle.kmin_jobs.specs.between.ExpandedStops.{StopsAtExpanded};
 ghost use Rattle.kmin_jobs.specs.between.RunErrors.{status_of};
@@ -24,7 +24,7 @@ use kc_value::Sink;
 use kmin_words::{Expansion, Settings};
 use std::alloc::Global;
 
-/// The settled tree of a job. Reports the notices of its expansion, and why it is refused.
+/// The settled tree of a job. Reports the notices of the expansion of its macros, and why it is refused.
 pub(crate) fn job_tree<F: Files, E: Sink>(
     alloc: Global,
     settings: &Settings<'_>,
@@ -42,7 +42,7 @@ pub(crate) fn job_tree<F: Files, E: Sink>(
     }
 }
 
-/// The settled tree of a job from its files as they are. Reports why it is refused.
+/// The settled tree of a job without the expansion of macros. Reports why it is refused.
 fn as_it_is<F: Files, E: Sink>(
     alloc: Global,
     settings: &Settings<'_>,
@@ -74,7 +74,7 @@ fn as_it_is<F: Files, E: Sink>(
     )
 }
 
-/// The settled tree of a job from its expanded files. Reports the notices of the expansion, and why it is refused.
+/// The settled tree of a job whose macros are expanded. Reports the notices of the expansion, and why it is refused.
 fn expanded<F: Files, E: Sink>(
     alloc: Global,
     settings: &Settings<'_>,
@@ -91,7 +91,7 @@ fn expanded<F: Files, E: Sink>(
     settled_expanded(alloc, settings.tree, &tree, settings.profile, err)
 }
 
-/// The expanded files of a job's tree. Reports the notices of the expansion, and its fault or that of a file of answers.
+/// The expanded files of a job's tree. Reports the notices of the expansion, and its fault or that of an answer file.
 fn expanded_files<F: Files, E: Sink>(
     alloc: Global,
     settings: &Settings<'_>,

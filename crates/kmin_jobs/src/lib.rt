@@ -1,37 +1,36 @@
-//! Jobs over files, bundles, their answers and exit statuses.
+//! The commands of `kmin` and its bundles: what each reads, what it writes, and its exit status.
 #![tactic(auto)]
 
 mod bundle;
 mod bundle_answer;
+mod configurations;
 mod expanded_trees;
 mod file_names;
 mod files;
 mod job_answers;
+mod job_output;
 mod job_trees;
 mod laws;
 mod lines;
-mod loading;
 mod macro_names;
-mod memory_reader;
 mod output;
+mod output_file;
 mod prefetch;
+mod program;
 mod report;
 mod run_error;
-mod running;
-mod saving;
-mod serving;
 mod symbol_lines;
-mod tidying;
+mod tidy_command;
 mod tree_below;
 mod tree_files;
 mod trees;
 mod verb_texts;
-mod wanting;
+mod wants_command;
 
 pub use files::Files;
+pub use job_output::serve;
 pub use laws::known_files_determine_the_tree;
-pub use running::run;
-pub use saving::save;
-pub use serving::serve;
-pub use tidying::tidy;
-pub use wanting::list_questions;
+pub use output_file::save;
+pub use program::run;
+pub use tidy_command::tidy;
+pub use wants_command::list_questions;

@@ -1,4 +1,4 @@
-//! Texts cut into lines.
+//! The first line of a text.
 ghost use Rattle.std.specs.Prelude.{◌≡◌, ◌<◌, ◌≤◌, ◌++◌, ◌∷◌, [], length, IsTrue, IfSome, IfNone};
 ghost use Rattle.std.specs.List.{list_all, prefix_len};
 ghost use Rattle.kc_dotconfig_model.specs.ConfigFiles.{file_lines};
@@ -7,7 +7,7 @@ ghost use Rattle.kmin_jobs.specs.between.LineEnds.{begins_after_line, is_inline}
 
 use bstr::ByteSlice;
 
-/// How many bytes there are before the first newline.
+/// The number of bytes before the first newline.
 fn line_length(text: &[u8]) -> usize
     ensures run { result ≡ prefix_len is_inline text.now }
     ensures within { result ≤ length text.now }
@@ -15,7 +15,7 @@ fn line_length(text: &[u8]) -> usize
     text.find_byte(b'\n').unwrap_or(text.len())
 }
 
-/// Parts a text before its first newline.
+/// Splits a text before its first newline.
 #[tactic(auto, using(crate::proofs::Runs::all_of_run, crate::proofs::Runs::run_stops))]
 fn split_line(text: &[u8]) -> (&[u8], &[u8])
     ensures parts { text.now ≡ result.0.now ++ result.1.now }
@@ -25,7 +25,7 @@ fn split_line(text: &[u8]) -> (&[u8], &[u8])
     text.split_at(line_length(text))
 }
 
-/// The first line, and what follows its newline.
+/// The first line of a text, and the text after its newline; `None` for the empty text.
 #[tactic(auto, using(crate::proofs::LineLaws::lines_of_run))]
 pub(crate) fn first_line(text: &[u8]) -> Option<(&[u8], &[u8])>
     ensures parts { IfSome result (λ found. BeginsWithLine text.now found.0.now found.1.now) }

@@ -1,4 +1,4 @@
-//! The names of the kinds of faults and notices of macros, and of faults of files of answers.
+//! The names of the kinds of faults and notices of macros, and of faults of answer files.
 ghost use Rattle.std.specs.Prelude.{◌≡◌};
 ghost use Rattle.kmin_jobs.specs.MacroReports.{macro_kind_name, macro_notice_name, answers_kind_name};
 
@@ -35,7 +35,7 @@ pub(crate) fn macro_notice_name(kind: MacroNoticeKind) -> &'static str
     }
 }
 
-/// The name of a kind of fault of a file of answers.
+/// The name of a kind of fault of an answer file.
 pub(crate) fn answers_kind_name(kind: AnswersKind) -> &'static str
     ensures { result.now ≡ answers_kind_name kind }
 {

@@ -1,8 +1,9 @@
-//! Writes the answer, and the last line of a run that has none.
+//! The output of a job, and the last line of a run that has none.
 ghost use Rattle.std.specs.Prelude.{◌≡◌, ◌∷◌, [], ◌<◌, length, take, IfErr, OnOk, OnErr};
 ghost use Rattle.std.specs.Io.KnownBytes.{Appends};
-ghost use Rattle.kmin_jobs.specs.Reports.{output_line, last_lines};
-ghost use Rattle.kmin_jobs.specs.StandardError.{Rises, TakesLines};
+ghost use Rattle.kmin_jobs.specs.Reports.{last_lines};
+ghost use Rattle.kmin_tidy.specs.Reports.{output_line};
+ghost use Rattle.kmin_tidy.specs.StandardError.{Rises, TakesLines};
 ghost use Rattle.kmin_jobs.specs.between.RunErrors.{status_of};
 
 use crate::report::{Report, write_report};
@@ -10,7 +11,7 @@ use crate::run_error::RunError;
 use kc_minimal::{WriteFault, write_out};
 use kc_value::Sink;
 
-/// Writes a complete answer. A failed write is reported on standard error.
+/// Writes the output of a job. Reports a failed write.
 pub(crate) fn write_answer<O: Sink, E: Sink>(
     text: &[u8],
     out: &mut O,
@@ -32,7 +33,7 @@ pub(crate) fn write_answer<O: Sink, E: Sink>(
     }
 }
 
-/// The exit status of a run that ended early. Out of memory is reported here, the other errors were before.
+/// The exit status of a run that ended early. Reports out of memory; every other error was reported before.
 pub(crate) fn exit_status<E: Sink>(stop: RunError, err: &mut E) -> u8
     ensures status { result ≡ status_of stop }
     ensures reported { TakesLines (E.taken err.old) (E.failures err.old) (last_lines result) (E.taken err.new) (E.failures err.new) }

@@ -1,14 +1,14 @@
-//! Guesses which files a file sources, before it is read. A wrong guess only opens a file in vain.
+//! Guesses which files a Kconfig file sources, before it is parsed. A wrong guess only opens a file in vain.
 use crate::lines::first_line;
 use bstr::ByteSlice;
 use kc_tree::Texts;
 use kc_value::MAX_FILES;
 use std::alloc::{AllocError, Global};
 
-/// The word that a line begins with which sources a file.
+/// The keyword of a line that sources a file.
 const SOURCE: &[u8] = b"source";
 
-/// The absent paths that file `number` of the texts sources; `None` after the last file.
+/// The paths that file `number` of the texts sources and the texts lack; `None` after the last file.
 pub(crate) fn absent_paths_of_file(
     alloc: Global,
     texts: &Texts,
@@ -21,7 +21,7 @@ pub(crate) fn absent_paths_of_file(
     Ok(Some(absent_paths(alloc, texts, bytes)?))
 }
 
-/// The absent paths that the lines of a file source, up to `MAX_FILES`.
+/// The paths that the lines of a file source and the texts lack, up to `MAX_FILES` of them.
 fn absent_paths(alloc: Global, texts: &Texts, bytes: &[u8]) -> Result<Vec<String>, AllocError> {
     let mut paths = Vec::new(alloc);
     for place in bytes.find_iter(SOURCE) {
@@ -33,7 +33,7 @@ fn absent_paths(alloc: Global, texts: &Texts, bytes: &[u8]) -> Result<Vec<String
     Ok(paths)
 }
 
-/// Appends a path if it is absent.
+/// Appends a path if the texts lack it.
 fn push_absent(
     alloc: Global,
     texts: &Texts,
@@ -67,7 +67,7 @@ fn line_from(bytes: &[u8]) -> &[u8] {
     }
 }
 
-/// The path after the keyword, if it is written the usual way.
+/// The path of a `source` line, if the line is written the usual way.
 fn path_after_word(line: &[u8]) -> Option<&str> {
     let path = std::str::from_utf8(line).ok()?.strip_prefix("source")?;
     Some(path.trim().trim_matches('"'))

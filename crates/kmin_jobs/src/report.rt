@@ -1,12 +1,13 @@
-//! The lines of standard error: each is a report, which is written as soon as it is known.
+//! The lines of standard error: each is a report, which is written at once.
 ghost use Rattle.std.specs.Prelude.{◌≡◌, ◌++◌, ◌∷◌, [], ℕ, List, Option, codes, map, slice_get, length, ◌<◌, OnOk, OnErr};
 ghost use Rattle.std.specs.List.{flat_map};
 ghost use Rattle.std.specs.Borrow.{Bor};
 ghost use Rattle.std.specs.Fmt.{decimal};
 ghost use Rattle.kc_macros.specs.Runs.{fault_of, notice_of};
 ghost use Rattle.kmin_jobs.specs.MacroReports.{macro_fault_line, macro_notice_line, message_line};
-ghost use Rattle.kmin_jobs.specs.Reports.{place_line, first_member_name, unit_text, units_text};
-ghost use Rattle.kmin_jobs.specs.StandardError.{TakesWhole, TakesPart, TakesLine, TakesLines};
+ghost use Rattle.kmin_jobs.specs.Reports.{first_member_name, unit_text, units_text};
+ghost use Rattle.kmin_tidy.specs.Reports.{place_line};
+ghost use Rattle.kmin_tidy.specs.StandardError.{TakesWhole, TakesPart, TakesLine, TakesLines};
 ghost use Rattle.kmin_jobs.specs.between.ReportLines.{report_line};
 
 use crate::macro_names::{answers_kind_name, macro_kind_name, macro_notice_name};
@@ -46,27 +47,27 @@ pub(crate) enum Report<'a> {
         line: u32,
         kind: NoticeKind,
     },
-    /// A fault of a file of answers.
+    /// A fault of an answer file.
     AnswersFault {
         path: &'a str,
         line: u32,
         kind: AnswersKind,
     },
-    /// A message of the macros of a tree.
+    /// A notice of the macros of a tree.
     MacroNotice(&'a MacroNotice),
     /// A fault of the macros of a tree.
     MacroFault(&'a MacroFault),
-    /// The answer can't be written.
+    /// A write of the output failed.
     OutputFault,
-    /// The path leads to a link, a folder, a pipe or a device.
+    /// The path of the output file leads to a link, a folder, a pipe or a device.
     NotRegular(&'a str),
-    /// The file of this path can't be written, or not for good.
+    /// The output file of this path can't be written, or not for good.
     Unwritten(&'a str),
-    /// The new file of this path is left.
+    /// The new file of this path couldn't be removed.
     Left(&'a str),
-    /// Memory was refused.
+    /// Memory ran out.
     OutOfMemory,
-    /// The message for words that are no job.
+    /// The message for words that are refused.
     RefusedWords(&'a str),
 }
 
@@ -230,7 +231,7 @@ fn member_name(tree: &Tree, choice: u32) -> &str
     }
 }
 
-/// Writes texts, one after another, up to the first write that fails.
+/// Writes the pieces of a line, up to the first write that fails.
 fn write_pieces<W: Sink>(pieces: &[&[u8]], sink: &mut W) -> Result<(), WriteFault>
     ensures whole { OnOk result (TakesWhole (W.taken sink.old) (W.failures sink.old) (flat_map (λ (piece : Bor (List ℕ)). piece.now) pieces.now) (W.taken sink.new) (W.failures sink.new)) }
     ensures part { OnErr result (TakesPart (W.taken sink.old) (W.failures sink.old) (flat_map (λ (piece : Bor (List ℕ)). piece.now) pieces.now) (W.taken sink.new) (W.failures sink.new)) }

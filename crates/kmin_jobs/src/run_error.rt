@@ -1,25 +1,25 @@
-//! Errors that end a run before its answer.
+//! Errors that end a run before its output.
 ghost use Rattle.std.specs.Prelude.{◌≡◌};
 ghost use Rattle.kmin_jobs.specs.between.RunErrors.{status_of};
 ghost use Rattle.kmin_jobs.specs.declared.run_error.RunError.TheVariants.{Memory};
 
 use std::alloc::{AllocError, AllocFailed};
 
-/// Why a run ends early. All but out of memory was reported on standard error before.
+/// Why a run ends early. All but `Memory` has been reported on standard error.
 #[derive(Clone, Copy, Debug, PartialEq, Eq)]
 pub(crate) enum RunError {
     /// The tree is refused.
     Tree,
-    /// A configuration file is refused, or the bundle is too large.
+    /// A configuration file or an answer file is refused, or a bundle or a list of paths is too large.
     Configuration,
     /// A read or a write failed.
     Failed,
-    /// Memory was refused.
+    /// Memory ran out.
     Memory,
 }
 
 impl RunError {
-    /// The exit status.
+    /// The exit status of a run that ends with this error.
     pub(crate) fn status(self) -> u8
         ensures { result ≡ status_of self }
     {

@@ -13,7 +13,7 @@ use kc_rules::{Settled, UnitValue};
 use kc_tree::{Sym, Tree};
 use std::alloc::{AllocError, Global};
 
-/// The name of a symbol, empty where there is none of that number.
+/// The name of the symbol of this number; empty if there is none.
 pub(crate) fn name_of(tree: &Tree, s: Sym) -> &str
     ensures { result.now ≡ name_at tree.now.tree s }
 {
@@ -24,7 +24,7 @@ pub(crate) fn name_of(tree: &Tree, s: Sym) -> &str
     }
 }
 
-/// Appends a line with the name of a symbol, after some text.
+/// Appends a line with the text `front` and the name of a symbol.
 fn push_name_line(out: &mut Vec<u8>, front: &str, tree: &Tree, s: Sym) -> Result<(), AllocError>
     ensures { OnOk result (out.new.items ≡ out.old.items ++ name_line front.now tree.now.tree s) }
 {
@@ -34,7 +34,7 @@ fn push_name_line(out: &mut Vec<u8>, front: &str, tree: &Tree, s: Sym) -> Result
     Ok(())
 }
 
-/// A line for each symbol: its name, after some text.
+/// A line for each symbol, with the text `front` and its name.
 pub(crate) fn name_lines(
     alloc: Global,
     front: &str,
@@ -50,7 +50,8 @@ pub(crate) fn name_lines(
     Ok(text)
 }
 
-/// Appends `NAME: LEFT -> RIGHT` for a symbol, with values as a file has them after `=`, if there is one of that number.
+/// Appends `NAME: LEFT -> RIGHT` for the symbol of this number, if there is one, with values as a file has them after
+/// `=`.
 fn push_difference(
     out: &mut Vec<u8>,
     strings: Strings,
@@ -76,7 +77,7 @@ fn push_difference(
     Ok(())
 }
 
-/// A line for each difference of two valuations.
+/// A line `NAME: LEFT -> RIGHT` for each symbol whose values differ.
 pub(crate) fn difference_lines(
     alloc: Global,
     strings: Strings,

@@ -1,4 +1,4 @@
-//! The files of a tree that lies below a folder.
+//! The files and folders of a tree below its root.
 ghost use Rattle.std.specs.Prelude.{◌≡◌, IfOk, IfSome, is_some, string_bytes};
 ghost use Rattle.std.specs.Str.{is_utf8};
 ghost use Rattle.kmin_jobs.specs.FileContents.{known_by, path_below};
@@ -9,14 +9,14 @@ use kc_expansion::TreeFiles;
 use kc_value::Seed;
 use std::alloc::{AllocError, Global};
 
-/// The files below a folder, by their paths in it; also an absolute path is one below it.
+/// The files and folders below a root, by their paths in it. Also an absolute path is taken as one below the root.
 #[derive(Drop)]
 pub(crate) struct TreeBelow<'a, F> {
     pub(crate) files: &'a mut F,
     pub(crate) root: &'a str,
 }
 
-/// A path below a folder.
+/// The path, for the system, of a file or folder of a tree below its root.
 pub(crate) fn path_in(alloc: Global, root: &str, path: &str) -> Result<String, AllocError>
     ensures { IfOk result (λ place. string_bytes place ≡ path_below root.now path.now) }
 {

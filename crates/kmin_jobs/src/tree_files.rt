@@ -1,4 +1,4 @@
-//! The files of a tree.
+//! The files of a tree that is read without the expansion of macros.
 ghost use Rattle.std.specs.Prelude.{◌≡◌, ◌≤◌, ◌⊎◌, List, ℕ, length, IfOk, IfSome};
 ghost use Rattle.std.specs.Io.KnownBytes.{Consumes, IsAtEnd};
 ghost use Rattle.kmin_jobs.specs.FileContents.{AreTextsBelow, MatchContentStart, path_below};
@@ -15,8 +15,8 @@ use std::alloc::{AllocError, Global};
 /// The most bytes of a file that are read: one more than a tree may have.
 const MAX_FILE_BYTES: usize = MAX_TREE_BYTES + 1;
 
-/// The most readings of a tree's files before one without a new file. Each finds paths that are one file deeper, and no
-/// more than 32 files are open at a time.
+/// The most readings of a tree until one wants no further file. Each reaches files one `source` deeper, and no more
+/// than 32 files are open at a time.
 const MAX_ROUNDS: u32 = 64;
 
 /// The files of a tree, and the result of reading them.
@@ -26,7 +26,7 @@ pub(crate) struct TreeReading {
     pub(crate) read: Result<Tree, TreeFault>,
 }
 
-/// How many files and bytes may still be opened and read at once.
+/// The room that is left for the files of a tree: their number and their bytes.
 #[derive(Drop)]
 struct Room {
     files: u32,
@@ -42,20 +42,20 @@ impl Room {
         }
     }
 
-    /// Takes the room of an opened file of which this number of bytes was read.
+    /// Takes the room of one file of this number of bytes.
     fn take(&mut self, bytes: usize) {
         self.files = self.files.saturating_sub(1);
         self.bytes = self.bytes.saturating_sub(bytes);
     }
 
-    /// Whether none is left.
+    /// Whether no room is left.
     fn is_used(&self) -> bool {
         self.files == 0 || self.bytes == 0
     }
 }
 
-/// The files of a tree, read: its first file and what the lines of its files source, as far as it can be opened and read,
-/// and where one is missing then, what its files want.
+/// The files of a tree, and the result of reading them: the first file and the files that the lines of its files seem
+/// to source, and if one is missing then, those that a reading wants. Files that can't be opened or read are missing.
 pub(crate) fn gather<F: Files>(
     alloc: Global,
     root: &str,
@@ -77,7 +77,7 @@ pub(crate) fn gather<F: Files>(
     Ok(TreeReading { texts, read })
 }
 
-/// Inserts the first file of a tree and what the lines of its files source, ahead of a reading.
+/// Inserts the first file of a tree, and the files that the lines of its files seem to source.
 fn open_first<F: Files>(
     alloc: Global,
     root: &str,
@@ -94,7 +94,8 @@ fn open_first<F: Files>(
     open_ahead(alloc, root, &mut room, files, texts)
 }
 
-/// The files of a tree, with those that its files want beside these, and read.
+/// Adds the files that a tree wants beside those of `texts`, until a reading misses none, and returns the result of
+/// that reading.
 fn gather_wanted<F: Files>(
     alloc: Global,
     root: &str,
@@ -112,7 +113,7 @@ fn gather_wanted<F: Files>(
     Ok(TreeReading { texts, read })
 }
 
-/// Whether a reading met a file that isn't there.
+/// Whether a reading missed a file.
 fn lacks_file(read: &Result<Tree, TreeFault>) -> bool {
     match read {
         Ok(_) => false,
@@ -120,8 +121,8 @@ fn lacks_file(read: &Result<Tree, TreeFault>) -> bool {
     }
 }
 
-/// Inserts what the lines of the files source, ahead of a reading, as long as there is room. Files that no reading looks at
-/// change no answer.
+/// Inserts the files that the lines of the texts seem to source, as long as there is room. A file that no reading
+/// sources has no influence on the tree.
 fn open_ahead<F: Files>(
     alloc: Global,
     root: &str,
@@ -145,7 +146,7 @@ fn open_ahead<F: Files>(
     Ok(())
 }
 
-/// Inserts what a reading of the files wants, as long as there is any that can be opened and read.
+/// Inserts the files that a reading wants, until it wants none that can be opened and read.
 fn open_wanted<F: Files>(
     alloc: Global,
     root: &str,
@@ -170,7 +171,7 @@ fn open_wanted<F: Files>(
     Ok(())
 }
 
-/// Inserts the files of some paths, as long as there is room, and returns whether any was inserted.
+/// Inserts the files of these paths, as long as there is room, and returns whether any was inserted.
 fn insert_all<F: Files>(
     alloc: Global,
     root: &str,
@@ -193,7 +194,7 @@ fn insert_all<F: Files>(
     Ok(any)
 }
 
-/// Inserts the file of a path that isn't there yet, if it can be opened and read, and returns whether it did.
+/// Inserts the file of a path, unless the texts have it or it can't be opened or read, and returns whether it did.
 fn insert_one<F: Files>(
     alloc: Global,
     root: &str,
@@ -218,7 +219,7 @@ fn insert_one<F: Files>(
     Ok(true)
 }
 
-/// The bytes of a path below the root, unless it can't be opened or read.
+/// The bytes of the file of a path below the root; `None` if it can't be opened or read.
 fn read_below<F: Files>(
     alloc: Global,
     root: &str,
@@ -240,8 +241,8 @@ fn read_below<F: Files>(
     }
 }
 
-/// All bytes of a reader, or the first `MAX_FILE_BYTES` of more; nothing where a read fails. `room` is for how many bytes room is
-/// made at once.
+/// The bytes that a reader has left, up to `MAX_FILE_BYTES`; `None` if a read fails. The vector begins with room for
+/// `room` bytes.
 fn read_front<S: Source>(
     alloc: Global,
     source: &mut S,

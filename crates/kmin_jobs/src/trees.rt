@@ -1,10 +1,10 @@
-//! Reads and settles a tree, and reports why it is refused.
+//! Reading and settling a tree, with a report if it is refused.
 ghost use Rattle.std.specs.Prelude.{◌≡◌, ◌∷◌, [], ℕ, List, IfOk, IfErr, OnOk, unwrap_or, slice_get};
 ghost use Rattle.kc_tree_model.specs.TreeFiles.{path_at};
 ghost use Rattle.kc_rules.specs.between.SettledViews.{tree_of_settled, profile_of};
 ghost use Rattle.kmin_jobs.specs.Answers.{AreAccepted};
 ghost use Rattle.kmin_jobs.specs.Reports.{path_or_first, tree_fault_line, cycle_line, cycle_place, unit_place};
-ghost use Rattle.kmin_jobs.specs.StandardError.{TakesLine, TakesLines};
+ghost use Rattle.kmin_tidy.specs.StandardError.{TakesLine, TakesLines};
 ghost use Rattle.kmin_jobs.specs.between.FileNames.{names_of};
 ghost use Rattle.kmin_jobs.specs.between.Readings.{IsRead};
 ghost use Rattle.kmin_jobs.specs.between.RunErrors.{status_of};
@@ -18,14 +18,15 @@ use kc_tree::{Texts, Tree, TreeFault, TreeKind, Unit, read_tree};
 use kc_value::Sink;
 use std::alloc::Global;
 
-/// The result of reading some texts.
+/// The result of reading texts as a tree.
 pub(crate) fn read_texts(alloc: Global, texts: &Texts, first: &str) -> Result<Tree, TreeFault>
     ensures { IsRead texts.now first.now result }
 {
     read_tree(alloc, texts, first)
 }
 
-/// The settled tree of some texts, given the result of reading them. Reports why they are refused, with these names of files.
+/// The settled tree of texts, given the result of reading them. Reports why they are refused, with these names of
+/// files.
 pub(crate) fn settled_tree<E: Sink>(
     alloc: Global,
     texts: &Texts,
@@ -76,14 +77,14 @@ fn report_tree_fault<'a, E: Sink>(
     write_report(Report::TreeFault { path, line, kind }, err);
 }
 
-/// The path of a file by its number; the first file's where there is no such number.
+/// The name of the file of this number; that of the first file if there is none.
 fn path_of_file<'a>(names: &FileNames<'a>, first: &'a str, number: u32) -> &'a [u8]
     ensures { result.now ≡ unwrap_or (path_at (names_of names.now) number) first.now }
 {
     names.name_at(number).unwrap_or(first.as_bytes())
 }
 
-/// Reports why a tree isn't settled, and returns the error of the run; memory that was refused is reported later.
+/// Reports why a tree can't be settled, and returns the error that ends the run. Out of memory is reported later.
 fn report_settle_fault<E: Sink>(
     names: &FileNames<'_>,
     first: &str,
@@ -126,7 +127,7 @@ fn report_cycle<'a, E: Sink>(
     );
 }
 
-/// The file and the line of a cycle.
+/// The file and the line of a cycle: those of its first unit.
 fn place_of_cycle(tree: &Tree, units: &[u32]) -> (u32, u32)
     ensures { result ≡ cycle_place tree.now.tree units.now }
 {

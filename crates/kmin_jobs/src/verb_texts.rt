@@ -1,4 +1,4 @@
-//! The texts of the verbs.
+//! The outputs of the verbs `min`, `full`, `missed` and `check`, and of `compare`.
 ghost use Rattle.std.specs.Prelude.{◌≡◌, [], Ok, true, codes, IfOk};
 ghost use Rattle.kc_rules_model.specs.Reports.{unmet};
 ghost use Rattle.kc_dotconfig_model.specs.Missed.{missed};
@@ -18,14 +18,14 @@ use kc_tree::Sym;
 use kmin_words::Verb;
 use std::alloc::{AllocError, Global};
 
-/// The text of an answer, and its status.
+/// The output of a command, and its exit status.
 #[derive(Drop)]
 pub(crate) struct AnswerText {
     pub(crate) text: Vec<u8>,
     pub(crate) status: u8,
 }
 
-/// The text of a verb for a configuration, and the status, which may say that a symbol is listed.
+/// The output of a verb for a configuration, and its status: 1 if a symbol is listed and `exit_code` is set, else 0.
 pub(crate) fn answer_of(
     alloc: Global,
     verb: Verb,
@@ -44,7 +44,7 @@ pub(crate) fn answer_of(
     }
 }
 
-/// The answer that is a file, if it could be made.
+/// The output that is a configuration file, with status 0.
 fn file_answer(text: Result<Vec<u8>, AllocError>) -> Result<AnswerText, AllocError>
     ensures text { IfOk result (λ answer. text ≡ Ok answer.text) }
     ensures status { IfOk result (λ answer. answer.status ≡ 0) }
@@ -55,7 +55,7 @@ fn file_answer(text: Result<Vec<u8>, AllocError>) -> Result<AnswerText, AllocErr
     })
 }
 
-/// A line with the name of each symbol whose assignment isn't its value.
+/// The output of `missed`: a line with the name of each symbol that hasn't the value that a file assigns.
 fn missed_answer(
     alloc: Global,
     exit_code: bool,
@@ -70,7 +70,7 @@ fn missed_answer(
     Ok(AnswerText { text, status })
 }
 
-/// A line `unmet NAME` for each symbol that is selected above its direct dependency.
+/// The output of `check`: a line `unmet NAME` for each symbol that is selected against its dependencies.
 fn unmet_answer(
     alloc: Global,
     exit_code: bool,
@@ -85,7 +85,7 @@ fn unmet_answer(
     Ok(AnswerText { text, status })
 }
 
-/// 1 where the status says whether symbols are listed, and some are; else 0.
+/// The exit status of a list of symbols: 1 if it has any and `exit_code` is set, else 0.
 fn list_status(exit_code: bool, symbols: &[Sym]) -> u8
     ensures { result ≡ status_of_list exit_code symbols.now }
 {
@@ -95,7 +95,8 @@ fn list_status(exit_code: bool, symbols: &[Sym]) -> u8
     0
 }
 
-/// The differences of two configurations of one tree, in one profile, and the status.
+/// The output of `compare`: the differences of two configurations of one tree, in one profile; and the status, 1 if
+/// there are any.
 pub(crate) fn compared(
     alloc: Global,
     left: &Config<'_>,

@@ -27,7 +27,8 @@ bytes_eq_turned x y = by_tests (bytes_eq x y) (bytes_eq y x) refl refl
     by_tests false true e f = let z : true ≡ false = sym ((bytes_eq-Decides x y).1 (sym ((bytes_eq-Decides y x).0 f))) ∙ e in cc
 
 -- a line that isn't there takes none away
-absent_by : (line other : List ℕ) (lines : List (List ℕ)) (b : Bool) → cond b 1 0 + times_among lines line ≡ 0 → (times_among lines line ≡ 0 → without_one line lines ≡ lines)
+absent_by : (line other : List ℕ) (lines : List (List ℕ)) (b : Bool) → cond b 1 0 + times_among lines line ≡ 0
+    → (times_among lines line ≡ 0 → without_one line lines ≡ lines)
     → cond b lines (other ∷ without_one line lines) ≡ other ∷ lines
 absent_by line other lines true none h = absurd (omega arith)
 absent_by line other lines false none h = ap (λ rest. other ∷ rest) (h (omega arith))
@@ -37,7 +38,8 @@ absent line [] none = refl
 absent line (other ∷ lines) none = absent_by line other lines (bytes_eq line other) none (absent line lines)
 
 -- a line that is there takes one away
-shorter_by : (line other : List ℕ) (lines : List (List ℕ)) (b : Bool) → 0 < cond b 1 0 + times_among lines line → (0 < times_among lines line → length (without_one line lines) + 1 ≡ length lines)
+shorter_by : (line other : List ℕ) (lines : List (List ℕ)) (b : Bool) → 0 < cond b 1 0 + times_among lines line
+    → (0 < times_among lines line → length (without_one line lines) + 1 ≡ length lines)
     → length (cond b lines (other ∷ without_one line lines)) + 1 ≡ length (other ∷ lines)
 shorter_by line other lines true some h = omega arith
 shorter_by line other lines false some h = let k = h (omega arith) in omega arith
@@ -59,7 +61,8 @@ fewer_by line other any lines false same some h =
     let e : times_among (other ∷ without_one line lines) any ≡ one_if any other + times_among (without_one line lines) any = refl in
     omega arith
 
-pub fewer : (line any : List ℕ) (lines : List (List ℕ)) → 0 < times_among lines line → times_among (without_one line lines) any + one_if any line ≡ times_among lines any
+pub fewer : (line any : List ℕ) (lines : List (List ℕ)) → 0 < times_among lines line → times_among (without_one line lines) any + one_if any line
+    ≡ times_among lines any
 fewer line any [] some = absurd (omega arith)
 fewer line any (other ∷ lines) some = fewer_by line other any lines (bytes_eq line other) refl some (fewer line any lines)
 
@@ -76,12 +79,14 @@ pub set_more : (b : Bool) (count n : ℕ) (o : Option ℕ) → (b ≡ true → n
 set_more true count n o h e = let k = h refl in omega arith
 set_more false count n o h e = sym e ∙ (omega arith)
 
-pub set_less : (b : Bool) (count n m : ℕ) (o : Option ℕ) → 0 < count → (b ≡ true → n ≡ count) → n ≡ unwrap_or o 0 → m + cond b 1 0 ≡ n → unwrap_or (cond b (Some (count - 1)) o) 0 ≡ m
+pub set_less : (b : Bool) (count n m : ℕ) (o : Option ℕ) → 0 < count → (b ≡ true → n ≡ count) → n ≡ unwrap_or o 0 → m + cond b 1 0 ≡ n
+    → unwrap_or (cond b (Some (count - 1)) o) 0 ≡ m
 set_less true count n m o some h e f = let k = h refl in omega arith
 set_less false count n m o some h e f = sym e ∙ omega arith
 
 -- how often each line is there, after one was added
-pub added : (before after : List ℕ → Option ℕ) (lines : List (List ℕ)) (line : List ℕ) (count : ℕ) → ((any : List ℕ) → unwrap_or (before any) 0 ≡ times_among lines any)
+pub added : (before after : List ℕ → Option ℕ) (lines : List (List ℕ)) (line : List ℕ) (count : ℕ)
+    → ((any : List ℕ) → unwrap_or (before any) 0 ≡ times_among lines any)
     → count ≡ unwrap_or (before line) 0 → ((any : List ℕ) → after any ≡ cond (bytes_eq line any) (Some (count + 1)) (before any))
     → (any : List ℕ) → unwrap_or (after any) 0 ≡ times_among (lines ++ line ∷ []) any
 added before after lines line count each is sets any =
@@ -92,7 +97,8 @@ added before after lines line count each is sets any =
     ∙ sym (times_append lines line any)
 
 -- and after one was taken away
-pub taken : (before after : List ℕ → Option ℕ) (lines : List (List ℕ)) (line : List ℕ) (count : ℕ) → ((any : List ℕ) → unwrap_or (before any) 0 ≡ times_among lines any)
+pub taken : (before after : List ℕ → Option ℕ) (lines : List (List ℕ)) (line : List ℕ) (count : ℕ)
+    → ((any : List ℕ) → unwrap_or (before any) 0 ≡ times_among lines any)
     → 0 < count → count ≡ unwrap_or (before line) 0 → ((any : List ℕ) → after any ≡ cond (bytes_eq line any) (Some (count - 1)) (before any))
     → (any : List ℕ) → unwrap_or (after any) 0 ≡ times_among (without_one line lines) any
 taken before after lines line count each some is sets any =
@@ -101,7 +107,8 @@ taken before after lines line count each some is sets any =
     ap (λ b. times_among (without_one line lines) any + cond b 1 0) (bytes_eq_turned line any) ∙ fewer line any lines there in
     ap (λ o. unwrap_or o 0) (sets any)
     ∙ set_less (bytes_eq line any) count (times_among lines any) (times_among (without_one line lines) any) (before any) some
-    (λ same. let e : line ≡ any = (bytes_eq-Decides line any).0 same in sym (each any) ∙ ap (λ l. unwrap_or (before l) 0) (sym e) ∙ sym is) (sym (each any)) less
+    (λ same. let e : line ≡ any = (bytes_eq-Decides line any).0 same in sym (each any) ∙ ap (λ l. unwrap_or (before l) 0) (sym e) ∙ sym is)
+    (sym (each any)) less
 
 -- no text has more pieces than bytes
 pub length_pieces : (ender : ℕ) (text : List ℕ) → length (pieces ender text) ≤ length text

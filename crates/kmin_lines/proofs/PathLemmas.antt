@@ -9,9 +9,11 @@ use Rattle.std.proofs.lemmas.List.Folds.{list_all-append}
 pub not_utf8 : (bytes : List ℕ) → (IsUtf8 bytes → ⊥) → is_utf8 bytes ≡ false
 not_utf8 bytes fails = false_from_ne_true (is_utf8 bytes) (λ holds. fails (IsUtf8-from_is_utf8 bytes holds))
 
--- one path that fails a test, behind others
-pub one_fails : (test : List ℕ → Bool) (front : List (List ℕ)) (path : List ℕ) (back : List (List ℕ)) → test path ≡ false → list_all test (front ++ path ∷ back) ≡ false
-one_fails test front path back fails = list_all-append test front (path ∷ back) ∙ ap (λ b. list_all test front && (b && list_all test back)) fails ∙ and_false (list_all test front)
+-- one path that fails a test, after others
+pub one_fails : (test : List ℕ → Bool) (front : List (List ℕ)) (path : List ℕ) (back : List (List ℕ)) → test path ≡ false
+    → list_all test (front ++ path ∷ back) ≡ false
+one_fails test front path back fails = list_all-append test front (path ∷ back) ∙ ap (λ b. list_all test front && (b && list_all test back)) fails
+    ∙ and_false (list_all test front)
   where
     and_false : (b : Bool) → (b && false) ≡ false
     and_false true = refl

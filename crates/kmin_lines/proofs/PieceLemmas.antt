@@ -12,7 +12,8 @@ onto_next ender c cs front back true e other h = absurd (other e)
 onto_next ender c cs front back false e other h = rw h refl
 
 -- a run without the byte, and then the byte
-pub pieces_at : (ender : ℕ) (text : List ℕ) (at : ℕ) → at < length text → ((k : ℕ) → k < at → (get_or text k 0 == ender) ≡ true → ⊥) → (get_or text at 0 == ender) ≡ true
+pub pieces_at : (ender : ℕ) (text : List ℕ) (at : ℕ) → at < length text → ((k : ℕ) → k < at → (get_or text k 0 == ender) ≡ true → ⊥)
+    → (get_or text at 0 == ender) ≡ true
     → pieces ender text ≡ take at text ∷ pieces ender (drop (suc at) text)
 pieces_at ender [] at l before found = absurd (omega arith)
 pieces_at ender (c ∷ cs) zero l before found = rw found refl
@@ -21,7 +22,8 @@ pieces_at ender (c ∷ cs) (suc n) l before found =
     (pieces_at ender cs n (omega arith) (λ k h. before (suc k) (omega arith)) found)
 
 -- a text without the byte is one piece
-pub one_piece : (ender : ℕ) (text : List ℕ) → 0 < length text → ((k : ℕ) → k < length text → (get_or text k 0 == ender) ≡ true → ⊥) → pieces ender text ≡ text ∷ []
+pub one_piece : (ender : ℕ) (text : List ℕ) → 0 < length text → ((k : ℕ) → k < length text → (get_or text k 0 == ender) ≡ true → ⊥)
+    → pieces ender text ≡ text ∷ []
 one_piece ender [] some none = absurd (omega arith)
 one_piece ender (c ∷ []) some none = rw (false_from_ne_true (c == ender) (none 0 (omega arith))) refl
 one_piece ender (c ∷ d ∷ cs) some none =
@@ -63,7 +65,8 @@ pub untrimmed : (line : List ℕ) → 0 < length line → (get_or line (length l
 untrimmed line some last =
     let n = length line - 1 in
     let parts : line ≡ take n line ++ get_or line n 0 ∷ [] = front_and_last line n (omega arith) in
-    parts ∙ sym (ap without_carriage_return parts ∙ last_kept (take n line) (get_or line n 0) (false_from_ne_true (get_or line n 0 == 13) (λ same. last (eqb-true (get_or line n 0) 13 same))))
+    parts ∙ sym (ap without_carriage_return parts ∙ last_kept (take n line) (get_or line n 0)
+    (false_from_ne_true (get_or line n 0 == 13) (λ same. last (eqb-true (get_or line n 0) 13 same))))
 
 pub no_line : (line : List ℕ) → length line ≡ 0 → line ≡ without_carriage_return line
 no_line [] e = refl

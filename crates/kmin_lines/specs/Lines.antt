@@ -1,4 +1,4 @@
--- The lines of a text, and those that are left when another text's lines take theirs away.
+-- The lines of a text, and those of them that aren't in another text.
 use Rattle.std.specs.Prelude.{ℕ, List, [], ◌∷◌, ◌==◌, length, map, if◌then◌else◌}
 use Rattle.std.specs.List.{onto_first}
 use Rattle.std.specs.Str.{bytes_eq}
@@ -23,7 +23,7 @@ abbrev pub without_one : (line : List ℕ) → List (List ℕ) → List (List �
 without_one line [] = []
 without_one line (other ∷ lines) = if bytes_eq line other then lines else other ∷ without_one line lines
 
--- the lines that are left when each of other lines takes one equal line away
+-- the lines that are left when each of the others takes one equal line away
 abbrev pub left_over : List (List ℕ) → (others : List (List ℕ)) → List (List ℕ)
 left_over lines [] = lines
 left_over lines (other ∷ others) = left_over (without_one other lines) others

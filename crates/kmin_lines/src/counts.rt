@@ -1,4 +1,4 @@
-//! How many lines differ between two texts.
+//! Counts of the lines in which two texts differ.
 ghost use Rattle.std.specs.Prelude.{◌≡◌, IfOk};
 ghost use Rattle.kmin_lines.specs.Lines.{count_lines_not_in};
 
@@ -16,9 +16,9 @@ pub struct LineCounts {
     pub in_: usize,
 }
 
-/// How many lines of each of two texts aren't in the other, where a line that is there more than once is as many lines.
-/// Carriage returns at the end of lines don't count, nor does the order of lines. They are hashed by `seed`. Takes time
-/// in proportion to the texts.
+/// Counts the lines of each of two texts that aren't in the other; a line that occurs more than once counts as often.
+/// The order of lines doesn't count, nor do carriage returns at their ends. Lines are hashed by `seed`. Takes time in
+/// proportion to the texts.
 ///
 /// # Errors
 ///

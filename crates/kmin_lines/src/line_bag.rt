@@ -1,4 +1,4 @@
-//! Lines with how often each is there.
+//! Bags of lines: each line with its number of occurrences.
 ghost use Rattle.std.specs.Prelude.{◌≡◌, ◌∷◌, ◌++◌, [], ℕ, List, ◌+◌, ◌<◌, ◌^◌, length, IfOk, OnOk};
 ghost use Rattle.kmin_lines.specs.Lines.{without_one, lines_of};
 ghost use Rattle.kmin_lines.specs.checker.Bags.{HasLines, times_in};
@@ -8,7 +8,7 @@ use indexmap::IndexMap;
 use kc_value::Seed;
 use std::alloc::{AllocError, Global};
 
-/// Lines in no order, of which one may be there more than once.
+/// A bag of lines: they have no order, and a line may occur more than once.
 #[derive(Drop)]
 pub(crate) struct LineBag<'a> {
     counts: IndexMap<&'a [u8], usize, Seed>,
@@ -26,7 +26,7 @@ impl<'a> LineBag<'a> {
         }
     }
 
-    /// The lines of a text.
+    /// The bag of the lines of a text.
     pub(crate) fn of(alloc: Global, seed: Seed, text: &'a [u8]) -> Result<LineBag<'a>, AllocError>
         ensures { IfOk result (λ bag. HasLines bag (lines_of text.now)) }
     {
@@ -39,14 +39,14 @@ impl<'a> LineBag<'a> {
         Ok(bag)
     }
 
-    /// How many lines there are.
+    /// The number of lines, each counted as often as it occurs.
     pub(crate) fn len(&self) -> usize
         ensures { (lines : List (List ℕ)) → HasLines self.now lines → result ≡ length lines }
     {
         self.len
     }
 
-    /// How often a line is there.
+    /// The number of occurrences of a line.
     fn times(&self, line: &[u8]) -> usize
         ensures { result ≡ times_in self.now line.now }
     {
@@ -66,7 +66,7 @@ impl<'a> LineBag<'a> {
         Ok(())
     }
 
-    /// Takes one such line away, if there is one.
+    /// Takes one occurrence of a line away, if there is one.
     pub(crate) fn take(&mut self, line: &'a [u8]) -> Result<(), AllocError>
         ensures { OnOk result ((lines : List (List ℕ)) → HasLines self.old lines → HasLines self.new (without_one line.now lines)) }
     {

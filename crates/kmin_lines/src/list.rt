@@ -64,7 +64,7 @@ fn ender_of(ended_by_nul: bool) -> u8
     if ended_by_nul { 0 } else { b'\n' }
 }
 
-/// A path of these bytes.
+/// The path of these bytes, which is refused if it isn't UTF-8 or has a newline.
 fn path_of(bytes: &[u8]) -> Result<&str, ListFault>
     ensures path { IfOk result (λ path. path.now ≡ bytes.now) }
     ensures utf8 { IfOk result (λ path. is_utf8 bytes.now ≡ true) }

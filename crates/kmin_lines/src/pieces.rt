@@ -4,8 +4,8 @@ ghost use Rattle.kmin_lines.specs.Lines.{pieces, without_carriage_return};
 
 use bstr::ByteSlice;
 
-/// The bytes before the first byte `ender`, and those after it; where there is none all bytes. An empty text has no
-/// piece.
+/// The bytes before the first byte `ender`, and those after it; without such a byte all bytes and none. An empty text
+/// has no piece.
 pub(crate) fn first_piece(text: &[u8], ender: u8) -> Option<(&[u8], &[u8])>
     ensures piece { IfSome result (λ found. pieces ender text.now ≡ found.0.now ∷ pieces ender found.1.now) }
     ensures shorter { IfSome result (λ found. length found.1.now < length text.now) }

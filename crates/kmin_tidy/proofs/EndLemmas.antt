@@ -1,4 +1,4 @@
--- What follows from how a run ends.
+-- Consequences of the end of a run.
 use Rattle.std.proofs.Common.{◌≡◌, ◌≢◌, ℕ, true, false, List, [], ◌∷◌, ◌++◌, Option, Some, None, inl, inr, refl, sym, ap, ◌∙◌, subst, length, arith, append-nil, string_bytes}
 use Rattle.std.specs.Io.KnownBytes.{Appends}
 use Rattle.std.proofs.KnownBytes.{Appends-nil}
@@ -37,7 +37,8 @@ module _ (s : Settings) (a : Disk) where
       run_tidy s a b t.files text reports t.run (subst (AreTidy s a.state) (sym t.paths_are) tidy)
 
   -- the place of a new file that is left
-  new_place : (before between after : History) → IsKept s before between → after ≡ with_newest unfinished between → (newest between ≢ None → newest between ≡ Some nothing)
+  new_place : (before between after : History) → IsKept s before between → after ≡ with_newest unfinished between
+      → (newest between ≢ None → newest between ≡ Some nothing)
       → Became s before after
   new_place before [] after k left free = inl (subst (IsKept s before) (sym left) k)
   new_place before (content ∷ rest) after (inl stays) left free =
@@ -54,7 +55,8 @@ module _ (s : Settings) (a : Disk) where
         | inl is ↦ (let kept : IsKept s (a.state.history (between.state.place new_path)) (between.state.history (between.state.place new_path)) =
             subst (λ p. IsKept s (a.state.history p) (between.state.history p)) is k in
             subst (λ p. Became s (a.state.history p) (b.state.history p)) (sym is)
-            (new_place (a.state.history (between.state.place new_path)) (between.state.history (between.state.place new_path)) (b.state.history (between.state.place new_path))
+            (new_place (a.state.history (between.state.place new_path)) (between.state.history (between.state.place new_path))
+            (b.state.history (between.state.place new_path))
             kept l.leaves.left l.leaves.free))
         | inr other ↦ inl (kept_after s (a.state.history place) (between.state.history place) (b.state.history place) k
             (inl (stays_same (between.state.history place) (b.state.history place) (l.leaves.others place other))))
@@ -65,7 +67,8 @@ module _ (s : Settings) (a : Disk) where
   stops_became b paths reports status (before_write between front back text earlier made e t same r n) place =
       inl (subst (λ (d : Disk). IsKept s (a.state.history place) (d.state.history place)) (sym same) (tidies_kept between front text earlier made t place))
   stops_became b paths reports status (at_write between front back path text earlier made e t asked u r n) place =
-      inl (kept_after s (a.state.history place) (between.state.history place) (b.state.history place) (tidies_kept between front text earlier made t place) (inl (u.histories place)))
+      inl (kept_after s (a.state.history place) (between.state.history place) (b.state.history place) (tidies_kept between front text earlier made t place)
+      (inl (u.histories place)))
   stops_became b paths reports status (at_left between front back path new_path text earlier made e t asked l r n) place =
       left_became between b path new_path place l (tidies_kept between front text earlier made t place)
 
@@ -83,7 +86,8 @@ module _ (s : Settings) (a : Disk) where
   stops_unasked : (b : Disk) (paths reports : List (List ℕ)) (status : ℕ) → Stops s a b paths reports status → s.options.write ≡ false → b ≡ a
   stops_unasked b paths reports status (before_write between front back text earlier made e t same r n) unasked =
       same ∙ tidies_unasked between front text earlier made t unasked
-  stops_unasked b paths reports status (at_write between front back path text earlier made e t asked u r n) unasked = absurd (asked_not between path asked unasked)
+  stops_unasked b paths reports status (at_write between front back path text earlier made e t asked u r n) unasked =
+      absurd (asked_not between path asked unasked)
   stops_unasked b paths reports status (at_left between front back path new_path text earlier made e t asked l r n) unasked =
       absurd (asked_not between path asked unasked)
 
@@ -98,7 +102,8 @@ module _ (s : Settings) (a : Disk) where
   tidy_parts : (paths front back : List (List ℕ)) → paths ≡ front ++ back → AreTidy s a.state paths → AreTidy s a.state (front ++ back)
   tidy_parts paths front back e tidy = subst (AreTidy s a.state) e tidy
 
-  to_be_replaced_not : (between : Disk) (paths front back : List (List ℕ)) (path : List ℕ) → between ≡ a → paths ≡ front ++ path ∷ back → AreTidy s a.state paths
+  to_be_replaced_not : (between : Disk) (paths front back : List (List ℕ)) (path : List ℕ) → between ≡ a → paths ≡ front ++ path ∷ back
+      → AreTidy s a.state paths
       → IsToBeReplaced s between path → ⊥
   to_be_replaced_not between paths front back path same e tidy asked =
       let P : List ℕ → Type 0 = λ p. IsTidy s (newest (a.state.history (a.state.place p))) in
@@ -139,7 +144,8 @@ module _ (s : Settings) (a : Disk) where
       subst (λ later. Appends taken later []) (sym same) (Appends-nil taken)
 
 -- how a run ends whose text is written
-pub ends_written : (s : Settings) (a b : Disk) (paths : List (List ℕ)) (tidied : Tidied) (earlier own : List (List ℕ)) (taken after : Option (List ℕ)) (failed failed_after status : ℕ)
+pub ends_written : (s : Settings) (a b : Disk) (paths : List (List ℕ)) (tidied : Tidied) (earlier own : List (List ℕ)) (taken after : Option (List ℕ))
+    (failed failed_after status : ℕ)
     → Tidies s a b paths tidied.text.items earlier tidied.status → IsWrittenOut tidied taken after failed failed_after own status
     → Ends s a b paths taken after failed failed_after (earlier ++ own) status
 ends_written s a b paths tidied earlier own taken after failed failed_after status t (written.whole w f r n) =

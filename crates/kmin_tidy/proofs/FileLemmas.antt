@@ -43,7 +43,7 @@ use Rattle.kmin_tidy.specs.declared.file_step.FileEnd.{FileEnd}
 use Rattle.kmin_tidy.specs.declared.stop.Stop.{Stop}
 use Rattle.kmin_tidy.proofs.RefusalLemmas.{refused_by, lines_of_problem, lines_of_notices}
 
--- what `==` says of bytes
+-- bytes that `==` finds equal, or not
 pub differ : (least bytes : List ℕ) (test : Bool) → test ≡ bytes_eq least bytes → test ≡ false → least ≢ bytes
 differ least bytes test e f = λ same. let h : bytes_eq least bytes ≡ true = (bytes_eq-Decides least bytes).1 same in cc
 
@@ -84,7 +84,12 @@ module _ (s : Settings) (a : Disk) (path : List ℕ) (report : FileReport) where
       → refuses_notices s.options ≡ true → map notice_pair fragment.notices.items ≢ [] → report.notices.items ≡ fragment.notices.items → report.problem ≡ None
       → report.outcome ≡ Refused → Step s a a path [] (report_lines path report) report.outcome
   notices_step bytes fragment read f asked some n p o =
-      noticed bytes (map notice_pair fragment.notices.items) read (record { accepted = f.accepted; meanings = f.meanings; means = f.means; notices_are = f.noted })
+      noticed bytes (map notice_pair fragment.notices.items) read (record {
+        accepted = f.accepted;
+        meanings = f.meanings;
+        means = f.means;
+        notices_are = f.noted;
+      })
       some asked refl refl (lines_by fragment n p) o
 
   -- a file whose minimal file is known
@@ -100,7 +105,8 @@ module _ (s : Settings) (a : Disk) (path : List ℕ) (report : FileReport) where
   rewritten_step b bytes least line fragment end m (results.replaced ne w t f l q o) n p r =
       replaced bytes least (map notice_pair fragment.notices.items) (record { minimises = m; differs = ne }) w t f l (lines_by fragment n (p ∙ q)) (r ∙ o)
   rewritten_step b bytes least line fragment end m (results.unwritten ne w u l q o) n p r =
-      unwritten bytes least (map notice_pair fragment.notices.items) (record { minimises = m; differs = ne }) w u l (lines_with fragment Write n (p ∙ q)) (r ∙ o)
+      unwritten bytes least (map notice_pair fragment.notices.items) (record { minimises = m; differs = ne }) w u l
+      (lines_with fragment Write n (p ∙ q)) (r ∙ o)
 
 -- a run that ends at a file whose minimal file is known
 pub stops_rewrite : (s : Settings) (a b : Disk) (path bytes least : List ℕ) (notices : Notices) (stop : Stop) → Minimises s a.state path bytes least notices
@@ -110,7 +116,8 @@ stops_rewrite s a b path bytes least notices stop m (inr h) =
     inr (record { asked = h.0; bytes = bytes; least = least; notices = notices; differs = record { minimises = m; differs = h.1 } }, h.2)
 
 -- the minimal file of what a fragment gives
-pub has_minimal_file : (settled now : Settled) (format : Format) (options : TidyOptions) (bytes text : List ℕ) (fragment : Fragment) (users : List (Option UserValue)) (values : List UnitValue)
+pub has_minimal_file : (settled now : Settled) (format : Format) (options : TidyOptions) (bytes text : List ℕ) (fragment : Fragment)
+    (users : List (Option UserValue)) (values : List UnitValue)
     → is_prefix (file_format format).prefix ≡ true → now ≡ settled → IsFragmentOf (file_format format) (tree_of_settled settled) bytes fragment
     → users ≡ users_of (tree_of_settled settled) fragment.assigns.items
     → UniquelySolves (length (tree_of_settled now).units) (rule (profile_of now) (tree_of_settled now)) users values
@@ -124,7 +131,8 @@ has_minimal_file settled now format options bytes text fragment users values val
       utf8 = accepted_utf8 (file_format format) (tree_of_settled settled) bytes valid f.accepted;
       meanings = f.meanings;
       says = f.means;
-      gives = subst (λ us. UniquelySolves (length (tree_of_settled settled).units) (rule (profile_of settled) (tree_of_settled settled)) us values) (held ∙ f.users)
+      gives = subst (λ us. UniquelySolves (length (tree_of_settled settled).units) (rule (profile_of settled) (tree_of_settled settled)) us values)
+          (held ∙ f.users)
           (subst (λ sys. UniquelySolves (length (tree_of_settled sys).units) (rule (profile_of sys) (tree_of_settled sys)) users values) same gives);
     };
   };

@@ -1,4 +1,4 @@
--- What becomes of one place.
+-- One place of a disk during a run.
 use Rattle.std.proofs.Common.{◌≡◌, ◌≢◌, ℕ, List, [], ◌∷◌, Option, Some, None, inl, inr, refl, sym, ap, ◌∙◌, subst}
 use Rattle.kmin_disk.specs.Contents.{Content, nothing, file}
 use Rattle.kmin_disk.specs.Disks.{History, Stays, newest, with_newest}
@@ -15,7 +15,8 @@ pub minimal_once : (s : Settings) (bytes least : List ℕ) (notices : Notices) �
 minimal_once s bytes least notices own m = m.canonical.is ∙ own.1.once m.values m.loads.reads
 
 -- what has a minimal file of other bytes is no minimal file
-pub minimal_not : (s : Settings) (bytes read least : List ℕ) (notices : Notices) → read ≡ bytes → IsMinimalFile s bytes → HasMinimalFile s read least notices → least ≢ read → ⊥
+pub minimal_not : (s : Settings) (bytes read least : List ℕ) (notices : Notices) → read ≡ bytes → IsMinimalFile s bytes → HasMinimalFile s read least notices
+    → least ≢ read → ⊥
 minimal_not s bytes read least notices e own m other =
     other (minimal_once s bytes least notices own (subst (λ b. HasMinimalFile s b least notices) e m) ∙ sym e)
 

@@ -1,6 +1,6 @@
 pub mod ReadingLemmas
 pub mod RefusalLemmas
-pub mod Taking
+pub mod WriterLemmas
 pub mod StatusLemmas
 pub mod KeptPlaces
 pub mod StepLemmas

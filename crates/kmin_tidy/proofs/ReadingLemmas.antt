@@ -54,7 +54,8 @@ fragment_of_read format tree bytes before after f is r fits =
 
 module _ (format : FileFormat) (tree : Tree) (bytes : List ℕ) where
   whole_first : (after : Option (List ℕ)) (kind : LoadKind) (number : ℕ) (known : List ℕ) → Consumes (Some bytes) after known
-      → (IsAtEnd after × IsFirstFault format tree complete known kind number) ⊎ ((rest : List ℕ) → IsFirstFault format tree complete (known ++ rest) kind number)
+      → (IsAtEnd after × IsFirstFault format tree complete known kind number)
+      ⊎ ((rest : List ℕ) → IsFirstFault format tree complete (known ++ rest) kind number)
       → IsFirstFault format tree complete bytes kind number
   whole_first after kind number known h (inl k) =
       subst (λ b. IsFirstFault format tree complete b kind number) (sym (whole_memory bytes after known h k.0)) k.1
@@ -80,7 +81,7 @@ module _ (format : FileFormat) (tree : Tree) (bytes : List ℕ) where
       → ReportsFault format tree before after 0 0 kind number → IsFaultOf format tree bytes kind number
   fault_of_whole before after kind number is t = whole_kind after kind number (subst (λ b. ReportsFault format tree b after 0 0 kind number) is t)
 
-  -- the byte behind a part was not read
+  -- the byte after a part wasn't read
   part_front : (rest known : List ℕ) → Consumes (Some (bytes ++ 0 ∷ [])) (Some (rest ++ 0 ∷ [])) known → bytes ≡ known ++ rest
   part_front rest known h = append_cancel_right bytes (known ++ rest) (0 ∷ []) (h ∙ sym (append_assoc known rest (0 ∷ [])))
 
@@ -88,7 +89,8 @@ module _ (format : FileFormat) (tree : Tree) (bytes : List ℕ) where
   never_at_end rest e = let l = ap length e in let k = length-append rest (0 ∷ []) in omega arith
 
   part_first : (rest : List ℕ) (kind : LoadKind) (number : ℕ) (known : List ℕ) → bytes ≡ known ++ rest
-      → (IsAtEnd (Some (rest ++ 0 ∷ [])) × IsFirstFault format tree complete known kind number) ⊎ ((more : List ℕ) → IsFirstFault format tree complete (known ++ more) kind number)
+      → (IsAtEnd (Some (rest ++ 0 ∷ [])) × IsFirstFault format tree complete known kind number) ⊎ ((more : List ℕ)
+      → IsFirstFault format tree complete (known ++ more) kind number)
       → (more : List ℕ) → IsFirstFault format tree complete (bytes ++ more) kind number
   part_first rest kind number known e (inl k) more = absurd (never_at_end rest k.0)
   part_first rest kind number known e (inr k) more =
@@ -109,7 +111,8 @@ module _ (format : FileFormat) (tree : Tree) (bytes : List ℕ) where
   part_kind rest f g TooManyLines number t = refused_part rest TooManyLines number (λ e. (cc)) t
   part_kind rest f g TooLarge number t = refused_part rest TooLarge number (λ e. (cc)) t
 
-  pub fault_of_part : (first : List ℕ) (before : Option (List ℕ)) (rest : List ℕ) (failed failed_after : ℕ) (kind : LoadKind) (number : ℕ) → before ≡ Some (first ++ 0 ∷ [])
+  pub fault_of_part : (first : List ℕ) (before : Option (List ℕ)) (rest : List ℕ) (failed failed_after : ℕ) (kind : LoadKind) (number : ℕ)
+      → before ≡ Some (first ++ 0 ∷ [])
       → first ≡ bytes → ReportsFault format tree before (Some (rest ++ 0 ∷ [])) failed failed_after kind number → IsFaultOfPart format tree bytes kind number
   fault_of_part first before rest f g kind number is same t =
       part_kind rest f g kind number
@@ -134,7 +137,8 @@ faulty_part format tree known bytes rest kind number k (at_failure front back e 
 faulty_part format tree known bytes rest kind number k (no_memory is) = for_memory is
 
 -- the fault of a file that was opened, by the fault of its bytes
-pub faulty_read : (format : FileFormat) (tree : Tree) (known : Option (Option (List ℕ))) (before after : Option (List ℕ)) (bytes : List ℕ) (kind : LoadKind) (number : ℕ) (Ended : Type 0)
+pub faulty_read : (format : FileFormat) (tree : Tree) (known : Option (Option (List ℕ))) (before after : Option (List ℕ)) (bytes : List ℕ) (kind : LoadKind)
+    (number : ℕ) (Ended : Type 0)
     → OpensAs known (Some before) → Consumes before after bytes → (Ended → IsAtEnd after)
     → (Ended × IsFaultOf format tree bytes kind number) ⊎ IsFaultOfPart format tree bytes kind number → IsFaulty format tree known kind number
 faulty_read format tree known before after bytes kind number Ended opens consumed ends (inl h) =

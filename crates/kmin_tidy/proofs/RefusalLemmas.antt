@@ -27,7 +27,8 @@ module _ (s : Settings) (disk : DiskState) (path : List ℕ) (kind : LoadKind) (
       → IsRefused s disk path outcome (fault_line path number kind)
   refused_by may (refused bytes known other first) (inl is) = absurd (other is.0)
   refused_by may (refused bytes known other first) (inr is) = refusals.faulty bytes kind number (record { may = may; bytes_are = known }) first is.2 refl
-  refused_by may (unread front rest known first read) (inl is) = refusals.unread front rest number (record { may = may; bytes_are = known }) first is.1 (ap (fault_line path number) read)
+  refused_by may (unread front rest known first read) (inl is) = refusals.unread front rest number (record { may = may; bytes_are = known }) first is.1
+      (ap (fault_line path number) read)
   refused_by may (unread front rest known first read) (inr is) = absurd (is.0 read)
   refused_by may (unopened opens read zero_is) (inl is) =
       refusals.unopened may opens is.1 (ap (fault_line path number) read ∙ ap (λ n. fault_line path n Read) zero_is)
@@ -45,7 +46,8 @@ lines_of_problem path report problem no_notices is =
 pub lines_of_notices : (path : List ℕ) (report : FileReport) → report.problem ≡ None
     → report_lines path report ≡ notice_lines path (map notice_pair report.notices.items)
 lines_of_notices path report is =
-    ap (λ p. notice_lines path (map notice_pair report.notices.items) ++ problem_lines path p) is ∙ append-nil (notice_lines path (map notice_pair report.notices.items))
+    ap (λ p. notice_lines path (map notice_pair report.notices.items) ++ problem_lines path p) is ∙ append-nil
+    (notice_lines path (map notice_pair report.notices.items))
 
 -- one map after another
 pub map_twice : {A B C : Type 0} (f : B → C) (g : A → B) (xs : List A) → map (λ x. f (g x)) xs ≡ map f (map g xs)

@@ -30,7 +30,8 @@ max_one n NotMinimal = not_minimal_max n
 max_one n Refused = refused_max n
 max_one n Failed = failed_max n
 
-with_last : (first : FileOutcome) (rest after : ℕ) (last : FileOutcome) → after ≡ status_after rest last → status_with first after ≡ status_after (status_with first rest) last
+with_last : (first : FileOutcome) (rest after : ℕ) (last : FileOutcome) → after ≡ status_after rest last
+    → status_with first after ≡ status_after (status_with first rest) last
 with_last Minimal rest after last e = e
 with_last NotMinimal rest after last e = ap (max 1) e ∙ max_one rest last
 with_last Refused rest after last e = refl

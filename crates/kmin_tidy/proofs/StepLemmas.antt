@@ -1,4 +1,4 @@
--- What the step of one file leaves.
+-- The disk after one file of a run.
 use Rattle.std.proofs.Common.{◌≡◌, ◌≢◌, ℕ, true, false, List, [], Option, Some, None, inl, inr, sym, ap, ◌∙◌, subst}
 use Rattle.kmin_disk.specs.Contents.{Content, nothing, file, unfinished, special}
 use Rattle.kmin_disk.specs.Disks.{DiskState, IsUnchanged, Replaces, content_at}
@@ -102,7 +102,8 @@ module _ (s : Settings) (a b : Disk) (path : List ℕ) where
   step_minimal line reports outcome (shown bytes least notices d w e l k o) m = let z : NotMinimal ≡ Minimal = sym o ∙ m in (cc)
   step_minimal line reports outcome (replaced bytes least notices d w r f l k o) m =
       subst (λ p. HoldsMinimalFile s (b.state.history p)) (sym (r.places path))
-      (subst (HoldsMinimalFile s) (sym r.target) (holds_written s (a.state.history (a.state.place path)) least (written_minimal s bytes least notices d.minimises.minimal)))
+      (subst (HoldsMinimalFile s) (sym r.target) (holds_written s (a.state.history (a.state.place path)) least
+      (written_minimal s bytes least notices d.minimises.minimal)))
   step_minimal line reports outcome (unwritten bytes least notices d w u l k o) m = let z : Failed ≡ Minimal = sym o ∙ m in (cc)
 
 -- a file of a tidy content has no minimal file of other bytes, and isn't accepted unless it is minimal

@@ -19,7 +19,8 @@ pub tidies_none : (s : Settings) (a : Disk) → Tidies s a a [] [] [] 0
 tidies_none s a = record { files = []; paths_are = refl; run = none; status_is = refl; minimal = tt }
 
 -- one file more
-pub tidies_more : (s : Settings) (a b c : Disk) (paths all : List (List ℕ)) (path text line whole : List ℕ) (reports own every : List (List ℕ)) (status after : ℕ) (outcome : FileOutcome)
+pub tidies_more : (s : Settings) (a b c : Disk) (paths all : List (List ℕ)) (path text line whole : List ℕ) (reports own every : List (List ℕ))
+    (status after : ℕ) (outcome : FileOutcome)
     → Tidies s a b paths text reports status → Step s b c path line own outcome → all ≡ paths ++ path ∷ [] → whole ≡ text ++ line → every ≡ reports ++ own
     → after ≡ status_after status outcome → Tidies s a c all whole every after
 tidies_more s a b c paths all path text line whole reports own every status after outcome t step e w r n =

@@ -25,8 +25,7 @@ pub record LeavesNewFile (old new : Disk) (path new_path : List ℕ) : Type 0 wh
   pub named : IsNewPath path new_path
   pub failures : new.failures ≡ one_failure_more (one_failure_more old.failures)
 
--- A run went over the first of its paths. Then memory ran out, before a file was replaced or while it was, or a new file
--- couldn't be removed.
+-- A run tidied the first of its paths. Then memory ran out, before a file was replaced or while it was, or a new file couldn't be removed.
 pub data Stops (s : Settings) (old new : Disk) (paths : List (List ℕ)) (reports : List (List ℕ)) (status : ℕ) : Type 0 where
   before_write : (between : Disk) (front back : List (List ℕ)) (text : List ℕ) (earlier : List (List ℕ)) (made : ℕ)
       → paths ≡ front ++ back → Tidies s old between front text earlier made → new ≡ between

@@ -10,13 +10,13 @@ use Rattle.kmin_disk.specs.Contents.{Content, special, readable}
 use Rattle.kmin_disk.specs.Disks.{DiskState, content_at}
 use Rattle.kmin_tidy.specs.Options.{Settings, Notices, Allows}
 
--- bytes are those that are known of a reader, if any are
+-- bytes agree with what is known of a reader
 abbrev pub AreKnownBytes : (known : Option (Option (List ℕ))) → (bytes : List ℕ) → Type 0
 AreKnownBytes None bytes = Unit {0}
 AreKnownBytes (Some None) bytes = ⊥
 AreKnownBytes (Some (Some known)) bytes = bytes ≡ known
 
--- a content is read as these bytes
+-- bytes may be read of a content, as far as it is known
 abbrev pub IsReadAs : Option Content → (bytes : List ℕ) → Type 0
 IsReadAs content bytes = AreKnownBytes (readable content) bytes
 
@@ -53,7 +53,7 @@ pub record Minimises (s : Settings) (disk : DiskState) (path bytes least : List 
   pub minimal : HasMinimalFile s bytes least notices
   pub allowed : Allows s.options notices
 
--- And its bytes are others than those of the minimal file.
+-- The file at a path is accepted with these notices, and not refused for them, and its bytes aren't those of its minimal file.
 pub record Differs (s : Settings) (disk : DiskState) (path bytes least : List ℕ) (notices : Notices) : Type 0 where
   pub minimises : Minimises s disk path bytes least notices
   pub differs : least ≢ bytes

@@ -1,4 +1,4 @@
--- What a run goes by.
+-- The settings of a run.
 use Rattle.std.specs.Prelude.{◌≡◌, ℕ, Bool, true, not, ◌&&◌, ◌||◌, List, []}
 use Rattle.kc_tree_model.specs.Trees.{Tree}
 use Rattle.kc_rules_model.specs.declared.profile.Profile.{Profile}
@@ -10,14 +10,14 @@ use Rattle.kc_dotconfig_model.specs.declared.format.Format.{Format}
 use Rattle.kc_dotconfig_model.specs.between.Formats.{file_format}
 use Rattle.kmin_tidy.specs.declared.options.TidyOptions.{TidyOptions}
 
--- the tree with the profile of its rules, how files are spelled, and the options
+-- the settings of a run: the form of configuration files, the profile, the tree, and the options
 pub record Settings : Type 0 where
   pub format : FileFormat
   pub profile : Profile
   pub tree : Tree
   pub options : TidyOptions
 
--- those of a settled tree
+-- the settings of a run over a settled tree
 abbrev pub settings_of : Settled → Format → TidyOptions → Settings
 settings_of settled format options = record {
   format = file_format format;

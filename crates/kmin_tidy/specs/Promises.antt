@@ -1,4 +1,4 @@
--- What holds however a run ends.
+-- Promises that hold however a run ends.
 use Rattle.std.specs.Prelude.{◌≡◌, ◌≢◌, ◌↔◌, ◌⊎◌, ℕ, true, List, [], Option, Some}
 use Rattle.std.specs.List.{AllByRecursion}
 use Rattle.kc_minimal_model.specs.Loading.{HaveSameValues}
@@ -17,7 +17,7 @@ pub record IsMinimised (s : Settings) (old new : History) : Type 0 where
   pub differs : least ≢ bytes
   pub replaced : new ≡ with_newest (file least) old
 
--- A place is as it was, or has just its minimal file more.
+-- A place is as it was, or its file was replaced by its minimal file.
 abbrev pub IsKept : Settings → (old new : History) → Type 0
 IsKept s old new = Stays old new ⊎ IsMinimised s old new
 
@@ -25,7 +25,7 @@ IsKept s old new = Stays old new ⊎ IsMinimised s old new
 abbrev pub IsLeft : (old new : History) → Type 0
 IsLeft old new = (newest old ≡ Some nothing) × (newest new ≡ Some unfinished)
 
--- What became of a place when a run has ended, early or not.
+-- A place after a run: as it was, with its minimal file, or with a new file left.
 abbrev pub Became : Settings → (old new : History) → Type 0
 Became s old new = IsKept s old new ⊎ IsLeft old new
 
@@ -40,7 +40,7 @@ IsTidy s (Some nothing) = Unit {0}
 IsTidy s (Some (file bytes)) = IsMinimalFile s bytes ⊎ IsRefusedFile s bytes
 IsTidy s _ = ⊥
 
--- each path leads to such a content
+-- each path leads to no file, or to one that is known, and is minimal or refused
 abbrev pub AreTidy : Settings → DiskState → List (List ℕ) → Type 0
 AreTidy s disk paths = AllByRecursion (λ path. IsTidy s (newest (disk.history (disk.place path)))) paths
 

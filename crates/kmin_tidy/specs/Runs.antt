@@ -25,7 +25,7 @@ pub data Run (s : Settings) (old : Disk) : Disk → List DoneFile → (text : Li
       → all ≡ files ++ (path, outcome) ∷ [] → whole ≡ text ++ line → every ≡ reports ++ own
       → Run s old new all whole every
 
--- the status by the outcome of a file and the status of those after it
+-- the status of files, given the outcome of the first and the status of the others
 abbrev pub status_with : FileOutcome → (rest : ℕ) → ℕ
 status_with Minimal rest = rest
 status_with NotMinimal rest = max 1 rest
@@ -50,8 +50,7 @@ AreMinimal s disk files = AllByRecursion (λ done. done.1 ≡ Minimal → HoldsM
 abbrev pub paths_of : List (Bor (List ℕ)) → List (List ℕ)
 paths_of paths = map (λ (path : Bor (List ℕ)). path.now) paths
 
--- A whole run over some paths: its text, its lines of standard error and its status. At its end each file with the
--- outcome `Minimal` is a minimal file.
+-- A whole run over these paths: its text, its lines of standard error and its status. At its end each file with the outcome `Minimal` is a minimal file.
 pub record Tidies (s : Settings) (old new : Disk) (paths : List (List ℕ)) (text : List ℕ) (reports : List (List ℕ)) (status : ℕ) : Type 0 where
   pub files : List DoneFile
   pub paths_are : map path_of files ≡ paths

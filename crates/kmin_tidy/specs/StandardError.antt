@@ -2,7 +2,7 @@
 use Rattle.std.specs.Prelude.{◌≡◌, ℕ, ◌<◌, ◌-◌, ◌^◌, ◌⊎◌, List, [], ◌∷◌, ◌++◌, Option, length, take}
 use Rattle.std.specs.Io.KnownBytes.{Appends}
 
--- a count of failures rose, where it could
+-- a count of failures rose, unless it had reached its limit
 abbrev pub Rises : (before after : ℕ) → Type 0
 Rises before after = before < 2 ^ 64 - 1 → before < after
 
@@ -18,7 +18,7 @@ pub record TakesPart (before : Option (List ℕ)) (failed : ℕ) (text : List �
   pub appends : Appends before after (take written text)
   pub rose : Rises failed failed_after
 
--- a writer took a line, or where a write failed its first bytes
+-- a writer took a line, or its first bytes if a write failed
 abbrev pub TakesLine : Option (List ℕ) → ℕ → List ℕ → Option (List ℕ) → ℕ → Type 0
 TakesLine before failed line after failed_after =
     TakesWhole before failed line after failed_after ⊎ TakesPart before failed line after failed_after

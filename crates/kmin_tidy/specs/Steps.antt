@@ -1,4 +1,4 @@
--- What becomes of one file.
+-- One file of a run.
 use Rattle.std.specs.Prelude.{◌≡◌, ◌≢◌, ℕ, true, false, List, [], ◌∷◌, ◌++◌}
 use Rattle.kc_value.specs.Streams.{one_failure_more}
 use Rattle.kmin_disk.specs.Contents.{IsOfKind}
@@ -17,12 +17,11 @@ pub record Disk : Type 0 where
   pub state : DiskState
   pub failures : ℕ
 
--- a disk in this state, with so many failed calls
+-- a disk of this state and this count of failed calls
 abbrev pub disk_of : DiskState → ℕ → Disk
 disk_of state failures = record { state = state; failures = failures }
 
--- A file isn't replaced: a call failed, the names of new files that were tried are taken, or it is no regular file by now.
--- Or it is replaced, and its folder couldn't be synced.
+-- A file isn't replaced: a call failed, all names tried for the new file are in use, or it isn't regular by now; or it is, and its folder couldn't be synced.
 pub data IsUnwritten (old new : Disk) (path least : List ℕ) : Type 0 where
   call_failed : IsUnchanged old.state new.state → new.failures ≡ one_failure_more old.failures → IsUnwritten old new path least
   names_taken : IsUnchanged old.state new.state → HasTakenName old.state path → new.failures ≡ old.failures
@@ -32,29 +31,28 @@ pub data IsUnwritten (old new : Disk) (path least : List ℕ) : Type 0 where
   unsynced : Replaces old.state new.state path least → new.failures ≡ one_failure_more old.failures
       → IsUnwritten old new path least
 
--- What becomes of one file, by its bytes alone: what it leaves of the disk, its line of standard output, its lines of
--- standard error and its outcome.
+-- One file of a run, which depends on nothing but its bytes: the disk after it, its line of standard output, its lines of standard error and its outcome.
 pub data Step (s : Settings) (old new : Disk) (path line : List ℕ) (reports : List (List ℕ)) (outcome : FileOutcome) : Type 0 where
-  -- it isn't accepted
+  -- the file isn't accepted
   refused : (report : List ℕ) → IsRefused s old.state path outcome report → new ≡ old → line ≡ []
       → reports ≡ report ∷ [] → Step s old new path line reports outcome
-  -- it is refused for its notices
+  -- the file is refused for its notices
   noticed : (bytes : List ℕ) (notices : Notices) → IsReadAt s old.state path bytes → HasNotices s bytes notices
       → notices ≢ [] → refuses_notices s.options ≡ true → new ≡ old → line ≡ []
       → reports ≡ notice_lines path notices → outcome ≡ Refused → Step s old new path line reports outcome
-  -- it is its own minimal file
+  -- the file is minimal
   minimal : (bytes : List ℕ) (notices : Notices) → Minimises s old.state path bytes bytes notices → new ≡ old → line ≡ []
       → reports ≡ notice_lines path notices → outcome ≡ Minimal → Step s old new path line reports outcome
-  -- it isn't, and files aren't replaced
+  -- the file isn't minimal, and files aren't replaced
   shown : (bytes least : List ℕ) (notices : Notices) → Differs s old.state path bytes least notices
       → s.options.write ≡ false → new ≡ old → line ≡ difference_line path bytes least
       → reports ≡ notice_lines path notices → outcome ≡ NotMinimal → Step s old new path line reports outcome
-  -- it is replaced by its minimal file
+  -- the file is replaced by its minimal file
   replaced : (bytes least : List ℕ) (notices : Notices) → Differs s old.state path bytes least notices
       → s.options.write ≡ true → Replaces old.state new.state path least → new.failures ≡ old.failures
       → line ≡ difference_line path bytes least
       → reports ≡ notice_lines path notices → outcome ≡ Minimal → Step s old new path line reports outcome
-  -- it isn't replaced, or not for good
+  -- the file couldn't be replaced, or not for good
   unwritten : (bytes least : List ℕ) (notices : Notices) → Differs s old.state path bytes least notices
       → s.options.write ≡ true → IsUnwritten old new path least → line ≡ difference_line path bytes least
       → reports ≡ notice_lines path notices ++ write_line path ∷ [] → outcome ≡ Failed

@@ -1,4 +1,4 @@
-//! What becomes of one file.
+//! One file of a run: it is read, compared with its minimal file, and replaced where that is asked for.
 ghost use Rattle.std.specs.Prelude.{◌≡◌, ◌≢◌, ◌++◌, [], ℕ, List, map, true, false, Some, None, IfOk, IfErr, OnOk};
 ghost use Rattle.kc_dotconfig_model.specs.between.Formats.{file_format};
 ghost use Rattle.kc_dotconfig.specs.Configured.{tree_in};
@@ -14,10 +14,10 @@ ghost use Rattle.kmin_tidy.specs.checker.ReportLines.{report_lines};
 ghost use Rattle.kmin_tidy.specs.checker.FileResults.{IsRewritten, IsWritten, StopsWrite, StopsRewrite, StopsFile};
 ghost use Rattle.kmin_tidy.specs.checker.FileReports.{IsRefusedAs, IsFailedBy, IsStoppedBy};
 
+use crate::accepted_file::{AcceptedFile, read_file};
 use crate::differences::push_difference_line;
 use crate::options::TidyOptions;
 use crate::outcome::FileOutcome;
-use crate::reading::{AcceptedFile, read_file};
 use crate::report::{FileReport, Problem};
 use crate::stop::Stop;
 use kc_dotconfig::{Config, Format, Fragment, LoadFault, LoadKind, Notice};
@@ -25,8 +25,8 @@ use kc_minimal::minimal_text;
 use kmin_disk::{FileKind, ReadDisk, ReplaceFault, WriteDisk, replace};
 use std::alloc::{AllocError, Global};
 
-/// Goes over one file: appends its line, if it has one, replaces it where that is asked for, and returns what is to be
-/// reported of it. Nothing of the files before it plays a part.
+/// Tidies one file: appends its line of standard output if it isn't minimal, replaces it where that is asked for, and
+/// returns its report. The files before it have no influence.
 pub(crate) fn tidy_file<D: WriteDisk>(
     alloc: Global,
     config: &mut Config<'_>,
@@ -75,7 +75,7 @@ fn is_not_regular<D: ReadDisk>(path: &str, disk: &D) -> bool
     }
 }
 
-/// A report of a file without notices.
+/// The report of a file with a problem and without notices.
 fn report_of_problem(alloc: Global, problem: Problem, outcome: FileOutcome) -> FileReport
     ensures notices { result.notices.items ≡ [] }
     ensures problem { result.problem ≡ Some problem }
@@ -88,7 +88,7 @@ fn report_of_problem(alloc: Global, problem: Problem, outcome: FileOutcome) -> F
     }
 }
 
-/// The report of a file with a fault.
+/// The report of a file that can't be read or isn't accepted.
 fn report_fault(alloc: Global, fault: LoadFault) -> Result<FileReport, Stop>
     ensures refused { IfOk result (IsRefusedAs fault) }
     ensures stopped { IfErr result (λ stop. stop ≡ Stop.Memory) }
@@ -100,7 +100,7 @@ fn report_fault(alloc: Global, fault: LoadFault) -> Result<FileReport, Stop>
     }
 }
 
-/// Goes over an accepted file.
+/// Tidies a file that was read and accepted.
 fn tidy_accepted<D: WriteDisk>(
     alloc: Global,
     config: &mut Config<'_>,
@@ -130,7 +130,7 @@ fn tidy_accepted<D: WriteDisk>(
     Ok(report_of_end(fragment, end))
 }
 
-/// Goes over an accepted file of these bytes that isn't refused for its notices.
+/// Tidies an accepted file of these bytes that isn't refused for its notices.
 fn tidy_allowed<D: WriteDisk>(
     alloc: Global,
     config: &mut Config<'_>,
@@ -183,7 +183,7 @@ fn report_of_notices(fragment: Fragment) -> FileReport
     }
 }
 
-/// What became of a file whose minimal file is known.
+/// The outcome of a file whose minimal file is known, and its problem if it couldn't be replaced.
 #[derive(Clone, Copy)]
 pub(crate) struct FileEnd {
     problem: Option<Problem>,
@@ -205,14 +205,14 @@ fn report_of_end(fragment: Fragment, end: FileEnd) -> FileReport
     }
 }
 
-/// The minimal file of what a fragment alone gives.
+/// The minimal file of the configuration of one fragment alone.
 fn minimal_of(
     alloc: Global,
     config: &mut Config<'_>,
     format: &Format,
     fragment: &Fragment,
 ) -> Result<Vec<u8>, AllocError>
-    requires { FitsTree (tree_in config.old) fragment.now.assigns.items }
+    requires fits { FitsTree (tree_in config.old) fragment.now.assigns.items }
     ensures settled { config.new.system ≡ config.old.system }
     ensures minimal { IfOk result (λ least. (options : TidyOptions) (bytes : List ℕ)
         → IsFragmentOf (file_format format.now) (tree_in config.old) bytes fragment.now
@@ -222,7 +222,8 @@ fn minimal_of(
     minimal_text(alloc, config, format)
 }
 
-/// Goes over a file of these bytes, which has this minimal file.
+/// Compares a file with its minimal file. Where they differ, appends the file's line, and replaces it where that is
+/// asked for.
 fn rewrite<D: WriteDisk>(
     alloc: Global,
     options: TidyOptions,
@@ -255,7 +256,7 @@ fn rewrite<D: WriteDisk>(
     }
 }
 
-/// Replaces a file.
+/// Replaces a file by its minimal file.
 fn write_file<D: WriteDisk>(
     alloc: Global,
     path: &str,
@@ -275,7 +276,7 @@ fn write_file<D: WriteDisk>(
     }
 }
 
-/// What becomes of a file that isn't replaced, or not for good.
+/// The outcome of a file that couldn't be replaced, or not for good; or the end of the run.
 fn end_of_fault(fault: ReplaceFault) -> Result<FileEnd, Stop>
     ensures failed { IfOk result (IsFailedBy fault) }
     ensures stopped { IfErr result (IsStoppedBy fault) }
@@ -290,7 +291,7 @@ fn end_of_fault(fault: ReplaceFault) -> Result<FileEnd, Stop>
     }
 }
 
-/// A file that isn't replaced, or not for good.
+/// The outcome of a file that couldn't be replaced, or not for good.
 fn not_written() -> FileEnd
     ensures problem { result.problem ≡ Some Problem.Write }
     ensures outcome { result.outcome ≡ FileOutcome.Failed }

@@ -1,4 +1,4 @@
-//! What a run means for the files that it went over.
+//! A law of minimal files.
 ghost use Rattle.kmin_tidy.specs.Promises.{MinimalFilesAreEqual};
 
 /// Accepted files give every symbol the same value exactly if their minimal files have the same bytes. So files with the

@@ -1,21 +1,21 @@
 //! The options of a run.
 ghost use Rattle.std.specs.Prelude.{◌≡◌};
 
-/// What is done with files that aren't minimal, and with those that have notices.
+/// The options of [`tidy_files`](crate::tidy_files).
 #[derive(Clone, Copy, Debug, PartialEq, Eq)]
 pub struct TidyOptions {
-    /// Each file that isn't its own minimal file is replaced by it.
+    /// Whether a file that isn't minimal is replaced by its minimal file.
     pub write: bool,
-    /// Files are written without the lines that have notices.
+    /// Whether a file with notices is replaced too, without the lines that have them.
     pub drop: bool,
-    /// A file with a notice is refused.
+    /// Whether a file with a notice is refused.
     pub strict: bool,
 }
 
 impl TidyOptions {
     ghost use Rattle.kmin_tidy.specs.Options.{refuses_notices};
 
-    /// Whether a file with a notice is refused.
+    /// Whether a file with a notice is refused: under `strict`, and under `write` without `drop`.
     pub(crate) fn refuses_notices(self) -> bool
         ensures { result ≡ refuses_notices self }
     {

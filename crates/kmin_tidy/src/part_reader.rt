@@ -1,38 +1,9 @@
-//! Readers over the bytes of a file that were read before.
+//! A reader of the bytes of a file that were read before a read failed.
 ghost use Rattle.std.specs.Prelude.{◌≡◌, ◌∷◌, ◌++◌, [], Some};
 
 use kc_value::{Failed, Source};
 
-/// The bytes of a whole file. No read fails.
-#[derive(Drop)]
-pub(crate) struct WholeReader<'a> {
-    rest: &'a [u8],
-}
-
-impl<'a> WholeReader<'a> {
-    /// A reader that has these bytes left.
-    pub(crate) fn new(bytes: &'a [u8]) -> WholeReader<'a>
-        ensures { result.rest.now ≡ bytes.entry.now }
-    {
-        WholeReader { rest: bytes }
-    }
-}
-
-impl Source for WholeReader<'_> {
-    ghost left = { λ s. Some s.rest.now };
-
-    ghost failures = { λ _. 0 };
-
-    fn read_some(&mut self, buf: &mut [u8]) -> Result<usize, Failed> {
-        let count = self.rest.len().min(buf.len());
-        let (front, rest) = self.rest.split_at(count);
-        buf[..count].copy_from_slice(front);
-        self.rest = rest;
-        Ok(count)
-    }
-}
-
-/// The first bytes of a file. A read fails after them.
+/// A reader of the first bytes of a file. The read after them fails.
 #[derive(Drop)]
 pub(crate) struct PartReader<'a> {
     rest: &'a [u8],
@@ -51,7 +22,7 @@ impl<'a> PartReader<'a> {
     }
 }
 
-// The byte that is left last stands for what can't be read.
+// The last byte of `left` represents the part of the file that can't be read.
 impl Source for PartReader<'_> {
     ghost left = { λ s. Some (s.rest.now ++ 0 ∷ []) };
 

@@ -17,15 +17,15 @@ use kc_value::Sink;
 /// Why a file isn't read or replaced.
 #[derive(Clone, Copy, Debug, PartialEq, Eq)]
 pub(crate) enum Problem {
-    /// It can't be read, or isn't a configuration file.
+    /// The file can't be read, or isn't a configuration file.
     Fault(LoadFault),
-    /// It is no regular file.
+    /// The file is a link, a folder, a pipe or a device.
     NotRegular,
-    /// It isn't replaced, or not for good.
+    /// The file couldn't be replaced, or not for good.
     Write,
 }
 
-/// What became of a file, and what is reported of it.
+/// The notices, the problem and the outcome of a file.
 #[derive(Drop)]
 pub(crate) struct FileReport {
     pub(crate) notices: Vec<Notice>,
@@ -33,7 +33,7 @@ pub(crate) struct FileReport {
     pub(crate) outcome: FileOutcome,
 }
 
-/// Writes what is reported of a file: its notices, and then its problem.
+/// Writes the lines of a file's report: its notices, and then its problem.
 pub(crate) fn report_file<E: Sink>(path: &str, report: &FileReport, err: &mut E)
     ensures { TakesLines (E.taken err.old) (E.failures err.old) (report_lines path.now report.now) (E.taken err.new) (E.failures err.new) }
 {

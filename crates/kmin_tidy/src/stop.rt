@@ -1,4 +1,4 @@
-//! What ends a run before its last file.
+//! Reasons to end a run before its last file.
 ghost use Rattle.std.specs.Prelude.{◌≡◌};
 ghost use Rattle.kmin_tidy.specs.declared.stop.Stop.TheVariants.{Memory};
 

@@ -23,7 +23,7 @@ pub(crate) struct Tidied {
     pub(crate) status: u8,
 }
 
-/// Goes over files. What is reported of each is written as soon as it was gone over.
+/// Tidies files one after another. The report of each is written before the next file is read.
 pub(crate) fn tidy_all<D: WriteDisk, E: Sink>(
     alloc: Global,
     settled: &Settled,
@@ -45,7 +45,7 @@ pub(crate) fn tidy_all<D: WriteDisk, E: Sink>(
     tidy_each(alloc, &mut config, format, options, paths, disk, err)
 }
 
-/// Goes over files by one configuration, which holds the values of one file after another.
+/// Tidies files one after another by one configuration, which takes the values of each file in turn.
 fn tidy_each<D: WriteDisk, E: Sink>(
     alloc: Global,
     config: &mut Config<'_>,

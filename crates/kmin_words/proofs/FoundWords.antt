@@ -1,11 +1,11 @@
--- What was found for a command of a known name was found for one of some name.
+-- Values found for a command of a known name are values found for one of some name.
 use Rattle.std.specs.Prelude.{ℕ, Bool, true, false, List, codes, bytes_eq, Result, Ok, Err, IfOk}
 use Rattle.clap.specs.declared.parser.matches.Found.{Found}
-use Rattle.kmin_words.specs.declared.parsing.ParsedWords.{ParsedWords}
-use Rattle.kmin_words.specs.declared.parsing.ParsedWords.TheVariants.{Job, Save, Questions, Tidy, Help, Refused}
+use Rattle.kmin_words.specs.declared.command_line.ParsedWords.{ParsedWords}
+use Rattle.kmin_words.specs.declared.command_line.ParsedWords.TheVariants.{Job, Save, Questions, Tidy, Help, Refused}
 use Rattle.kmin_words.specs.between.WordValues.{AreQuestions, AreJob, IsTidying, HasValues, HasFoundValues, questions_of, job_and_output_of, tidying_of}
 
--- what was found for `wants`, for `tidy`, or for another command
+-- parsed words have the values of `wants`, of `tidy`, or of another command
 abbrev AreValues : (is_wants is_tidy : Bool) → (name : List ℕ) → Found → ParsedWords → Type 0
 AreValues is_wants is_tidy name found words = elim is_wants [
   | true ↦ AreQuestions (questions_of found) words

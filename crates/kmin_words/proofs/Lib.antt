@@ -1,3 +1,3 @@
 pub mod FoundWords
 pub mod Lists
-pub mod Refusing
+pub mod TidyRefusals

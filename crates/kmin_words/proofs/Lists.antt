@@ -1,4 +1,4 @@
--- Tests and filters of the texts behind borrowed ones.
+-- Tests and filters of lists under a map.
 use Rattle.std.proofs.Common.{◌≡◌, ℕ, ◌+◌, ◌<◌, Bool, List, [], ◌∷◌, ◌++◌, length, map, get_or, take, Option, Some, None, sym, refl, ap, ◌∙◌}
 use Rattle.std.specs.List.{filter_map, list_all, cons_option}
 use Rattle.std.proofs.lemmas.List.{append-nil, take_more, map-append}
@@ -13,12 +13,14 @@ filter_map_map h f [] = refl
 filter_map_map h f (x ∷ xs) = ap (cons_option (h (f x))) (filter_map_map h f xs)
 
 -- one more element
-pub filter_map_more : {X Y : Type 0} (h : X → Option Y) (xs : List X) (i : ℕ) (d : X) → i < length xs → filter_map h (take (i + 1) xs) ≡ filter_map h (take i xs) ++ cons_option (h (get_or xs i d)) []
+pub filter_map_more : {X Y : Type 0} (h : X → Option Y) (xs : List X) (i : ℕ) (d : X) → i < length xs
+    → filter_map h (take (i + 1) xs) ≡ filter_map h (take i xs) ++ cons_option (h (get_or xs i d)) []
 filter_map_more h xs i d l = ap (filter_map h) (take_more xs i d l) ∙ filter_map-append h (take i xs) (get_or xs i d ∷ [])
 
 -- the values of one more element, if it has one
 pub filter_map_some : {X Y Z : Type 0} (view : Y → Z) (h : X → Option Z) (xs : List X) (i : ℕ) (x : X) (ys : List Y) (y : Y)
-    → i < length xs → x ≡ get_or xs i x → Some (view y) ≡ h x → map view ys ≡ filter_map h (take i xs) → map view (ys ++ y ∷ []) ≡ filter_map h (take (i + 1) xs)
+    → i < length xs → x ≡ get_or xs i x → Some (view y) ≡ h x → map view ys ≡ filter_map h (take i xs)
+    → map view (ys ++ y ∷ []) ≡ filter_map h (take (i + 1) xs)
 filter_map_some view h xs i x ys y l e s m =
     map-append view ys (y ∷ []) ∙ ap (λ zs. zs ++ view y ∷ []) m
     ∙ ap (λ o. filter_map h (take i xs) ++ cons_option o []) (s ∙ ap h e) ∙ sym (filter_map_more h xs i x l)

@@ -16,19 +16,18 @@ use Rattle.kmin_words.specs.declared.job.Questions.{Questions as DeclaredQuestio
 use Rattle.kmin_words.specs.declared.job.Task.{Task as DeclaredTask}
 use Rattle.kmin_words.specs.declared.job.Task.TheVariants.{Over, Compare}
 
--- a name with the value that words give it
+-- one `--define NAME=VALUE`
 pub record Definition : Type 0 where
   pub name : List ℕ
   pub value : List ℕ
 
--- what the expansion of a tree takes its answers from: files of answers, names with values, and names of the environment, each in order
+-- where the questions of a tree's macros are answered: by answer files, by definitions, and for these names by the environment, each in order
 pub record Expansion : Type 0 where
   pub answers : List (List ℕ)
   pub definitions : List Definition
   pub environment : List (List ℕ)
 
--- the options: the folder of the tree, the path of its first file there, the language of its files, how configuration files are spelled, the profile, whether
--- a configuration file with a notice is refused, and the answers where the tree is expanded
+-- the options of a command over configuration files: `tree` is the path of the first Kconfig file below `root`; without `expansion` no macro is expanded
 pub record Settings : Type 0 where
   pub root : List ℕ
   pub tree : List ℕ
@@ -38,35 +37,34 @@ pub record Settings : Type 0 where
   pub strict : Bool
   pub expansion : Option Expansion
 
--- a file that lists paths: its own path, and whether each path in it ends with the byte 0, and else with a newline
+-- the list of `tidy --from LIST`: its path, and whether each path in it ends with the byte 0 in place of a newline
 pub record PathList : Type 0 where
   pub path : List ℕ
   pub ended_by_nul : Bool
 
--- the files that are each compared with their minimal file or replaced by it: the options, what is done with them, the list of further paths, and the files, in order
+-- the command `tidy`: its options, its flags, the list of further paths, and the files, in order
 pub record Tidying : Type 0 where
   pub settings : Settings
   pub flags : TidyFlags
   pub list : Option PathList
   pub files : List (List ℕ)
 
--- the questions of a tree: the folder of the tree, the path of its first file there, and the answers that are known
+-- the command `wants`: the folder of the tree, the path of its first Kconfig file there, and where its macros' questions are answered
 pub record Questions : Type 0 where
   pub root : List ℕ
   pub tree : List ℕ
   pub expansion : Expansion
 
--- a command: a text of the configuration of some files, each over those before it, and whether the status says that it lists a
--- symbol; or the differences of two files
+-- a command: a verb over the files of one configuration, with `--exit-code` or without it, or the comparison of two files
 pub data Task : Type 0 where
   over : Verb → (paths : List (List ℕ)) → (exit_code : Bool) → Task
   compare : (left right : List ℕ) → Task
 
--- a name with its value
+-- a `Definition` of the code, as contracts see it
 abbrev pub definition_view : DeclaredDefinition → Definition
 definition_view d = record { name = d.name.now; value = d.value.now }
 
--- what the expansion of a tree takes its answers from
+-- an `Expansion` of the code, as contracts see it
 abbrev pub expansion_view : DeclaredExpansion → Expansion
 expansion_view e = record {
   answers = map (λ (path : Bor (List ℕ)). path.now) e.answers.items;
@@ -74,7 +72,7 @@ expansion_view e = record {
   environment = map (λ (name : Bor (List ℕ)). name.now) e.environment.items;
 }
 
--- the options of a job
+-- the `Settings` of the code, as contracts see them
 abbrev pub settings_view : DeclaredSettings → Settings
 settings_view s = record {
   root = s.root.now;
@@ -86,11 +84,11 @@ settings_view s = record {
   expansion = option_map expansion_view s.expansion;
 }
 
--- a list of paths
+-- a `PathList` of the code, as contracts see it
 abbrev pub list_view : DeclaredPathList → PathList
 list_view l = record { path = l.path.now; ended_by_nul = l.ended_by_nul }
 
--- the files that are each compared or replaced
+-- a `Tidying` of the code, as contracts see it
 abbrev pub tidying_view : DeclaredTidying → Tidying
 tidying_view t = record {
   settings = settings_view t.settings;
@@ -99,11 +97,11 @@ tidying_view t = record {
   files = map (λ (path : Bor (List ℕ)). path.now) t.files.items;
 }
 
--- the questions of a tree
+-- the `Questions` of the code, as contracts see them
 abbrev pub questions_view : DeclaredQuestions → Questions
 questions_view q = record { root = q.root.now; tree = q.tree.now; expansion = expansion_view q.expansion }
 
--- the command of a job
+-- a `Task` of the code, as contracts see it
 abbrev pub task_view : DeclaredTask → Task
 task_view (Over verb files exit_code) = over verb (map (λ (path : Bor (List ℕ)). path.now) files.items) exit_code
 task_view (Compare left right) = compare left.now right.now

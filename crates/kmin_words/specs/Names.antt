@@ -1,25 +1,25 @@
--- Names that are near a word.
+-- Names similar to a mistyped word.
 use Rattle.std.specs.Prelude.{ℕ, ◌+◌, ◌==◌, List, [], ◌∷◌, ◌++◌, codes, position, take, drop, Option, Some, None, length, nat_le, nat_lt, if◌then◌else◌}
 use Rattle.std.specs.Str.{chars}
 use Rattle.strsim.specs.Edits.{osa_table}
 
--- how often a character has to be added, left out, changed or swapped with the next one to make one text of the other
+-- the fewest edits that make one text of the other: adding, dropping or changing a character, or swapping two neighbours
 abbrev pub steps_between : (a b : List ℕ) → ℕ
 steps_between a b = (osa_table (chars a) (chars b)).last_row (length (chars b))
 
--- a message with a tip after its first line: a name that is near the word in it
+-- a message with the tip of a similar name after its first line
 abbrev pub with_tip : (name message : List ℕ) → List ℕ
 with_tip name message = elim (position (λ b. b == 10) message) [
   | Some n ↦ (((take n message ++ codes "\n\n  tip: a similar name exists: '") ++ name) ++ codes "'\n") ++ drop (n + 1) message
   | None ↦ message
 ]
 
--- the first name that is at most so many steps from a word
+-- the first name at most `most` edits from a word
 abbrev pub first_near : (word : List ℕ) → (most : ℕ) → (names : List (List ℕ)) → Option (List ℕ)
 first_near word most [] = None
 first_near word most (name ∷ names) = if nat_le (steps_between word name) most then Some name else first_near word most names
 
--- the first name that is one step from a word, or else, of a word of six bytes or more, two
+-- the first name at most one edit from a word, or else, for a word of six bytes or more, at most two
 abbrev pub nearest : (word : List ℕ) → (names : List (List ℕ)) → Option (List ℕ)
 nearest word names = elim (first_near word 1 names) [
   | Some name ↦ Some name

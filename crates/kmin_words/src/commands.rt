@@ -1,4 +1,4 @@
-//! The commands as `clap` reads them.
+//! The commands and their options, declared for `clap`.
 use crate::help_texts;
 use crate::messages::{self, message_tables};
 use clap::{Arg, ArgAction, Command};
@@ -12,7 +12,7 @@ struct CommandHelp {
     after: &'static str,
 }
 
-/// The commands over any number of files that write a file.
+/// The commands that write a configuration file, made of any number of them.
 static WRITING: [CommandHelp; 2] = [
     CommandHelp {
         name: "min",
@@ -28,7 +28,7 @@ static WRITING: [CommandHelp; 2] = [
     },
 ];
 
-/// The commands over any number of files that list symbols.
+/// The commands that list symbols of a configuration, made of any number of files.
 static LISTING: [CommandHelp; 2] = [
     CommandHelp {
         name: "missed",
@@ -44,7 +44,7 @@ static LISTING: [CommandHelp; 2] = [
     },
 ];
 
-/// The command over two files.
+/// The command over two configurations of one file each.
 static COMPARE: CommandHelp = CommandHelp {
     name: "compare",
     about: help_texts::COMPARE,
@@ -52,7 +52,7 @@ static COMPARE: CommandHelp = CommandHelp {
     after: help_texts::COMPARE_AFTER,
 };
 
-/// The command over files, each by itself.
+/// The command over any number of files, each a configuration of its own.
 static TIDY: CommandHelp = CommandHelp {
     name: "tidy",
     about: help_texts::TIDY,
@@ -60,7 +60,7 @@ static TIDY: CommandHelp = CommandHelp {
     after: help_texts::TIDY_AFTER,
 };
 
-/// The command over a tree alone.
+/// The command over a tree without configuration files.
 static WANTS: CommandHelp = CommandHelp {
     name: "wants",
     about: help_texts::WANTS,
@@ -68,7 +68,7 @@ static WANTS: CommandHelp = CommandHelp {
     after: help_texts::WANTS_AFTER,
 };
 
-/// An option's name and the name of its value, what the value is without it, and its help.
+/// An option with a default: its name, the name of its value, the default, and its help.
 struct OptionHelp {
     name: &'static str,
     value: &'static str,
@@ -92,7 +92,7 @@ static PLACE: [OptionHelp; 2] = [
     },
 ];
 
-/// The option for the text before names.
+/// The option for the prefix of symbol names in configuration files.
 static PREFIX: OptionHelp = OptionHelp {
     name: "prefix",
     value: "TEXT",
@@ -100,7 +100,7 @@ static PREFIX: OptionHelp = OptionHelp {
     help: help_texts::PREFIX,
 };
 
-/// The option for the profile, which takes one of few values.
+/// The option for the profile, one of `PROFILES`.
 static IMPLY: OptionHelp = OptionHelp {
     name: "imply",
     value: "PROFILE",
@@ -108,7 +108,7 @@ static IMPLY: OptionHelp = OptionHelp {
     help: help_texts::IMPLY,
 };
 
-/// The option for the form of strings, which takes one of few values.
+/// The option for the form of strings in configuration files, one of `FORMS`.
 static STRINGS: OptionHelp = OptionHelp {
     name: "strings",
     value: "FORM",
@@ -122,17 +122,17 @@ static FORMS: [&str; 2] = ["escaped", "raw"];
 /// The values of `--imply`.
 static PROFILES: [&str; 2] = ["present", "classic"];
 
-/// The values of `--language`, which has none by default.
+/// The values of `--language`, which has no default.
 static LANGUAGES: [&str; 2] = ["strict", "linux"];
 
-/// An option that may be given any number of times: its name, the name of its value, and its help.
+/// A repeatable option: its name, the name of its value, and its help.
 struct ListHelp {
     name: &'static str,
     value: &'static str,
     help: &'static str,
 }
 
-/// The options for the answers to the macros of a tree.
+/// The options that answer the questions of a tree's macros.
 static ANSWERS: [ListHelp; 3] = [
     ListHelp {
         name: "answers",
@@ -180,7 +180,7 @@ pub(crate) fn command_names(alloc: Global) -> Result<Vec<&'static str>, AllocErr
     Ok(names)
 }
 
-/// What `help` explains: the names of all commands, and the kinds of messages.
+/// All names that `help` explains: of commands, and of kinds of messages.
 pub(crate) fn explained_names(alloc: Global) -> Result<Vec<&'static str>, AllocError> {
     let mut names = command_names(alloc)?;
     for table in message_tables() {
@@ -191,7 +191,7 @@ pub(crate) fn explained_names(alloc: Global) -> Result<Vec<&'static str>, AllocE
     Ok(names)
 }
 
-/// A program with a command more, once that is made.
+/// Adds a command to the program, unless it couldn't be made.
 fn with_command<'a>(
     program: Command<'a>,
     command: Result<Command<'a>, AllocError>,
@@ -207,7 +207,7 @@ fn named<'a>(alloc: Global) -> Result<Command<'a>, AllocError> {
     helped(program).bin_name("kmin")
 }
 
-/// The program with its own help.
+/// Adds the help of the program as a whole.
 fn helped(program: Command<'_>) -> Command<'_> {
     program
         .version(help_texts::VERSION)
@@ -217,13 +217,13 @@ fn helped(program: Command<'_>) -> Command<'_> {
         .override_usage(help_texts::USAGE)
 }
 
-/// A command over any number of files.
+/// A command over any number of configuration files, which make one configuration.
 fn over_files<'a>(alloc: Global, help: &CommandHelp) -> Result<Command<'a>, AllocError> {
     let command = with_output(alloc, help, with_options(alloc, help)?)?;
     command.arg(any_number(alloc, "FILE", help_texts::FILES))
 }
 
-/// A command with the option for the file that takes the answer, if it is one that writes a configuration file.
+/// Adds `--output` to a command if it writes a configuration file.
 fn with_output<'a>(
     alloc: Global,
     help: &CommandHelp,
@@ -235,12 +235,12 @@ fn with_output<'a>(
     }
 }
 
-/// A command over any number of files whose status may say whether it lists anything.
+/// A command that lists symbols of a configuration, with `--exit-code`.
 fn listing<'a>(alloc: Global, help: &CommandHelp) -> Result<Command<'a>, AllocError> {
     over_files(alloc, help)?.arg(flag(alloc, "exit-code", help_texts::EXIT_CODE))
 }
 
-/// A word that may be given any number of times.
+/// A repeatable word.
 fn any_number<'a>(alloc: Global, name: &'a str, help: &'a str) -> Arg<'a> {
     Arg::new(alloc, name)
         .action(ArgAction::Append)
@@ -248,14 +248,14 @@ fn any_number<'a>(alloc: Global, name: &'a str, help: &'a str) -> Arg<'a> {
         .help(help)
 }
 
-/// A command over two files, each of which has to be given.
+/// A command over two files, both of which are required.
 fn over_two_files<'a>(alloc: Global, help: &CommandHelp) -> Result<Command<'a>, AllocError> {
     let command = with_options(alloc, help)?;
     let command = command.arg(required(alloc, "LEFT", help_texts::LEFT))?;
     command.arg(required(alloc, "RIGHT", help_texts::RIGHT))
 }
 
-/// A command over files, each by itself, some of which have to be named.
+/// A command over files, each a configuration of its own, of which at least one, or a list, is required.
 fn over_each_file<'a>(alloc: Global, help: &CommandHelp) -> Result<Command<'a>, AllocError> {
     let command = with_tidy_flags(alloc, with_options(alloc, help)?)?;
     let from = valued(alloc, "from", "LIST", help_texts::FROM);
@@ -266,25 +266,25 @@ fn over_each_file<'a>(alloc: Global, help: &CommandHelp) -> Result<Command<'a>, 
     command.arg(files.required_unless_present("from")?)
 }
 
-/// A command with the flags that say what is done with files.
+/// Adds `--write` and `--drop` to a command.
 fn with_tidy_flags<'a>(alloc: Global, command: Command<'a>) -> Result<Command<'a>, AllocError> {
     let command = command.arg(flag(alloc, "write", help_texts::WRITE))?;
     let drop = flag(alloc, "drop", help_texts::DROP).requires_arg("write")?;
     command.arg(drop.conflicts_with("strict")?)
 }
 
-/// A word that has to be given.
+/// A required word.
 fn required<'a>(alloc: Global, name: &'a str, help: &'a str) -> Arg<'a> {
     Arg::new(alloc, name).required(true).help(help)
 }
 
-/// A command over a tree alone.
+/// A command over a tree without configuration files.
 fn over_a_tree<'a>(alloc: Global, help: &CommandHelp) -> Result<Command<'a>, AllocError> {
     let command = with_place(alloc, described(alloc, help))?;
     with_answers(alloc, command)
 }
 
-/// A command with the options that all commands over configuration files have.
+/// A command with its help and the options that all commands over configuration files share.
 fn with_options<'a>(alloc: Global, help: &CommandHelp) -> Result<Command<'a>, AllocError> {
     let command = with_place(alloc, described(alloc, help))?;
     let command = command.arg(language(alloc))?;
@@ -295,7 +295,7 @@ fn with_options<'a>(alloc: Global, help: &CommandHelp) -> Result<Command<'a>, Al
     with_answers(alloc, command)
 }
 
-/// A command with the options for the place of the tree.
+/// Adds the options for the place of the tree to a command.
 fn with_place<'a>(alloc: Global, mut command: Command<'a>) -> Result<Command<'a>, AllocError> {
     for valued in &PLACE {
         command = command.arg(option(alloc, valued))?;
@@ -303,7 +303,7 @@ fn with_place<'a>(alloc: Global, mut command: Command<'a>) -> Result<Command<'a>
     Ok(command)
 }
 
-/// A command with the options that turn the expansion of the tree on.
+/// Adds the options that turn the expansion of macros on to a command.
 fn with_answers<'a>(alloc: Global, command: Command<'a>) -> Result<Command<'a>, AllocError> {
     let mut command = command.arg(flag(alloc, "expand", help_texts::EXPAND))?;
     for list in &ANSWERS {
@@ -320,7 +320,7 @@ fn flag<'a>(alloc: Global, name: &'a str, help: &'a str) -> Arg<'a> {
         .help(help)
 }
 
-/// An option with a value that has none by default.
+/// An option with a value and no default.
 fn valued<'a>(alloc: Global, name: &'a str, value: &'a str, help: &'a str) -> Arg<'a> {
     Arg::new(alloc, name)
         .long(name)
@@ -328,14 +328,14 @@ fn valued<'a>(alloc: Global, name: &'a str, value: &'a str, help: &'a str) -> Ar
         .help(help)
 }
 
-/// The option for the file that takes the answer.
+/// The option for the output file.
 fn output<'a>(alloc: Global) -> Arg<'a> {
     valued(alloc, "output", "FILE", help_texts::OUTPUT)
         .short('o')
         .long_help(help_texts::OUTPUT_LONG)
 }
 
-/// An option that may be given any number of times.
+/// A repeatable option.
 fn repeated<'a>(alloc: Global, list: &ListHelp) -> Arg<'a> {
     Arg::new(alloc, list.name)
         .long(list.name)
@@ -365,7 +365,7 @@ fn imply<'a>(alloc: Global) -> Arg<'a> {
         .value_parser(PROFILES.as_slice())
 }
 
-/// A command with its own help.
+/// A command with its help and no options.
 fn described<'a>(alloc: Global, help: &CommandHelp) -> Command<'a> {
     Command::new(alloc, help.name)
         .about(help.about)
@@ -373,7 +373,7 @@ fn described<'a>(alloc: Global, help: &CommandHelp) -> Command<'a> {
         .after_help(help.after)
 }
 
-/// An option with a value.
+/// An option with a value and a default.
 fn option<'a>(alloc: Global, valued: &OptionHelp) -> Arg<'a> {
     Arg::new(alloc, valued.name)
         .long(valued.name)

@@ -1,4 +1,4 @@
-//! The words that turn on the expansion of a tree.
+//! The options that turn the expansion of macros on.
 ghost use Rattle.std.specs.Prelude.{◌≡◌, ◌+◌, ◌<◌, nat_lt, true, codes, map, List, ℕ, IfOk, length, get_or, option_map};
 ghost use Rattle.std.specs.List.{list_all, filter_map, suffix_len};
 ghost use Rattle.std.specs.Borrow.{Bor};
@@ -16,7 +16,7 @@ use crate::values::{has_values, is_given, value_of, values_of};
 use clap::ArgMatches;
 use std::alloc::{AllocError, Global};
 
-/// The most bytes of a value.
+/// The most bytes of the value of a `--define`.
 const MAX_VALUE_BYTES: usize = 65_536;
 
 /// A white byte: a tab, a vertical tab, a form feed, a carriage return or a space.
@@ -78,8 +78,8 @@ pub(crate) fn has_newline(text: &str) -> bool
     text.as_bytes().iter().any(|&byte| byte == b'\n')
 }
 
-/// A name with its value without white at the end; `None` for a name that no environment may have, and for a value of too
-/// many bytes or with a newline.
+/// The definition of a name by a value, whose white bytes at the end are dropped. `None` for a name that no environment
+/// may have, and for a value with a newline or more than `MAX_VALUE_BYTES` bytes.
 fn named_value<'a>(name: &'a str, value: &'a str) -> Option<Definition<'a>>
     ensures { option_map definition_view result ≡ parsed.named_value name.now value.now }
 {
@@ -92,7 +92,7 @@ fn named_value<'a>(name: &'a str, value: &'a str) -> Option<Definition<'a>>
     })
 }
 
-/// The definition that a text is, by its first `=`.
+/// The definition of a text `NAME=VALUE`, cut at its first `=`.
 fn definition_of(text: &str) -> Option<Definition<'_>>
     ensures { option_map definition_view result ≡ parsed.definition_of text.now }
 {
@@ -100,7 +100,7 @@ fn definition_of(text: &str) -> Option<Definition<'_>>
     named_value(name, value)
 }
 
-/// Whether each text is a definition.
+/// Whether each text is a definition `NAME=VALUE`.
 fn are_definitions(texts: &[&str]) -> bool
     ensures { result ≡ list_all (λ (text : Bor (List ℕ)). parsed.is_definition text.now) texts.now }
 {
@@ -123,7 +123,7 @@ fn definitions_among<'a>(
     Ok(found)
 }
 
-/// The definitions that texts are, each of which has to be one.
+/// The definitions of the values of `--define`. Refuses values of which one is no definition.
 #[tactic(auto, using(crate::proofs::Lists::all_map))]
 fn definitions_of<'a>(alloc: Global, texts: &[&'a str]) -> Result<Vec<Definition<'a>>, Refusal>
     ensures { Agrees (λ v. map definition_view v.items) (parsed.definitions_of (map (λ (text : Bor (List ℕ)). text.now) texts.now)) result }
@@ -141,7 +141,7 @@ fn are_environment_names(names: &[&str]) -> bool
     names.iter().all(|name| is_environment_name(name))
 }
 
-/// The names, each of which has to be one that an environment may have.
+/// Refuses names of which one is none that an environment may have, and else returns them.
 #[tactic(auto, using(crate::proofs::Lists::all_map))]
 fn environment_of(names: Vec<&str>) -> Result<Vec<&str>, Refusal>
     ensures { Agrees (λ v. map (λ (name : Bor (List ℕ)). name.now) v.items) (parsed.environment_of (map (λ (name : Bor (List ℕ)). name.now) names.entry.items)) result }
@@ -152,7 +152,7 @@ fn environment_of(names: Vec<&str>) -> Result<Vec<&str>, Refusal>
     Ok(names)
 }
 
-/// Refuses the path of a tree with a newline.
+/// Refuses the path of a tree's first file if it has a newline.
 fn check_tree(path: &str) -> Result<(), Refusal>
     ensures { Agrees (λ _. path.now) (parsed.expanded_tree_of path.now) result }
 {
@@ -162,7 +162,7 @@ fn check_tree(path: &str) -> Result<(), Refusal>
     Ok(())
 }
 
-/// How many of the paths are that of standard input.
+/// How many of the paths are `/dev/stdin`.
 fn inputs_among(paths: &[&str]) -> usize
     ensures { result ≡ parsed.inputs_among (map (λ (path : Bor (List ℕ)). path.now) paths.now) }
 {
@@ -175,7 +175,7 @@ fn inputs_among(paths: &[&str]) -> usize
     count
 }
 
-/// Whether standard input is named twice among files of answers and configuration files.
+/// Whether standard input is named twice among answer files and configuration files.
 fn is_input_named_twice(answers: &[&str], paths: &[&str]) -> bool
     ensures { result ≡ nat_lt 1 (parsed.inputs_among (map (λ (path : Bor (List ℕ)). path.now) answers.now) + parsed.inputs_among (map (λ (path : Bor (List ℕ)). path.now) paths.now)) }
 {
@@ -186,8 +186,8 @@ fn is_input_named_twice(answers: &[&str], paths: &[&str]) -> bool
     }
 }
 
-/// Refuses standard input where it is named twice among the files of answers and these configuration files: what is read
-/// the second time has no bytes. Paths are compared as texts.
+/// Refuses standard input that is named twice among the answer files and these configuration files, since the second
+/// reading would find no bytes. Paths are compared as texts.
 pub(crate) fn check_inputs(matches: &ArgMatches<'_>, paths: &[&str]) -> Result<(), Refusal>
     ensures { Agrees (λ _. map (λ (path : Bor (List ℕ)). path.now) paths.now) (parsed.paths_beside (parsed.values_of (found_of matches.now) (codes "answers")) (map (λ (path : Bor (List ℕ)). path.now) paths.now)) result }
 {
@@ -197,7 +197,7 @@ pub(crate) fn check_inputs(matches: &ArgMatches<'_>, paths: &[&str]) -> Result<(
     Ok(())
 }
 
-/// Whether standard input is named twice among the files of answers that were found and these configuration files.
+/// Whether standard input is named twice among the values of `--answers` and these configuration files.
 fn is_input_found_twice(matches: &ArgMatches<'_>, paths: &[&str]) -> bool
     ensures { result ≡ nat_lt 1 (parsed.inputs_among (parsed.values_of (found_of matches.now) (codes "answers")) + parsed.inputs_among (map (λ (path : Bor (List ℕ)). path.now) paths.now)) }
 {
@@ -207,7 +207,7 @@ fn is_input_found_twice(matches: &ArgMatches<'_>, paths: &[&str]) -> bool
     }
 }
 
-/// What the expansion of a tree takes its answers from.
+/// The values of `--answers`, `--define` and `--env`. Also refuses a value of `--tree` with a newline.
 pub(crate) fn expansion_of<'a>(
     alloc: Global,
     matches: &ArgMatches<'a>,
@@ -225,7 +225,7 @@ pub(crate) fn expansion_of<'a>(
     })
 }
 
-/// Whether a word is given that turns the expansion on.
+/// Whether an option is given that turns the expansion of macros on.
 fn is_expanded(matches: &ArgMatches<'_>) -> bool
     ensures { result ≡ parsed.is_expanded (found_of matches.now) }
 {
@@ -235,7 +235,7 @@ fn is_expanded(matches: &ArgMatches<'_>) -> bool
         || has_values(matches, "env")
 }
 
-/// The expansion of a command, where a word turns it on.
+/// The values of `--answers`, `--define` and `--env`, if an option turns the expansion of macros on.
 pub(crate) fn expansion_if_given<'a>(
     alloc: Global,
     matches: &ArgMatches<'a>,

@@ -1,124 +1,125 @@
-//! Jobs: what a command asks for.
+//! The commands of `kmin`, with their options and files.
 use kc_dotconfig_model::Format;
 use kc_expr::Language;
 use kc_rules_model::Profile;
 
-/// The text that a command writes of one configuration.
+/// The commands that write a text about one configuration.
 #[derive(Clone, Copy, Debug, PartialEq, Eq)]
 pub enum Verb {
-    /// The minimal file.
+    /// `min`: the minimal file.
     Min,
-    /// The full file.
+    /// `full`: the full file.
     Full,
-    /// The symbols whose assignment isn't their value.
+    /// `missed`: the names of the symbols that don't have the value that a file assigns.
     Missed,
-    /// The symbols that are selected above their dependencies.
+    /// `check`: the names of the symbols that are selected against their dependencies.
     Check,
 }
 
-/// A name with the value that words give it.
+/// One `--define NAME=VALUE`.
 #[derive(Clone, Copy)]
 pub struct Definition<'a> {
     pub name: &'a str,
     pub value: &'a str,
 }
 
-/// What the expansion of a tree takes its answers from.
+/// Where the questions of a tree's macros are answered: by `--answers`, `--define` and `--env`.
 #[derive(Drop)]
 pub struct Expansion<'a> {
-    /// Files of answers, in order.
+    /// The paths of the answer files, in the order of the command line.
     pub answers: Vec<&'a str>,
-    /// Names with values, in order. The last one of a name counts, and goes before all files.
+    /// The definitions, in order. The last one of a name counts, and has precedence over all answer files.
     pub definitions: Vec<Definition<'a>>,
-    /// Names that have their values in the environment, where neither words nor files give them one.
+    /// The names that the environment may answer, where neither a definition nor an answer file does.
     pub environment: Vec<&'a str>,
 }
 
-/// The options, which all commands over configuration files share.
+/// The options that all commands over configuration files share.
 #[derive(Drop)]
 pub struct Settings<'a> {
-    /// The folder in which the paths of the tree lie.
+    /// The folder to which the paths of the tree are relative.
     pub root: &'a str,
-    /// The path of the tree's first file in that folder.
+    /// The path of the tree's first Kconfig file, relative to `root`.
     pub tree: &'a str,
-    /// The language of its files.
+    /// The language of the Kconfig files.
     pub language: Language,
-    /// How configuration files are spelled.
+    /// The prefix of names and the form of strings in configuration files.
     pub format: Format,
+    /// How `imply` acts.
     pub profile: Profile,
-    /// A configuration file with a notice is refused.
+    /// Whether a configuration file with a notice is refused.
     pub strict: bool,
-    /// The answers for the macros of the tree; nothing where the tree is read as it is.
+    /// Where the questions of the tree's macros are answered; `None` where no macro is expanded.
     pub expansion: Option<Expansion<'a>>,
 }
 
 /// A command with its configuration files.
 #[derive(Drop)]
 pub enum Task<'a> {
-    /// A text of the configuration of the files, each laid over those before it.
+    /// `min`, `full`, `missed` or `check` of one configuration, in which each file overrides those before it.
     Over {
         verb: Verb,
         files: Vec<&'a str>,
-        /// The status says whether the verb lists a symbol.
+        /// `--exit-code`: whether the exit status is 1 where a symbol is listed.
         exit_code: bool,
     },
-    /// The symbols whose values differ between two files, each by itself.
+    /// `compare`: the symbols whose values differ between two configurations of one file each.
     Compare {
         left: &'a str,
         right: &'a str,
     },
 }
 
-/// The job of a command line: its options and its command.
+/// A command over configuration files, with its options.
 #[derive(Drop)]
 pub struct Job<'a> {
     pub settings: Settings<'a>,
     pub task: Task<'a>,
 }
 
-/// A job whose answer is put into a file.
+/// A job whose output goes to the file of `--output`.
 #[derive(Drop)]
 pub struct Saving<'a> {
     pub job: Job<'a>,
-    /// The path of that file.
+    /// The path of the output file.
     pub output: &'a str,
 }
 
-/// What `kmin tidy` does with files that aren't minimal, and with those that have notices.
+/// The flags of `kmin tidy`.
 #[derive(Clone, Copy, Debug, PartialEq, Eq)]
 pub struct TidyFlags {
-    /// Each file that isn't its own minimal file is replaced by it.
+    /// `--write`: whether a file that isn't minimal is replaced by its minimal file.
     pub write: bool,
-    /// Files are written without the lines that have notices.
+    /// `--drop`: whether a file with notices is replaced too, without the lines that have them.
     pub drop: bool,
 }
 
-/// A file that lists further paths.
+/// The list of further paths of `kmin tidy --from LIST`.
 #[derive(Clone, Copy)]
 pub struct PathList<'a> {
-    /// Its path; `-` is standard input.
+    /// The path of the list; `-` is standard input.
     pub path: &'a str,
-    /// Each path in it ends with the byte 0, and else with a newline.
+    /// `-z`: whether each path in the list ends with the byte 0 in place of a newline.
     pub ended_by_nul: bool,
 }
 
-/// The files that `kmin tidy` goes over, and what it does with them.
+/// The command `kmin tidy`, with its options, flags and files.
 #[derive(Drop)]
 pub struct Tidying<'a> {
     pub settings: Settings<'a>,
     pub flags: TidyFlags,
-    /// The list of further paths, which come after the files.
+    /// The list of further paths, which come after `files`.
     pub list: Option<PathList<'a>>,
     pub files: Vec<&'a str>,
 }
 
-/// The questions of a tree: what `kmin wants` lists.
+/// The command `kmin wants`, which lists the open questions of a tree's macros.
 #[derive(Drop)]
 pub struct Questions<'a> {
-    /// The folder in which the paths of the tree lie.
+    /// The folder to which the paths of the tree are relative.
     pub root: &'a str,
-    /// The path of the tree's first file in that folder.
+    /// The path of the tree's first Kconfig file, relative to `root`.
     pub tree: &'a str,
-    /// The answers that are known.
+    /// Where the other questions are answered.
     pub expansion: Expansion<'a>,
 }

@@ -8,7 +8,7 @@ ghost use Rattle.kmin_words.specs.Messages.{kind_asked, kind_text, row_text, row
 use crate::messages::{Row, Table};
 use std::alloc::{AllocError, Global};
 
-/// The help on a kind where the words `help KIND` ask for it, and else nothing.
+/// The help on a kind of message where the words are `help KIND`, and else the empty text.
 pub(crate) fn kind_asked(
     alloc: Global,
     tables: &[Table],
@@ -22,7 +22,7 @@ pub(crate) fn kind_asked(
     }
 }
 
-/// The rows of a kind in each table, with its heading; empty where no table has one.
+/// The rows of all tables that explain a kind of message, each table's under its heading; empty where there are none.
 fn kind_text(alloc: Global, tables: &[Table], kind: &str) -> Result<String, AllocError>
     ensures { IfOk result (λ text. text.bytes.items ≡ kind_text kind.now tables.now) }
 {
@@ -33,7 +33,7 @@ fn kind_text(alloc: Global, tables: &[Table], kind: &str) -> Result<String, Allo
     Ok(text)
 }
 
-/// Appends the rows of a kind in a table, with its heading.
+/// Appends the rows of a table that explain a kind of message, under its heading; nothing where there are none.
 fn push_table(text: &mut String, table: &Table, kind: &str) -> Result<(), AllocError>
     ensures { OnOk result (text.new.bytes.items ≡ text.old.bytes.items ++ table_text kind.now table.now) }
 {
@@ -45,14 +45,14 @@ fn push_table(text: &mut String, table: &Table, kind: &str) -> Result<(), AllocE
     push_rows(text, table.rows, kind)
 }
 
-/// Whether a row is of a kind.
+/// Whether a row explains this kind of message.
 fn has_kind(rows: &[Row], kind: &str) -> bool
     ensures { result ≡ list_any (λ (row : DeclaredRow). bytes_eq row.kind.now kind.now) rows.now }
 {
     rows.iter().any(|row| row.kind == kind)
 }
 
-/// Appends the rows of a kind.
+/// Appends the lines of the rows that explain a kind of message.
 fn push_rows(text: &mut String, rows: &[Row], kind: &str) -> Result<(), AllocError>
     ensures { OnOk result (text.new.bytes.items ≡ text.old.bytes.items ++ rows_text kind.now rows.now) }
 {
@@ -62,7 +62,7 @@ fn push_rows(text: &mut String, rows: &[Row], kind: &str) -> Result<(), AllocErr
     Ok(())
 }
 
-/// Appends the lines of a row, where it is of a kind.
+/// Appends the lines of a row if it explains this kind of message.
 fn push_row(text: &mut String, row: &Row, kind: &str) -> Result<(), AllocError>
     ensures { OnOk result (text.new.bytes.items ≡ text.old.bytes.items ++ row_text kind.now row.now) }
 {

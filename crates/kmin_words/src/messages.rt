@@ -1,4 +1,4 @@
-//! The help on messages: each row stands here once, for `kmin --help` and for `kmin help KIND`.
+//! The help on messages: one set of tables, for `kmin --help` and for `kmin help KIND`.
 
 /// A row of help: the kind of a message, and its lines.
 pub(crate) struct Row {
@@ -6,13 +6,13 @@ pub(crate) struct Row {
     pub(crate) lines: &'static str,
 }
 
-/// Rows with their heading.
+/// A table of help: rows under a heading.
 pub(crate) struct Table {
     pub(crate) heading: &'static str,
     pub(crate) rows: &'static [Row],
 }
 
-/// Each table: its heading, and of each row the kind and the lines.
+/// Passes the tables to a macro: of each its heading, and of each row the kind of message and the lines of help.
 macro_rules! tables {
     ($then:ident) => {
         $then! {
@@ -110,7 +110,7 @@ macro_rules! tables {
     };
 }
 
-/// The examples and the exit statuses, and texts after them.
+/// The examples and the exit statuses of the program's help, and then the given texts.
 macro_rules! with_examples {
     ($($text:literal)*) => {
         concat!(
@@ -160,7 +160,7 @@ can't be opened or read or has too many bytes; and of what a message says of a f
     };
 }
 
-/// The tables, as they are searched.
+/// The tables as values, to be searched for a kind.
 macro_rules! as_tables {
     ($($heading:literal { $($kind:literal $lines:literal)* })*) => {
         [$(Table { heading: $heading, rows: &[$(Row { kind: $kind, lines: $lines }),*] }),*]

@@ -1,4 +1,4 @@
-//! Names that are near a mistyped word.
+//! Suggestions of names for mistyped words.
 ghost use Rattle.std.specs.Prelude.{◌≡◌, ℕ, List, map, option_map, IfOk};
 ghost use Rattle.std.specs.Borrow.{Bor};
 ghost use Rattle.kmin_words.specs.Names.{first_near, nearest, with_tip};
@@ -6,7 +6,7 @@ ghost use Rattle.kmin_words.specs.Names.{first_near, nearest, with_tip};
 use std::alloc::{AllocError, Global};
 use strsim::osa_distance;
 
-/// A message with a tip after its first line: a name that is near the word in it.
+/// Inserts the tip of a similar name after the first line of a message.
 pub(crate) fn with_tip(alloc: Global, message: &str, name: &str) -> Result<String, AllocError>
     ensures { IfOk result (λ text. text.bytes.items ≡ with_tip name.now message.now) }
 {
@@ -21,8 +21,8 @@ pub(crate) fn with_tip(alloc: Global, message: &str, name: &str) -> Result<Strin
     Ok(text)
 }
 
-/// The name that is nearest to a word: at most one step from it, or two of a word of six bytes or more; of such names the
-/// first one.
+/// The first name at most one edit from a word, or else, for a word of six bytes or more, at most two. An edit adds,
+/// drops or changes a character, or swaps two neighbours.
 pub(crate) fn nearest<'n>(
     alloc: Global,
     word: &str,
@@ -37,7 +37,7 @@ pub(crate) fn nearest<'n>(
     first_near(alloc, word, names, 2)
 }
 
-/// The first name that is at most so many steps from a word.
+/// The first name at most `most` edits from a word.
 fn first_near<'n>(
     alloc: Global,
     word: &str,

@@ -1,18 +1,18 @@
-//! The word that says where an answer goes.
+//! The option `--output`.
 ghost use Rattle.std.specs.Prelude.{option_map};
 ghost use Rattle.clap.specs.Words.{found_of};
 ghost use Rattle.kmin_words.specs.Jobs.{settings_view, task_view};
 ghost use Rattle.kmin_words.specs.between.WordValues as parsed;
 ghost use Rattle.kmin_words.specs.checker.Refusals.{Agrees};
 
+use crate::command_line::job_with;
 use crate::expansion_words::has_newline;
 use crate::job::Job;
-use crate::parsing::job_with;
 use crate::refusal::Refusal;
 use clap::ArgMatches;
 use std::alloc::Global;
 
-/// The job of a command over configuration files, and the path of the file that its answer is put into, where one is named.
+/// A command over configuration files, and the path of its output file, if one is given.
 pub(crate) fn job_and_output<'a>(
     alloc: Global,
     name: &str,
@@ -25,7 +25,7 @@ pub(crate) fn job_and_output<'a>(
     Ok((job, output))
 }
 
-/// The path of the file that the answer is put into, where one is named. It may have no newline.
+/// The value of `--output`, if it is given. A path with a newline is refused.
 fn output_of<'a>(matches: &ArgMatches<'a>) -> Result<Option<&'a str>, Refusal>
     ensures { Agrees (option_map (λ path. path.now)) (parsed.output_of (found_of matches.now)) result }
 {

@@ -1,13 +1,13 @@
-//! Why accepted words give no job.
+//! Refusals of words that `clap` accepts.
 ghost use Rattle.kmin_words.specs.declared.refusal.Refusal.TheVariants.{OutOfMemory};
 ghost use Rattle.std.specs.Prelude.{◌≡◌};
 
 use std::alloc::{AllocError, AllocFailed};
 
-/// Why no job is made of the values that were found.
+/// Why words that `clap` accepts give no job.
 #[derive(Clone, Copy, Debug)]
 pub(crate) enum Refusal {
-    /// A value isn't allowed; this line says of which word.
+    /// A value isn't allowed. The text is the line of the message, which names the option or the word.
     Words(&'static str),
     OutOfMemory,
 }

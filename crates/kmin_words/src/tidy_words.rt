@@ -7,15 +7,15 @@ ghost use Rattle.kmin_words.specs.Jobs.{settings_view, tidying_view, list_view};
 ghost use Rattle.kmin_words.specs.between.WordValues as parsed;
 ghost use Rattle.kmin_words.specs.checker.Refusals.{Agrees};
 
+use crate::command_line::settings_of;
 use crate::expansion_words::has_newline;
 use crate::job::{PathList, Settings, TidyFlags, Tidying};
-use crate::parsing::settings_of;
 use crate::refusal::Refusal;
 use crate::values::{is_given, values_of};
 use clap::ArgMatches;
 use std::alloc::{AllocError, Global};
 
-/// The files that the words of `tidy` name, and what is to be done with them.
+/// The command `kmin tidy`, with its options, flags and files.
 pub(crate) fn tidying_of<'a>(
     alloc: Global,
     matches: &ArgMatches<'a>,
@@ -33,7 +33,8 @@ pub(crate) fn tidying_of<'a>(
     })
 }
 
-/// The options beside these files and this list.
+/// The options of `kmin tidy`, which are refused where standard input is named twice by them, these files and this
+/// list.
 fn settings_beside<'a>(
     alloc: Global,
     matches: &ArgMatches<'a>,
@@ -46,7 +47,7 @@ fn settings_beside<'a>(
     settings_of(alloc, matches, &paths)
 }
 
-/// The paths, none of which may have a newline.
+/// Refuses paths of which one has a newline, and else returns them.
 #[tactic(auto, using(crate::proofs::Lists::all_map))]
 fn one_line_paths(paths: Vec<&str>) -> Result<Vec<&str>, Refusal>
     ensures { Agrees (λ v. map (λ (path : Bor (List ℕ)). path.now) v.items) (parsed.one_line_paths (map (λ (path : Bor (List ℕ)). path.now) paths.entry.items)) result }
@@ -64,7 +65,7 @@ fn are_one_line(paths: &[&str]) -> bool
     paths.iter().all(|path| !has_newline(path))
 }
 
-/// The list of further paths, where one is named.
+/// The list of further paths of `--from`, if it is given.
 fn list_of<'a>(matches: &ArgMatches<'a>) -> Option<PathList<'a>>
     ensures { option_map list_view result ≡ parsed.list_of (found_of matches.now) }
 {
@@ -75,7 +76,7 @@ fn list_of<'a>(matches: &ArgMatches<'a>) -> Option<PathList<'a>>
     })
 }
 
-/// What is done with files that aren't minimal, and with those that have notices.
+/// The flags `--write` and `--drop`.
 fn flags_of(matches: &ArgMatches<'_>) -> TidyFlags
     ensures { result ≡ parsed.flags_of (found_of matches.now) }
 {
@@ -85,7 +86,7 @@ fn flags_of(matches: &ArgMatches<'_>) -> TidyFlags
     }
 }
 
-/// The paths that are read: the files, and the list, which as `-` is standard input.
+/// All paths that `kmin tidy` reads: the files, and the list, which as `-` is standard input.
 fn paths_read<'a>(
     alloc: Global,
     files: &[&'a str],
@@ -100,7 +101,7 @@ fn paths_read<'a>(
     Ok(paths)
 }
 
-/// The path of a list, which as `-` is standard input.
+/// The path from which a list is read: `/dev/stdin` for `-`.
 fn path_read(path: &str) -> &str
     ensures { result.now ≡ parsed.path_read path.now }
 {

@@ -7,7 +7,8 @@ ghost use Rattle.kmin_words.specs.between.WordValues as parsed;
 use clap::ArgMatches;
 use std::alloc::{AllocError, Global};
 
-/// The value of an option that has one by default, of a word that has to be given, or of a flag, `true` or `false`.
+/// The value of an option with a default, of a required word, or of a flag, which is `true` or `false`; empty where
+/// there is none.
 pub(crate) fn value_of<'a>(matches: &ArgMatches<'a>, id: &str) -> &'a str
     ensures { result.now ≡ parsed.value_of (found_of matches.now) id.now }
 {
@@ -21,7 +22,7 @@ pub(crate) fn is_given(matches: &ArgMatches<'_>, id: &str) -> bool
     value_of(matches, id) == "true"
 }
 
-/// Whether a word that may be given any number of times has a value.
+/// Whether a repeatable option or word has a value.
 pub(crate) fn has_values(matches: &ArgMatches<'_>, id: &str) -> bool
     ensures { result ≡ nat_lt 0 (length (parsed.values_of (found_of matches.now) id.now)) }
 {
@@ -31,7 +32,7 @@ pub(crate) fn has_values(matches: &ArgMatches<'_>, id: &str) -> bool
     }
 }
 
-/// The values of a word that may be given any number of times, in their order.
+/// The values of a repeatable option or word, in order.
 pub(crate) fn values_of<'a>(
     alloc: Global,
     matches: &ArgMatches<'a>,

@@ -1,43 +1,43 @@
--- What was read of the files and folders of a tree so far.
+-- The files and folders of a tree that were read so far.
 use Rattle.std.specs.Prelude.{◌≡◌, ℕ, ◌<◌, Bool, true, false, List, length, Option, Some, None}
 use Rattle.kc_tree_model.specs.Keywords.{keyword_in_table}
 use Rattle.kc_macros_model.specs.Limits.{max_bytes, max_listed_names}
 use Rattle.kc_macros_model.specs.Worlds.{World}
 use Rattle.kc_expansion.specs.TreeContents.{FileContent, FolderContent, TreeContents}
 
--- a file is missing, has these bytes, or has more bytes than may be read
+-- the reading of a file: it is missing, has these bytes, or has more bytes than may be read
 pub data FileRead : Type 0 where
   missing : FileRead
   whole : List ℕ → FileRead
   too_long : FileRead
 
--- a folder has these names, or more than may be listed
+-- the list of a folder: it has these names, or more than may be listed
 pub data FolderRead : Type 0 where
   names : List (List ℕ) → FolderRead
   too_many : FolderRead
 
--- what was read of paths and folders
+-- the files that were read, by their paths, and the folders that were listed
 pub record KnownFiles : Type 0 where
   pub files : List (List ℕ × FileRead)
   pub folders : List (List ℕ × FolderRead)
 
--- the bytes of a path are what was read of it
+-- the bytes of a path, if it can be read, agree with the reading of its file
 abbrev pub AreBytes : FileRead → Option (List ℕ) → Type 0
 AreBytes missing bytes = bytes ≡ None
 AreBytes (whole read) bytes = bytes ≡ Some read
 AreBytes too_long bytes = (more : List ℕ) × (bytes ≡ Some more) × (max_bytes < length more)
 
--- the names in a folder are what was read of it
+-- the names in a folder agree with the list of the folder
 abbrev pub AreNames : FolderRead → List (List ℕ) → Type 0
 AreNames (names read) all = all ≡ read
 AreNames too_many all = max_listed_names < length all
 
--- a world has what was read
+-- a world has all files and folders that were read
 pub record Agrees (w : World) (known : KnownFiles) : Type 0 where
   pub files : (path : List ℕ) (read : FileRead) → keyword_in_table known.files path ≡ Some read → AreBytes read (w.bytes path)
   pub folders : (folder : List ℕ) (read : FolderRead) → keyword_in_table known.folders folder ≡ Some read → AreNames read (w.names folder)
 
--- what was read of a path is as its known content; a file whose reading fails is missing
+-- the reading of a file agrees with its known content; a file whose reading fails is missing
 abbrev pub MatchFile : FileContent → FileRead → Type 0
 MatchFile None read = Unit {0}
 MatchFile (Some None) read = read ≡ missing
@@ -45,28 +45,28 @@ MatchFile (Some (Some known)) missing = Unit {0}
 MatchFile (Some (Some known)) (whole bytes) = bytes ≡ known
 MatchFile (Some (Some known)) too_long = max_bytes < length known
 
--- what the known bytes of a reader say about its file
+-- the known content of the file that a reader reads, by the known bytes of the reader
 abbrev pub content_of_reader : Option (List ℕ) → FileContent
 content_of_reader None = None
 content_of_reader (Some bytes) = Some (Some bytes)
 
--- what was read of a folder is as its known names
+-- the list of a folder agrees with its known content
 abbrev pub MatchFolder : FolderContent → FolderRead → Type 0
 MatchFolder None read = Unit {0}
 MatchFolder (Some known) (names read) = read ≡ known
 MatchFolder (Some known) too_many = max_listed_names < length known
 
--- all that was read is as it was known to be
+-- all files and folders that were read agree with the known contents of the tree
 pub record AreAsKnown (contents : TreeContents) (known : KnownFiles) : Type 0 where
   pub files : (path : List ℕ) (read : FileRead) → keyword_in_table known.files path ≡ Some read → MatchFile (contents.file path) read
   pub folders : (folder : List ℕ) (read : FolderRead) → keyword_in_table known.folders folder ≡ Some read → MatchFolder (contents.folder folder) read
 
--- more was read: nothing is forgotten, and it is as it was known to be
+-- more was read: no file or folder is forgotten, and all agree with the known contents if they did before
 pub record Grows (contents : TreeContents) (old new : KnownFiles) : Type 0 where
   pub worlds : (w : World) → Agrees w new → Agrees w old
   pub matched : AreAsKnown contents old → AreAsKnown contents new
 
--- whether a path can be read
+-- whether the file of a reading isn't missing
 abbrev pub is_read : FileRead → Bool
 is_read missing = false
 is_read (whole bytes) = true

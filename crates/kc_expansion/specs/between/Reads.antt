@@ -1,4 +1,4 @@
--- What it means that code runs a program that reads files.
+-- Programs that read files, as code runs them.
 use Rattle.std.specs.Prelude.{◌≡◌}
 use Rattle.kc_macros_model.specs.Programs.{Program}
 use Rattle.kc_macros_model.specs.Worlds.{World, Ending, outcome}
@@ -7,22 +7,23 @@ use Rattle.kc_macros.specs.Runs.{RunEnd, ends, out_of_memory, HasAnswers}
 use Rattle.kc_expansion.specs.TreeContents.{TreeContents}
 use Rattle.kc_expansion.specs.between.KnownFiles.{KnownFiles, Agrees, Grows}
 
--- what is known of files before they are read, what was read of them, and a run
+-- a run that reads files: the known contents of the tree, the files that were read, and the state of the run
 pub record FileRun : Type 0 where
   pub contents : TreeContents
   pub known : KnownFiles
   pub run : RunState
 
+-- a run of these parts
 abbrev pub file_run : TreeContents → KnownFiles → RunState → FileRun
 file_run contents known run = record { contents = contents; known = known; run = run }
 
--- in each world that has what was read and a run's answers, a program takes the run to another state and an end; where memory ran out nothing is said
+-- a program takes a run to another state and an end, in each world that has the files that were read and the answers of the run; where memory ran out, this is left open
 pub data Reaches {A : Type 0} (known : KnownFiles) (before after : RunState) (p : Program A) : RunEnd A → Type 0 where
   reached : {e : Ending A} → ((w : World) → Agrees w known → HasAnswers w before.answers
       → (after ≡ after_outcome before (outcome before.all_answered w before.left p)) × ((outcome before.all_answered w before.left p).ending ≡ e)) → Reaches known before after p (ends e)
   cut_short : Reaches known before after p out_of_memory
 
--- the same of a program that reads files: nothing that was read is forgotten, and what is read is as it was known to be
+-- code runs a program that reads files: it forgets no file that was read, the files agree with their known contents, and the program takes the run to this state and this end
 pub record Reads {A : Type 0} (before after : FileRun) (p : Program A) (e : RunEnd A) : Type 0 where
   pub same : after.contents ≡ before.contents
   pub grows : Grows before.contents before.known after.known

@@ -3,12 +3,12 @@ use Rattle.std.specs.Prelude.{◌≡◌, ℕ, suc, ◌<◌, ◌≤◌, Bool, fal
 use Rattle.std.specs.List.{list_any}
 use Rattle.kc_macros_model.specs.PathPatterns.{matches}
 
--- for each end of a name, whether it matches a piece
+-- `ends` has a truth for each end of a name: whether that matches a piece
 pub record HasEndMatches (piece name : List ℕ) (ends : List Bool) : Type 0 where
   pub count : length ends ≡ suc (length name)
   pub each : (k : ℕ) → k ≤ length name → slice_index_or ends k false ≡ matches piece (drop k name)
 
--- from a place on, each of some truths says whether it or a later one of those at the start holds; `some` is the one at that place
+-- `ends` has from a place on whether this or a later truth of `start` holds, and before it the truths of `start`; `some` is the one at that place
 pub record AreSpread (start ends : List Bool) (at : ℕ) (some : Bool) : Type 0 where
   pub within : at ≤ length start
   pub some_is : some ≡ list_any (λ b. b) (drop at start)

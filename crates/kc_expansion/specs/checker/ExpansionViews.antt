@@ -1,25 +1,25 @@
--- The end of a reading of a tree.
+-- The start and the end of a reading of a tree.
 use Rattle.std.specs.Prelude.{ℕ, List, [], ◌∷◌, ◌++◌, Result, Ok, Err}
 use Rattle.kc_macros.specs.declared.stop.Stop.{Stop}
 use Rattle.kc_macros.specs.declared.stop.Stop.TheVariants as kinds
 use Rattle.kc_macros_model.specs.ReadingStates.{ExpandedFile}
 use Rattle.kc_expansion.specs.between.KnownFiles.{KnownFiles}
 
--- nothing was read
+-- no file and no folder was read
 abbrev pub nothing_known : KnownFiles
 nothing_known = record { files = []; folders = [] }
 
--- the first file with its expanded text, after the files that were sourced
+-- the expanded files that were sourced, and after them the first file of the tree
 abbrev pub with_root : (root text : List ℕ) → List ExpandedFile → List ExpandedFile
 with_root root text files = files ++ record { key = root; path = root; text = text } ∷ []
 
--- memory didn't run out
+-- a reading came to an end: memory didn't run out
 abbrev pub HasEnded : {A : Type 0} → Result A Stop → Type 0
 HasEnded (Ok x) = Unit {0}
 HasEnded (Err kinds.OutOfMemory) = ⊥
 HasEnded (Err stop) = Unit {0}
 
--- a question without an answer didn't stop a reading
+-- a reading wasn't stopped by a question without an answer
 abbrev pub GoesOn : {A : Type 0} → Result A Stop → Type 0
 GoesOn (Ok x) = Unit {0}
 GoesOn (Err kinds.Unanswered) = ⊥

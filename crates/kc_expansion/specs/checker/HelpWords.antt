@@ -2,11 +2,11 @@
 use Rattle.std.specs.Prelude.{ℕ, Bool, true, ◌==◌, List, [], ◌∷◌, length, drop, take_while}
 use Rattle.kc_expr.specs.Token.{is_white_byte}
 
--- whether there is no byte, or a comment begins
+-- whether a text is empty or begins a comment
 abbrev pub is_comment_or_none : List ℕ → Bool
 is_comment_or_none [] = true
 is_comment_or_none (c ∷ s) = c == 35
 
--- whether nothing but white bytes and a comment is there
+-- whether a text has nothing but white bytes and a comment
 abbrev pub is_end : List ℕ → Bool
 is_end text = is_comment_or_none (drop (length (take_while is_white_byte text)) text)

@@ -1,18 +1,18 @@
--- The lines of a file at places.
+-- The lines of a file, by the places where they begin.
 use Rattle.std.specs.Prelude.{◌≡◌, ℕ, ◌+◌, ◌≤◌, Bool, false, List, [], ◌∷◌, length, drop}
 use Rattle.kc_tree_model.specs.LogicalLines.{PhysicalLine, is_continued, split_at_newlines}
 use Rattle.kc_macros_model.specs.TreeExpansion.{help_after}
 use Rattle.kc_expansion.specs.declared.line_places.LineStart.{LineStart}
 
--- whether the first line goes on in the next one
+-- whether the first of some lines is continued on the next one
 abbrev pub is_first_continued : List PhysicalLine → Bool
 is_first_continued [] = false
 is_first_continued (l ∷ ls) = is_continued l
 
 -- a place after the help text that begins at another, or at the same place where none begins
-pub record IsHelpPassed (bytes : List ℕ) (after : LineStart) (begins_help : Bool) (behind : LineStart) : Type 0 where
-  pub whole : split_at_newlines (drop behind.at bytes) ≡ drop (help_after begins_help (split_at_newlines (drop after.at bytes))) (split_at_newlines (drop after.at bytes))
-  pub number : behind.number ≡ after.number + help_after begins_help (split_at_newlines (drop after.at bytes))
-  pub from : after.at ≤ behind.at
-  pub within : behind.at ≤ length bytes
-  pub few : behind.number + after.at ≤ after.number + behind.at
+pub record IsHelpPassed (bytes : List ℕ) (after : LineStart) (begins_help : Bool) (past : LineStart) : Type 0 where
+  pub whole : split_at_newlines (drop past.at bytes) ≡ drop (help_after begins_help (split_at_newlines (drop after.at bytes))) (split_at_newlines (drop after.at bytes))
+  pub number : past.number ≡ after.number + help_after begins_help (split_at_newlines (drop after.at bytes))
+  pub from : after.at ≤ past.at
+  pub within : past.at ≤ length bytes
+  pub few : past.number + after.at ≤ after.number + past.at

@@ -1,4 +1,4 @@
--- Paths, as the code has them.
+-- Paths of `source` lines.
 use Rattle.std.specs.Prelude.{ℕ, Bool, not, ◌&&◌, List, ◌++◌, if◌then◌else◌}
 use Rattle.kc_macros_model.specs.TreeExpansion.{begins_with_slash, folder_of}
 

@@ -1,4 +1,4 @@
--- A reading of a tree, as the code has it.
+-- A reading of a tree, as the definitions have it.
 use Rattle.std.specs.Prelude.{◌≡◌, ℕ, suc, Bool, true, false, ◌+◌, ◌-◌, ◌<◌, ◌≤◌, List, [], ◌++◌, length, Vec, Option, Some, None}
 use Rattle.std.specs.declared.alloc.Global.{Global}
 use Rattle.kc_tree_model.specs.LogicalLines.{PhysicalLine}
@@ -15,10 +15,10 @@ use Rattle.kc_macros_model.specs.TreeExpansion.{SourceReader, one_file, file_lis
 use Rattle.kc_macros.specs.declared.stop.Stop.{Stop}
 use Rattle.kc_macros.specs.declared.stop.Stop.TheVariants as kinds
 use Rattle.kc_macros.specs.declared.assignments.Assignment.{Assignment}
-use Rattle.kc_macros.specs.Assigning.{operator_of, bindings_assigned}
-use Rattle.kc_macros.specs.Variables.{bindings_of}
-use Rattle.kc_macros.specs.LineContents.{tokens_of}
-use Rattle.kc_macros.specs.LineFormViews.{source_sort_of}
+use Rattle.kc_macros.specs.between.AssignmentViews.{operator_of, bindings_assigned}
+use Rattle.kc_macros.specs.between.Variables.{bindings_of}
+use Rattle.kc_macros.specs.between.LineContents.{tokens_of}
+use Rattle.kc_macros.specs.between.LineFormViews.{source_sort_of}
 use Rattle.kc_expansion.specs.TextViews.{texts_of}
 use Rattle.kc_expansion.specs.TreeContents.{TreeContents}
 use Rattle.kc_expansion.specs.between.KnownFiles.{FileRead, whole, AreBytes}
@@ -30,7 +30,7 @@ use Rattle.kc_expansion.specs.declared.line_steps.LineState.{LineState}
 use Rattle.kc_expansion.specs.declared.line_steps.LineStep.{LineStep}
 use Rattle.kc_expansion.specs.declared.line_steps.LineStep.TheVariants as steps
 use Rattle.kc_expansion.specs.declared.open_files.OpenFiles.{OpenFiles}
-use Rattle.kc_expansion.specs.declared.reading.Reading.{Reading}
+use Rattle.kc_expansion.specs.declared.reading_state.Reading.{Reading}
 use Rattle.kc_expansion.specs.declared.written_file.WrittenFile.{WrittenFile}
 use Rattle.kc_expansion.specs.declared.line_places.LineStart.{LineStart}
 
@@ -38,24 +38,27 @@ use Rattle.kc_expansion.specs.declared.line_places.LineStart.{LineStart}
 abbrev pub fault_at : Place → MacroKind → Fault
 fault_at at kind = record { at = at; kind = kind; text = [] }
 
--- the variables and the names of choices of a state are those that the code has
+-- a state with the variables and the names of choices that the code has
 abbrev pub with_lines : LineState → ReadingState → ReadingState
 with_lines l s = record s { bindings = bindings_of l.bindings; choices = l.choices }
 
+-- the state of a reading as the definitions have it
 abbrev pub state_of : Reading → ReadingState
 state_of r = record { bindings = bindings_of r.lines.bindings; choices = r.lines.choices; expanded = r.expanded; files = r.counts.files; bytes = r.counts.bytes; listed = r.listed }
 
+-- the run of a reading, with the files that it has read
 abbrev pub file_run_of : TreeContents → Reading → FileRun
 file_run_of contents r = file_run contents (known_of r.store) r.lines.run
 
--- how files are read where these are open
+-- the way in which files are read where these are open
 abbrev pub reader_for : (root : List ℕ) → List (List ℕ) → SourceReader
 reader_for root open_files = source_read (suc max_open_files - length open_files) root open_files
 
+-- the way in which files are read where the code has these open
 abbrev pub reader_of : OpenFiles → SourceReader
 reader_of o = reader_for o.root.now (slices_of o.paths.now)
 
--- a copy of a path isn't made: the path isn't known, or memory ran out
+-- a path isn't copied: it isn't known, or memory ran out
 abbrev pub IsNoPath : Option (List ℕ) → Stop → Type 0
 IsNoPath path (kinds.Fault f) = ⊥
 IsNoPath path kinds.Unanswered = path ≡ None
@@ -66,32 +69,34 @@ abbrev pub IsNoSource : LineForm → Type 0
 IsNoSource (sources sort path) = ⊥
 IsNoSource form = Unit {0}
 
--- the variables after an assignment on a line, which may not be continued
+-- the bindings after an assignment on a line; a fault where the line is continued
 abbrev pub assigned_or_fault : Place → (continued : Bool) → Bindings → Assignment → Program Bindings
 assigned_or_fault at true b a = fault at JoinedAssignment []
 assigned_or_fault at false b a = bindings_assigned at b a.name (operator_of a.operator) a.text
 
--- what is left of a line after its first step
+-- the rest of a line after its first step
 abbrev pub step_left : SourceReader → Place → LineStep → ReadingState → Program WrittenLine
 step_left sub at (steps.Written l) s = returns (written_line l.text.items l.begins_help s)
 step_left sub at (steps.Sources l) s = source_followed sub at (tokens_of l.tokens.items) (source_sort_of l.sort) (Some l.given.items) s >>= short_line at false
 
--- the paths of a pattern, and what is read of them
+-- finds the paths of a pattern, and reads their files
 abbrev pub pattern_followed : SourceReader → Place → SourceSort → (path : List ℕ) → ReadingState → Program Progress
 pattern_followed sub at sort path s = files_of_pattern at path s.listed >>= pattern_read sub at sort s
 
--- what is left of a `source` line once its paths are known
+-- reads the files of a `source` line, by the list of their paths, or the one file of its path
 abbrev pub paths_left : SourceReader → Place → (path : List ℕ) → Option (Vec (Vec ℕ Global) Global) → ReadingState → Program Progress
 paths_left sub at path None s = sub at (one_file path) s
 paths_left sub at path (Some paths) s = sub at (file_list (list_name at) (texts_of paths)) s
 
--- a text before what is still read
+-- a program with a text before the text that it returns
 abbrev pub after_text : List ℕ → Program Progress → Program Progress
 after_text done p = p >>= λ rest. returns (progress (done ++ rest.text) rest.state)
 
+-- reads the lines of a file that follow, after the text of the lines before
 abbrev pub lines_left : SourceReader → (file : List ℕ) → LineStart → (done : List ℕ) → List PhysicalLine → ReadingState → Program Progress
 lines_left sub file start done ls s = after_text done (lines_read sub file 0 start.number ls s)
 
+-- reads the files of a list that follow, after the lines of those before
 abbrev pub lists_left : SourceReader → Place → (done : List ℕ) → List (List ℕ) → ReadingState → Program Progress
 lists_left sub at done paths s = after_text done (list_read sub at paths s)
 
@@ -100,7 +105,7 @@ pub record AreCounts (counts : ReadCounts) (s : ReadingState) : Type 0 where
   pub files : s.files ≡ counts.files
   pub bytes : s.bytes ≡ counts.bytes
 
--- what was read of a path is these bytes, which may be read
+-- a file was read with these bytes, and may be sourced where these files are open
 pub record MayBeRead (open_files : List (List ℕ)) (counts : ReadCounts) (path : List ℕ) (read : FileRead) (bytes : List ℕ) : Type 0 where
   pub is_whole : read ≡ whole bytes
   pub no_fault : (s : ReadingState) → AreCounts counts s → source_fault open_files s path (Some bytes) ≡ None
@@ -108,7 +113,7 @@ pub record MayBeRead (open_files : List (List ℕ)) (counts : ReadCounts) (path 
   pub few_bytes : counts.bytes + length bytes ≤ max_bytes
   pub few_open : length open_files < max_open_files
 
--- what was read of a path may not be read
+-- a file that was read may not be sourced where these files are open, by a fault of this kind
 pub record MayNotBeRead (open_files : List (List ℕ)) (counts : ReadCounts) (path : List ℕ) (read : FileRead) (kind : MacroKind) : Type 0 where
   pub is_fault : (s : ReadingState) → AreCounts counts s → (bytes : Option (List ℕ)) → AreBytes read bytes → source_fault open_files s path bytes ≡ Some kind
 

@@ -1,6 +1,7 @@
--- Lists of texts, as slices have them.
+-- Lists of texts, by slices.
 use Rattle.std.specs.Prelude.{ℕ, List, map}
 use Rattle.std.specs.Borrow.{Bor}
 
+-- the texts of a list of slices
 abbrev pub slices_of : List (Bor (List ℕ)) → List (List ℕ)
 slices_of ts = map (λ (t : Bor (List ℕ)). t.now) ts

@@ -5,7 +5,8 @@ use Rattle.kc_expr.specs.declared.fault.ExprFault.{ExprFault}
 use Rattle.kc_expr.specs.declared.fault.ExprKind.{ExprKind}
 use Rattle.kc_expr.specs.between.Arena.{Exprs, Represents}
 use Rattle.kc_expr.specs.Expr.{Expr, conditional}
-use Rattle.kc_expr.specs.Grammar.{IsExpr, ors, extent, read_expr, fault_of}
+use Rattle.kc_expr.specs.ExprFaults.{IsFirstFault}
+use Rattle.kc_expr.specs.Grammar.{IsExpr, ors, extent, fault_of}
 use Rattle.kc_expr.specs.Token.{Lexeme}
 
 -- the tokens of the expression that begins at an index, and the index after them
@@ -20,12 +21,11 @@ expr_end all at = at + length (expr_tokens all at)
 pub record ReadsExpr (a : Exprs) (id : ℕ) (condition : Bool) (ts : List Lexeme) : Type 0 where
   pub expr : Expr
   pub in_grammar : IsExpr ors MAX_EXPR_DEPTH ts expr
-  pub reads : read_expr ts ≡ Ok expr
   pub stands : Represents a id (if condition then conditional expr else expr)
 
--- the tokens at an index are no expression, and the fault is at the first token that can't continue one
+-- the tokens at an index are no expression, and the fault is their first
 pub record RefusesExpr (all : List Lexeme) (at : ℕ) (e : ExprFault) : Type 0 where
   pub not_in_grammar : (x : Expr) → IsExpr ors MAX_EXPR_DEPTH (expr_tokens all at) x → ⊥
   pub fault : ExprKind × List Lexeme
-  pub reads : read_expr (expr_tokens all at) ≡ Err fault
+  pub first : IsFirstFault (expr_tokens all at) fault
   pub placed : e ≡ fault_of (take (expr_end all at) all) fault

@@ -1,24 +1,25 @@
--- Bytes between quotes so far, as the code has them.
+-- The first bytes between quotes, as the definitions have them, and the items that follow.
 use Rattle.std.specs.Prelude.{ℕ, Bool, true, ◌==◌, ◌||◌, List}
 use Rattle.std.specs.List.{list_any}
 use Rattle.kc_macros_model.specs.Programs.{Place, Program, returns, ◌>>=◌}
 use Rattle.kc_macros_model.specs.References.{Item, items}
 use Rattle.kc_macros_model.specs.Variables.{Bindings}
-use Rattle.kc_macros_model.specs.Rewriting.{WrittenBody, WrittenToken, joined_bodies, written_items, token_of_body}
+use Rattle.kc_macros_model.specs.WrittenTokens.{WrittenBody, WrittenToken, joined_bodies, written_items, token_of_body}
 use Rattle.kc_macros.specs.declared.token_values.Body.{Body}
-use Rattle.kc_macros.specs.checker.Gathering.{gathered_value}
+use Rattle.kc_macros.specs.checker.PartialValues.{value_if_known}
 
+-- bytes between quotes as the definitions have them
 abbrev pub body_of_code : Body → WrittenBody
-body_of_code b = record { bytes = b.bytes.items; meaning = gathered_value b.known b.meaning.items }
+body_of_code b = record { bytes = b.bytes.items; meaning = value_if_known b.known b.meaning.items }
 
 -- whether a text has a `$` or a `\`
 abbrev pub has_dollar_or_backslash : List ℕ → Bool
 has_dollar_or_backslash text = list_any (λ c. c == 36 || (c == 92)) text
 
--- the items that are left, after what was written
+-- writes the items that follow, after the bytes that are written
 abbrev pub bodies_left : Place → Bindings → (quote : ℕ) → WrittenBody → List Item → Program WrittenBody
 bodies_left at b quote so_far is = written_items at b quote is >>= λ rest. returns (joined_bodies so_far rest)
 
--- a quoted token
+-- writes a quoted token
 abbrev pub quoted_written : Place → Bindings → (quote : ℕ) → List ℕ → Program WrittenToken
 quoted_written at b quote s = written_items at b quote (items true 0 s) >>= λ body. returns (token_of_body quote body)

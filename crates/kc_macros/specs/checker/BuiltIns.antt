@@ -1,10 +1,11 @@
--- Built-in functions, as the code has them, and what they say.
+-- Built-in functions, as the definitions have them, and their messages.
 use Rattle.std.specs.Prelude.{ℕ, List, [], Option, Some, None, bytes_eq, codes, if◌then◌else◌}
 use Rattle.kc_macros_model.specs.Programs.{Program, returns}
 use Rattle.kc_macros_model.specs.Variables.{Value, BuiltIn, filename, lineno, shell, info, warning_if, error_if}
-use Rattle.kc_macros.specs.declared.built_in.BuiltIn.{BuiltIn as CodeBuiltIn}
-use Rattle.kc_macros.specs.declared.built_in.BuiltIn.TheVariants as kinds
+use Rattle.kc_macros.specs.declared.built_in_functions.BuiltIn.{BuiltIn as CodeBuiltIn}
+use Rattle.kc_macros.specs.declared.built_in_functions.BuiltIn.TheVariants as kinds
 
+-- a built-in function of the code as the definitions have it
 abbrev pub built_in_of : CodeBuiltIn → BuiltIn
 built_in_of kinds.Filename = filename
 built_in_of kinds.Lineno = lineno
@@ -13,7 +14,7 @@ built_in_of kinds.Info = info
 built_in_of kinds.WarningIf = warning_if
 built_in_of kinds.ErrorIf = error_if
 
--- how many arguments a function takes
+-- the number of arguments that a built-in function takes
 abbrev pub arity_of : BuiltIn → ℕ
 arity_of filename = 0
 arity_of lineno = 0
@@ -28,7 +29,7 @@ message_text (Some condition) (Some text) = if bytes_eq condition (codes "y") th
 message_text (Some condition) None = None
 message_text None text = None
 
--- a message, if there is one
-abbrev pub said : (List ℕ → Program Value) → Option (List ℕ) → Program Value
-said message (Some text) = message text
-said message None = returns (Some [])
+-- reports a message, if there is one; the value is empty where there is none
+abbrev pub message_value : (List ℕ → Program Value) → Option (List ℕ) → Program Value
+message_value message (Some text) = message text
+message_value message None = returns (Some [])

@@ -1,10 +1,11 @@
--- The meaning of a line of a file of answers, as the code has it.
+-- The meaning of a line of a file of answers, as the definitions have it.
 use Rattle.std.specs.Prelude.{ℕ, List, option_map}
 use Rattle.std.specs.Borrow.{Bor}
 use Rattle.kc_macros.specs.declared.answer_lines.AnswerLine.{AnswerLine}
 use Rattle.kc_macros.specs.declared.answer_lines.AnswerLine.TheVariants.{Comment, Answer, Command, Malformed}
 use Rattle.kc_macros_model.specs.AnswerFiles.{AnswerLine as LineMeaning, comment, answer, command, malformed}
 
+-- the meaning of a line as the definitions have it
 abbrev pub line_view : AnswerLine → LineMeaning
 line_view Comment = comment
 line_view (Answer question text) = answer question.now (option_map (λ (t : Bor (List ℕ)). t.now) text)

@@ -1,4 +1,4 @@
--- The lines of a file of answers so far, as the code has them.
+-- The first lines of a file of answers, as the definitions have them.
 use Rattle.std.specs.Prelude.{ℕ, false, List, [], ◌∷◌, Option, option_map}
 use Rattle.std.specs.Borrow.{Bor}
 use Rattle.kc_tree_model.specs.LogicalLines.{PhysicalLine}
@@ -8,6 +8,7 @@ use Rattle.kc_macros_model.specs.AnswerFiles.{Recorded, LinesSoFar}
 abbrev pub bytes_of : Option (Bor (List ℕ)) → Option (List ℕ)
 bytes_of s = option_map (λ (t : Bor (List ℕ)). t.now) s
 
+-- the first lines of a file, by their count, the command that waits for its answer, and the recorded answers
 abbrev pub lines_view : (count : ℕ) (waiting : Option (List ℕ)) → Recorded → LinesSoFar
 lines_view count waiting recorded = record { count = count; waiting = waiting; recorded = recorded }
 

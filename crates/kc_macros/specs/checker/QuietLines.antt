@@ -6,19 +6,20 @@ use Rattle.kc_macros_model.specs.LineTokens.{LineToken, gap, run, quoted, other,
 use Rattle.kc_macros_model.specs.Assignments.{assignment_to}
 use Rattle.kc_macros_model.specs.LineForms.{prompt_words, source_words, help_words}
 
--- a word after which a path, a help text, a name of a choice or an option may come
+-- whether a path, a help text, the name of a choice or an option may follow a word
 abbrev pub is_acting_word : List ℕ → Bool
 is_acting_word word = is_in_list word source_words || is_in_list word help_words || bytes_eq word (codes "choice") || bytes_eq word (codes "option")
 
--- whether a word ends as each does on which something acts
+-- whether a word ends as `source`, `help`, `---help---`, `choice` and `option` do
 abbrev pub ends_acting : List ℕ → Bool
 ends_acting word = let c = get_or word (pred (length word)) 0 in c == 101 || (c == 112 || (c == 45 || c == 110))
 
--- whether the first and the last byte of a word are those of one that a prompt or a title follows
+-- whether a prompt or a title follows some word with this first and this last byte
 abbrev pub bounds_prompt : (first last : ℕ) → Bool
 bounds_prompt first last =
     (first == 98 && (last == 108)) || ((first == 116 && (last == 101)) || ((first == 115 && (last == 103)) || ((first == 104 && (last == 120)) || ((first == 105 && (last == 116)) || ((first == 112 && (last == 116)) || ((first == 109 && (last == 117)) || ((first == 99 && (last == 116)))))))))
 
+-- whether a word has the first and the last byte of one that a prompt or a title follows
 abbrev pub may_begin_prompt : List ℕ → Bool
 may_begin_prompt word = bounds_prompt (get_or word 0 0) (get_or word (pred (length word)) 0)
 
@@ -26,7 +27,7 @@ may_begin_prompt word = bounds_prompt (get_or word 0 0) (get_or word (pred (leng
 abbrev pub has_dollar_or_wide : List ℕ → Bool
 has_dollar_or_wide text = list_any (λ c. c == 36 || nat_le 128 c) text
 
--- no run is the first token that is no gap
+-- the first token that is no gap is no run
 abbrev pub HasNoWordNext : List LineToken → Type 0
 HasNoWordNext [] = Unit {0}
 HasNoWordNext (gap s ∷ ts) = HasNoWordNext ts
@@ -35,12 +36,13 @@ HasNoWordNext (quoted quote s ∷ ts) = Unit {0}
 HasNoWordNext (other s ∷ ts) = Unit {0}
 HasNoWordNext (broken s ∷ ts) = Unit {0}
 
--- a run that is no name of an assignment, and no word on which something acts
+-- a run that keeps its line as it is: it is no name of an assignment, and no word of a form that is written anew
 pub record IsQuietWord (word : List ℕ) (ts : List LineToken) : Type 0 where
   pub unassigned : assignment_to (run word) ts ≡ None
   pub acting : is_acting_word word ≡ false
   pub prompt : is_in_list word prompt_words ≡ true → HasNoWordNext ts
 
+-- the first token that is no gap keeps its line as it is
 abbrev pub IsQuiet : List LineToken → Type 0
 IsQuiet [] = Unit {0}
 IsQuiet (gap s ∷ ts) = IsQuiet ts

@@ -1,22 +1,23 @@
--- The tokens of a line without gaps, as the code has them.
+-- The tokens of a line that are no gaps.
 use Rattle.std.specs.Prelude.{ℕ, suc, Bool, true, false, ◌&&◌, ◌||◌, List, [], ◌∷◌, if◌then◌else◌}
 use Rattle.kc_tree_model.specs.Limits.{is_in_list}
-use Rattle.kc_macros_model.specs.Rewriting.{WrittenToken}
+use Rattle.kc_macros_model.specs.WrittenTokens.{WrittenToken}
 use Rattle.kc_macros_model.specs.Assignments.{is_gap}
 use Rattle.kc_macros_model.specs.LineForms.{LineForm, plain, bare_prompt, prompt_words, source_words, help_words, is_bare_prompt, form_of_pair, without_gaps}
-use Rattle.kc_macros.specs.declared.written.WrittenToken.{WrittenToken as CodeToken}
-use Rattle.kc_macros.specs.WrittenTokens.{token_of}
-use Rattle.kc_macros.specs.LineContents.{tokens_of}
+use Rattle.kc_macros.specs.declared.written_tokens.WrittenToken.{WrittenToken as CodeToken}
+use Rattle.kc_macros.specs.between.WrittenTokens.{token_of}
+use Rattle.kc_macros.specs.between.LineContents.{tokens_of}
 
 -- how many gaps come before the first token that is none
 abbrev pub gap_count : List CodeToken → ℕ
 gap_count [] = 0
 gap_count (t ∷ ts) = if is_gap (token_of t) then suc (gap_count ts) else 0
 
--- the tokens that are no gaps
+-- the tokens of the code that are no gaps, as the definitions have them
 abbrev pub real_tokens : List CodeToken → List WrittenToken
 real_tokens ts = without_gaps (tokens_of ts)
 
+-- whether a line has no tokens but gaps
 abbrev pub is_empty_line : List WrittenToken → Bool
 is_empty_line [] = true
 is_empty_line (t ∷ ts) = false
@@ -28,6 +29,6 @@ form_by word t alone =
     else if alone then form_of_pair word t
     else plain
 
--- a word that begins a `source` line or a help text
+-- whether a word begins a `source` line or a help text
 abbrev pub is_decisive_word : List ℕ → Bool
 is_decisive_word word = is_in_list word source_words || is_in_list word help_words

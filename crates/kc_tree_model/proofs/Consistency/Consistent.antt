@@ -31,7 +31,8 @@ use Rattle.std.proofs.lemmas.Str.{is_utf8-from_IsUtf8}
 
 -- the members of a choice
 member_number : (c : Contents) (n s : ℕ) → Has s (filter_map (λ x. index_of_name x c.names) (member_names c n))
-    → (q : GroupInContext) × (x : List ℕ) × Has q c.places × (defined_name q.group ≡ Some x) × (q.enclosing.choice ≡ Some n) × (index_of_name x c.names ≡ Some s)
+    → (q : GroupInContext) × (x : List ℕ) × Has q c.places × (defined_name q.group ≡ Some x) × (q.enclosing.choice ≡ Some n)
+    × (index_of_name x c.names ≡ Some s)
 member_number c n s h =
     let a = has-filter_map (λ x. index_of_name x c.names) (member_names c n) s h in
     let b = has-filter_map (λ (p : GroupInContext). defined_name p.group) (filter (is_member_of n) c.places) a.0 a.1 in
@@ -104,8 +105,13 @@ module _ (language : Language) (c : Contents) (s : IsSound c) (none : (p : Group
       → (symbol : Symbol) × (slice_get (symbols_of c) i ≡ Some symbol) × (symbol.choice ≡ Some k)
   members k i x h e =
       let p = choice_at c k x h in
-      let m = member_number c p.0.group.number i (has-any i (filter_map (λ x. index_of_name x c.names) (member_names c p.0.group.number)) (subst (λ (x : Choice). list_any (λ m. m == i) x.members ≡ true) (sym p.2) e)) in
-      (symbol_of c m.1, symbol_there c i m.1 (place-get m.1 c.names i m.5), choice_of_member language c s none m.0 m.1 p.0.group.number k m.2 m.3 m.4 (at_number c s k p.0 p.1))
+      let m = member_number c p.0.group.number i (has-any i (filter_map (λ x. index_of_name x c.names) (member_names c p.0.group.number))
+      (subst (λ (x : Choice). list_any (λ m. m == i) x.members ≡ true) (sym p.2) e)) in (
+        symbol_of c m.1,
+        symbol_there c i m.1 (place-get m.1 c.names i m.5),
+        choice_of_member language c s none m.0 m.1 p.0.group.number k m.2 m.3 m.4
+            (at_number c s k p.0 p.1),
+      )
 
   listed : (i k : ℕ) (symbol : Symbol) → slice_get (symbols_of c) i ≡ Some symbol → symbol.choice ≡ Some k
       → (choice : Choice) × (slice_get (choices_of c) k ≡ Some choice) × (list_any (λ m. m == i) choice.members ≡ true)
@@ -172,11 +178,13 @@ no_reading_fault : (o : Option TreeFault) (t : Option TreeFault) → elim o as (
 no_reading_fault None t h = h
 no_reading_fault (Some f) t h = cc
 
-no_faults : (files : Files) (root : List ℕ) → first_tree_fault files root ≡ None → (p : GroupInContext) → Has p (contents_of (reading files root).read).places → faults_of_group files.language (contents_of (reading files root).read) p ≡ []
+no_faults : (files : Files) (root : List ℕ) → first_tree_fault files root ≡ None → (p : GroupInContext) → Has p (contents_of (reading files root).read).places
+    → faults_of_group files.language (contents_of (reading files root).read) p ≡ []
 unfolding first_tree_fault tree_faults
 no_faults files root h p k =
     let read = (reading files root).read in
-    nothing_at (faults_of_group files.language (contents_of read)) (contents_of read).places p (no_first (flat_map (faults_of_group files.language (contents_of read)) (contents_of read).places) (no_reading_fault (reading files root).fault _ h)) k
+    nothing_at (faults_of_group files.language (contents_of read)) (contents_of read).places p
+    (no_first (flat_map (faults_of_group files.language (contents_of read)) (contents_of read).places) (no_reading_fault (reading files root).fault _ h)) k
 
 pub tree_is_consistent : (files : Files) (root : List ℕ) → first_tree_fault files root ≡ None → IsConsistent (tree_of_files files root)
 unfolding tree_of_files tree_of_groups symbols_of choices_of choice_places units_of unit_at

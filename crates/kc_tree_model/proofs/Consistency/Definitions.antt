@@ -63,11 +63,14 @@ module _ (language : Language) (c : Contents) (none : (p : GroupInContext) → H
   pub sound : (p : GroupInContext) (name : List ℕ) → Has p c.places → defined_name p.group ≡ Some name → definition_faults language c p name ≡ []
   sound p name h e =
       let what : p.group.head ≡ of_head (config name) = what_of_name p.group.head name e in
-      let here : faults_of_head language c p (config name) ≡ [] = sym (ap (λ w. elim w as (λ _. List TreeFault) [ of_head x ↦ faults_of_head language c p x | file_end ↦ [] ]) what) ∙ none p h in
-      nothing_mapped (λ k. record { file = Some p.group.at.file; line = p.group.at.line; kind = k }) (definition_faults language c p name) (nothing_left _ _ here).0
+      let here : faults_of_head language c p (config name) ≡ [] =
+      sym (ap (λ w. elim w as (λ _. List TreeFault) [ of_head x ↦ faults_of_head language c p x | file_end ↦ [] ]) what) ∙ none p h in
+      nothing_mapped (λ k. record { file = Some p.group.at.file; line = p.group.at.line; kind = k }) (definition_faults language c p name)
+      (nothing_left _ _ here).0
 
   pub member_rule : (p : GroupInContext) (name : List ℕ) → Has p c.places → defined_name p.group ≡ Some name
-      → ((is_some p.enclosing.choice && is_other_kind Boolean (type_given c name)) ≡ false) × ((not (is_first_definition c name p) && is_some (choice_of_symbol c name) && not (may_follow_member language p)) ≡ false)
+      → ((is_some p.enclosing.choice && is_other_kind Boolean (type_given c name)) ≡ false)
+      × ((not (is_first_definition c name p) && is_some (choice_of_symbol c name) && not (may_follow_member language p)) ≡ false)
   member_rule p name h e = neither _ _ (not_when _ ChoiceMember (nothing_left _ _ (nothing_left _ _ (sound p name h e)).0).1)
 
   -- a definition in a choice may follow no other
@@ -79,7 +82,8 @@ module _ (language : Language) (c : Contents) (none : (p : GroupInContext) → H
       by_language Linux = ap (λ o. not (is_none o && list_all (λ (l : Line). is_added_attribute l.attribute) p.group.attributes)) m
 
   -- a member's definition in a choice is its symbol's first
-  pub is_first : (p : GroupInContext) (name : List ℕ) (k n : ℕ) → Has p c.places → defined_name p.group ≡ Some name → choice_of_symbol c name ≡ Some k → p.enclosing.choice ≡ Some n → is_first_definition c name p ≡ true
+  pub is_first : (p : GroupInContext) (name : List ℕ) (k n : ℕ) → Has p c.places → defined_name p.group ≡ Some name → choice_of_symbol c name ≡ Some k
+      → p.enclosing.choice ≡ Some n → is_first_definition c name p ≡ true
   is_first p name k n h e m i = not_not _ (left_false _ _ (left_false _ _ (member_rule p name h e).1 (follows_none p n i)) (ap is_some m))
 
   pub no_other_kind : (k : Option Kind) → is_other_kind Boolean k ≡ false → unwrap_or k Boolean ≡ Boolean

@@ -19,7 +19,8 @@ use Rattle.kc_tree_model.specs.Reading.{statement_by_keyword, statement_of_token
 use Rattle.kc_tree_model.proofs.NestedTrees.LineFits.{bind_ok, unless_ok, past_test}
 
 -- the statement of a line that is accepted passes no limit of names and symbols
-few_by_keyword : (language : Language) (read : List Group) (k : Keyword) (ts : List Lexeme) (s : Statement) → statement_by_keyword language read k ts ≡ Ok (Some s) → is_too_many read s ≡ false
+few_by_keyword : (language : Language) (read : List Group) (k : Keyword) (ts : List Lexeme) (s : Statement)
+    → statement_by_keyword language read k ts ≡ Ok (Some s) → is_too_many read s ≡ false
 few_by_keyword language read k ts s h =
     let a = unless_ok (is_left_out language read k ts) LeftOut _ (Some s) h in
     let b = unless_ok (not (is_allowed read k)) Misplaced _ (Some s) a.1 in
@@ -30,22 +31,28 @@ few_by_keyword language read k ts s h =
     let same : d.0 ≡ s = cc in
     subst (λ x. is_too_many read x ≡ false) same f.0
 
-few_by_word : (language : Language) (read : List Group) (w : Option Keyword) (ts : List Lexeme) (s : Statement) → statement_by_word language read ts w ≡ Ok (Some s) → is_too_many read s ≡ false
+few_by_word : (language : Language) (read : List Group) (w : Option Keyword) (ts : List Lexeme) (s : Statement)
+    → statement_by_word language read ts w ≡ Ok (Some s) → is_too_many read s ≡ false
 few_by_word language read None ts s h = cc
 few_by_word language read (Some k) ts s h = few_by_keyword language read k ts s h
 
-few_in_line : (language : Language) (read : List Group) (ts : List Lexeme) (s : Statement) → statement_of_tokens language read ts ≡ Ok (Some s) → is_too_many read s ≡ false
+few_in_line : (language : Language) (read : List Group) (ts : List Lexeme) (s : Statement) → statement_of_tokens language read ts ≡ Ok (Some s)
+    → is_too_many read s ≡ false
 few_in_line language read [] s h = cc
 few_in_line language read (t ∷ ts) s h = few_by_word language read (keyword_of t) ts s h
 
-few_lexed : (language : Language) (read : List Group) (r : Result (List Lexeme) ExprFault) (s : Statement) → statement_or_fault language read r ≡ Ok (Some s) → is_too_many read s ≡ false
+few_lexed : (language : Language) (read : List Group) (r : Result (List Lexeme) ExprFault) (s : Statement) → statement_or_fault language read r ≡ Ok (Some s)
+    → is_too_many read s ≡ false
 few_lexed language read (Err e) s h = cc
 few_lexed language read (Ok ts) s h = few_in_line language read ts s h
 
-few_or_help : (language : Language) (read : List Group) (b : Bool) (r : Result (List Lexeme) ExprFault) (s : Statement) → cond b (Ok None) (statement_or_fault language read r) ≡ Ok (Some s) → is_too_many read s ≡ false
+few_or_help : (language : Language) (read : List Group) (b : Bool) (r : Result (List Lexeme) ExprFault) (s : Statement)
+    → cond b (Ok None) (statement_or_fault language read r) ≡ Ok (Some s) → is_too_many read s ≡ false
 few_or_help language read true r s h = cc
 few_or_help language read false r s h = few_lexed language read r s h
 
-pub line_few : (language : Language) (read : List Group) (l : LogicalLine) (s : Statement) → statement_on_line language read l ≡ Ok (Some s) → is_too_many read s ≡ false
+pub line_few : (language : Language) (read : List Group) (l : LogicalLine) (s : Statement) → statement_on_line language read l ≡ Ok (Some s)
+    → is_too_many read s ≡ false
 unfolding statement_on_line
-line_few language read l s h = few_or_help language read l.help (lexemes_from language 0 0 l.text) s (past_test (not (is_utf8 l.text)) NotUtf8 _ (Some s) (past_test (nat_lt MAX_LINE_BYTES (length l.text)) LineTooLong _ (Some s) h))
+line_few language read l s h = few_or_help language read l.help (lexemes_from language 0 0 l.text) s
+    (past_test (not (is_utf8 l.text)) NotUtf8 _ (Some s) (past_test (nat_lt MAX_LINE_BYTES (length l.text)) LineTooLong _ (Some s) h))

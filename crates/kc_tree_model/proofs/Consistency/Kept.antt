@@ -17,7 +17,8 @@ use Rattle.kc_tree_model.specs.Reading.{statement_on_line, with_statement, with_
 
 -- a property of what was read that lines and ends of files keep
 pub record IsKept (P : List Group → Type 0) : Type 0 where
-  pub by_line : (language : Language) (read : List Group) (at : Position) (l : LogicalLine) (s : Option Statement) → P read → has_newline l.text ≡ false → statement_on_line language read l ≡ Ok s → P (with_statement at s read)
+  pub by_line : (language : Language) (read : List Group) (at : Position) (l : LogicalLine) (s : Option Statement) → P read → has_newline l.text ≡ false
+      → statement_on_line language read l ≡ Ok s → P (with_statement at s read)
   pub by_end : (read : List Group) (at : Position) → P read → P (with_group at file_end read)
 
 module _ (P : List Group → Type 0) (kept : IsKept P) where
@@ -36,16 +37,20 @@ module _ (P : List Group → Type 0) (kept : IsKept P) where
   source_kept sub rest at path read (Some k) subs g h = h
   source_kept sub rest at path read None subs g h = file_kept rest at (sub path read) (sub path read).fault g (subs path read h)
 
-  statement_kept : (sub : List ℕ → List Group → Outcome) (rest : List Group → Outcome) (r : FileSource) (at : Position) (read : List Group) (s : Option Statement) (p : Option (List ℕ))
+  statement_kept : (sub : List ℕ → List Group → Outcome) (rest : List Group → Outcome) (r : FileSource) (at : Position) (read : List Group)
+      (s : Option Statement) (p : Option (List ℕ))
       → ((p : List ℕ) → Keeps (sub p)) → Keeps rest → P (with_statement at s read) → P (continue_after_statement sub rest r at read s p).read
   unfolding Keeps
   statement_kept sub rest r at read s None subs g h = g (with_statement at s read) h
   statement_kept sub rest r at read s (Some path) subs g h = source_kept sub rest at path (with_statement at s read) (source_fault r read path) subs g h
 
-  line_kept : (sub : List ℕ → List Group → Outcome) (rest : List Group → Outcome) (r : FileSource) (at : Position) (read : List Group) (l : LogicalLine) (x : Result (Option Statement) TreeKind) → statement_on_line r.language read l ≡ x → has_newline l.text ≡ false → ((p : List ℕ) → Keeps (sub p)) → Keeps rest → P read → P (continue_after_line sub rest r at read x).read
+  line_kept : (sub : List ℕ → List Group → Outcome) (rest : List Group → Outcome) (r : FileSource) (at : Position) (read : List Group) (l : LogicalLine)
+      (x : Result (Option Statement) TreeKind) → statement_on_line r.language read l ≡ x → has_newline l.text ≡ false → ((p : List ℕ) → Keeps (sub p))
+      → Keeps rest → P read → P (continue_after_line sub rest r at read x).read
   unfolding Keeps
   line_kept sub rest r at read l (Err k) e one subs g h = h
-  line_kept sub rest r at read l (Ok s) e one subs g h = statement_kept sub rest r at read s (path_to_read s) subs g (kept.by_line r.language read at l s h one e)
+  line_kept sub rest r at read l (Ok s) e one subs g h = statement_kept sub rest r at read s (path_to_read s) subs g
+      (kept.by_line r.language read at l s h one e)
 
   ended_kept : (file : ℕ) (read : List Group) (o : Option (Group × Block)) → P read → P (at_file_end file read o).read
   ended_kept file read None h = h
@@ -55,7 +60,8 @@ module _ (P : List Group → Type 0) (kept : IsKept P) where
       → Keeps (read_lines sub r file ls)
   unfolding Keeps
   lines_kept sub r file [] one subs = λ read h. ended_kept file read (innermost read) h
-  lines_kept sub r file (l ∷ ls) one subs = λ read h. line_kept sub (read_lines sub r file ls) r (record { file = file; line = l.number }) read l (statement_on_line r.language read l) refl one.0 subs (lines_kept sub r file ls one.1 subs) h
+  lines_kept sub r file (l ∷ ls) one subs = λ read h. line_kept sub (read_lines sub r file ls) r (record { file = file; line = l.number }) read l
+      (statement_on_line r.language read l) refl one.0 subs (lines_kept sub r file ls one.1 subs) h
 
   pub whole_file_kept : (n : ℕ) (r : FileSource) (path : List ℕ) → Keeps (read_file n r path)
   unfolding Keeps
@@ -75,4 +81,5 @@ module _ (P : List Group → Type 0) (kept : IsKept P) where
 
   pub reading_keeps : P [] → (files : Files) (root : List ℕ) → P (reading files root).read
   unfolding reading
-  reading_keeps first files root = root_kept first (record { language = files.language; bytes = file_at files; number = index_of_file files; root = root }) (file_at files root)
+  reading_keeps first files root = root_kept first (record { language = files.language; bytes = file_at files; number = index_of_file files; root = root })
+      (file_at files root)

@@ -60,13 +60,17 @@ attribute_kept : (read : List Group) (line : ℕ) (a : Attribute) → KeepsLimit
 attribute_kept [] line a k = k
 attribute_kept (g ∷ before) line a k = k
 
-line_kept : (language : Language) (read : List Group) (at : Position) (l : LogicalLine) (s : Option Statement) → KeepsLimits read → statement_on_line language read l ≡ Ok s → KeepsLimits (with_statement at s read)
+line_kept : (language : Language) (read : List Group) (at : Position) (l : LogicalLine) (s : Option Statement) → KeepsLimits read
+    → statement_on_line language read l ≡ Ok s → KeepsLimits (with_statement at s read)
 line_kept language read at l None k e = k
 line_kept language read at l (Some (head x)) k e = head_kept read at x (line_few language read l (head x) e) k
 line_kept language read at l (Some (attribute a)) k e = attribute_kept read at.line a k
 
 limits_kept : (files : Files) (root : List ℕ) → KeepsLimits (reading files root).read
-limits_kept files root = reading_keeps KeepsLimits (record { by_line = λ language read at l s k one e. line_kept language read at l s k e; by_end = λ read at k. (k.0, ((λ name e. cc), k.1)) }) (omega arith, tt) files root
+limits_kept files root = reading_keeps KeepsLimits (record {
+  by_line = λ language read at l s k one e. line_kept language read at l s k e;
+  by_end = λ read at k. (k.0, ((λ name e. cc), k.1));
+}) (omega arith, tt) files root
 
 short_of_group : (g : Group) (read : List Group) → AreShort read → Has g read → IsShort g
 short_of_group g [] r h = absurd h

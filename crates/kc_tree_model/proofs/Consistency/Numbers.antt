@@ -41,7 +41,8 @@ reverse_dependency_numbered p aims (Some s) f h =
     let a = has_mapped (λ (a : TargetAttribute). record { by = s; condition = attribute_condition p.enclosing p.group a.condition }) aims f h in
     ap (λ (y : ReverseDependency). Some y.by) a.2
 
-reverse_dependencies_from : (g : Attribute → Option TargetAttribute) (c : Contents) (name : List ℕ) (p : GroupInContext) (o : Option (List ℕ)) (f : ReverseDependency)
+reverse_dependencies_from : (g : Attribute → Option TargetAttribute) (c : Contents) (name : List ℕ) (p : GroupInContext) (o : Option (List ℕ))
+    (f : ReverseDependency)
     → Has f (elim o as (λ _. List ReverseDependency) [
       | None ↦ []
       | Some by ↦ reverse_dependencies_by c p
@@ -144,7 +145,8 @@ entry_symbols c s k n at =
     symbol_entry c r.0 r.0.group.head (definition n) n refl r.2
 
 pub entry_choices : (c : Contents) → IsSound c → (k n : ℕ)
-    → slice_get (filter_map (λ (p : GroupInContext). from_head (entry_of_head c p) p.group.head) c.places) k ≡ Some (choice_begins n) → n < length (choices_of c)
+    → slice_get (filter_map (λ (p : GroupInContext). from_head (entry_of_head c p) p.group.head) c.places) k ≡ Some (choice_begins n)
+    → n < length (choices_of c)
 entry_choices c s k n at =
     let r = has-filter_map (λ (p : GroupInContext). from_head (entry_of_head c p) p.group.head) c.places (choice_begins n) (has-at (choice_begins n) _ k at) in
     choice_entry c s r.0 r.0.group.head (choice_begins n) n refl r.2

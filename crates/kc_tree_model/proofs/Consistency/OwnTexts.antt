@@ -19,7 +19,10 @@ taken_same : (y z : ParsedExpr) (r : Result ParsedExpr TreeKind) → r ≡ Ok y 
 taken_same y z r h k = cc
 
 taken_by : (ts : List Lexeme) (r : Result Expr (ExprKind × List Lexeme)) (x : ParsedExpr) → read_expr (extent ts) ≡ r
-    → elim r as (λ _. Result ParsedExpr TreeKind) [ Ok e ↦ Ok (record { expr = e; single = length (extent ts) == 1; rest = drop (length (extent ts)) ts }) | Err f ↦ Err (kind_of_fault f.0) ] ≡ Ok x
+    → elim r as (λ _. Result ParsedExpr TreeKind) [
+      | Ok e ↦ Ok (record { expr = e; single = length (extent ts) == 1; rest = drop (length (extent ts)) ts })
+      | Err f ↦ Err (kind_of_fault f.0)
+    ] ≡ Ok x
     → read_expr (extent ts) ≡ Ok x.expr
 taken_by ts (Ok e) x h k =
     let same : record { expr = e; single = length (extent ts) == 1; rest = drop (length (extent ts)) ts } ≡ x = taken_same

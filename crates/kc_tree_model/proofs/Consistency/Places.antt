@@ -50,7 +50,8 @@ word_of_name t h =
     let c = both_true _ _ b.1 in
     (below 0 (length t.text) c.0, c.1)
 
-word_given : (language : Language) (read : List Group) (l : LogicalLine) (h : Head) → statement_on_line language read l ≡ Ok (Some (head h)) → NamesWord (of_head h)
+word_given : (language : Language) (read : List Group) (l : LogicalLine) (h : Head) → statement_on_line language read l ≡ Ok (Some (head h))
+    → NamesWord (of_head h)
 word_given language read l (config name) e = let r = line_names language read l name e in subst IsWord r.1 (word_of_name r.0 r.2)
 word_given language read l choice e = tt
 word_given language read l (menu title) e = tt
@@ -60,15 +61,18 @@ word_given language read l (source path) e = tt
 word_given language read l mainmenu e = tt
 word_given language read l (ends b) e = tt
 
-values_given : (language : Language) (read : List Group) (l : LogicalLine) (a : Attribute) → has_newline l.text ≡ false → statement_on_line language read l ≡ Ok (Some (attribute a)) → (d : DefaultAttribute) → default_of a ≡ Some d → IsPlainText (own_text d.value)
-values_given language read l a one e d m = value_is_plain language l.text d.value (one, line_utf8 language read l (Some (attribute a)) e) (line_values language read l a d m e)
+values_given : (language : Language) (read : List Group) (l : LogicalLine) (a : Attribute) → has_newline l.text ≡ false
+    → statement_on_line language read l ≡ Ok (Some (attribute a)) → (d : DefaultAttribute) → default_of a ≡ Some d → IsPlainText (own_text d.value)
+values_given language read l a one e d m = value_is_plain language l.text d.value (one, line_utf8 language read l (Some (attribute a)) e)
+    (line_values language read l a d m e)
 
 AreValues-append : (ls : List Line) (l : Line) → AreValues ls → ((d : DefaultAttribute) → default_of l.attribute ≡ Some d → IsPlainText (own_text d.value))
     → AreValues (ls ++ l ∷ [])
 AreValues-append [] l h k = (k, tt)
 AreValues-append (x ∷ xs) l h k = (h.0, AreValues-append xs l h.1 k)
 
-attribute_read : (read : List Group) (line : ℕ) (a : Attribute) → ((d : DefaultAttribute) → default_of a ≡ Some d → IsPlainText (own_text d.value)) → IsRead read
+attribute_read : (read : List Group) (line : ℕ) (a : Attribute) → ((d : DefaultAttribute) → default_of a ≡ Some d → IsPlainText (own_text d.value))
+    → IsRead read
     → IsRead (with_attribute line a read)
 attribute_read [] line a v h = tt
 attribute_read (g ∷ before) line a v h = (h.0, h.1, AreValues-append g.attributes (record { number = line; attribute = a }) h.2 v, h.3)
@@ -79,7 +83,8 @@ value_of_group [] l d v h e = absurd h
 value_of_group (x ∷ xs) l d v (inl k) e = v.0 d (ap (λ (y : Line). default_of y.attribute) k ∙ e)
 value_of_group (x ∷ xs) l d v (inr k) e = value_of_group xs l d v.1 k e
 
-line_read : (language : Language) (read : List Group) (at : Position) (l : LogicalLine) (s : Option Statement) → IsRead read → has_newline l.text ≡ false → statement_on_line language read l ≡ Ok s → IsRead (with_statement at s read)
+line_read : (language : Language) (read : List Group) (at : Position) (l : LogicalLine) (s : Option Statement) → IsRead read → has_newline l.text ≡ false
+    → statement_on_line language read l ≡ Ok s → IsRead (with_statement at s read)
 line_read language read at l None h one e = h
 line_read language read at l (Some (head x)) h one e = (refl, word_given language read l x e, tt, h)
 line_read language read at l (Some (attribute a)) h one e = attribute_read read at.line a (values_given language read l a one e) h
@@ -153,7 +158,11 @@ same_place (x ∷ xs) p q d (inr a) (inr b) e = same_place xs p q d.1 a b e
 
 -- the choice that encloses a place was read
 open_by : (s : Side) (g x : Group) (n : ℕ) (gs : List Group) → ((m : ℕ) → Has x (open_blocks m gs) → Has x gs)
-    → Has x (elim s [ opening ↦ elim n [ zero ↦ g ∷ open_blocks 0 gs | suc m ↦ open_blocks m gs ] | closing ↦ open_blocks (suc n) gs | inside ↦ open_blocks n gs ])
+    → Has x (elim s [
+      | opening ↦ elim n [ zero ↦ g ∷ open_blocks 0 gs | suc m ↦ open_blocks m gs ]
+      | closing ↦ open_blocks (suc n) gs
+      | inside ↦ open_blocks n gs
+    ])
     → Has x (g ∷ gs)
 open_by opening g x zero gs ih (inl e) = inl e
 open_by opening g x zero gs ih (inr h) = inr (ih 0 h)

@@ -27,9 +27,12 @@ plain_tokens : (language : Language) (line : List ℕ) (ts : List Lexeme) → Is
 plain_tokens language line ts h e = both_texts ts (one_lexed language line ts h.0 e) (utf8_tokens language line ts h.1 e)
 
 -- the own text of a value that is read of a line
-pub value_is_plain : (language : Language) (line : List ℕ) (value : Expr) → IsPlainText line → IsValueOf (lexemes_from language 0 0 line) value → IsPlainText (own_text value)
-value_is_plain language line value h v = own_text_of_value IsPlainText (refl, IsUtf8-nil) plain_quoted (lexemes_from language 0 0 line) value (λ ts e. plain_tokens language line ts h e) v
+pub value_is_plain : (language : Language) (line : List ℕ) (value : Expr) → IsPlainText line → IsValueOf (lexemes_from language 0 0 line) value
+    → IsPlainText (own_text value)
+value_is_plain language line value h v = own_text_of_value IsPlainText (refl, IsUtf8-nil) plain_quoted (lexemes_from language 0 0 line) value
+    (λ ts e. plain_tokens language line ts h e) v
 
 -- the text of a quoted token of a line
-pub title_is_plain : (language : Language) (line : List ℕ) (first t : Lexeme) (us : List Lexeme) → IsPlainText line → lexemes_from language 0 0 line ≡ Ok (first ∷ t ∷ us) → IsPlainText (quoted_text t.text)
+pub title_is_plain : (language : Language) (line : List ℕ) (first t : Lexeme) (us : List Lexeme) → IsPlainText line
+    → lexemes_from language 0 0 line ≡ Ok (first ∷ t ∷ us) → IsPlainText (quoted_text t.text)
 title_is_plain language line first t us h e = plain_quoted t.text (plain_tokens language line (first ∷ t ∷ us) h e).1.0

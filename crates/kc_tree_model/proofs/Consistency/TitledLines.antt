@@ -78,7 +78,8 @@ titled_sort (comment x) title e = refl
 titled_sort h title e = cc
 
 -- the title of a line's statement is the text of one of its tokens
-pub line_titles : (language : Language) (read : List Group) (l : LogicalLine) (h : Head) (title : List ℕ) → title_in h ≡ Some title → statement_on_line language read l ≡ Ok (Some (head h))
+pub line_titles : (language : Language) (read : List Group) (l : LogicalLine) (h : Head) (title : List ℕ) → title_in h ≡ Some title
+    → statement_on_line language read l ≡ Ok (Some (head h))
     → (first : Lexeme) × (t : Lexeme) × (us : List Lexeme) × (lexemes_from language 0 0 l.text ≡ Ok (first ∷ t ∷ us)) × (quoted_text t.text ≡ title)
 line_titles language read l h title e k =
     let s = line_given language read l (Some (head h)) k in

@@ -21,14 +21,17 @@ abbrev pub ArePlain : List Group → Type 0
 ArePlain [] = Unit {0}
 ArePlain (g ∷ before) = IsPlain g.head × ArePlain before
 
-plain_given : (language : Language) (read : List Group) (l : LogicalLine) (h : Head) → has_newline l.text ≡ false → statement_on_line language read l ≡ Ok (Some (head h)) → IsPlain (of_head h)
-plain_given language read l h one e title has = let r = line_titles language read l h title has e in subst IsPlainText r.4 (title_is_plain language l.text r.0 r.1 r.2 (one, line_utf8 language read l (Some (head h)) e) r.3)
+plain_given : (language : Language) (read : List Group) (l : LogicalLine) (h : Head) → has_newline l.text ≡ false
+    → statement_on_line language read l ≡ Ok (Some (head h)) → IsPlain (of_head h)
+plain_given language read l h one e title has = let r = line_titles language read l h title has e in
+    subst IsPlainText r.4 (title_is_plain language l.text r.0 r.1 r.2 (one, line_utf8 language read l (Some (head h)) e) r.3)
 
 attribute_plain : (read : List Group) (line : ℕ) (a : Attribute) → ArePlain read → ArePlain (with_attribute line a read)
 attribute_plain [] line a h = tt
 attribute_plain (g ∷ before) line a h = h
 
-line_plain : (language : Language) (read : List Group) (at : Position) (l : LogicalLine) (s : Option Statement) → ArePlain read → has_newline l.text ≡ false → statement_on_line language read l ≡ Ok s → ArePlain (with_statement at s read)
+line_plain : (language : Language) (read : List Group) (at : Position) (l : LogicalLine) (s : Option Statement) → ArePlain read → has_newline l.text ≡ false
+    → statement_on_line language read l ≡ Ok s → ArePlain (with_statement at s read)
 line_plain language read at l None h one e = h
 line_plain language read at l (Some (head x)) h one e = (plain_given language read l x one e, h)
 line_plain language read at l (Some (attribute a)) h one e = attribute_plain read at.line a h

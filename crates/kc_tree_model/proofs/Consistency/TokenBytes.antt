@@ -76,7 +76,8 @@ cut_behind text rest e u =
 utf8_cut : {language : Language} {at : ℕ} {bytes : List ℕ} {ps : List Lexeme} → IsCut language at bytes ps → IsUtf8 bytes → AllTexts IsUtf8 ps
 utf8_cut ends u = tt
 utf8_cut comment u = tt
-utf8_cut (white {c = c} {bytes = bytes} w more) u = utf8_cut more (cut_behind (c ∷ []) bytes (record { front = []; last = c; parts = refl; low = white_low c w }) u).1
+utf8_cut (white {c = c} {bytes = bytes} w more) u =
+    utf8_cut more (cut_behind (c ∷ []) bytes (record { front = []; last = c; parts = refl; low = white_low c w }) u).1
 utf8_cut {language = language} (token p rest e is longest starts stops more) u =
     let r = cut_behind p.text rest (token_ends language p.kind p.text is) (subst IsUtf8 e u) in
     (r.0, utf8_cut more r.1)

@@ -253,7 +253,9 @@ member_is n q h = by_choice q.enclosing.choice h
     by_choice (Some m) k = ap Some (eqb-true m n k)
 
 -- a member's symbol has the choice
-pub choice_of_member : (language : Language) (c : Contents) (s : IsSound c) (none : (p : GroupInContext) → Has p c.places → faults_of_group language c p ≡ []) (q : GroupInContext) (name : List ℕ) (n k : ℕ) → Has q c.places → defined_name q.group ≡ Some name → q.enclosing.choice ≡ Some n → slice_get c.choices k ≡ Some n → choice_of_symbol c name ≡ Some k
+pub choice_of_member : (language : Language) (c : Contents) (s : IsSound c) (none : (p : GroupInContext) → Has p c.places → faults_of_group language c p ≡ [])
+    (q : GroupInContext) (name : List ℕ) (n k : ℕ) → Has q c.places → defined_name q.group ≡ Some name → q.enclosing.choice ≡ Some n
+    → slice_get c.choices k ≡ Some n → choice_of_symbol c name ≡ Some k
 choice_of_member language c s none q name n k h e m at_k =
     let own : Has q (definitions_of c name) = filter-has (defines name) c.places q h (defining q name e) in
     let some : Has n (filter_map (λ (p : GroupInContext). p.enclosing.choice) (definitions_of c name)) = filter_map-has
@@ -270,7 +272,8 @@ choice_of_member language c s none q name n k h e m at_k =
     let numbered : choice_number c f.0 ≡ Some j.0 = j.1 in
     let found : choice_of_symbol c name ≡ choice_number c f.0 = ap (option_and_then (choice_number c)) f.1 in
     let has_choice : choice_of_symbol c name ≡ Some j.0 = cc in
-    let same : q ≡ b.0 = same_place c.places q b.0 s.numbers h d.0 (one_number c name q b.0 (is_first language c none q name j.0 n h e has_choice m) (is_first language c none b.0 name j.0 f.0 d.0 (defined b.0 name d.1) has_choice b.2)) in
+    let same : q ≡ b.0 = same_place c.places q b.0 s.numbers h d.0 (one_number c name q b.0 (is_first language c none q name j.0 n h e has_choice m)
+    (is_first language c none b.0 name j.0 f.0 d.0 (defined b.0 name d.1) has_choice b.2)) in
     let one_choice : q.enclosing.choice ≡ b.0.enclosing.choice = ap (λ (p : GroupInContext). p.enclosing.choice) same in
     let theirs : b.0.enclosing.choice ≡ Some f.0 = b.2 in
     let number : n ≡ f.0 = let x : Some n ≡ Some f.0 = cc in cc in

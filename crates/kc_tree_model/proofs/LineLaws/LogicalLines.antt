@@ -8,6 +8,7 @@ use Rattle.kc_tree_model.specs.LineGrammar.AreLogical.{none, line, with_help}
 use Rattle.kc_tree_model.proofs.LineLaws.CutLines.{cut_lines, lines_cut}
 use Rattle.kc_tree_model.proofs.LineLaws.JoinedLines.{some_joined, joined_text, joined_count, Front, front_of}
 use Rattle.kc_tree_model.proofs.LineLaws.HelpTexts.{help_count, help_passed, help_of}
+use Rattle.kc_tree_model.proofs.LineLaws.HelpWords.{word_of_help, none_of_help, help_of_word, help_of_none}
 
 -- lines that belong to the line before are passed over
 passed_over : (behind help n : ℕ) (ls : List PhysicalLine) → logical_lines_from behind help n ls ≡ logical_lines_from 0 help (n + behind) (drop behind ls)
@@ -18,7 +19,9 @@ passed_over (suc behind) (suc help) n [] = refl
 passed_over (suc behind) help n (l ∷ ls) = passed_over behind help (n + 1) ls ∙ ap (λ k. logical_lines_from 0 help k (drop behind ls)) (omega arith)
 
 first_logical : (n : ℕ) (ls : List PhysicalLine) → 0 < length ls
-    → logical_lines_from 0 0 n ls ≡ record { number = n; text = joined_bytes ls; help = false } ∷ logical_lines_from 0 (cond (begins_help (joined_bytes ls)) (help_line_count (drop (suc (continuation_count ls)) ls)) 0) (n + suc (continuation_count ls)) (drop (suc (continuation_count ls)) ls)
+    → logical_lines_from 0 0 n ls ≡ record { number = n; text = joined_bytes ls; help = false } ∷ logical_lines_from 0
+    (cond (begins_help (joined_bytes ls)) (help_line_count (drop (suc (continuation_count ls)) ls)) 0) (n + suc (continuation_count ls))
+    (drop (suc (continuation_count ls)) ls)
 first_logical n [] some = absurd (omega arith)
 first_logical n (l ∷ ls) some =
     ap (λ r. record { number = n; text = joined_bytes (l ∷ ls); help = false } ∷ r)
@@ -28,7 +31,8 @@ first_logical n (l ∷ ls) some =
 
 -- the line at the front, and what is left
 front_logical : (n : ℕ) (front rest : List PhysicalLine) (text : List ℕ) → IsJoined rest front text
-    → logical_lines_from 0 0 n (front ++ rest) ≡ record { number = n; text = text; help = false } ∷ logical_lines_from 0 (cond (begins_help text) (help_line_count rest) 0) (n + length front) rest
+    → logical_lines_from 0 0 n (front ++ rest) ≡ record { number = n; text = text; help = false } ∷ logical_lines_from 0
+    (cond (begins_help text) (help_line_count rest) 0) (n + length front) rest
 front_logical n front rest text j =
     first_logical n (front ++ rest) (omega (arith, some_joined j, length-append front rest))
     ∙ ap (λ t. record { number = n; text = t; help = false } ∷ logical_lines_from 0
@@ -44,12 +48,13 @@ pub logical_only : {n : ℕ} {ps : List PhysicalLine} {ls : List LogicalLine} �
 logical_only none = refl
 logical_only {n = n} (line {front = front} {rest = rest} {text = text} j other more) =
     front_logical n front rest text j
-    ∙ ap (λ t. record { number = n; text = text; help = false } ∷ logical_lines_from 0 (cond t (help_line_count rest) 0) (n + length front) rest) other
+    ∙ ap (λ t. record { number = n; text = text; help = false } ∷ logical_lines_from 0 (cond t (help_line_count rest) 0) (n + length front) rest)
+    (help_of_none text other)
     ∙ ap (λ x. record { number = n; text = text; help = false } ∷ x) (logical_only more)
 logical_only {n = n} (with_help {front = front} {help = help} {rest = rest} {text = text} j begins h more) =
     front_logical n front (help ++ rest) text j
     ∙ ap (λ t. record { number = n; text = text; help = false } ∷ logical_lines_from 0 (cond t (help_line_count (help ++ rest)) 0) (n + length front)
-    (help ++ rest)) begins
+    (help ++ rest)) (help_of_word text begins)
     ∙ ap (λ k. record { number = n; text = text; help = false } ∷ logical_lines_from 0 k (n + length front) (help ++ rest)) (help_count help rest h)
     ∙ ap (λ x. record { number = n; text = text; help = false } ∷ x) (help_passed (n + length front) help rest
     ∙ ap (λ x. help_lines (n + length front) help ++ x) (logical_only more))
@@ -70,7 +75,8 @@ behind_front n f ps rec x = by_help (begins_help x.text) refl
         let more = rec (n + length x.front) x.rest size in (
           record { number = n; text = x.text; help = false } ∷ more.0,
           subst
-              (λ ps. AreLogical n ps (record { number = n; text = x.text; help = false } ∷ more.0)) (sym x.parts) (line x.is_joined e more.1),
+              (λ ps. AreLogical n ps (record { number = n; text = x.text; help = false } ∷ more.0)) (sym x.parts)
+              (line x.is_joined (none_of_help x.text e) more.1),
         )
     by_help true e =
         let h = help_of x.rest in
@@ -78,7 +84,7 @@ behind_front n f ps rec x = by_help (begins_help x.text) refl
           record { number = n; text = x.text; help = false } ∷ (help_lines (n + length x.front) h.help ++ more.0),
           subst (λ ps. AreLogical n ps (record { number = n; text = x.text; help = false } ∷ (help_lines (n + length x.front) h.help ++ more.0)))
               (sym (x.parts ∙ ap (λ r. x.front ++ r) h.parts))
-              (with_help (subst (λ r. IsJoined r x.front x.text) h.parts x.is_joined) e h.is_help more.1),
+              (with_help (subst (λ r. IsJoined r x.front x.text) h.parts x.is_joined) (word_of_help x.text e) h.is_help more.1),
         )
 
 all_lines : (k n : ℕ) (ps : List PhysicalLine) → length ps ≤ k → Lines n ps

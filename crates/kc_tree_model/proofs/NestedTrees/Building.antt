@@ -93,7 +93,8 @@ add_beginning g before e b = record {
   is_listed = onto-append (listed b.tree) (g ∷ []) [] ∙ ap (λ r. g ∷ r) b.is_listed;
 }
 
-add_end_to : (o : Unfinished) (e : Group) (before : List Group) → IsNestedSoFar o → onto (listed o) [] ≡ before → ends_first (open_blocks 0 before) e.head ≡ true
+add_end_to : (o : Unfinished) (e : Group) (before : List Group) → IsNestedSoFar o → onto (listed o) [] ≡ before
+    → ends_first (open_blocks 0 before) e.head ≡ true
     → Built (e ∷ before)
 add_end_to (root t) e before n l h =
     let none_open : open_blocks 0 before ≡ [] = ap (open_blocks 0) (sym l) ∙ open-listed (root t) n in

@@ -35,12 +35,12 @@ no_files [] hs own = refl
 no_files (g ∷ gs) hs own = ap (λ o. cons_option o (filter_map sourced_path (gs ++ hs))) (no_file g.head own.0.0 own.0.1) ∙ no_files gs hs own.1
 
 -- as many files are open as where the file began
-same_files : (r : FileSource) (start read : List Group) → Since start read → length (open_files r read) ≡ length (open_files r start)
+pub same_files : (r : FileSource) (start read : List Group) → Since start read → length (open_files r read) ≡ length (open_files r start)
 same_files r start read s =
     ap (λ gs. length (r.root ∷ filter_map sourced_path gs)) s.opened ∙ ap (λ ps. length (r.root ∷ ps)) (no_files s.blocks (open_blocks 0 start) s.own)
 
 -- and one more after a `source`
-one_more_file : (r : FileSource) (read : List Group) (at : Position) (path : List ℕ)
+pub one_more_file : (r : FileSource) (read : List Group) (at : Position) (path : List ℕ)
     → length (open_files r (source_group read at path ∷ read)) ≡ suc (length (open_files r read))
 unfolding source_group
 one_more_file r read at path = refl
@@ -50,7 +50,7 @@ past_kind true k o h = cc
 past_kind false k o h = (refl, h)
 
 -- where a `source` has no fault there is room
-has_room : (r : FileSource) (read : List Group) (path : List ℕ) → source_fault r read path ≡ None → length (open_files r read) < MAX_OPEN_FILES
+pub has_room : (r : FileSource) (read : List Group) (path : List ℕ) → source_fault r read path ≡ None → length (open_files r read) < MAX_OPEN_FILES
 unfolding source_fault
 has_room r read path h =
     let a = past_kind (is_in_list path (open_files r read)) SourceLoop _ h in
@@ -67,7 +67,8 @@ abbrev AgreeWithin : FileSource → List Group → (List ℕ → List Group → 
 AgreeWithin r start f g = (path : List ℕ) (inner : List Group) → innermost inner ≡ None → EndsMatch inner → length (open_files r start) < MAX_OPEN_FILES
     → length (open_files r inner) ≡ suc (length (open_files r start)) → f path inner ≡ g path inner
 
-module _ (r : FileSource) (start : List Group) (first : innermost start ≡ None) (f g : List ℕ → List Group → Outcome) (closes : Reads f) (within : AgreeWithin r start f g) where
+module _ (r : FileSource) (start : List Group) (first : innermost start ≡ None) (f g : List ℕ → List Group → Outcome) (closes : Reads f)
+    (within : AgreeWithin r start f g) where
   same_after : (p q : List Group → Outcome) (at : Position) (read : List Group) (path : List ℕ) (o : Outcome) (k : Option TreeFault) → o.fault ≡ k
       → Agree start p q → Since start read
       → (o.fault ≡ None → Closes (source_group read at path ∷ read) o.read) → continue_after_file p at o k ≡ continue_after_file q at o k
@@ -129,7 +130,8 @@ module _ (r : FileSource) (start : List Group) (first : innermost start ≡ None
 
   same_lines : (file : ℕ) (ls : List LogicalLine) → Agree start (read_lines f r file ls) (read_lines g r file ls)
   same_lines file [] = λ read s. refl
-  same_lines file (l ∷ ls) = λ read s. same_line (read_lines f r file ls) (read_lines g r file ls) (record { file = file; line = l.number }) read (statement_on_line r.language read l) (line_fits r.language read l) (same_lines file ls) s
+  same_lines file (l ∷ ls) = λ read s. same_line (read_lines f r file ls) (read_lines g r file ls) (record { file = file; line = l.number }) read
+      (statement_on_line r.language read l) (line_fits r.language read l) (same_lines file ls) s
 
 same_file : (m n : ℕ) (r : FileSource) (path : List ℕ) (start : List Group) → m ≤ n → innermost start ≡ None → EndsMatch start
     → length (open_files r start) ≤ MAX_OPEN_FILES → MAX_OPEN_FILES < length (open_files r start) + m

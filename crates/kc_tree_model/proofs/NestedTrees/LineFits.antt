@@ -245,7 +245,8 @@ abbrev pub SaidIfSome : List Group → Result (List Lexeme) ExprFault → Option
 SaidIfSome read tokens None = Unit {0}
 SaidIfSome read tokens (Some s) = Said read tokens s
 
-statement_keyword : (language : Language) (read : List Group) (k : Keyword) (t : Lexeme) (ts : List Lexeme) (o : Option Statement) → statement_by_keyword language read k ts ≡ Ok o → SaidIfSome read (Ok (t ∷ ts)) o
+statement_keyword : (language : Language) (read : List Group) (k : Keyword) (t : Lexeme) (ts : List Lexeme) (o : Option Statement)
+    → statement_by_keyword language read k ts ≡ Ok o → SaidIfSome read (Ok (t ∷ ts)) o
 statement_keyword language read k t ts o h =
     let a = unless_ok (is_left_out language read k ts) LeftOut _ o h in
     let b = unless_ok (not (is_allowed read k)) Misplaced _ o a.1 in
@@ -265,20 +266,24 @@ statement_keyword language read k t ts o h =
       sort = subst (Gives (sort_of_word k)) d.1 (gives_statement k ts);
     })
 
-said_by_keyword : (language : Language) (read : List Group) (w : Option Keyword) (t : Lexeme) (ts : List Lexeme) (o : Option Statement) → statement_by_word language read ts w ≡ Ok o → SaidIfSome read (Ok (t ∷ ts)) o
+said_by_keyword : (language : Language) (read : List Group) (w : Option Keyword) (t : Lexeme) (ts : List Lexeme) (o : Option Statement)
+    → statement_by_word language read ts w ≡ Ok o → SaidIfSome read (Ok (t ∷ ts)) o
 said_by_keyword language read None t ts o h = cc
 said_by_keyword language read (Some k) t ts o h = statement_keyword language read k t ts o h
 
-statement_in_line : (language : Language) (read : List Group) (ts : List Lexeme) (o : Option Statement) → statement_of_tokens language read ts ≡ Ok o → SaidIfSome read (Ok ts) o
+statement_in_line : (language : Language) (read : List Group) (ts : List Lexeme) (o : Option Statement) → statement_of_tokens language read ts ≡ Ok o
+    → SaidIfSome read (Ok ts) o
 statement_in_line language read [] None h = tt
 statement_in_line language read [] (Some s) h = cc
 statement_in_line language read (t ∷ ts) o h = said_by_keyword language read (keyword_of t) t ts o h
 
-statement_lexed : (language : Language) (read : List Group) (r : Result (List Lexeme) ExprFault) (o : Option Statement) → statement_or_fault language read r ≡ Ok o → SaidIfSome read r o
+statement_lexed : (language : Language) (read : List Group) (r : Result (List Lexeme) ExprFault) (o : Option Statement)
+    → statement_or_fault language read r ≡ Ok o → SaidIfSome read r o
 statement_lexed language read (Err e) o h = cc
 statement_lexed language read (Ok ts) o h = statement_in_line language read ts o h
 
-statement_or_help : (language : Language) (read : List Group) (b : Bool) (r : Result (List Lexeme) ExprFault) (o : Option Statement) → cond b (Ok None) (statement_or_fault language read r) ≡ Ok o → SaidIfSome read r o
+statement_or_help : (language : Language) (read : List Group) (b : Bool) (r : Result (List Lexeme) ExprFault) (o : Option Statement)
+    → cond b (Ok None) (statement_or_fault language read r) ≡ Ok o → SaidIfSome read r o
 statement_or_help language read true r None h = tt
 statement_or_help language read true r (Some s) h = cc
 statement_or_help language read false r o h = statement_lexed language read r o h
@@ -287,9 +292,11 @@ pub past_test : (b : Bool) (e : TreeKind) (r : Result (Option Statement) TreeKin
 past_test true e r o h = cc
 past_test false e r o h = h
 
-pub line_given : (language : Language) (read : List Group) (l : LogicalLine) (o : Option Statement) → statement_on_line language read l ≡ Ok o → SaidIfSome read (lexemes_from language 0 0 l.text) o
+pub line_given : (language : Language) (read : List Group) (l : LogicalLine) (o : Option Statement) → statement_on_line language read l ≡ Ok o
+    → SaidIfSome read (lexemes_from language 0 0 l.text) o
 unfolding statement_on_line
-line_given language read l o h = statement_or_help language read l.help (lexemes_from language 0 0 l.text) o (past_test (not (is_utf8 l.text)) NotUtf8 _ o (past_test (nat_lt MAX_LINE_BYTES (length l.text)) LineTooLong _ o h))
+line_given language read l o h = statement_or_help language read l.help (lexemes_from language 0 0 l.text) o
+    (past_test (not (is_utf8 l.text)) NotUtf8 _ o (past_test (nat_lt MAX_LINE_BYTES (length l.text)) LineTooLong _ o h))
 
 fits_given : (read : List Group) (r : Result (List Lexeme) ExprFault) (o : Option Statement) → SaidIfSome read r o → Fits read o
 fits_given read r None h = tt
@@ -314,7 +321,8 @@ config_given : (k : Keyword) (ts : List Lexeme) (name : List ℕ) → config_sor
 config_given words.Config ts name e h = config_named ts name h
 config_given k ts name e h = cc
 
-pub line_names : (language : Language) (read : List Group) (l : LogicalLine) (name : List ℕ) → statement_on_line language read l ≡ Ok (Some (head (config name))) → (t : Lexeme) × (t.text ≡ name) × (is_name t ≡ true)
+pub line_names : (language : Language) (read : List Group) (l : LogicalLine) (name : List ℕ) → statement_on_line language read l
+    ≡ Ok (Some (head (config name))) → (t : Lexeme) × (t.text ≡ name) × (is_name t ≡ true)
 line_names language read l name h = let s = line_given language read l (Some (head (config name))) h in config_given s.keyword s.rest name s.sort s.form
 
 -- the value of a default is read of the tokens after its word
@@ -356,7 +364,8 @@ sorted_default (default x) d h = refl
 sorted_default (typed_default k x) d h = refl
 sorted_default a d h = cc
 
-pub line_values : (language : Language) (read : List Group) (l : LogicalLine) (a : Attribute) (d : DefaultAttribute) → default_of a ≡ Some d → statement_on_line language read l ≡ Ok (Some (attribute a)) → IsValueOf (lexemes_from language 0 0 l.text) d.value
+pub line_values : (language : Language) (read : List Group) (l : LogicalLine) (a : Attribute) (d : DefaultAttribute) → default_of a ≡ Some d
+    → statement_on_line language read l ≡ Ok (Some (attribute a)) → IsValueOf (lexemes_from language 0 0 l.text) d.value
 line_values language read l a d m h =
     let s = line_given language read l (Some (attribute a)) h in
     let x = default_said s.keyword s.rest a d (sym (sorted_default a d m) ∙ s.sort) m s.form in
@@ -369,4 +378,6 @@ test_passed false e r o h = refl
 
 pub line_utf8 : (language : Language) (read : List Group) (l : LogicalLine) (o : Option Statement) → statement_on_line language read l ≡ Ok o → IsUtf8 l.text
 unfolding statement_on_line
-line_utf8 language read l o h = IsUtf8-from_is_utf8 l.text (not_false (is_utf8 l.text) (test_passed (not (is_utf8 l.text)) NotUtf8 _ o (past_test (nat_lt MAX_LINE_BYTES (length l.text)) LineTooLong _ o h)))
+line_utf8 language read l o h =
+    IsUtf8-from_is_utf8 l.text (not_false (is_utf8 l.text) (test_passed (not (is_utf8 l.text)) NotUtf8 _ o
+    (past_test (nat_lt MAX_LINE_BYTES (length l.text)) LineTooLong _ o h)))

@@ -75,7 +75,8 @@ after_end start read at b (g ∷ gs) i own o m h =
     }
 
 -- a statement that is no `source`
-after_head : (start read : List Group) (at : Position) (h : Head) → innermost start ≡ None → Since start read → path_of_head h ≡ None → Fits read (Some (head h))
+after_head : (start read : List Group) (at : Position) (h : Head) → innermost start ≡ None → Since start read → path_of_head h ≡ None
+    → Fits read (Some (head h))
     → Since start (with_group at (of_head h) read)
 after_head start read at (config name) i s p f = record { blocks = s.blocks; own = s.own; opened = s.opened; matched = ((λ c. cc), s.matched) }
 after_head start read at choice i s p f =
@@ -191,7 +192,8 @@ GoesOn : List Group → (List Group → Outcome) → Type 0
 GoesOn start rest = (read : List Group) → Since start read → (rest read).fault ≡ None → Closes start (rest read).read
 
 after_sub : (start read : List Group) (at : Position) (path : List ℕ) (rest : List Group → Outcome) (o : Outcome) (f : Option TreeFault) → o.fault ≡ f
-    → Since start read → (o.fault ≡ None → Closes (source_group read at path ∷ read) o.read) → GoesOn start rest → (continue_after_file rest at o f).fault ≡ None
+    → Since start read → (o.fault ≡ None → Closes (source_group read at path ∷ read) o.read) → GoesOn start rest
+    → (continue_after_file rest at o f).fault ≡ None
     → Closes start (continue_after_file rest at o f).read
 unfolding source_group GoesOn
 after_sub start read at path rest o (Some f) e s c g h = cc
@@ -206,7 +208,8 @@ after_sub start read at path rest o None e s c g h =
       matched = ((λ x. ap (λ os. ends_first os file_end) closes.opened), closes.matched);
     }) h
 
-after_source : (start read : List Group) (at : Position) (path : List ℕ) (sub : List ℕ → List Group → Outcome) (rest : List Group → Outcome) (k : Option TreeKind) (said_path : List ℕ)
+after_source : (start read : List Group) (at : Position) (path : List ℕ) (sub : List ℕ → List Group → Outcome) (rest : List Group → Outcome)
+    (k : Option TreeKind) (said_path : List ℕ)
     → Reads sub → Since start read → GoesOn start rest → (continue_after_source sub rest at path (source_group read at said_path ∷ read) k).fault ≡ None
     → Closes start (continue_after_source sub rest at path (source_group read at said_path ∷ read) k).read
 unfolding source_group Reads
@@ -215,7 +218,8 @@ after_source start read at path sub rest None p subs s g h =
     let o = sub path (source_group read at p ∷ read) in
     after_sub start read at p rest o o.fault refl s (subs path (source_group read at p ∷ read) refl ((λ c. cc), s.matched)) g h
 
-after_statement_head : (start read : List Group) (at : Position) (x : Head) (p : Option (List ℕ)) (sub : List ℕ → List Group → Outcome) (rest : List Group → Outcome) (r : FileSource)
+after_statement_head : (start read : List Group) (at : Position) (x : Head) (p : Option (List ℕ)) (sub : List ℕ → List Group → Outcome)
+    (rest : List Group → Outcome) (r : FileSource)
     → path_of_head x ≡ p → innermost start ≡ None → Reads sub → Since start read → Fits read (Some (head x)) → GoesOn start rest
     → (continue_after_statement sub rest r at read (Some (head x)) p).fault ≡ None
     → Closes start (continue_after_statement sub rest r at read (Some (head x)) p).read
@@ -225,7 +229,8 @@ after_statement_head start read at (source q) (Some path) sub rest r e i subs s 
     after_source start read at path sub rest (source_fault r read path) q subs s g h
 after_statement_head start read at x (Some path) sub rest r e i subs s f g h = cc
 
-after_statement : (start read : List Group) (at : Position) (s : Option Statement) (p : Option (List ℕ)) (sub : List ℕ → List Group → Outcome) (rest : List Group → Outcome) (r : FileSource)
+after_statement : (start read : List Group) (at : Position) (s : Option Statement) (p : Option (List ℕ)) (sub : List ℕ → List Group → Outcome)
+    (rest : List Group → Outcome) (r : FileSource)
     → path_to_read s ≡ p → innermost start ≡ None → Reads sub → Since start read → Fits read s → GoesOn start rest
     → (continue_after_statement sub rest r at read s p).fault ≡ None → Closes start (continue_after_statement sub rest r at read s p).read
 unfolding GoesOn
@@ -236,17 +241,20 @@ after_statement start read at (Some (attribute a)) (Some path) sub rest r e i su
 after_statement start read at None None sub rest r e i subs k f g h = g read k h
 after_statement start read at None (Some path) sub rest r e i subs k f g h = cc
 
-after_result : (start read : List Group) (at : Position) (x : Result (Option Statement) TreeKind) (sub : List ℕ → List Group → Outcome) (rest : List Group → Outcome) (r : FileSource)
+after_result : (start read : List Group) (at : Position) (x : Result (Option Statement) TreeKind) (sub : List ℕ → List Group → Outcome)
+    (rest : List Group → Outcome) (r : FileSource)
     → innermost start ≡ None → Reads sub → Since start read → ((o : Option Statement) → x ≡ Ok o → Fits read o) → GoesOn start rest
     → (continue_after_line sub rest r at read x).fault ≡ None → Closes start (continue_after_line sub rest r at read x).read
 after_result start read at (Err k) sub rest r i subs s f g h = cc
 after_result start read at (Ok o) sub rest r i subs s f g h = after_statement start read at o (path_to_read o) sub rest r refl i subs s (f o refl) g h
 
-lines_close : (sub : List ℕ → List Group → Outcome) (r : FileSource) (file : ℕ) (ls : List LogicalLine) (start : List Group) → innermost start ≡ None → Reads sub
+lines_close : (sub : List ℕ → List Group → Outcome) (r : FileSource) (file : ℕ) (ls : List LogicalLine) (start : List Group) → innermost start ≡ None
+    → Reads sub
     → GoesOn start (read_lines sub r file ls)
 unfolding GoesOn
 lines_close sub r file [] start i subs = λ read s h. after_file start read file (innermost read) refl s h
-lines_close sub r file (l ∷ ls) start i subs = λ read s h. after_result start read (record { file = file; line = l.number }) (statement_on_line r.language read l) sub (read_lines sub r file ls) r i subs s (line_fits r.language read l) (lines_close sub r file ls start i subs) h
+lines_close sub r file (l ∷ ls) start i subs = λ read s h. after_result start read (record { file = file; line = l.number })
+    (statement_on_line r.language read l) sub (read_lines sub r file ls) r i subs s (line_fits r.language read l) (lines_close sub r file ls start i subs) h
 
 pub file_closes : (n : ℕ) (r : FileSource) → Reads (read_file n r)
 unfolding Reads GoesOn
@@ -255,7 +263,8 @@ file_closes (suc n) r path start i m h =
     lines_close (read_file n r) r (r.number path) (lines_of (bytes_in r path)) start i (file_closes n r) start
     (record { blocks = []; own = tt; opened = refl; matched = m }) h
 
-either_closes : (b : Bool) (x y : Outcome) → (x.fault ≡ None → ⊥) → (y.fault ≡ None → Closes [] y.read) → (cond b x y).fault ≡ None → Closes [] (cond b x y).read
+either_closes : (b : Bool) (x y : Outcome) → (x.fault ≡ None → ⊥) → (y.fault ≡ None → Closes [] y.read) → (cond b x y).fault ≡ None
+    → Closes [] (cond b x y).read
 either_closes true x y f g h = absurd (f h)
 either_closes false x y f g h = g h
 
@@ -281,4 +290,6 @@ tree_of read c =
 
 pub reading_nests : (files : Files) (root : List ℕ) → (reading files root).fault ≡ None → (t : Items) × IsTreeOf (reading files root).read t
 unfolding reading
-reading_nests files root h = tree_of (reading files root).read (root_closes (record { language = files.language; bytes = file_at files; number = index_of_file files; root = root }) (file_at files root) h)
+reading_nests files root h =
+    tree_of (reading files root).read (root_closes (record { language = files.language; bytes = file_at files; number = index_of_file files; root = root })
+    (file_at files root) h)

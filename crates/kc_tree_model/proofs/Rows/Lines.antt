@@ -4,20 +4,19 @@ use Rattle.std.specs.Prelude.{codes}
 use Rattle.kc_expr.specs.Token.{next_token}
 use Rattle.kc_tree_model.specs.LogicalLines.{lines_of, LogicalLine}
 
-abbrev numbers : List ℕ → List ℕ
-numbers bytes = map (λ (l : LogicalLine). l.number) (lines_of bytes)
-
 abbrev helped : List ℕ → List Bool
 helped bytes = map (λ (l : LogicalLine). l.help) (lines_of bytes)
 
 abbrev texts : List ℕ → List (List ℕ)
 texts bytes = map (λ (l : LogicalLine). l.text) (lines_of bytes)
 
-joined_line_keeps_its_first_number : lines_of (codes "config \\\nA\n\tbool") ≡ record { number = 1; text = codes "config A"; help = false } ∷ record { number = 3; text = codes "\tbool"; help = false } ∷ []
+joined_line_keeps_its_first_number : lines_of (codes "config \\\nA\n\tbool")
+    ≡ record { number = 1; text = codes "config A"; help = false } ∷ record { number = 3; text = codes "\tbool"; help = false } ∷ []
 unfolding lines_of next_token
 joined_line_keeps_its_first_number = refl
 
-help_text_by_indentation : helped (codes "config A\n\tbool \"a\"\n\thelp\n\t  $x config\n\tdepends on B\n") ≡ false ∷ false ∷ false ∷ true ∷ false ∷ []
+help_text_by_indentation : helped (codes "config A\n\tbool \"a\"\n\thelp\n\t  $x config\n\tdepends on B\n")
+    ≡ false ∷ false ∷ false ∷ true ∷ false ∷ []
 unfolding lines_of next_token
 help_text_by_indentation = refl
 
@@ -26,51 +25,18 @@ return_before_a_newline : texts (codes "if A\r\nendif\r\r\n") ≡ codes "if A" �
 unfolding lines_of next_token
 return_before_a_newline = refl
 
-return_at_the_end : texts (codes "if A\r") ≡ codes "if A\r" ∷ []
-unfolding lines_of next_token
-return_at_the_end = refl
-
-backslash_before_a_return : texts (codes "if \\\r\nA") ≡ codes "if A" ∷ []
-unfolding lines_of next_token
-backslash_before_a_return = refl
-
-backslash_at_the_end : texts (codes "if A\\") ≡ codes "if A\\" ∷ []
-unfolding lines_of next_token
-backslash_at_the_end = refl
-
-backslash_before_the_last_newline : texts (codes "if A\\\n") ≡ codes "if A" ∷ []
-unfolding lines_of next_token
-backslash_before_the_last_newline = refl
-
 -- two backslashes: the second joins, and the first is a byte of the line
 joined_with_an_empty_line : texts (codes "if A\\\\\n\nendif") ≡ codes "if A\\" ∷ codes "endif" ∷ []
 unfolding lines_of next_token
 joined_with_an_empty_line = refl
 
-numbers_behind_joined_lines : numbers (codes "if \\\nA\n\nendif") ≡ 1 ∷ 3 ∷ 4 ∷ []
-unfolding lines_of next_token
-numbers_behind_joined_lines = refl
-
--- a help text that is not indented is empty
-help_text_in_column_0 : helped (codes "config A\n\thelp\nx\n") ≡ false ∷ false ∷ false ∷ []
-unfolding lines_of next_token
-help_text_in_column_0 = refl
-
 blank_lines_of_a_help_text : helped (codes "config A\n\thelp\n\n  x\n\n  y\nz") ≡ false ∷ false ∷ true ∷ true ∷ true ∷ true ∷ false ∷ []
 unfolding lines_of next_token
 blank_lines_of_a_help_text = refl
 
-help_text_up_to_the_end : helped (codes "config A\n\t---help---\n x") ≡ false ∷ false ∷ true ∷ []
-unfolding lines_of next_token
-help_text_up_to_the_end = refl
-
 tab_goes_to_the_next_multiple_of_8 : helped (codes "config A\nhelp\n\tx\n        y\n       z") ≡ false ∷ false ∷ true ∷ true ∷ false ∷ []
 unfolding lines_of next_token
 tab_goes_to_the_next_multiple_of_8 = refl
-
-help_with_a_comment : helped (codes "config A\n\thelp # text\n\t\tx") ≡ false ∷ false ∷ true ∷ []
-unfolding lines_of next_token
-help_with_a_comment = refl
 
 -- lines of a help text are not joined
 backslash_in_a_help_text : texts (codes "config A\n\thelp\n\t\tx\\\n\t\ty") ≡ codes "config A" ∷ codes "\thelp" ∷ codes "\t\tx\\" ∷ codes "\t\ty" ∷ []

@@ -1,5 +1,5 @@
--- Rows on trees in the language of Linux, each beside the same tree in the strict language.
-use Rattle.std.proofs.Common.{◌≡◌, ℕ, Bool, true, false, List, [], ◌∷◌, ◌++◌, Option, Some, None, refl, map}
+-- Rows on trees in the language of Linux, two of them beside the same tree in the strict language.
+use Rattle.std.proofs.Common.{◌≡◌, ℕ, true, false, List, [], ◌∷◌, ◌++◌, Option, Some, None, refl, map}
 use Rattle.std.specs.Prelude.{codes, option_map}
 use Rattle.std.specs.Str.{is_utf8, chars}
 use Rattle.kc_value.specs.declared.value.Kind.{Kind}
@@ -8,15 +8,15 @@ use Rattle.kc_expr.specs.Token.{next_token}
 use Rattle.kc_expr.specs.Grammar.{read_expr}
 use Rattle.kc_expr.specs.Expr.{alone, both, quoted, shown}
 use Rattle.kc_tree_model.specs.declared.fault.TreeKind.{TreeKind}
-use Rattle.kc_tree_model.specs.declared.fault.TreeKind.TheVariants.{ChoiceMember, LeftOut, Malformed, Misplaced, SelectType, TypeConflict}
+use Rattle.kc_tree_model.specs.declared.fault.TreeKind.TheVariants.{ChoiceMember, LeftOut}
 use Rattle.kc_tree_model.specs.LogicalLines.{lines_of}
 use Rattle.kc_tree_model.specs.Limits.{source_fault}
 use Rattle.kc_tree_model.specs.Reading.{statement_on_line, reading}
 use Rattle.kc_tree_model.specs.TreeFiles.{Files, linux_files}
 use Rattle.kc_tree_model.specs.Contents.{tree_of_groups}
 use Rattle.kc_tree_model.specs.TreeFaults.{tree_faults, first_tree_fault}
-use Rattle.kc_tree_model.specs.Trees.{Tree, Symbol, Choice, ReverseDependency}
-use Rattle.kc_tree_model.proofs.Rows.Trees.{fault, line_and_kind, yes, word}
+use Rattle.kc_tree_model.specs.Trees.{Tree, Symbol, Choice, Default}
+use Rattle.kc_tree_model.proofs.Rows.Trees.{fault, line_and_kind, prompts_and_dependencies, yes, word}
 
 -- a tree of one file in the language of Linux
 abbrev linux_file : List ℕ → Files
@@ -28,6 +28,9 @@ linux_fault text = option_map line_and_kind (first_tree_fault (linux_file text) 
 abbrev linux_tree : List ℕ → Tree
 linux_tree text = tree_of_groups (reading (linux_file text) (codes "Kconfig")).read
 
+abbrev kind_and_defaults : Symbol → Kind × List Default
+kind_and_defaults s = (s.kind, s.defaults)
+
 -- in quotes a pair of a backslash and a `$` represents a `$`
 abbrev dollar_default : List ℕ
 dollar_default = codes "config A\n\tstring\n\tdefault \"a\\$b\"\n"
@@ -36,78 +39,28 @@ dollar_in_a_pair_strict : fault dollar_default ≡ Some (3, LeftOut)
 unfolding next_token is_utf8 chars read_expr lines_of source_fault statement_on_line reading tree_faults first_tree_fault lib.Utf8.encode
 dollar_in_a_pair_strict = refl
 
-dollar_in_a_pair : linux_fault dollar_default ≡ None
-unfolding next_token is_utf8 chars read_expr lines_of source_fault statement_on_line reading tree_faults first_tree_fault lib.Utf8.encode
-dollar_in_a_pair = refl
-
-dollar_in_a_pair_is_one : map (λ (s : Symbol). s.defaults) (linux_tree dollar_default).symbols ≡ (record { value = alone (quoted (codes "a$b")); condition = yes } ∷ []) ∷ []
+dollar_in_a_pair_is_one : map (λ (s : Symbol). s.defaults) (linux_tree dollar_default).symbols
+    ≡ (record { value = alone (quoted (codes "a$b")); condition = yes } ∷ []) ∷ []
 unfolding next_token is_utf8 chars read_expr lines_of source_fault statement_on_line reading lib.Utf8.encode tree_of_groups
 dollar_in_a_pair_is_one = refl
-
-bare_dollar : linux_fault (codes "config A\n\tstring\n\tdefault \"a$b\"\n") ≡ Some (3, LeftOut)
-unfolding next_token is_utf8 chars read_expr lines_of source_fault statement_on_line reading tree_faults first_tree_fault lib.Utf8.encode
-bare_dollar = refl
 
 -- a default of an int, a hex or a string with its type
 abbrev typed_defaults : List ℕ
 typed_defaults = codes "config I\n\tdef_int 5\nconfig H\n\tdef_hex 0x1 if I\nconfig S\n\tdef_string \"s\"\n"
 
-typed_defaults_strict : fault typed_defaults ≡ Some (2, LeftOut)
-unfolding next_token is_utf8 chars read_expr lines_of source_fault statement_on_line reading tree_faults first_tree_fault lib.Utf8.encode
-typed_defaults_strict = refl
-
-typed_defaults_taken : linux_fault typed_defaults ≡ None
-unfolding next_token is_utf8 chars read_expr lines_of source_fault statement_on_line reading tree_faults first_tree_fault lib.Utf8.encode
-typed_defaults_taken = refl
-
-typed_defaults_kinds : map (λ (s : Symbol). s.kind) (linux_tree typed_defaults).symbols ≡ Int ∷ Hex ∷ Text ∷ []
+typed_defaults_kinds_and_values : map kind_and_defaults (linux_tree typed_defaults).symbols
+    ≡ (Int, record { value = word (codes "5"); condition = yes } ∷ []) ∷ (Hex, record { value = word (codes "0x1"); condition = word (codes "I") } ∷ [])
+    ∷ (Text, record { value = alone (quoted (codes "s")); condition = yes } ∷ []) ∷ []
 unfolding next_token is_utf8 chars read_expr lines_of source_fault statement_on_line reading lib.Utf8.encode tree_of_groups
-typed_defaults_kinds = refl
-
-typed_defaults_values : map (λ (s : Symbol). s.defaults) (linux_tree typed_defaults).symbols
-    ≡ (record { value = word (codes "5"); condition = yes } ∷ []) ∷ (record { value = word (codes "0x1"); condition = word (codes "I") } ∷ []) ∷ (record { value = alone (quoted (codes "s")); condition = yes } ∷ []) ∷ []
-unfolding next_token is_utf8 chars read_expr lines_of source_fault statement_on_line reading lib.Utf8.encode tree_of_groups
-typed_defaults_values = refl
-
-typed_default_without_a_value : linux_fault (codes "config I\n\tdef_int\n") ≡ Some (2, Malformed)
-unfolding next_token is_utf8 chars read_expr lines_of source_fault statement_on_line reading tree_faults first_tree_fault lib.Utf8.encode
-typed_default_without_a_value = refl
-
-typed_default_after_another_type : linux_fault (codes "config I\n\tbool\n\tdef_int 5\n") ≡ Some (3, TypeConflict)
-unfolding next_token is_utf8 chars read_expr lines_of source_fault statement_on_line reading tree_faults first_tree_fault lib.Utf8.encode
-typed_default_after_another_type = refl
-
-typed_default_in_a_choice : linux_fault (codes "choice\n\tdef_int 5\nendchoice\n") ≡ Some (2, Misplaced)
-unfolding next_token is_utf8 chars read_expr lines_of source_fault statement_on_line reading tree_faults first_tree_fault lib.Utf8.encode
-typed_default_in_a_choice = refl
+typed_defaults_kinds_and_values = refl
 
 -- an optional choice
 abbrev optional_choice : List ℕ
 optional_choice = codes "choice\n\tprompt \"c\"\n\toptional\nconfig A\n\tbool \"a\"\nendchoice\nchoice\n\tprompt \"d\"\nconfig B\n\tbool \"b\"\nendchoice\n"
 
-optional_strict : fault optional_choice ≡ Some (3, LeftOut)
-unfolding next_token is_utf8 chars read_expr lines_of source_fault statement_on_line reading tree_faults first_tree_fault lib.Utf8.encode
-optional_strict = refl
-
-optional_taken : linux_fault optional_choice ≡ None
-unfolding next_token is_utf8 chars read_expr lines_of source_fault statement_on_line reading tree_faults first_tree_fault lib.Utf8.encode
-optional_taken = refl
-
 optional_of_its_choice : map (λ (c : Choice). c.optional) (linux_tree optional_choice).choices ≡ true ∷ false ∷ []
 unfolding next_token is_utf8 chars read_expr lines_of source_fault statement_on_line reading lib.Utf8.encode tree_of_groups
 optional_of_its_choice = refl
-
-optional_in_a_config : linux_fault (codes "config A\n\tbool\n\toptional\n") ≡ Some (3, Misplaced)
-unfolding next_token is_utf8 chars read_expr lines_of source_fault statement_on_line reading tree_faults first_tree_fault lib.Utf8.encode
-optional_in_a_config = refl
-
-optional_outside_entries : linux_fault (codes "optional\n") ≡ Some (1, Misplaced)
-unfolding next_token is_utf8 chars read_expr lines_of source_fault statement_on_line reading tree_faults first_tree_fault lib.Utf8.encode
-optional_outside_entries = refl
-
-optional_with_a_word_behind : linux_fault (codes "choice\n\toptional if A\nendchoice\n") ≡ Some (2, Malformed)
-unfolding next_token is_utf8 chars read_expr lines_of source_fault statement_on_line reading tree_faults first_tree_fault lib.Utf8.encode
-optional_with_a_word_behind = refl
 
 -- a later definition of a choice's member
 abbrev member_again : List ℕ → List ℕ
@@ -121,38 +74,22 @@ member_selects_again : linux_fault (member_again (codes "\tdepends on B || X\n\t
 unfolding next_token is_utf8 chars read_expr lines_of source_fault statement_on_line reading tree_faults first_tree_fault lib.Utf8.encode
 member_selects_again = refl
 
-selects_under_its_own_dependency : map (λ (x : Symbol). x.selectors) (linux_tree (member_again (codes "\tdepends on X\n\tselect S if Y\n"))).symbols ≡ [] ∷ [] ∷ (record { by = 0; condition = both (word (codes "X")) (word (codes "Y")) } ∷ []) ∷ []
+selects_under_its_own_dependency : map (λ (x : Symbol). x.selectors) (linux_tree (member_again (codes "\tdepends on X\n\tselect S if Y\n"))).symbols
+    ≡ [] ∷ [] ∷ (record { by = 0; condition = both (word (codes "X")) (word (codes "Y")) } ∷ []) ∷ []
 unfolding next_token is_utf8 chars read_expr lines_of source_fault statement_on_line reading lib.Utf8.encode tree_of_groups
 selects_under_its_own_dependency = refl
 
-prompts_stay : map (λ (x : Symbol). x.prompts) (linux_tree (member_again (codes "\tdepends on X\n"))).symbols ≡ (shown yes ∷ []) ∷ (shown yes ∷ []) ∷ [] ∷ []
+prompts_and_dependency_stay : map prompts_and_dependencies (linux_tree (member_again (codes "\tdepends on X\n"))).symbols
+    ≡ (shown yes ∷ [], shown yes ∷ []) ∷ (shown yes ∷ [], shown yes ∷ []) ∷ ([], yes ∷ []) ∷ []
 unfolding next_token is_utf8 chars read_expr lines_of source_fault statement_on_line reading lib.Utf8.encode tree_of_groups
-prompts_stay = refl
-
-own_dependency_stays : map (λ (x : Symbol). x.direct) (linux_tree (member_again (codes "\tdepends on X\n"))).symbols ≡ (shown yes ∷ []) ∷ (shown yes ∷ []) ∷ (yes ∷ []) ∷ []
-unfolding next_token is_utf8 chars read_expr lines_of source_fault statement_on_line reading lib.Utf8.encode tree_of_groups
-own_dependency_stays = refl
-
-member_again_alone : linux_fault (member_again []) ≡ None
-unfolding next_token is_utf8 chars read_expr lines_of source_fault statement_on_line reading tree_faults first_tree_fault lib.Utf8.encode
-member_again_alone = refl
+prompts_and_dependency_stay = refl
 
 member_with_another_prompt : linux_fault (member_again (codes "\tselect S\n\tprompt \"x\"\n")) ≡ Some (10, ChoiceMember)
 unfolding next_token is_utf8 chars read_expr lines_of source_fault statement_on_line reading tree_faults first_tree_fault lib.Utf8.encode
 member_with_another_prompt = refl
 
-member_with_another_type : linux_fault (member_again (codes "\tbool\n")) ≡ Some (10, ChoiceMember)
-unfolding next_token is_utf8 chars read_expr lines_of source_fault statement_on_line reading tree_faults first_tree_fault lib.Utf8.encode
-member_with_another_type = refl
-
-member_with_a_default : linux_fault (member_again (codes "\tdefault y\n")) ≡ Some (10, ChoiceMember)
-unfolding next_token is_utf8 chars read_expr lines_of source_fault statement_on_line reading tree_faults first_tree_fault lib.Utf8.encode
-member_with_a_default = refl
-
-member_in_a_second_choice : linux_fault (codes "choice\n\tprompt \"c\"\nconfig A\n\tbool \"a\"\nendchoice\nchoice\n\tprompt \"d\"\nconfig A\n\thelp\nendchoice\n") ≡ Some (8, ChoiceMember)
+member_in_a_second_choice : linux_fault
+    (codes "choice\n\tprompt \"c\"\nconfig A\n\tbool \"a\"\nendchoice\nchoice\n\tprompt \"d\"\nconfig A\n\thelp\nendchoice\n")
+    ≡ Some (8, ChoiceMember)
 unfolding next_token is_utf8 chars read_expr lines_of source_fault statement_on_line reading tree_faults first_tree_fault lib.Utf8.encode
 member_in_a_second_choice = refl
-
-member_after_a_definition : linux_fault (codes "config A\n\tselect S\nchoice\n\tprompt \"c\"\nconfig A\n\tbool \"a\"\nendchoice\nconfig S\n\tbool\n") ≡ Some (5, ChoiceMember)
-unfolding next_token is_utf8 chars read_expr lines_of source_fault statement_on_line reading tree_faults first_tree_fault lib.Utf8.encode
-member_after_a_definition = refl

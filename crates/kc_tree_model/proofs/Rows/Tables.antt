@@ -111,7 +111,8 @@ lines =
 
 -- the kind of the fault of a tree of these lines, which may source two files
 abbrev kind_of : List ℕ → List ℕ → Option TreeKind
-kind_of front line = option_map (λ (f : TreeFault). f.kind) (first_tree_fault (strict_files ((codes "Kconfig", front ++ line) ∷ (codes "a", []) ∷ (codes "b", codes "if B\nendif\n") ∷ [])) (codes "Kconfig"))
+kind_of front line = option_map (λ (f : TreeFault). f.kind) (first_tree_fault
+    (strict_files ((codes "Kconfig", front ++ line) ∷ (codes "a", []) ∷ (codes "b", codes "if B\nendif\n") ∷ [])) (codes "Kconfig"))
 
 outside : map (kind_of []) lines
     ≡ Some NoType ∷ Some NoType ∷ Some Unclosed ∷ Some StrayEnd ∷ Some Unclosed ∷ Some StrayEnd ∷ Some Unclosed ∷ Some StrayEnd ∷ None ∷ None ∷ None ∷ None

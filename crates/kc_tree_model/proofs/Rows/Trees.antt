@@ -6,7 +6,7 @@ use Rattle.kc_expr.specs.Expr.{Expr, alone, named, constant}
 use Rattle.kc_tree_model.specs.declared.fault.TreeKind.{TreeKind}
 use Rattle.kc_tree_model.specs.declared.fault.TreeFault.{TreeFault}
 use Rattle.kc_tree_model.specs.TreeFiles.{strict_files, Files}
-use Rattle.kc_tree_model.specs.Trees.{Tree}
+use Rattle.kc_tree_model.specs.Trees.{Tree, Symbol}
 use Rattle.kc_tree_model.specs.Reading.{reading}
 use Rattle.kc_tree_model.specs.Contents.{tree_of_groups}
 use Rattle.kc_tree_model.specs.TreeFaults.{first_tree_fault}
@@ -24,6 +24,10 @@ fault text = option_map line_and_kind (first_tree_fault (one_file text) (codes "
 -- what a tree of one file holds
 abbrev pub whole : List ℕ → Tree
 whole text = tree_of_groups (reading (one_file text) (codes "Kconfig")).read
+
+-- the conditions of the prompts of a symbol, and the dependency of each of its definitions
+abbrev pub prompts_and_dependencies : Symbol → List Expr × List Expr
+prompts_and_dependencies s = (s.prompts, s.direct)
 
 abbrev pub word : List ℕ → Expr
 word x = alone (named x)

@@ -1,4 +1,4 @@
--- The answers of a job, as they come in.
+-- The steps in which the answers to a job's questions are read.
 use Rattle.std.specs.Prelude.{◌≡◌, ℕ, List, [], ◌∷◌, Option}
 use Rattle.kc_tree_model.specs.Keywords.{keyword_in_table}
 use Rattle.kc_macros_model.specs.declared.fault.AnswersKind.{AnswersKind}
@@ -7,34 +7,34 @@ use Rattle.kc_macros_model.specs.declared.fault.AnswersFault.{AnswersFault}
 use Rattle.kc_macros_model.specs.AnswerFiles.{Recorded}
 use Rattle.kc_macros.specs.ReadAnswers.{IsRefused}
 use Rattle.kmin_jobs.specs.FileContents.{FileContent, VariableContent, MatchVariable}
-use Rattle.kmin_jobs.specs.StandardError.{TakesLines}
+use Rattle.kmin_tidy.specs.StandardError.{TakesLines}
 use Rattle.kmin_jobs.specs.MacroReports.{answers_line}
 use Rattle.kmin_jobs.specs.JobAnswers.{or_else, lent_answer}
 use Rattle.kmin_jobs.specs.AnswerStops.{StopsAtAnswers, answers_status}
 
--- the lines of a fault; memory that was refused is reported later
+-- the lines of a fault of an answer file; out of memory is reported later
 abbrev pub answers_lines : (path : List ℕ) (line : ℕ) → AnswersKind → List (List ℕ)
 answers_lines path line OutOfMemory = []
 answers_lines path line kind = answers_line path line kind ∷ []
 
--- a fault that the reading of a file of answers reports: memory ran out, or the file is refused
+-- a fault that the reading of an answer file reports: memory ran out, or the file is refused
 pub data ReportsAnswersFault (left left_after : Option (List ℕ)) (failed failed_after : ℕ) (earlier : Recorded) (fault : AnswersFault) : Type 0 where
   for_memory : fault.kind ≡ OutOfMemory → ReportsAnswersFault left left_after failed failed_after earlier fault
   refused : IsRefused left left_after failed failed_after earlier fault → ReportsAnswersFault left left_after failed failed_after earlier fault
 
--- reading ended at a fault, which is reported
+-- the reading of an answer file ended at a fault, which is reported
 pub record StopsReading (path : List ℕ) (left left_after : Option (List ℕ)) (read_failed read_failed_after : ℕ) (earlier : Recorded) (status : ℕ) (taken : Option (List ℕ)) (failed : ℕ) (taken_after : Option (List ℕ)) (failed_after : ℕ) : Type 0 where
   pub fault : AnswersFault
   pub reports : ReportsAnswersFault left left_after read_failed read_failed_after earlier fault
   pub status_is : status ≡ answers_status fault.kind
   pub reported : TakesLines taken failed (answers_lines path fault.line fault.kind) taken_after failed_after
 
--- one file of answers ended a run, or memory ran out
+-- one answer file ended a run, or memory ran out
 pub data StopsAtAnswersPath (content : FileContent) (earlier : Recorded) (path : List ℕ) (status : ℕ) (lines : List (List ℕ)) : Type 0 where
   at_file : (line : List ℕ) → StopsAtAnswers content earlier path status line → lines ≡ line ∷ [] → StopsAtAnswersPath content earlier path status lines
   for_memory : status ≡ 6 → lines ≡ [] → StopsAtAnswersPath content earlier path status lines
 
--- names without an answer have that of an environment that matches what is known of it
+-- names that had no answer have that of an environment, whose values agree with what is known of it
 pub record AreLent (variable_of : List ℕ → VariableContent) (names : List (List ℕ)) (before after : Recorded) : Type 0 where
   pub values : List ℕ → Option (List ℕ)
   pub environment : (name : List ℕ) → MatchVariable (variable_of name) (values name)

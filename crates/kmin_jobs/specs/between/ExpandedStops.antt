@@ -1,4 +1,4 @@
--- How a tree that is expanded ends a job.
+-- Ends of a run at a tree whose macros are expanded.
 use Rattle.std.specs.Prelude.{◌≡◌, ℕ, List, ◌++◌}
 use Rattle.kc_expr.specs.declared.language.Language.{Language}
 use Rattle.kmin_words.specs.Jobs.{Expansion}
@@ -7,7 +7,7 @@ use Rattle.kmin_jobs.specs.JobTexts.{TreeTexts, AreExpandedTexts}
 use Rattle.kmin_jobs.specs.Stops.{StopsInExpansion}
 use Rattle.kmin_jobs.specs.between.TreeStops.{StopsAtTexts}
 
--- a job with the expansion ended at its tree: in the expansion, or at the expanded texts
+-- a run ended at its tree: in the expansion, or at the expanded texts
 pub data StopsAtExpanded (known : Known) (root first : List ℕ) (language : Language) (expansion : Expansion) (status : ℕ) (lines : List (List ℕ)) : Type 0 where
   in_expansion : StopsInExpansion known root first expansion status lines → StopsAtExpanded known root first language expansion status lines
   at_texts : (t : TreeTexts) (more : List (List ℕ)) → AreExpandedTexts known root first language expansion t → StopsAtTexts t.texts t.names first status more

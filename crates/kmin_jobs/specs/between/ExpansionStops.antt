@@ -1,4 +1,4 @@
--- How the expansion of a tree ends a run.
+-- Ends of a run at the expansion of its tree.
 use Rattle.std.specs.Prelude.{◌≡◌, ℕ, List, [], ◌∷◌, ◌++◌, Err, map}
 use Rattle.kc_macros_model.specs.Programs.{Fault, Notice}
 use Rattle.kc_macros_model.specs.AnswerFiles.{Recorded}
@@ -6,7 +6,7 @@ use Rattle.kc_expansion.specs.TreeContents.{TreeContents}
 use Rattle.kc_expansion.specs.Expansions.{IsExpansion}
 use Rattle.kmin_jobs.specs.MacroReports.{macro_fault_line, macro_notice_line}
 
--- the tree has a fault, or memory ran out
+-- the expansion has a fault, which is reported after its notices, or memory ran out
 pub data StopsExpanding (contents : TreeContents) (answers : Recorded) (first : List ℕ) (status : ℕ) (lines : List (List ℕ)) : Type 0 where
   at_fault : (notices : List Notice) (fault : Fault) → IsExpansion contents answers first notices (Err fault) → status ≡ 3
       → lines ≡ map macro_notice_line notices ++ macro_fault_line fault ∷ [] → StopsExpanding contents answers first status lines

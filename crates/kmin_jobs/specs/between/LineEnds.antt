@@ -5,7 +5,7 @@ use Rattle.std.specs.Prelude.{ℕ, Bool, true, not, List, [], ◌∷◌, ◌==�
 abbrev pub is_inline : ℕ → Bool
 is_inline c = not (c == 10)
 
--- a newline comes first, or nothing
+-- a text is empty or begins with a newline
 abbrev pub begins_after_line : List ℕ → Bool
 begins_after_line [] = true
 begins_after_line (c ∷ cs) = not (is_inline c)

@@ -1,4 +1,4 @@
--- The lines of differences, by the symbols alone.
+-- The lines of differences, from the values of each symbol.
 use Rattle.std.specs.Prelude.{ℕ, List, [], ◌∷◌, ◌++◌, Option, Some, codes}
 use Rattle.kc_expr.specs.Expr.{SymbolValue}
 use Rattle.kc_tree_model.specs.Trees.{Tree}
@@ -8,12 +8,12 @@ use Rattle.kc_dotconfig_model.specs.declared.format.Strings.{Strings}
 use Rattle.kc_minimal_model.specs.Spelling.{spelled}
 use Rattle.kmin_jobs.specs.Reports.{name_at}
 
--- `NAME: LEFT -> RIGHT` of two values
+-- the line `NAME: LEFT -> RIGHT` of two values; empty if one is missing
 abbrev pub line_of_values : Strings → List ℕ → Option SymbolValue → Option SymbolValue → List ℕ
 line_of_values strings name (Some a) (Some b) =
     name ++ (codes ": " ++ (spelled strings a.kind a.text ++ (codes " -> " ++ (spelled strings b.kind b.text ++ 10 ∷ []))))
 line_of_values strings name _ _ = []
 
--- the line of a symbol
+-- the line of a symbol that has different values in two valuations
 abbrev pub line_between : Strings → Tree → List UnitValue → List UnitValue → ℕ → List ℕ
 line_between strings tree v w s = line_of_values strings (name_at tree s) (value_of_symbol tree v s) (value_of_symbol tree w s)

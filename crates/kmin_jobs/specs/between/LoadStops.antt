@@ -1,4 +1,4 @@
--- How a configuration file that isn't read ends a run, by the kind of its fault.
+-- Ends of a run at a configuration file, by the kind of its fault.
 use Rattle.std.specs.Prelude.{◌≡◌, ℕ, Bool, List, [], ◌∷◌, map, Option}
 use Rattle.kc_tree_model.specs.Trees.{Tree}
 use Rattle.kc_dotconfig_model.specs.Formats.{FileFormat}
@@ -7,27 +7,27 @@ use Rattle.kc_dotconfig_model.specs.declared.fault.LoadKind.TheVariants.{Read, O
 use Rattle.kc_dotconfig.specs.declared.fragment.Fragment.{Fragment}
 use Rattle.kc_dotconfig.specs.Fragments.{notice_pair}
 use Rattle.kc_dotconfig.specs.ReadResults.{ReportsFault}
-use Rattle.kmin_jobs.specs.Reports.{fault_line, notice_line}
-use Rattle.kmin_jobs.specs.StandardError.{TakesLines}
+use Rattle.kmin_tidy.specs.Reports.{fault_line, notice_line}
+use Rattle.kmin_tidy.specs.StandardError.{TakesLines}
 use Rattle.kmin_jobs.specs.FileContents.{FileContent}
 use Rattle.kmin_jobs.specs.Stops.{StopsAtFile}
 
--- the exit status of a fault
+-- the exit status for a fault of a configuration file
 abbrev pub load_status : LoadKind → ℕ
 load_status OutOfMemory = 6
 load_status Read = 5
 load_status _ = 4
 
--- the lines of a fault; memory that was refused is reported later
+-- the lines of a fault of a configuration file; out of memory is reported later
 abbrev pub load_lines : (path : List ℕ) (number : ℕ) → LoadKind → List (List ℕ)
 load_lines path number OutOfMemory = []
 load_lines path number kind = fault_line path number kind ∷ []
 
--- the lines of the notices of what was read
+-- the lines of the notices of a fragment
 abbrev pub fragment_notices : (path : List ℕ) → Fragment → List (List ℕ)
 fragment_notices path fragment = map (λ notice. notice_line path (notice_pair notice)) fragment.notices.items
 
--- reading ended at a fault, which is reported
+-- the reading of a configuration file ended at a fault, which is reported
 pub record StopsLoad (format : FileFormat) (tree : Tree) (path : List ℕ) (left left_after : Option (List ℕ)) (read_failed read_failed_after : ℕ) (status : ℕ) (taken : Option (List ℕ)) (failed : ℕ) (taken_after : Option (List ℕ)) (failed_after : ℕ) : Type 0 where
   pub kind : LoadKind
   pub number : ℕ
@@ -35,7 +35,7 @@ pub record StopsLoad (format : FileFormat) (tree : Tree) (path : List ℕ) (left
   pub status_is : status ≡ load_status kind
   pub reported : TakesLines taken failed (load_lines path number kind) taken_after failed_after
 
--- one file ended a run, or memory ran out
+-- one configuration file ended a run, or memory ran out
 pub data StopsAtPath (content : FileContent) (format : FileFormat) (strict : Bool) (tree : Tree) (path : List ℕ) (status : ℕ) (lines : List (List ℕ)) : Type 0 where
   at_file : StopsAtFile content format strict tree path status lines → StopsAtPath content format strict tree path status lines
   for_memory : status ≡ 6 → lines ≡ [] → StopsAtPath content format strict tree path status lines

@@ -4,11 +4,11 @@ use Rattle.kmin_jobs.specs.declared.report.Report.{Report}
 use Rattle.kmin_jobs.specs.declared.report.Report.TheVariants.{TreeFault, Cycle, FileFault, Notice, AnswersFault, MacroNotice, MacroFault, OutputFault, NotRegular, Unwritten, Left, OutOfMemory, RefusedWords}
 use Rattle.kc_tree_model.specs.FaultNames.{tree_kind_name}
 use Rattle.kc_macros.specs.Runs.{fault_of, notice_of}
-use Rattle.kmin_tidy.specs.Reports.{not_regular_line, write_line, left_line}
+use Rattle.kmin_tidy.specs.Reports.{not_regular_line, write_line, left_line, place_line, fault_line, notice_line, output_line, memory_line}
 use Rattle.kmin_jobs.specs.MacroReports.{answers_line, macro_notice_line, macro_fault_line}
-use Rattle.kmin_jobs.specs.Reports.{place_line, fault_line, notice_line, units_text, output_line, memory_line}
+use Rattle.kmin_jobs.specs.Reports.{units_text}
 
--- the line of a report; the message for refused words has its own lines
+-- the line of a report; the message for refused words is complete as it is
 abbrev pub report_line : Report → List ℕ
 report_line (TreeFault path line kind) = place_line path.now line (tree_kind_name kind)
 report_line (Cycle path line tree units) = place_line path.now line (codes "Cycle" ++ units_text tree.now.tree units.now)

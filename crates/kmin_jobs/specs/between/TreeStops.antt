@@ -1,4 +1,4 @@
--- How texts that are no accepted tree end a run.
+-- Ends of a run at texts that are refused as a tree.
 use Rattle.std.specs.Prelude.{◌≡◌, ℕ, List, [], ◌∷◌}
 use Rattle.kc_tree_model.specs.TreeFiles.{Files}
 use Rattle.kc_tree_model.specs.Trees.{Tree}
@@ -12,12 +12,12 @@ pub data StopsAtTexts (texts names : Files) (first : List ℕ) (status : ℕ) (l
   at_texts : (line : List ℕ) → RefusesTexts texts names first line → status ≡ 3 → lines ≡ line ∷ [] → StopsAtTexts texts names first status lines
   for_memory : status ≡ 6 → lines ≡ [] → StopsAtTexts texts names first status lines
 
--- the exit status of a tree that isn't settled
+-- the exit status for a tree that can't be settled
 abbrev pub settle_status : SettleFault → ℕ
 settle_status (Cycle units) = 3
 settle_status OutOfMemory = 6
 
--- the lines of a tree that isn't settled
+-- the lines for a tree that can't be settled; out of memory is reported later
 abbrev pub settle_lines : (names : Files) → (first : List ℕ) → Tree → SettleFault → List (List ℕ)
 settle_lines names first tree (Cycle units) = cycle_line names first tree units.items ∷ []
 settle_lines names first tree OutOfMemory = []

@@ -1,14 +1,14 @@
--- Lines with how often each is there.
+-- Bags of lines: each line with its number of occurrences.
 use Rattle.std.specs.Prelude.{◌≡◌, ℕ, ◌+◌, List, [], ◌∷◌, length, unwrap_or, if◌then◌else◌}
 use Rattle.std.specs.Str.{bytes_eq}
 use Rattle.indexmap.specs.IndexMap.{get_by}
 use Rattle.kmin_lines.specs.declared.line_bag.LineBag.{LineBag}
 
--- how often a bag has a line
+-- the number of occurrences of a line in a bag
 abbrev pub times_in : LineBag → (line : List ℕ) → ℕ
 times_in bag line = unwrap_or (get_by (λ k. bytes_eq line k.now) bag.counts) 0
 
--- how often lines have a line
+-- the number of occurrences of a line among lines
 abbrev pub times_among : (lines : List (List ℕ)) → (line : List ℕ) → ℕ
 times_among [] line = 0
 times_among (other ∷ lines) line = (if bytes_eq line other then 1 else 0) + times_among lines line

@@ -17,7 +17,7 @@ pub record IsRefusedAs (fault : LoadFault) (report : FileReport) : Type 0 where
   pub problem : report.problem ≡ Some (Fault fault)
   pub outcome : ((fault.kind ≡ Read) × (report.outcome ≡ Failed)) ⊎ ((fault.kind ≢ Read) × (fault.kind ≢ LoadMemory) × (report.outcome ≡ Refused))
 
--- a file ends so that isn't replaced, or not for good
+-- the outcome of a file that couldn't be replaced, or not for good
 abbrev pub IsNotWritten : FileEnd → Type 0
 IsNotWritten end = (end.problem ≡ Some Write) × (end.outcome ≡ Failed)
 

@@ -1,4 +1,4 @@
--- What becomes of a file that was read, and of a run that ends early.
+-- Results of a file that was read, and of a run that ends early.
 use Rattle.std.specs.Prelude.{◌≡◌, ◌≢◌, ◌⊎◌, ℕ, Bool, true, false, List, [], ◌∷◌, ◌++◌, Some, None, string_bytes}
 use Rattle.kmin_disk.specs.Disks.{IsUnchanged, Replaces}
 use Rattle.kmin_tidy.specs.Options.{Settings}
@@ -12,7 +12,7 @@ use Rattle.kmin_tidy.specs.declared.file_step.FileEnd.{FileEnd}
 use Rattle.kmin_tidy.specs.declared.stop.Stop.{Stop}
 use Rattle.kmin_tidy.specs.declared.stop.Stop.TheVariants.{Memory, Left}
 
--- what becomes of a file of these bytes that has this minimal file
+-- the result of a file of these bytes that has this minimal file
 pub data IsRewritten (write : Bool) (old new : Disk) (path bytes least line : List ℕ) (end : FileEnd) : Type 0 where
   same : least ≡ bytes → new ≡ old → line ≡ [] → end.problem ≡ None → end.outcome ≡ Minimal
       → IsRewritten write old new path bytes least line end
@@ -24,24 +24,24 @@ pub data IsRewritten (write : Bool) (old new : Disk) (path bytes least line : Li
   unwritten : least ≢ bytes → write ≡ true → IsUnwritten old new path least → line ≡ difference_line path bytes least
       → end.problem ≡ Some Write → end.outcome ≡ Failed → IsRewritten write old new path bytes least line end
 
--- what the end of a write leaves
+-- the disk and the outcome after a file was written, or couldn't be
 pub data IsWritten (old new : Disk) (path least : List ℕ) (end : FileEnd) : Type 0 where
   in_place : Replaces old.state new.state path least → new.failures ≡ old.failures → end.problem ≡ None
       → end.outcome ≡ Minimal → IsWritten old new path least end
   not_in_place : IsUnwritten old new path least → end.problem ≡ Some Write → end.outcome ≡ Failed
       → IsWritten old new path least end
 
--- what a write that ends the run leaves
+-- the disk after a write that ends the run
 abbrev pub StopsWrite : (old new : Disk) → (path : List ℕ) → Stop → Type 0
 StopsWrite old new path Memory = IsUnchanged old.state new.state
 StopsWrite old new path (Left new_path) = LeavesNewFile old new path (string_bytes new_path)
 
--- what a file of these bytes leaves that ends the run
+-- the disk after a file of these bytes that ends the run
 abbrev pub StopsRewrite : (write : Bool) → (old new : Disk) → (path bytes least : List ℕ) → Stop → Type 0
 StopsRewrite write old new path bytes least stop = ((stop ≡ Memory) × (new ≡ old))
     ⊎ ((write ≡ true) × (least ≢ bytes) × StopsWrite old new path stop)
 
--- what a file leaves that ends the run
+-- the disk after a file that ends the run
 abbrev pub StopsFile : Settings → (old new : Disk) → (path : List ℕ) → Stop → Type 0
 StopsFile s old new path stop = ((stop ≡ Memory) × (new ≡ old)) ⊎ (IsToBeReplaced s old path × StopsWrite old new path stop)
 

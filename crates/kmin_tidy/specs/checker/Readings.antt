@@ -11,9 +11,9 @@ use Rattle.kc_dotconfig.specs.Fragments.{FitsTree, users_of, notice_pair}
 use Rattle.kc_tree_model.specs.Trees.{Tree}
 use Rattle.kmin_disk.specs.Contents.{OpensAs}
 use Rattle.kmin_tidy.specs.MinimalFiles.{AreKnownBytes}
-use Rattle.kmin_tidy.specs.declared.reading.AcceptedFile.{AcceptedFile}
+use Rattle.kmin_tidy.specs.declared.accepted_file.AcceptedFile.{AcceptedFile}
 
--- what a fragment holds is what accepted bytes assign, with the notices of their lines
+-- a fragment has the assignments of accepted bytes, and the notices of their lines
 pub record IsFragmentOf (format : FileFormat) (tree : Tree) (bytes : List ℕ) (f : Fragment) : Type 0 where
   pub accepted : IsAccepted format tree bytes
   pub meanings : List LineMeaning
@@ -39,8 +39,7 @@ pub data IsFaultOfPart (format : FileFormat) (tree : Tree) (bytes : List ℕ) (k
       → IsFaultOfPart format tree bytes kind number
   no_memory : kind ≡ OutOfMemory → IsFaultOfPart format tree bytes kind number
 
--- known bytes aren't accepted: by their first fault, by a read that fails before one, or since they can't be opened; or
--- memory ran out
+-- known bytes aren't accepted: by their first fault, by a read that fails before one, since they can't be opened, or since memory ran out
 pub data IsFaulty (format : FileFormat) (tree : Tree) (known : Option (Option (List ℕ))) (kind : LoadKind) (number : ℕ) : Type 0 where
   refused : (bytes : List ℕ) → AreKnownBytes known bytes → kind ≢ Read → IsFirstFault format tree complete bytes kind number
       → IsFaulty format tree known kind number

@@ -19,7 +19,7 @@ abbrev pub problem_lines : (path : List ℕ) → Option Problem → List (List �
 problem_lines path None = []
 problem_lines path (Some problem) = problem_line path problem ∷ []
 
--- the lines of what is reported of a file
+-- the lines of a file's report
 abbrev pub report_lines : (path : List ℕ) → FileReport → List (List ℕ)
 report_lines path report = notice_lines path (map notice_pair report.notices.items) ++ problem_lines path report.problem
 

@@ -16,15 +16,15 @@ use Rattle.kc_macros_model.specs.Variables.{is_environment_name, without_white_e
 use Rattle.kmin_words.specs.declared.job.TidyFlags.{TidyFlags}
 use Rattle.kmin_words.specs.declared.job.Verb.{Verb}
 use Rattle.kmin_words.specs.declared.job.Verb.TheVariants.{Min, Full, Missed, Check}
-use Rattle.kmin_words.specs.declared.parsing.ParsedWords.{ParsedWords}
-use Rattle.kmin_words.specs.declared.parsing.ParsedWords.TheVariants.{Job, Save, Questions as TheQuestions, Tidy, Help, Refused}
+use Rattle.kmin_words.specs.declared.command_line.ParsedWords.{ParsedWords}
+use Rattle.kmin_words.specs.declared.command_line.ParsedWords.TheVariants.{Job, Save, Questions as TheQuestions, Tidy, Help, Refused}
 use Rattle.kmin_words.specs.Jobs.{Definition, Expansion, Settings, Questions, PathList, Tidying, Task, over, compare, paths_of, settings_view, questions_view, tidying_view, task_view}
 
 -- the one value of an option or a word, empty without one
 abbrev pub value_of : Found → List ℕ → List ℕ
 value_of found id = unwrap_or (first_value found id) []
 
--- the values of a word that may be given any number of times, in order
+-- the values of a repeatable option or word, in order
 abbrev pub values_of : Found → List ℕ → List (List ℕ)
 values_of found id = unwrap_or (option_map raw_values (matched_of found id)) []
 
@@ -61,53 +61,55 @@ task_of name found = elim (verb_of name) [
   | None ↦ compare (value_of found (codes "LEFT")) (value_of found (codes "RIGHT"))
 ]
 
--- a value, or the line that says why words are refused
+-- a value, or the line of the message with which it is refused
 abbrev pub OrRefused : Type 0 → Type 0
 OrRefused A = Result A (List ℕ)
 
+-- a text has the byte 10
 abbrev pub has_newline : List ℕ → Bool
 has_newline text = list_any (λ b. b == 10) text
 
--- a name that an environment may have, and a value of at most 65,536 bytes and no newline, whose white bytes at the end are dropped
+-- a name that an environment may have, and a value of at most `max_text_bytes` bytes and no newline, whose white bytes at the end are dropped
 abbrev pub named_value : List ℕ → List ℕ → Option Definition
 named_value name value =
     if is_environment_name name && (nat_le (length value) max_text_bytes && not (has_newline value))
     then Some (record { name = name; value = without_white_end value })
     else None
 
--- the definition that a text is, a name and a value round its first `=`
+-- the definition of a text `NAME=VALUE`, cut at its first `=`
 abbrev pub definition_of : List ℕ → Option Definition
 definition_of text = elim (position (λ b. b == 61) text) [ Some n ↦ named_value (take n text) (drop (n + 1) text) | None ↦ None ]
 
+-- a text is a definition `NAME=VALUE`
 abbrev pub is_definition : List ℕ → Bool
 is_definition text = is_some (definition_of text)
 
--- the definitions that texts are, each of which has to be one
+-- the definitions of the values of `--define`, each of which has to be one
 abbrev pub definitions_of : List (List ℕ) → OrRefused (List Definition)
 definitions_of texts = if list_all is_definition texts then Ok (filter_map definition_of texts) else Err (codes "define: Malformed\n")
 
--- names of the environment, each of which has to be one that an environment may have
+-- the values of `--env`, each of which has to be a name that an environment may have
 abbrev pub environment_of : List (List ℕ) → OrRefused (List (List ℕ))
 environment_of names = if list_all is_environment_name names then Ok names else Err (codes "env: Malformed\n")
 
--- the path of a tree that is expanded, which has no newline
+-- the path of the first Kconfig file of a tree whose macros are expanded, which may have no newline
 abbrev pub expanded_tree_of : List ℕ → OrRefused (List ℕ)
 expanded_tree_of path = if has_newline path then Err (codes "tree: Malformed\n") else Ok path
 
--- how many of some paths are that of standard input
+-- how many of the paths are `/dev/stdin`
 abbrev pub inputs_among : List (List ℕ) → ℕ
 inputs_among paths = count_by (λ path. bytes_eq path (codes "/dev/stdin")) paths
 
--- configuration files beside files of answers, among which standard input is named at most once; paths are compared as texts
+-- configuration files, where they and the answer files name standard input at most once; paths are compared as texts
 abbrev pub paths_beside : (answers paths : List (List ℕ)) → OrRefused (List (List ℕ))
 paths_beside answers paths = if nat_lt 1 (inputs_among answers + inputs_among paths) then Err (codes "stdin: NamedTwice\n") else Ok paths
 
--- the first refusal of two values, or both
+-- a value made of another one, unless that is refused
 abbrev pub and_then : {A B : Type 0} → OrRefused A → (A → OrRefused B) → OrRefused B
 and_then (Ok x) f = f x
 and_then (Err line) f = Err line
 
--- what the expansion of a tree takes its answers from
+-- the values of `--answers`, `--define` and `--env`, where that of `--tree` is allowed too
 abbrev pub expansion_of : Found → OrRefused Expansion
 expansion_of found =
     and_then (definitions_of (values_of found (codes "define"))) (λ definitions.
@@ -115,7 +117,7 @@ expansion_of found =
     and_then (expanded_tree_of (value_of found (codes "tree"))) (λ tree.
     Ok (record { answers = values_of found (codes "answers"); definitions = definitions; environment = environment }))))
 
--- whether one of the four words that turn the expansion on is given
+-- whether one of the four options that turn the expansion of macros on is given
 abbrev pub is_expanded : Found → Bool
 is_expanded found =
     is_given found (codes "expand")
@@ -123,11 +125,11 @@ is_expanded found =
     || (nat_lt 0 (length (values_of found (codes "define")))
     || nat_lt 0 (length (values_of found (codes "env")))))
 
--- the expansion of a command, where one of those words is given
+-- the values for the expansion of macros, if an option turns it on
 abbrev pub expansion_if_given : Found → OrRefused (Option Expansion)
 expansion_if_given found = if is_expanded found then and_then (expansion_of found) (λ e. Ok (Some e)) else Ok None
 
--- the prefix of names, which has to be one
+-- the value of `--prefix`, which has to be a prefix of names
 abbrev pub prefix_of : List ℕ → OrRefused (List ℕ)
 prefix_of text = if is_prefix text then Ok text else Err (codes "prefix: Malformed\n")
 
@@ -147,62 +149,63 @@ settings_of found paths =
       expansion = expansion;
     }))))
 
--- the options and the command of a name
+-- the options of a command, and the command by its name with its files
 abbrev pub job_of : List ℕ → Found → OrRefused (Settings × Task)
 job_of name found = and_then (settings_of found (paths_of (task_of name found))) (λ settings. Ok (settings, task_of name found))
 
--- a path that may be named and has no newline
+-- the path of an output file, if it is given, which may have no newline
 abbrev pub one_line_output : Option (List ℕ) → OrRefused (Option (List ℕ))
 one_line_output None = Ok None
 one_line_output (Some path) = if has_newline path then Err (codes "file: Malformed\n") else Ok (Some path)
 
--- the path of the file that the answer is put into, where one is named
+-- the value of `--output`, if it is given
 abbrev pub output_of : Found → OrRefused (Option (List ℕ))
 output_of found = one_line_output (first_value found (codes "output"))
 
--- the options and the command of a name, and the path of the file that the answer is put into, where one is named
+-- the options of a command, the command by its name with its files, and the path of its output file, if it is given
 abbrev pub job_and_output_of : List ℕ → Found → OrRefused ((Settings × Task) × Option (List ℕ))
 job_and_output_of name found = and_then (output_of found) (λ output. and_then (job_of name found) (λ job. Ok (job, output)))
 
--- the questions of a tree, which is always expanded
+-- the values of `wants`, which always expands macros
 abbrev pub questions_of : Found → OrRefused Questions
 questions_of found =
     and_then (expansion_of found) (λ expansion.
     and_then (paths_beside (values_of found (codes "answers")) []) (λ named.
     Ok (record { root = value_of found (codes "root"); tree = value_of found (codes "tree"); expansion = expansion })))
 
--- what is done with files that aren't minimal, and with those that have notices
+-- the flags `--write` and `--drop`
 abbrev pub flags_of : Found → TidyFlags
 flags_of found = record { write = is_given found (codes "write"); drop = is_given found (codes "drop") }
 
--- the list of further paths, where `--from` names one
+-- the list of further paths of `--from`, if it is given
 abbrev pub list_of : Found → Option PathList
 list_of found = option_map (λ (path : List ℕ). record { path = path; ended_by_nul = is_given found (codes "z") }) (first_value found (codes "from"))
 
+-- a path has no newline
 abbrev pub is_one_line : List ℕ → Bool
 is_one_line path = not (has_newline path)
 
--- paths, none of which has a newline
+-- paths, none of which may have a newline
 abbrev pub one_line_paths : List (List ℕ) → OrRefused (List (List ℕ))
 one_line_paths paths = if list_all is_one_line paths then Ok paths else Err (codes "file: Malformed\n")
 
--- the path of a list, which as `-` is standard input
+-- the path from which a list is read: `/dev/stdin` for `-`
 abbrev pub path_read : List ℕ → List ℕ
 path_read path = if bytes_eq path (codes "-") then codes "/dev/stdin" else path
 
--- the paths that are read: those of files, and that of a list
+-- all paths that `tidy` reads: its files, and its list
 abbrev pub paths_read : (files : List (List ℕ)) → Option PathList → List (List ℕ)
 paths_read files None = files
 paths_read files (Some list) = files ++ path_read list.path ∷ []
 
--- the files that are each compared with their minimal file or replaced by it
+-- the values of `tidy`: its options, flags, list and files
 abbrev pub tidying_of : Found → OrRefused Tidying
 tidying_of found =
     and_then (one_line_paths (values_of found (codes "FILE"))) (λ files.
     and_then (settings_of found (paths_read files (list_of found))) (λ settings.
     Ok (record { settings = settings; flags = flags_of found; list = list_of found; files = files })))
 
--- parsed words are the questions that were found, or are refused with the line that refuses these
+-- parsed words are the command `wants` with these values, or the message with which a value is refused
 abbrev pub AreQuestions : OrRefused Questions → ParsedWords → Type 0
 AreQuestions found (TheQuestions questions) = found ≡ Ok (questions_view questions)
 AreQuestions found (Refused text) = found ≡ Err text.bytes.items
@@ -211,7 +214,7 @@ AreQuestions found (Save saving) = ⊥
 AreQuestions found (Tidy tidying) = ⊥
 AreQuestions found (Help text) = ⊥
 
--- parsed words are the job that was found, with the file that its answer is put into where one was, or are refused with the line that refuses it
+-- parsed words are a command with these values, with its output file if there is one, or the message with which a value is refused
 abbrev pub AreJob : OrRefused ((Settings × Task) × Option (List ℕ)) → ParsedWords → Type 0
 AreJob found (Job job) = found ≡ Ok ((settings_view job.settings, task_view job.task), None)
 AreJob found (Save saving) = found ≡ Ok ((settings_view saving.job.settings, task_view saving.job.task), Some saving.output.now)
@@ -220,7 +223,7 @@ AreJob found (TheQuestions questions) = ⊥
 AreJob found (Tidy tidying) = ⊥
 AreJob found (Help text) = ⊥
 
--- parsed words are the files that were found, or are refused with the line that refuses them
+-- parsed words are the command `tidy` with these values, or the message with which a value is refused
 abbrev pub IsTidying : OrRefused Tidying → ParsedWords → Type 0
 IsTidying found (Tidy tidying) = found ≡ Ok (tidying_view tidying)
 IsTidying found (Refused text) = found ≡ Err text.bytes.items
@@ -229,14 +232,14 @@ IsTidying found (Save saving) = ⊥
 IsTidying found (TheQuestions questions) = ⊥
 IsTidying found (Help text) = ⊥
 
--- parsed words are what was found for a command of this name
+-- parsed words are the command of this name with the values that were found, or the message with which one is refused
 abbrev pub HasValues : (name : List ℕ) → Found → ParsedWords → Type 0
 HasValues name found words = elim (bytes_eq name (codes "wants")) [
   | true ↦ AreQuestions (questions_of found) words
   | false ↦ elim (bytes_eq name (codes "tidy")) [ true ↦ IsTidying (tidying_of found) words | false ↦ AreJob (job_and_output_of name found) words ]
 ]
 
--- a job, questions and files are what was found for a command of some name, of which nothing is refused
+-- a parsed command has the values that were found for a command of some name, none of them refused
 abbrev pub HasFoundValues : ParsedWords → Type 0
 HasFoundValues (Job job) = (found : Found) × (name : List ℕ) × AreJob (job_and_output_of name found) (Job job)
 HasFoundValues (Save saving) = (found : Found) × (name : List ℕ) × AreJob (job_and_output_of name found) (Save saving)

@@ -1,4 +1,4 @@
--- Results beside their definitions.
+-- Results of parsing, compared with their definitions.
 use Rattle.std.specs.Prelude.{◌≡◌, ℕ, List, Result, Ok, Err}
 use Rattle.kmin_words.specs.declared.refusal.Refusal.{Refusal}
 use Rattle.kmin_words.specs.declared.refusal.Refusal.TheVariants.{Words, OutOfMemory}

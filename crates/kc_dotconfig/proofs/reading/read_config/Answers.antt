@@ -75,7 +75,8 @@ loop-size-preserved g c =
 pub returns-then-count-eq0-clause-fits : goal.returns-then-count-eq0-clause-fits
 returns-then-count-eq0-clause-fits g c =
     whole_fits c.finish.result (file_format c.args.format.now) (tree_of_settled c.args.settled.now) (g.R.Source.left c.args.source.now)
-    (g.R.Source.left c.loop-size.source) c.loop-size.cutter c.loop-size.gathered c.loop-size.size c.args.format.now.prefix.valid c.tree.ensures.settled.consistent
+    (g.R.Source.left c.loop-size.source) c.loop-size.cutter c.loop-size.gathered c.loop-size.size c.args.format.now.prefix.valid
+    c.tree.ensures.settled.consistent
     c.loop-size.invariant.read c.finish.ensures.ok
 
 pub returns-then-count-eq0-clause-unfailed : goal.returns-then-count-eq0-clause-unfailed

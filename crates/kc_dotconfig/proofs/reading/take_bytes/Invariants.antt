@@ -9,7 +9,8 @@ use Rattle.kc_dotconfig.proofs.reading.take_bytes.Given as goal
 abbrev pub invariant-loop-at : goal.invariant-loop-at
 invariant-loop-at l = record {
   few : l.gathered.lines ≤ MAX_CONFIG_LINES;
-  taken : (front : List ℕ) × (l.fn.bytes ≡ front ++ l.rest) × AcceptsBytes (file_format l.fn.format) (tree_of_settled l.fn.settled) l.fn.cutter l.fn.gathered front l.cutter l.gathered;
+  taken : (front : List ℕ) × (l.fn.bytes ≡ front ++ l.rest) × AcceptsBytes (file_format l.fn.format)
+      (tree_of_settled l.fn.settled) l.fn.cutter l.fn.gathered front l.cutter l.gathered;
 }
 
 abbrev pub decreases-loop-at : goal.decreases-loop-at

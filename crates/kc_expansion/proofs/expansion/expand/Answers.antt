@@ -10,13 +10,15 @@ use Rattle.kc_expansion.proofs.ExpansionLemmas.{from_start, goes_on, expansion_r
 use Rattle.kc_expansion.proofs.expansion.expand.Goals as goal
 
 pub read_tree-requires : goal.read_tree-requires
-read_tree-requires g c =
-    let a = file_run_of (g.F.TreeFiles.contents c.args.files.now) c.new_reading-reading.result in
-    let b = file_run_of (g.F.TreeFiles.contents c.read_root-read.new.files) c.read_root-read.new.reading in
-    let root = c.args.root.now in
-    let e = end_of (λ text. with_root root text.value.items c.read_root-read.new.reading.expanded) c.read_root-read.result in
-    let s = from_start a b c.args.answers.now true (tree_read root) e c.new_reading-reading.ensures.known c.new_reading-reading.ensures.run c.read_root-read.ensures in
-    goes_on a.contents b c.args.answers.now root s.0 _ c.read_root-read.result s.1
+read_tree-requires g c = record {
+  goes_on = let a = file_run_of (g.F.TreeFiles.contents c.args.files.now) c.new_reading-reading.result in
+      let b = file_run_of (g.F.TreeFiles.contents c.read_root-read.new.files) c.read_root-read.new.reading in
+      let root = c.args.root.now in
+      let e = end_of (λ text. with_root root text.value.items c.read_root-read.new.reading.expanded) c.read_root-read.result in
+      let s = from_start a b c.args.answers.now true (tree_read root) e c.new_reading-reading.ensures.known c.new_reading-reading.ensures.run
+      c.read_root-read.ensures.reads in
+      goes_on a.contents b c.args.answers.now root s.0 _ c.read_root-read.result s.1;
+}
 
 pub returns-clause-expanded : goal.returns-clause-expanded
 returns-clause-expanded g c =
@@ -25,9 +27,10 @@ returns-clause-expanded g c =
     let root = c.args.root.now in
     let answers = c.args.answers.now in
     let e = end_of (λ text. with_root root text.value.items c.read_root-read.new.reading.expanded) c.read_root-read.result in
-    let s = from_start a b answers true (tree_read root) e c.new_reading-reading.ensures.known c.new_reading-reading.ensures.run c.read_root-read.ensures in
+    let s = from_start a b answers true (tree_read root) e c.new_reading-reading.ensures.known c.new_reading-reading.ensures.run
+    c.read_root-read.ensures.reads in
     expansion_read a.contents b answers root s.0 (map notice_of c.into_notices.result.items) (tree_of c.in_ok-tree.tree) c.into_notices.ensures
-    (subst (Reaches b.known (run_at_start answers true) b.run (tree_read root)) c.in_ok-tree.ensures s.1)
+    (subst (Reaches b.known (run_at_start answers true) b.run (tree_read root)) c.in_ok-tree.ensures.tree s.1)
 
 pub returns-clause-few : goal.returns-clause-few
 returns-clause-few g c =

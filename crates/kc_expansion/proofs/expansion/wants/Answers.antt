@@ -5,7 +5,7 @@ use Rattle.kc_expansion.specs.Expansions.{questions_of}
 use Rattle.kc_expansion.specs.TextViews.{texts_of}
 use Rattle.kc_expansion.specs.checker.ExpansionViews.{with_root}
 use Rattle.kc_expansion.specs.checker.ReadingViews.{file_run_of}
-use Rattle.kc_expansion.proofs.ReadLemmas.{if_ok}
+use Rattle.kc_expansion.proofs.FileProgramLemmas.{if_ok}
 use Rattle.kc_expansion.proofs.ExpansionLemmas.{from_start, wanted_of}
 use Rattle.kc_expansion.proofs.expansion.wants.Goals as goal
 
@@ -16,6 +16,9 @@ returns-clause-wanted g c =
     let root = c.args.root.now in
     let answers = c.args.answers.now in
     let e = end_of (λ text. with_root root text.value.items c.read_root-read.new.reading.expanded) c.read_root-read.result in
-    let s = from_start a b answers false (tree_read root) e c.new_reading-reading.ensures.known c.new_reading-reading.ensures.run c.read_root-read.ensures in
-    wanted_of a.contents b answers root s.0 (λ text. with_root root text.value.items c.read_root-read.new.reading.expanded) c.read_root-read.result questions_of c.wanted_by.result (texts_of c.in_ok-questions.questions)
-    c.in_ok-questions.ensures s.1 c.wanted_by.ensures.ended (if_ok c.wanted_by.result _ _ (λ w h. h (λ text. with_root root text.value.items c.read_root-read.new.reading.expanded)) c.wanted_by.ensures.wanted)
+    let s = from_start a b answers false (tree_read root) e c.new_reading-reading.ensures.known c.new_reading-reading.ensures.run
+    c.read_root-read.ensures.reads in
+    wanted_of a.contents b answers root s.0 (λ text. with_root root text.value.items c.read_root-read.new.reading.expanded) c.read_root-read.result questions_of
+    c.wanted_by.result (texts_of c.in_ok-questions.questions)
+    c.in_ok-questions.ensures s.1 c.wanted_by.ensures.ended (if_ok c.wanted_by.result _ _
+    (λ w h. h (λ text. with_root root text.value.items c.read_root-read.new.reading.expanded)) c.wanted_by.ensures.wanted)

@@ -1,9 +1,10 @@
 use Rattle.std.proofs.Common.{ap}
 use Rattle.kc_macros.specs.Runs.{place_of}
-use Rattle.kc_macros.specs.Variables.{bindings_of}
-use Rattle.kc_macros.proofs.ExpandLemmas.{fails_so}
+use Rattle.kc_macros.specs.between.Variables.{bindings_of}
+use Rattle.kc_macros.proofs.ExpansionLemmas.{fails_so}
 use Rattle.kc_expansion.specs.checker.ReadingViews.{assigned_or_fault}
 use Rattle.kc_expansion.proofs.line_steps.assign_line.Goals as goal
 
 pub returns-then-joined-clause-run : goal.returns-then-joined-clause-run
-returns-then-joined-clause-run c = fails_so c.args.state.now.run _ _ c.fault.result (ap (λ j. assigned_or_fault (place_of c.args.at) j (bindings_of c.args.state.now.bindings) c.args.assignment) c.if-joined.true) c.fault.ensures
+returns-then-joined-clause-run c = fails_so c.args.state.now.run _ _ c.fault.result
+    (ap (λ j. assigned_or_fault (place_of c.args.at) j (bindings_of c.args.state.now.bindings) c.args.assignment) c.if-joined.true) c.fault.ensures

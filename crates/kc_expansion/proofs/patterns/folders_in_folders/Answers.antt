@@ -15,9 +15,12 @@ pub returns-in_ok-with_slashes-in-Ok-clause-finds : goal.returns-in_ok-with_slas
 returns-in_ok-with_slashes-in-Ok-clause-finds g c = λ at.
     let known = known_of c.paths_in_folders.new.store in
     let p = paths_in_folders at c.args.piece.now (items_of c.args.folders.now) c.args.listed in
-    let e : texts_of c.in_ok-with_slashes-in-Ok.field-0 ≡ map (λ path. path ++ 47 ∷ []) (texts_of c.in-Ok.found.paths) = c.in_ok-with_slashes-in-Ok.ensures ∙ ap (λ (vs : List (Vec ℕ Global)). map (λ path. path ++ 47 ∷ []) (items_of vs)) c.deref.ensures.value in
-    subst (λ ps. Comes known (slashed p) (returned (found ps c.in-Ok.found.listed))) (sym e) (slashed_found at known p (found_of c.in-Ok.found) (c.in-Ok.ensures.finds at))
+    let e : texts_of c.in_ok-with_slashes-in-Ok.field-0 ≡ map (λ path. path ++ 47 ∷ []) (texts_of c.in-Ok.found.paths) =
+    c.in_ok-with_slashes-in-Ok.ensures ∙ ap (λ (vs : List (Vec ℕ Global)). map (λ path. path ++ 47 ∷ []) (items_of vs)) c.deref.ensures.value in
+    subst (λ ps. Comes known (slashed p) (returned (found ps c.in-Ok.found.listed))) (sym e)
+    (slashed_found at known p (found_of c.in-Ok.found) (c.in-Ok.ensures.finds at))
 
 pub returns-in-Err-clause-finds : goal.returns-in-Err-clause-finds
 returns-in-Err-clause-finds g c = λ at.
-    stops_then at (known_of c.paths_in_folders.new.store) (paths_in_folders at c.args.piece.now (items_of c.args.folders.now) c.args.listed) (λ f. returns (found (map (λ path. path ++ 47 ∷ []) f.paths) f.listed)) c.in-Err.stop (c.in-Err.ensures.finds at)
+    stops_then at (known_of c.paths_in_folders.new.store) (paths_in_folders at c.args.piece.now (items_of c.args.folders.now) c.args.listed)
+    (λ f. returns (found (map (λ path. path ++ 47 ∷ []) f.paths) f.listed)) c.in-Err.stop (c.in-Err.ensures.finds at)

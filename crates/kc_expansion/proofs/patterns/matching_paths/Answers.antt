@@ -23,9 +23,11 @@ returns-in-Err-clause-finds g c = λ at.
     let listed = c.loop-cut.found.listed in
     let whole = paths_below at (path_pieces c.args.pattern.now) ([] ∷ []) c.args.listed in
     let here = paths_below at (path_pieces rest) (texts_of c.loop-cut.found.paths) listed in
-    let h = subst (λ (vs : List (Vec ℕ Global)). Finds new at (slashed (paths_in_folders at piece (items_of vs) listed)) (Err c.in-Err.stop)) c.deref.ensures.value (c.in-Err.ensures.finds at) in
-    stops_same at new whole here c.in-Err.stop (same_later (g.F.TreeFiles.contents c.loop-cut.files) old new c.folders_in_folders.ensures.grows whole here (c.loop-cut.invariant.rest at))
-    (below_stops at new rest piece c.in-Some.cut.behind.now (texts_of c.loop-cut.found.paths) listed c.in-Err.stop c.in-Some.ensures.some.pieces h)
+    let h = subst (λ (vs : List (Vec ℕ Global)). Finds new at (slashed (paths_in_folders at piece (items_of vs) listed)) (Err c.in-Err.stop))
+    c.deref.ensures.value (c.in-Err.ensures.finds at) in
+    stops_same at new whole here c.in-Err.stop (same_later (g.F.TreeFiles.contents c.loop-cut.files) old new c.folders_in_folders.ensures.grows whole here
+    (c.loop-cut.invariant.rest at))
+    (below_stops at new rest piece c.in-Some.cut.tail.now (texts_of c.loop-cut.found.paths) listed c.in-Err.stop c.in-Some.ensures.some.pieces h)
 
 pub loop-cut-preserved : goal.loop-cut-preserved
 loop-cut-preserved g c =
@@ -38,14 +40,16 @@ loop-cut-preserved g c =
       rest = λ at.
           let rest = c.loop-cut.rest.now in
           let piece = c.in-Some.cut.piece.now in
-          let behind = c.in-Some.cut.behind.now in
+          let tail = c.in-Some.cut.tail.now in
           let listed = c.loop-cut.found.listed in
           let whole = paths_below at (path_pieces c.args.pattern.now) ([] ∷ []) c.args.listed in
           let here = paths_below at (path_pieces rest) (texts_of c.loop-cut.found.paths) listed in
           let after = found_of c.in-Ok.folders in
-          let h = subst (λ (vs : List (Vec ℕ Global)). Comes new (slashed (paths_in_folders at piece (items_of vs) listed)) (returned after)) c.deref.ensures.value (c.in-Ok.ensures.finds at) in
-          same_twice new whole here (paths_below at (path_pieces behind) after.paths after.listed) (same_later (g.F.TreeFiles.contents c.loop-cut.files) old new c.folders_in_folders.ensures.grows whole here (c.loop-cut.invariant.rest at))
-          (below_step at new rest piece behind (texts_of c.loop-cut.found.paths) listed after c.in-Some.ensures.some.pieces h);
+          let h = subst (λ (vs : List (Vec ℕ Global)). Comes new (slashed (paths_in_folders at piece (items_of vs) listed)) (returned after))
+          c.deref.ensures.value (c.in-Ok.ensures.finds at) in
+          same_twice new whole here (paths_below at (path_pieces tail) after.paths after.listed)
+          (same_later (g.F.TreeFiles.contents c.loop-cut.files) old new c.folders_in_folders.ensures.grows whole here (c.loop-cut.invariant.rest at))
+          (below_step at new rest piece tail (texts_of c.loop-cut.found.paths) listed after c.in-Some.ensures.some.pieces h);
     }
 
 pub returns-clause-finds : goal.returns-clause-finds
@@ -56,6 +60,8 @@ returns-clause-finds g c = λ at.
     let listed = c.loop-cut.found.listed in
     let whole = paths_below at (path_pieces c.args.pattern.now) ([] ∷ []) c.args.listed in
     let here = paths_below at (path_pieces rest) (texts_of c.loop-cut.found.paths) listed in
-    let h = subst (λ (vs : List (Vec ℕ Global)). Finds new at (paths_in_folders at rest (items_of vs) listed) c.paths_in_folders.result) c.deref-2.ensures.value (c.paths_in_folders.ensures.finds at) in
-    finds_same at new whole here c.paths_in_folders.result (same_later (g.F.TreeFiles.contents c.loop-cut.files) old new c.paths_in_folders.ensures.grows whole here (c.loop-cut.invariant.rest at))
+    let h = subst (λ (vs : List (Vec ℕ Global)). Finds new at (paths_in_folders at rest (items_of vs) listed) c.paths_in_folders.result) c.deref-2.ensures.value
+    (c.paths_in_folders.ensures.finds at) in
+    finds_same at new whole here c.paths_in_folders.result (same_later (g.F.TreeFiles.contents c.loop-cut.files) old new c.paths_in_folders.ensures.grows whole
+    here (c.loop-cut.invariant.rest at))
     (below_last at new rest (texts_of c.loop-cut.found.paths) listed c.paths_in_folders.result c.in_default.ensures.none h)

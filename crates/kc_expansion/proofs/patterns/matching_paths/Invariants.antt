@@ -11,7 +11,8 @@ abbrev pub invariant-loop-cut : goal.invariant-loop-cut
 invariant-loop-cut g l = record {
   same : g.F.TreeFiles.contents l.files ≡ g.F.TreeFiles.contents l.fn.files;
   grows : Grows (g.F.TreeFiles.contents l.fn.files) (known_of l.fn.store) (known_of l.store);
-  rest : (at : Place) → HaveSameOutcome (known_of l.store) (paths_below at (path_pieces l.pattern) ([] ∷ []) l.fn.listed) (paths_below at (path_pieces l.rest) (texts_of l.found.paths) l.found.listed);
+  rest : (at : Place) → HaveSameOutcome (known_of l.store) (paths_below at (path_pieces l.pattern) ([] ∷ []) l.fn.listed)
+      (paths_below at (path_pieces l.rest) (texts_of l.found.paths) l.found.listed);
 }
 
 abbrev pub decreases-loop-cut : goal.decreases-loop-cut

@@ -13,5 +13,6 @@ abbrev pub invariant-loop-folder : goal.invariant-loop-folder
 invariant-loop-folder g l = record {
   same : g.F.TreeFiles.contents l.files ≡ g.F.TreeFiles.contents l.fn.files;
   grows : Grows (g.F.TreeFiles.contents l.fn.files) (known_of l.fn.store) (known_of l.store);
-  rest : (at : Place) → HaveSameOutcome (known_of l.store) (paths_in_folders at l.piece (items_of l.folders) l.fn.listed) (rest_of_paths at l.piece (items_of (drop l.folder-index l.folders)) (found_of l.found));
+  rest : (at : Place) → HaveSameOutcome (known_of l.store) (paths_in_folders at l.piece (items_of l.folders) l.fn.listed)
+      (rest_of_paths at l.piece (items_of (drop l.folder-index l.folders)) (found_of l.found));
 }

@@ -13,14 +13,16 @@ use Rattle.kc_expansion.proofs.PatternLemmas.{finds_listed, too_many_listed, too
 use Rattle.kc_expansion.proofs.patterns.push_listed.Goals as goal
 
 pub returns-in_default-clause-finds : goal.returns-in_default-clause-finds
-returns-in_default-clause-finds g c = λ at. too_many_there (known_of c.list.new.self) at c.args.piece.now c.args.folder.now c.args.found.now.listed c.in_default.ensures
+returns-in_default-clause-finds g c = λ at. too_many_there (known_of c.list.new.self) at c.args.piece.now c.args.folder.now c.args.found.now.listed
+    c.in_default.ensures.value
 
 pub returns-then-listed-gt-MAX_LISTED_NAMES-clause-finds : goal.returns-then-listed-gt-MAX_LISTED_NAMES-clause-finds
 returns-then-listed-gt-MAX_LISTED_NAMES-clause-finds g c = λ at.
     let ns = c.in-Some.names.now in
     let len : length (items_of ns) ≡ length ns = length-map ns (λ (v : Vec ℕ Global). v.items) in
     let many : max_listed_names < c.args.found.now.listed + length (items_of ns) = omega (arith, c.saturating_add-listed.ensures) in
-    too_many_listed (known_of c.list.new.self) at c.args.piece.now c.args.folder.now c.args.found.now.listed (items_of ns) c.in-Some.ensures (more_is_many (c.args.found.now.listed + length (items_of ns)) many)
+    too_many_listed (known_of c.list.new.self) at c.args.piece.now c.args.folder.now c.args.found.now.listed (items_of ns) c.in-Some.ensures.value
+    (more_is_many (c.args.found.now.listed + length (items_of ns)) many)
 
 pub returns-clause-finds : goal.returns-clause-finds
 returns-clause-finds g c = λ at.
@@ -32,5 +34,10 @@ returns-clause-finds g c = λ at.
     let len : length (items_of ns) ≡ length ns = length-map ns (λ (v : Vec ℕ Global). v.items) in
     let sum : c.saturating_add-listed.result ≡ listed + length (items_of ns) = omega (arith, c.saturating_add-listed.ensures) in
     let few : listed + length (items_of ns) ≤ max_listed_names = omega arith in
-    let comes = finds_listed (known_of c.list.new.self) at piece folder listed (items_of ns) c.in-Some.ensures (less_is_few (listed + length (items_of ns)) few) in
-    (more, c.in_ok-push_matching.ensures, subst (λ l. Comes (known_of c.list.new.self) (does (list_folder folder) (matching_names at piece folder listed)) (returned (found more l))) (sym sum) comes)
+    let comes = finds_listed (known_of c.list.new.self) at piece folder listed (items_of ns) c.in-Some.ensures.value
+    (less_is_few (listed + length (items_of ns)) few) in (
+      more,
+      c.in_ok-push_matching.ensures,
+      subst (λ l. Comes (known_of c.list.new.self) (does (list_folder folder) (matching_names at piece folder listed))
+          (returned (found more l))) (sym sum) comes,
+    )

@@ -10,11 +10,13 @@ use Rattle.kc_expansion.proofs.source_faults.bytes_to_read.Goals as goal
 
 pub returns-then-is_open-clause-err : goal.returns-then-is_open-clause-err
 returns-then-is_open-clause-err c =
-    refused_open (slices_of c.args.open_files.now) c.args.counts c.args.path.now (file_of c.args.read) (sym (open_by c.args.path.now c.args.open_files.now) ∙ sym c.is_open.ensures ∙ c.if-is_open.true)
+    refused_open (slices_of c.args.open_files.now) c.args.counts c.args.path.now (file_of c.args.read)
+    (sym (open_by c.args.path.now c.args.open_files.now) ∙ sym c.is_open.ensures ∙ c.if-is_open.true)
 
 pub returns-in-Missing-clause-err : goal.returns-in-Missing-clause-err
 returns-in-Missing-clause-err c =
-    refused_missing (slices_of c.args.open_files.now) c.args.counts c.args.path.now (file_of c.args.read) (sym (open_by c.args.path.now c.args.open_files.now) ∙ sym c.is_open.ensures ∙ c.if-is_open.false) (ap file_of c.in-Missing.is)
+    refused_missing (slices_of c.args.open_files.now) c.args.counts c.args.path.now (file_of c.args.read)
+    (sym (open_by c.args.path.now c.args.open_files.now) ∙ sym c.is_open.ensures ∙ c.if-is_open.false) (ap file_of c.in-Missing.is)
 
 pub returns-in-Some-clause-err : goal.returns-in-Some-clause-err
 returns-in-Some-clause-err c =
@@ -24,7 +26,8 @@ returns-in-Some-clause-err c =
     let e : is_in_list c.args.path.now (slices_of os) ≡ false = sym (open_by c.args.path.now os) ∙ sym c.is_open.ensures ∙ c.if-is_open.false in
     let n : c.len.result ≡ length bytes = c.len.ensures ∙ ap vec_len c.deref.ensures ∙ c.in-Whole.bytes.value.ok.0 in
     refused_whole (slices_of os) counts c.args.path.now (file_of c.args.read) bytes e (ap file_of c.in-Whole.is) c.in-Some.kind
-    (ap (λ k. size_fault k counts.files (counts.bytes + length bytes)) (length-map os (λ o. o.now)) ∙ ap (λ m. size_fault (length os) counts.files (counts.bytes + m)) (sym n) ∙ sym c.size_fault.ensures ∙ c.in-Some.is)
+    (ap (λ k. size_fault k counts.files (counts.bytes + length bytes)) (length-map os (λ o. o.now))
+    ∙ ap (λ m. size_fault (length os) counts.files (counts.bytes + m)) (sym n) ∙ sym c.size_fault.ensures ∙ c.in-Some.is)
 
 pub returns-in-None-clause-ok : goal.returns-in-None-clause-ok
 returns-in-None-clause-ok c =
@@ -34,14 +37,17 @@ returns-in-None-clause-ok c =
     let e : is_in_list c.args.path.now (slices_of os) ≡ false = sym (open_by c.args.path.now os) ∙ sym c.is_open.ensures ∙ c.if-is_open.false in
     let n : c.len.result ≡ length bytes = c.len.ensures ∙ ap vec_len c.deref.ensures ∙ c.in-Whole.bytes.value.ok.0 in
     read_whole (slices_of os) counts c.args.path.now (file_of c.args.read) bytes e (ap file_of c.in-Whole.is)
-    (ap (λ k. size_fault k counts.files (counts.bytes + length bytes)) (length-map os (λ o. o.now)) ∙ ap (λ m. size_fault (length os) counts.files (counts.bytes + m)) (sym n) ∙ sym c.size_fault.ensures ∙ c.in-None.is)
+    (ap (λ k. size_fault k counts.files (counts.bytes + length bytes)) (length-map os (λ o. o.now))
+    ∙ ap (λ m. size_fault (length os) counts.files (counts.bytes + m)) (sym n) ∙ sym c.size_fault.ensures ∙ c.in-None.is)
 
 pub returns-in-TooLong-clause-err : goal.returns-in-TooLong-clause-err
 returns-in-TooLong-clause-err c =
     let os = c.args.open_files.now in
-    refused_deep (slices_of os) c.args.counts c.args.path.now (file_of c.args.read) (sym (open_by c.args.path.now os) ∙ sym c.is_open.ensures ∙ c.if-is_open.false) (ap file_of c.in-TooLong.is) (omega (arith, length-map os (λ o. o.now)))
+    refused_deep (slices_of os) c.args.counts c.args.path.now (file_of c.args.read) (sym (open_by c.args.path.now os) ∙ sym c.is_open.ensures
+    ∙ c.if-is_open.false) (ap file_of c.in-TooLong.is) (omega (arith, length-map os (λ o. o.now)))
 
 pub returns-in-TooLong-2-clause-err : goal.returns-in-TooLong-2-clause-err
 returns-in-TooLong-2-clause-err c =
     let os = c.args.open_files.now in
-    refused_long (slices_of os) c.args.counts c.args.path.now (file_of c.args.read) (sym (open_by c.args.path.now os) ∙ sym c.is_open.ensures ∙ c.if-is_open.false) (ap file_of c.in-TooLong-2.is) (omega (arith, length-map os (λ o. o.now)))
+    refused_long (slices_of os) c.args.counts c.args.path.now (file_of c.args.read) (sym (open_by c.args.path.now os) ∙ sym c.is_open.ensures
+    ∙ c.if-is_open.false) (ap file_of c.in-TooLong-2.is) (omega (arith, length-map os (λ o. o.now)))

@@ -1,5 +1,5 @@
 use Rattle.std.proofs.Common.{◌≡◌, ◌++◌, drop}
-use Rattle.kc_macros_model.specs.Rewriting.{escaped_text}
+use Rattle.kc_macros_model.specs.WrittenTokens.{escaped_text}
 use Rattle.kc_expansion.proofs.source_lines.push_escaped.Given as goal
 
 abbrev pub invariant-loop-byte : goal.invariant-loop-byte

@@ -4,11 +4,11 @@ use Rattle.kc_macros_model.specs.Worlds.{returned}
 use Rattle.kc_macros_model.specs.PathPatterns.{is_pattern, readable_paths}
 use Rattle.kc_macros_model.specs.TreeExpansion.{file_list, list_name, path_read}
 use Rattle.kc_macros.specs.Runs.{place_of}
-use Rattle.kc_macros.specs.LineFormViews.{source_sort_of}
+use Rattle.kc_macros.specs.between.LineFormViews.{source_sort_of}
 use Rattle.kc_expansion.specs.TextViews.{texts_of}
 use Rattle.kc_expansion.specs.checker.ReadingViews.{state_of, file_run_of, pattern_followed}
-use Rattle.kc_expansion.proofs.ReadLemmas.{leads_same, leads_then, leads_on, reads_by_files, steps_on, steps_out_now}
-use Rattle.kc_expansion.proofs.TreeReadLemmas.{path_of_pattern, path_optional}
+use Rattle.kc_expansion.proofs.FileProgramLemmas.{leads_same, leads_then, leads_on, reads_by_files, steps_on, steps_out_now}
+use Rattle.kc_expansion.proofs.SourceReadLemmas.{path_of_pattern, path_optional}
 use Rattle.kc_expansion.proofs.source_paths.paths_to_read.Goals as goal
 
 pub returns-then-is_pattern : goal.returns-then-is_pattern
@@ -38,4 +38,5 @@ returns-then-sort g c = λ sub.
     let p = readable_paths (path ∷ []) in
     leads_then a a b (path_read sub at sort path s) (p >>= λ paths. sub at (file_list (list_name at) paths) s) (sub at (file_list (list_name at) found) s)
     (leads_same a (path_read sub at sort path s) (p >>= λ paths. sub at (file_list (list_name at) paths) s) (path_optional sub at sort path s e c.if-sort.true))
-    (leads_on a b p (λ paths. sub at (file_list (list_name at) paths) s) found (reads_by_files a b p (returned found) c.path_if_readable.ensures.same c.path_if_readable.ensures.grows refl c.in_ok-paths.ensures.reads))
+    (leads_on a b p (λ paths. sub at (file_list (list_name at) paths) s) found
+    (reads_by_files a b p (returned found) c.path_if_readable.ensures.same c.path_if_readable.ensures.grows refl c.in_ok-paths.ensures.reads))

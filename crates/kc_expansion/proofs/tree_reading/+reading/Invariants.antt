@@ -4,7 +4,7 @@ use Rattle.kc_tree_model.specs.LogicalLines.{split_at_newlines}
 use Rattle.kc_macros_model.specs.TreeExpansion.{list_read, lines_read}
 use Rattle.kc_macros.specs.Runs.{place_of}
 use Rattle.kc_expansion.specs.TextViews.{items_of}
-use Rattle.kc_expansion.specs.checker.Leads.{Leads}
+use Rattle.kc_expansion.specs.checker.ProgramSteps.{Leads}
 use Rattle.kc_expansion.specs.checker.ReadingViews.{state_of, file_run_of, reader_of, lists_left, lines_left, IsWrittenTo}
 use Rattle.kc_expansion.specs.checker.WrittenViews.{text_up_to}
 use Rattle.kc_expansion.proofs.tree_reading.+reading.Given as goal
@@ -34,12 +34,17 @@ abbrev pub decreases-read_lines : goal.decreases-read_lines
 decreases-read_lines g l = 8 * (33 - length l.opened.now.paths.now) + 5
 
 abbrev pub invariant-list_lines-paths : goal.invariant-list_lines-paths
-invariant-list_lines-paths g l = Leads (file_run_of (g.F.TreeFiles.contents l.fn.files) l.fn.reading) (list_read (reader_of l.opened) (place_of l.at) (items_of l.paths) (state_of l.fn.reading)) (file_run_of (g.F.TreeFiles.contents l.files) l.reading) (lists_left (reader_of l.opened) (place_of l.at) l.text.items (items_of (drop l.path-index l.paths)) (state_of l.reading))
+invariant-list_lines-paths g l = Leads (file_run_of (g.F.TreeFiles.contents l.fn.files) l.fn.reading)
+    (list_read (reader_of l.opened) (place_of l.at) (items_of l.paths) (state_of l.fn.reading)) (file_run_of (g.F.TreeFiles.contents l.files) l.reading)
+    (lists_left (reader_of l.opened) (place_of l.at) l.text.items (items_of (drop l.path-index l.paths)) (state_of l.reading))
 
 abbrev pub invariant-read_lines-lines : goal.invariant-read_lines-lines
 invariant-read_lines-lines g l = record {
   written : IsWrittenTo l.bytes.value.items l.start l.out;
-  leads : Leads (file_run_of (g.F.TreeFiles.contents l.fn.files) l.fn.reading) (lines_read (reader_of l.opened) l.file 0 1 (split_at_newlines l.bytes.value.items) (state_of l.fn.reading)) (file_run_of (g.F.TreeFiles.contents l.files) l.reading) (lines_left (reader_of l.opened) l.file l.start (text_up_to l.out l.start.at) (split_at_newlines (drop l.start.at l.bytes.value.items)) (state_of l.reading));
+  leads : Leads (file_run_of (g.F.TreeFiles.contents l.fn.files) l.fn.reading)
+      (lines_read (reader_of l.opened) l.file 0 1 (split_at_newlines l.bytes.value.items) (state_of l.fn.reading))
+      (file_run_of (g.F.TreeFiles.contents l.files) l.reading) (lines_left (reader_of l.opened) l.file l.start (text_up_to l.out l.start.at)
+      (split_at_newlines (drop l.start.at l.bytes.value.items)) (state_of l.reading));
 }
 
 abbrev pub decreases-read_lines-lines : goal.decreases-read_lines-lines

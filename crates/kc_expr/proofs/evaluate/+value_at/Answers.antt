@@ -10,16 +10,30 @@ use Rattle.kc_expr.proofs.StoreLemmas.{node_of, fits_at}
 use Rattle.kc_expr.proofs.evaluate.+value_at.Goals as goal
 
 pub returns-in-Alone : goal.returns-in-Alone
-returns-in-Alone g t c = record { value = rw (node_of c.args.store.now c.args.index _ _ c.requires.sound c.requires.there c.node.ensures.value c.in-Alone.is) c.leaf_value.ensures.value }
+returns-in-Alone g t c = record {
+  value = rw (node_of c.args.store.now c.args.index _ _ c.requires.sound c.requires.there c.node.ensures.value c.in-Alone.is)
+      c.leaf_value.ensures.value;
+}
 
 pub returns-in-Related : goal.returns-in-Related
-returns-in-Related g t c = record { value = rw (node_of c.args.store.now c.args.index _ _ c.requires.sound c.requires.there c.node.ensures.value c.in-Related.is) c.related_value.ensures.value }
+returns-in-Related g t c =
+    record {
+      value = rw (node_of c.args.store.now c.args.index _ _ c.requires.sound c.requires.there c.node.ensures.value c.in-Related.is)
+          c.related_value.ensures.value;
+    }
 
 pub returns-in-Negated : goal.returns-in-Negated
-returns-in-Negated g t c = record { value = rw (node_of c.args.store.now c.args.index _ _ c.requires.sound c.requires.there c.node.ensures.value c.in-Negated.is) (c.not.ensures.value ∙ ap tri_not c.value_at.ensures.value) }
+returns-in-Negated g t c =
+    record {
+      value = rw (node_of c.args.store.now c.args.index _ _ c.requires.sound c.requires.there c.node.ensures.value c.in-Negated.is)
+          (c.not.ensures.value ∙ ap tri_not c.value_at.ensures.value);
+    }
 
 pub returns-in-Shown : goal.returns-in-Shown
-returns-in-Shown g t c = record { value = rw (node_of c.args.store.now c.args.index _ _ c.requires.sound c.requires.there c.node.ensures.value c.in-Shown.is) (c.shown_value.ensures ∙ ap y_for_m c.value_at-in-Shown.ensures.value) }
+returns-in-Shown g t c = record {
+  value = rw (node_of c.args.store.now c.args.index _ _ c.requires.sound c.requires.there c.node.ensures.value c.in-Shown.is)
+      (c.shown_value.ensures ∙ ap y_for_m c.value_at-in-Shown.ensures.value);
+}
 
 pub ands-init : goal.ands-init
 ands-init g t c =
@@ -34,7 +48,8 @@ ands-preserved g t c =
     let f = fits_at c.args.store.now c.ands.at _ _ c.requires.sound there c.node-in-ands.ensures.value c.in-Both-node.is in
     record {
       below = omega (arith, f);
-      chain = chain_more _ _ _ _ _ _ _ c.and-least.ensures.value c.value_at-in-Both-node.ensures.value (ap (value (environment_of (stored_names c.args.store.now) (g.L.Lookup.symbol_values c.args.lookup.now))) e) c.ands.invariant.chain;
+      chain = chain_more _ _ _ _ _ _ _ c.and-least.ensures.value c.value_at-in-Both-node.ensures.value
+          (ap (value (environment_of (stored_names c.args.store.now) (g.L.Lookup.symbol_values c.args.lookup.now))) e) c.ands.invariant.chain;
     }
 
 pub ors-init : goal.ors-init
@@ -50,7 +65,8 @@ ors-preserved g t c =
     let f = fits_at c.args.store.now c.ors.next _ _ c.requires.sound there c.node-in-ors.ensures.value c.in-Either-node.is in
     record {
       below = omega (arith, f);
-      chain = ors_more _ _ _ _ _ _ _ c.or-greatest.ensures.value c.value_at-in-Either-node.ensures.value (ap (value (environment_of (stored_names c.args.store.now) (g.L.Lookup.symbol_values c.args.lookup.now))) e) c.ors.invariant.chain;
+      chain = ors_more _ _ _ _ _ _ _ c.or-greatest.ensures.value c.value_at-in-Either-node.ensures.value
+          (ap (value (environment_of (stored_names c.args.store.now) (g.L.Lookup.symbol_values c.args.lookup.now))) e) c.ors.invariant.chain;
     }
 
 pub overflow_cast-next-in-Either-node : goal.overflow_cast-next-in-Either-node

@@ -14,7 +14,8 @@ use Rattle.kc_expr.proofs.names.+push_names.Goals as goal
 pub returns-in-Alone-clause-words : goal.returns-in-Alone-clause-words
 returns-in-Alone-clause-words t c =
     let e = ap names_in_reverse (node_of c.args.store.now c.down.at _ _ c.requires.sound (omega arith) c.node.ensures.value c.in-Alone.is) in
-    on_ok_weaker c.push_name.result (λ w. w ∙ ap (λ ws. map (λ i. slice_index_or (stored_names c.args.store.now) i []) c.down.found.items ++ ws) (sym e) ∙ c.down.invariant.words) c.push_name.ensures.words
+    on_ok_weaker c.push_name.result (λ w. w ∙ ap (λ ws. map (λ i. slice_index_or (stored_names c.args.store.now) i []) c.down.found.items ++ ws) (sym e)
+    ∙ c.down.invariant.words) c.push_name.ensures.words
 
 pub returns-in-Alone-clause-held : goal.returns-in-Alone-clause-held
 returns-in-Alone-clause-held t c = on_ok_weaker c.push_name.result (λ h all. h (c.down.invariant.held all)) c.push_name.ensures.held
@@ -22,22 +23,39 @@ returns-in-Alone-clause-held t c = on_ok_weaker c.push_name.result (λ h all. h 
 pub returns-in-Related-clause-words : goal.returns-in-Related-clause-words
 returns-in-Related-clause-words t c =
     let e = ap names_in_reverse (node_of c.args.store.now c.down.at _ _ c.requires.sound (omega arith) c.node.ensures.value c.in-Related.is) in
-    on_ok_weaker c.push_name-in-Related-2.result (λ w. w ∙ ap (λ xs. xs ++ operand_names (operand_of (stored_names c.args.store.now) c.args.store.now.texts.items c.in-Related.right)) c.in_ok-push_name-in-Related.ensures.words ∙ append_assoc (map (λ i. slice_index_or (stored_names c.args.store.now) i []) c.down.found.items) _ _ ∙ ap (λ ws. map (λ i. slice_index_or (stored_names c.args.store.now) i []) c.down.found.items ++ ws) (sym e) ∙ c.down.invariant.words) c.push_name-in-Related-2.ensures.words
+    on_ok_weaker c.push_name-in-Related-2.result
+    (λ w. w ∙ ap (λ xs. xs ++ operand_names (operand_of (stored_names c.args.store.now) c.args.store.now.texts.items c.in-Related.right))
+    c.in_ok-push_name-in-Related.ensures.words ∙ append_assoc (map (λ i. slice_index_or (stored_names c.args.store.now) i []) c.down.found.items) _ _
+    ∙ ap (λ ws. map (λ i. slice_index_or (stored_names c.args.store.now) i []) c.down.found.items ++ ws) (sym e)
+    ∙ c.down.invariant.words) c.push_name-in-Related-2.ensures.words
 
 pub returns-in-Related-clause-held : goal.returns-in-Related-clause-held
-returns-in-Related-clause-held t c = on_ok_weaker c.push_name-in-Related-2.result (λ h all. h (c.in_ok-push_name-in-Related.ensures.held (c.down.invariant.held all))) c.push_name-in-Related-2.ensures.held
+returns-in-Related-clause-held t c = on_ok_weaker c.push_name-in-Related-2.result
+    (λ h all. h (c.in_ok-push_name-in-Related.ensures.held (c.down.invariant.held all))) c.push_name-in-Related-2.ensures.held
 
 pub down-preserved-in-Negated : goal.down-preserved-in-Negated
 down-preserved-in-Negated t c =
     let e = ap names_in_reverse (node_of c.args.store.now c.down.at _ _ c.requires.sound (omega arith) c.node.ensures.value c.in-Negated.is) in
     let f = fits_at c.args.store.now c.down.at _ _ c.requires.sound (omega arith) c.node.ensures.value c.in-Negated.is in
-    record { below = omega (arith, f); words = ap (λ ws. map (λ i. slice_index_or (stored_names c.args.store.now) i []) c.down.found.items ++ ws) (sym e) ∙ c.down.invariant.words; held = c.down.invariant.held; kept = c.down.invariant.kept }
+    record {
+      below = omega (arith, f);
+      words = ap (λ ws. map (λ i. slice_index_or (stored_names c.args.store.now) i []) c.down.found.items ++ ws) (sym e)
+          ∙ c.down.invariant.words;
+      held = c.down.invariant.held;
+      kept = c.down.invariant.kept;
+    }
 
 pub down-preserved-in-Shown : goal.down-preserved-in-Shown
 down-preserved-in-Shown t c =
     let e = ap names_in_reverse (node_of c.args.store.now c.down.at _ _ c.requires.sound (omega arith) c.node.ensures.value c.in-Shown.is) in
     let f = fits_at c.args.store.now c.down.at _ _ c.requires.sound (omega arith) c.node.ensures.value c.in-Shown.is in
-    record { below = omega (arith, f); words = ap (λ ws. map (λ i. slice_index_or (stored_names c.args.store.now) i []) c.down.found.items ++ ws) (sym e) ∙ c.down.invariant.words; held = c.down.invariant.held; kept = c.down.invariant.kept }
+    record {
+      below = omega (arith, f);
+      words = ap (λ ws. map (λ i. slice_index_or (stored_names c.args.store.now) i []) c.down.found.items ++ ws) (sym e)
+          ∙ c.down.invariant.words;
+      held = c.down.invariant.held;
+      kept = c.down.invariant.kept;
+    }
 
 pub down-preserved-in-Both : goal.down-preserved-in-Both
 down-preserved-in-Both t c =
@@ -45,7 +63,8 @@ down-preserved-in-Both t c =
     let f = fits_at c.args.store.now c.down.at _ _ c.requires.sound (omega arith) c.node.ensures.value c.in-Both.is in
     record {
       below = omega (arith, f);
-      words = met_both (map (λ i. slice_index_or (stored_names c.args.store.now) i []) c.down.found.items) _ _ _ _ c.in_ok-push_names-in-Both.ensures.words (ap (λ ws. map (λ i. slice_index_or (stored_names c.args.store.now) i []) c.down.found.items ++ ws) (sym e) ∙ c.down.invariant.words);
+      words = met_both (map (λ i. slice_index_or (stored_names c.args.store.now) i []) c.down.found.items) _ _ _ _ c.in_ok-push_names-in-Both.ensures.words
+          (ap (λ ws. map (λ i. slice_index_or (stored_names c.args.store.now) i []) c.down.found.items ++ ws) (sym e) ∙ c.down.invariant.words);
       held = λ all. c.in_ok-push_names-in-Both.ensures.held (c.down.invariant.held all);
       kept = kept_through c.args.found.now.items c.down.found.items _ c.down.invariant.kept c.in_ok-push_names-in-Both.ensures.kept;
     }
@@ -56,7 +75,8 @@ down-preserved t c =
     let f = fits_at c.args.store.now c.down.at _ _ c.requires.sound (omega arith) c.node.ensures.value c.in-Either.is in
     record {
       below = omega (arith, f);
-      words = met_both (map (λ i. slice_index_or (stored_names c.args.store.now) i []) c.down.found.items) _ _ _ _ c.in_ok-push_names-in-Either.ensures.words (ap (λ ws. map (λ i. slice_index_or (stored_names c.args.store.now) i []) c.down.found.items ++ ws) (sym e) ∙ c.down.invariant.words);
+      words = met_both (map (λ i. slice_index_or (stored_names c.args.store.now) i []) c.down.found.items) _ _ _ _ c.in_ok-push_names-in-Either.ensures.words
+          (ap (λ ws. map (λ i. slice_index_or (stored_names c.args.store.now) i []) c.down.found.items ++ ws) (sym e) ∙ c.down.invariant.words);
       held = λ all. c.in_ok-push_names-in-Either.ensures.held (c.down.invariant.held all);
       kept = kept_through c.args.found.now.items c.down.found.items _ c.down.invariant.kept c.in_ok-push_names-in-Either.ensures.kept;
     }

@@ -12,66 +12,113 @@ use Rattle.kc_expr.proofs.names.+push_new_names.Goals as goal
 pub returns-in-Alone-clause-walked : goal.returns-in-Alone-clause-walked
 returns-in-Alone-clause-walked t c =
     let exprs = exprs_in c.args.store.now in
-    let inside : c.down.at < length c.down.walk = omega (arith, c.down.invariant.walking.below, c.down.invariant.walking.room, c.requires.room, c.requires.there) in
+    let inside : c.down.at < length c.down.walk = omega (
+      arith,
+      c.down.invariant.walking.below,
+      c.down.invariant.walking.room,
+      c.requires.room,
+      c.requires.there,
+    ) in
     let e = node_of c.args.store.now c.down.at _ _ c.requires.sound (omega arith) c.node.ensures.value c.in-Alone.is in
-    rw c.mark.ensures.marked (on_ok_weaker c.push_name.result (λ w. walk_met exprs c.args.index c.args.walk.now c.args.found.now.items c.down.at c.down.walk c.down.found.items inside c.down.invariant.walking c.push_name.new.found.items
-    (λ p. some_pushed exprs p c.down.found.items c.push_name.new.found.items _ w ∙ ap (λ x. passes_some_name exprs p c.down.found.items || mentions p x) (sym e))) c.push_name.ensures.words)
+    rw c.mark.ensures.marked (on_ok_weaker c.push_name.result (λ w. walk_met exprs c.args.index c.args.walk.now c.args.found.now.items c.down.at c.down.walk
+    c.down.found.items inside c.down.invariant.walking c.push_name.new.found.items
+    (λ p. some_pushed exprs p c.down.found.items c.push_name.new.found.items _ w ∙ ap (λ x. passes_some_name exprs p c.down.found.items || mentions p x)
+    (sym e))) c.push_name.ensures.words)
 
 pub returns-in-Related-clause-walked : goal.returns-in-Related-clause-walked
 returns-in-Related-clause-walked t c =
     let exprs = exprs_in c.args.store.now in
-    let inside : c.down.at < length c.down.walk = omega (arith, c.down.invariant.walking.below, c.down.invariant.walking.room, c.requires.room, c.requires.there) in
+    let inside : c.down.at < length c.down.walk = omega (
+      arith,
+      c.down.invariant.walking.below,
+      c.down.invariant.walking.room,
+      c.requires.room,
+      c.requires.there,
+    ) in
     let e = node_of c.args.store.now c.down.at _ _ c.requires.sound (omega arith) c.node.ensures.value c.in-Related.is in
     let more = c.push_name-in-Related-2.new.found.items in
-    rw c.mark.ensures.marked (on_ok_weaker c.push_name-in-Related-2.result (λ w. walk_met exprs c.args.index c.args.walk.now c.args.found.now.items c.down.at c.down.walk c.down.found.items inside c.down.invariant.walking more
-    (λ p. both_pushed exprs p c.down.found.items c.push_name-in-Related.new.found.items more _ _ c.in_ok-push_name-in-Related.ensures.words w ∙ ap (λ x. passes_some_name exprs p c.down.found.items || mentions p x) (sym e))) c.push_name-in-Related-2.ensures.words)
+    rw c.mark.ensures.marked (on_ok_weaker c.push_name-in-Related-2.result
+    (λ w. walk_met exprs c.args.index c.args.walk.now c.args.found.now.items c.down.at c.down.walk c.down.found.items inside c.down.invariant.walking more
+    (λ p. both_pushed exprs p c.down.found.items c.push_name-in-Related.new.found.items more _ _ c.in_ok-push_name-in-Related.ensures.words w
+    ∙ ap (λ x. passes_some_name exprs p c.down.found.items || mentions p x) (sym e))) c.push_name-in-Related-2.ensures.words)
 
 pub returns-in-Alone-clause-held : goal.returns-in-Alone-clause-held
 returns-in-Alone-clause-held t c = on_ok_weaker c.push_name.result (λ h all. h (c.down.invariant.held all)) c.push_name.ensures.held
 
 pub returns-in-Related-clause-held : goal.returns-in-Related-clause-held
-returns-in-Related-clause-held t c = on_ok_weaker c.push_name-in-Related-2.result (λ h all. h (c.in_ok-push_name-in-Related.ensures.held (c.down.invariant.held all))) c.push_name-in-Related-2.ensures.held
+returns-in-Related-clause-held t c = on_ok_weaker c.push_name-in-Related-2.result
+    (λ h all. h (c.in_ok-push_name-in-Related.ensures.held (c.down.invariant.held all))) c.push_name-in-Related-2.ensures.held
 
 pub down-preserved-in-Negated : goal.down-preserved-in-Negated
 down-preserved-in-Negated t c =
-    let inside : c.down.at < length c.down.walk = omega (arith, c.down.invariant.walking.below, c.down.invariant.walking.room, c.requires.room, c.requires.there) in
+    let inside : c.down.at < length c.down.walk = omega (
+      arith,
+      c.down.invariant.walking.below,
+      c.down.invariant.walking.room,
+      c.requires.room,
+      c.requires.there,
+    ) in
     let e = node_of c.args.store.now c.down.at _ _ c.requires.sound (omega arith) c.node.ensures.value c.in-Negated.is in
     let f = fits_at c.args.store.now c.down.at _ _ c.requires.sound (omega arith) c.node.ensures.value c.in-Negated.is in
     record {
-      walking = rw c.mark.ensures.marked (walk_one (exprs_in c.args.store.now) c.args.index c.args.walk.now c.args.found.now.items c.down.at c.down.walk c.down.found.items inside c.down.invariant.walking c.in-Negated.part f (λ p. ap (mentions p) e));
+      walking = rw c.mark.ensures.marked (walk_one (exprs_in c.args.store.now) c.args.index c.args.walk.now c.args.found.now.items c.down.at c.down.walk
+          c.down.found.items inside c.down.invariant.walking c.in-Negated.part f (λ p. ap (mentions p) e));
       held = c.down.invariant.held;
       kept = c.down.invariant.kept;
     }
 
 pub down-preserved-in-Shown : goal.down-preserved-in-Shown
 down-preserved-in-Shown t c =
-    let inside : c.down.at < length c.down.walk = omega (arith, c.down.invariant.walking.below, c.down.invariant.walking.room, c.requires.room, c.requires.there) in
+    let inside : c.down.at < length c.down.walk = omega (
+      arith,
+      c.down.invariant.walking.below,
+      c.down.invariant.walking.room,
+      c.requires.room,
+      c.requires.there,
+    ) in
     let e = node_of c.args.store.now c.down.at _ _ c.requires.sound (omega arith) c.node.ensures.value c.in-Shown.is in
     let f = fits_at c.args.store.now c.down.at _ _ c.requires.sound (omega arith) c.node.ensures.value c.in-Shown.is in
     record {
-      walking = rw c.mark.ensures.marked (walk_one (exprs_in c.args.store.now) c.args.index c.args.walk.now c.args.found.now.items c.down.at c.down.walk c.down.found.items inside c.down.invariant.walking c.in-Shown.part f (λ p. ap (mentions p) e));
+      walking = rw c.mark.ensures.marked (walk_one (exprs_in c.args.store.now) c.args.index c.args.walk.now c.args.found.now.items c.down.at c.down.walk
+          c.down.found.items inside c.down.invariant.walking c.in-Shown.part f (λ p. ap (mentions p) e));
       held = c.down.invariant.held;
       kept = c.down.invariant.kept;
     }
 
 pub down-preserved-in-Both : goal.down-preserved-in-Both
 down-preserved-in-Both t c =
-    let inside : c.down.at < length c.down.walk = omega (arith, c.down.invariant.walking.below, c.down.invariant.walking.room, c.requires.room, c.requires.there) in
+    let inside : c.down.at < length c.down.walk = omega (
+      arith,
+      c.down.invariant.walking.below,
+      c.down.invariant.walking.room,
+      c.requires.room,
+      c.requires.there,
+    ) in
     let e = node_of c.args.store.now c.down.at _ _ c.requires.sound (omega arith) c.node.ensures.value c.in-Both.is in
     let f = fits_at c.args.store.now c.down.at _ _ c.requires.sound (omega arith) c.node.ensures.value c.in-Both.is in
     record {
-      walking = walk_two (exprs_in c.args.store.now) c.args.index c.args.walk.now c.args.found.now.items c.down.at c.down.walk c.down.found.items inside c.down.invariant.walking c.in-Both.left c.in-Both.right c.push_new_names.new.walk c.push_new_names.new.found.items f.0 f.1 (λ p. ap (mentions p) e ∙ list_any-append p _ _) (rw c.mark.ensures.marked at c.in_ok-push_new_names-in-Both.ensures.walked);
+      walking = walk_two (exprs_in c.args.store.now) c.args.index c.args.walk.now c.args.found.now.items c.down.at c.down.walk c.down.found.items inside
+          c.down.invariant.walking c.in-Both.left c.in-Both.right c.push_new_names.new.walk c.push_new_names.new.found.items f.0 f.1
+          (λ p. ap (mentions p) e ∙ list_any-append p _ _) (rw c.mark.ensures.marked at c.in_ok-push_new_names-in-Both.ensures.walked);
       held = λ all. c.in_ok-push_new_names-in-Both.ensures.held (c.down.invariant.held all);
       kept = kept_through c.args.found.now.items c.down.found.items _ c.down.invariant.kept c.in_ok-push_new_names-in-Both.ensures.kept;
     }
 
 pub down-preserved : goal.down-preserved
 down-preserved t c =
-    let inside : c.down.at < length c.down.walk = omega (arith, c.down.invariant.walking.below, c.down.invariant.walking.room, c.requires.room, c.requires.there) in
+    let inside : c.down.at < length c.down.walk = omega (
+      arith,
+      c.down.invariant.walking.below,
+      c.down.invariant.walking.room,
+      c.requires.room,
+      c.requires.there,
+    ) in
     let e = node_of c.args.store.now c.down.at _ _ c.requires.sound (omega arith) c.node.ensures.value c.in-Either.is in
     let f = fits_at c.args.store.now c.down.at _ _ c.requires.sound (omega arith) c.node.ensures.value c.in-Either.is in
     record {
-      walking = walk_two (exprs_in c.args.store.now) c.args.index c.args.walk.now c.args.found.now.items c.down.at c.down.walk c.down.found.items inside c.down.invariant.walking c.in-Either.left c.in-Either.right c.push_new_names-in-Either.new.walk c.push_new_names-in-Either.new.found.items f.0 f.1 (λ p. ap (mentions p) e ∙ list_any-append p _ _) (rw c.mark.ensures.marked at c.in_ok-push_new_names-in-Either.ensures.walked);
+      walking = walk_two (exprs_in c.args.store.now) c.args.index c.args.walk.now c.args.found.now.items c.down.at c.down.walk c.down.found.items inside
+          c.down.invariant.walking c.in-Either.left c.in-Either.right c.push_new_names-in-Either.new.walk c.push_new_names-in-Either.new.found.items f.0 f.1
+          (λ p. ap (mentions p) e ∙ list_any-append p _ _) (rw c.mark.ensures.marked at c.in_ok-push_new_names-in-Either.ensures.walked);
       held = λ all. c.in_ok-push_new_names-in-Either.ensures.held (c.down.invariant.held all);
       kept = kept_through c.args.found.now.items c.down.found.items _ c.down.invariant.kept c.in_ok-push_new_names-in-Either.ensures.kept;
     }

@@ -12,8 +12,11 @@ returns-in-Alone-clause-walked c =
     let exprs = exprs_in c.args.store.now in
     let inside : c.args.index < length c.args.walk.now = omega (arith, c.requires.room, c.requires.there) in
     let e = node_of c.args.store.now c.args.index _ _ c.requires.sound c.requires.there c.node.ensures.value c.in-Alone.is in
-    rw c.mark.ensures.marked (on_ok_weaker c.push_name.result (λ w. walk_met exprs c.args.index c.args.walk.now c.args.found.now.items c.args.index c.args.walk.now c.args.found.now.items inside (walk_begins exprs c.args.index c.args.walk.now c.args.found.now.items c.requires.found) c.push_name.new.found.items
-    (λ p. some_pushed exprs p c.args.found.now.items c.push_name.new.found.items _ w ∙ ap (λ x. passes_some_name exprs p c.args.found.now.items || mentions p x) (sym e))) c.push_name.ensures.words)
+    rw c.mark.ensures.marked (on_ok_weaker c.push_name.result (λ w. walk_met exprs c.args.index c.args.walk.now c.args.found.now.items c.args.index
+    c.args.walk.now c.args.found.now.items inside (walk_begins exprs c.args.index c.args.walk.now c.args.found.now.items c.requires.found)
+    c.push_name.new.found.items
+    (λ p. some_pushed exprs p c.args.found.now.items c.push_name.new.found.items _ w ∙ ap (λ x. passes_some_name exprs p c.args.found.now.items || mentions p x)
+    (sym e))) c.push_name.ensures.words)
 
 pub node-requires : goal.node-requires
 node-requires c = record { there = omega arith }

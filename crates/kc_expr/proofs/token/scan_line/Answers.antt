@@ -17,9 +17,12 @@ loop-at-preserved-in-White c =
     let e = rw r at c.in-White.ensures.lead in
     let b = rw r at c.in-White.ensures.reaches in
     record {
-      read = step_white c.args.language c.args.line.now c.loop-at.at (lexemes_of c.loop-at.found.items) (with_front (lexemes_of c.args.found.now.items) (lexemes_from c.args.language 0 0 c.args.line.now)) (omega (arith, c.as_bytes-bytes.ensures.len)) c.loop-at.invariant.read (sym e);
+      read = step_white c.args.language c.args.line.now c.loop-at.at (lexemes_of c.loop-at.found.items)
+          (with_front (lexemes_of c.args.found.now.items) (lexemes_from c.args.language 0 0 c.args.line.now))
+          (omega (arith, c.as_bytes-bytes.ensures.len)) c.loop-at.invariant.read (sym e);
       kept = c.loop-at.invariant.kept;
-      cut = cut_after_token c.args.line.now c.loop-at.at 1 c.utf8.line (omega arith) (omega (arith, length-drop c.loop-at.at c.args.line.now, c.as_bytes-bytes.ensures.len)) (omega (arith, c.as_bytes-bytes.ensures.len)) b;
+      cut = cut_after_token c.args.line.now c.loop-at.at 1 c.utf8.line (omega arith)
+          (omega (arith, length-drop c.loop-at.at c.args.line.now, c.as_bytes-bytes.ensures.len)) (omega (arith, c.as_bytes-bytes.ensures.len)) b;
     }
 
 pub range-text-requires-clause-end_boundary : goal.range-text-requires-clause-end_boundary
@@ -34,7 +37,14 @@ loop-at-preserved c =
     let e = rw r at c.in-Token.ensures.lead in
     let b = rw r at c.in-Token.ensures.reaches in
     record {
-      read = rw (c.in_ok-push-in-Token.ensures.items, lexemes_more, text_is c.args.line.now c.loop-at.at c.in-Token.len c.range-text.result.now c.range-text.ensures.value) (step_token_of c.args.language c.args.line.now c.loop-at.at (lexemes_of c.loop-at.found.items) (with_front (lexemes_of c.args.found.now.items) (lexemes_from c.args.language 0 0 c.args.line.now)) (omega (arith, c.as_bytes-bytes.ensures.len)) c.loop-at.invariant.read c.in-Token.kind c.in-Token.len b.0 (sym e));
+      read = rw (
+        c.in_ok-push-in-Token.ensures.items,
+        lexemes_more,
+        text_is c.args.line.now c.loop-at.at c.in-Token.len c.range-text.result.now
+            c.range-text.ensures.value,
+      ) (step_token_of c.args.language c.args.line.now c.loop-at.at (lexemes_of c.loop-at.found.items)
+          (with_front (lexemes_of c.args.found.now.items) (lexemes_from c.args.language 0 0 c.args.line.now))
+          (omega (arith, c.as_bytes-bytes.ensures.len)) c.loop-at.invariant.read c.in-Token.kind c.in-Token.len b.0 (sym e));
       kept = rw c.in_ok-push-in-Token.ensures.items (kept_after c.args.found.now.items c.loop-at.found.items _ c.loop-at.invariant.kept);
       cut = cut_after_token c.args.line.now c.loop-at.at c.in-Token.len c.utf8.line b.0 b.1 (omega (arith, c.as_bytes-bytes.ensures.len)) b.2;
     }

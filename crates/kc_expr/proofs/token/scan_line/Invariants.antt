@@ -6,7 +6,8 @@ use Rattle.kc_expr.proofs.token.scan_line.Given as goal
 
 abbrev pub invariant-loop-at : goal.invariant-loop-at
 invariant-loop-at l = record {
-  read : with_front (lexemes_of l.found.items) (lexemes_from l.fn.language 0 l.at (drop l.at l.fn.line)) ≡ with_front (lexemes_of l.fn.found.items) (lexemes_from l.fn.language 0 0 l.fn.line);
+  read : with_front (lexemes_of l.found.items) (lexemes_from l.fn.language 0 l.at (drop l.at l.fn.line))
+      ≡ with_front (lexemes_of l.fn.found.items) (lexemes_from l.fn.language 0 0 l.fn.line);
   kept : take (length l.fn.found.items) l.found.items ≡ l.fn.found.items;
   cut : IsCharBoundary l.fn.line l.at;
 }

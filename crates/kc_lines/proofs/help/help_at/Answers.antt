@@ -12,5 +12,6 @@ returns-then-columns-eq0 c =
 pub returns : goal.returns
 returns c =
     record {
-      help = some_help c.args.bytes.now c.args.at c.indented_at.result.next c.indented_at.result.lines c.first_columns-columns.result c.first_columns-columns.ensures.value (grind (arith, nat_tests)) c.indented_at.ensures.indented;
+      help = some_help c.args.bytes.now c.args.at c.indented_at.result.next c.indented_at.result.lines c.first_columns-columns.result
+          c.first_columns-columns.ensures.value (grind (arith, nat_tests)) c.indented_at.ensures.indented;
     }

@@ -6,7 +6,10 @@ use Rattle.kc_listing.proofs.StatementSteps.{language_of_source, line_of_tokens,
 use Rattle.kc_listing.proofs.line.read_line.Goals as goal
 
 pub returns-in-Err : goal.returns-in-Err
-returns-in-Err c = λ before d. inr (c.in-Err.ensures (file_source_of c.args.from).language before c.args.line false, shown_of (file_source_of c.args.from) _ before d)
+returns-in-Err c = λ before d. inr (
+  c.in-Err.ensures (file_source_of c.args.from).language before c.args.line false,
+  shown_of (file_source_of c.args.from) _ before d,
+)
 
 pub returns-in-Err-push_tokens : goal.returns-in-Err-push_tokens
 returns-in-Err-push_tokens c = λ before d.

@@ -17,7 +17,8 @@ decreases-read_sourced l = 3 * l.depth + 1
 abbrev pub invariant-read_open_file-lines : goal.invariant-read_open_file-lines
 invariant-read_open_file-lines l = record {
   left : (before : List Group) → Describes (file_source_of l.fn.from) l.fn.read before
-      → IsLeft (file_source_of l.fn.from) (read_file (l.fn.depth - 1) (file_source_of l.fn.from)) l.fn.file.number l.fn.file.bytes.now before l.read l.at l.number;
+      → IsLeft (file_source_of l.fn.from) (read_file (l.fn.depth - 1) (file_source_of l.fn.from)) l.fn.file.number l.fn.file.bytes.now before l.read l.at
+      l.number;
   within : l.at ≤ length l.fn.file.bytes.now;
   few : l.number ≤ l.at + 1;
 }

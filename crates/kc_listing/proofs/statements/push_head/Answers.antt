@@ -30,7 +30,8 @@ pub returns-in-Condition : goal.returns-in-Condition
 returns-in-Condition c =
     record {
       appends = λ r before d. rw (c.without_path-in-Condition.ensures, c.in-Condition.is)
-          (head_given r c.args.file c.args.line before (condition (node_expr c.args.read.now.listing.names.arena c.in-Condition.id)) _ c.push_if_block.result refl
+          (head_given r c.args.file c.args.line before (condition (node_expr c.args.read.now.listing.names.arena c.in-Condition.id)) _
+          c.push_if_block.result refl
           (c.push_if_block.ensures.appends r before d));
     }
 

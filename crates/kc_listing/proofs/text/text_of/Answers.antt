@@ -10,4 +10,5 @@ pub returns-in-Ok : goal.returns-in-Ok
 returns-in-Ok c = (grind (arith, nat_tests), utf8_holds c.args.bytes.now c.in-Ok.ensures.cases.1, c.in-Ok.ensures.cases.0)
 
 pub returns-in-Err : goal.returns-in-Err
-returns-in-Err c = λ language read number help. no_text language read number help c.args.bytes.now (grind (arith, nat_tests)) (utf8_fails c.args.bytes.now c.in-Err.ensures.cases.0)
+returns-in-Err c = λ language read number help. no_text language read number help c.args.bytes.now (grind (arith, nat_tests))
+    (utf8_fails c.args.bytes.now c.in-Err.ensures.cases.0)

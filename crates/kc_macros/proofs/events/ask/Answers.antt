@@ -13,5 +13,6 @@ returns-in_err-answered_value-in-Some c = runs_out _ _ _ _ _ c.from_residual.ens
 pub returns-in_ok-answered_value-in-Some : goal.returns-in_ok-answered_value-in-Some
 returns-in_ok-answered_value-in-Some c =
     let a = option_map (λ (t : Bor (List ℕ)). t.now) c.in-Some.answer in
-    returns_as c.args.run.now c.args.run.now c.args.run.now (asked_value (place_of c.args.at) c.args.question.now) (value_of_answer (Some a)) (Some c.in_ok-answered_value-in-Some.field-0)
+    returns_as c.args.run.now c.args.run.now c.args.run.now (asked_value (place_of c.args.at) c.args.question.now) (value_of_answer (Some a))
+    (Some c.in_ok-answered_value-in-Some.field-0)
     refl c.in_ok-answered_value-in-Some.ensures (asks_answered c.args.run.now (place_of c.args.at) c.args.question.now a (sym c.in-Some.ensures))

@@ -18,7 +18,8 @@ returns c =
     let s = c.args.run.now in
     let n : Notice = record { at = place_of c.args.at; kind = c.args.kind; text = c.args.text.now } in
     let t : RunState = record s { notices = s.notices ++ n ∷ [] } in
-    let pushed : c.push_notice.new.self ≡ t = c.in_ok-push_notice.ensures ∙ ap (λ m. let u : RunState = record s { notices = s.notices ++ m ∷ [] } in u) c.in_ok-notice.ensures in
+    let pushed : c.push_notice.new.self ≡ t = c.in_ok-push_notice.ensures ∙ ap (λ m. let u : RunState = record s { notices = s.notices ++ m ∷ [] } in
+    u) c.in_ok-notice.ensures in
     let empty : c.from_vec.result ≡ [] = c.from_vec.ensures ∙ c.new.ensures.items in
     returns_as s t c.push_notice.new.self (reported (place_of c.args.at) c.args.kind c.args.text.now) (Some []) (Some c.from_vec.result)
     pushed (ap Some empty) (reports s (place_of c.args.at) c.args.kind c.args.text.now)

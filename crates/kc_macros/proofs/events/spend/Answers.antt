@@ -10,4 +10,5 @@ pub returns-then-left-work : goal.returns-then-left-work
 returns-then-left-work c = spends_too_much c.args.run.now (place_of c.args.at) c.args.work (omega arith) c.fault.result c.fault.ensures
 
 pub returns : goal.returns
-returns c = subst (λ (t : RunState). Runs c.args.run.now t (spent (place_of c.args.at) c.args.work) (ends (returned (tt {0})))) (sym c.take_work.ensures) (spends_enough c.args.run.now (place_of c.args.at) c.args.work (omega arith))
+returns c = subst (λ (t : RunState). Runs c.args.run.now t (spent (place_of c.args.at) c.args.work) (ends (returned (tt {0})))) (sym c.take_work.ensures.state)
+    (spends_enough c.args.run.now (place_of c.args.at) c.args.work (omega arith))

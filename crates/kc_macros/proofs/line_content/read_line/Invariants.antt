@@ -2,14 +2,15 @@ use Rattle.std.proofs.Common.{true, length}
 use Rattle.kc_macros_model.specs.LineTokens.{line_tokens}
 use Rattle.kc_macros_model.specs.Assignments.{line_content}
 use Rattle.kc_macros.specs.Runs.{place_of}
-use Rattle.kc_macros.specs.Variables.{bindings_of}
-use Rattle.kc_macros.specs.checker.Leads.{Leads}
-use Rattle.kc_macros.specs.checker.LinesLeft.{front_left}
+use Rattle.kc_macros.specs.between.Variables.{bindings_of}
+use Rattle.kc_macros.specs.checker.ProgramSteps.{Leads}
+use Rattle.kc_macros.specs.checker.LineFronts.{front_left}
 use Rattle.kc_macros.proofs.line_content.read_line.Given as goal
 
 -- what is left of the tokens
 abbrev pub invariant-tokens : goal.invariant-tokens
-invariant-tokens l = Leads l.fn.run (line_content (place_of l.at) (bindings_of l.bindings) true (line_tokens 0 l.fn.text)) l.run (front_left (place_of l.at) (bindings_of l.bindings) l.front (line_tokens 0 l.rest))
+invariant-tokens l = Leads l.fn.run (line_content (place_of l.at) (bindings_of l.bindings) true (line_tokens 0 l.fn.text)) l.run
+    (front_left (place_of l.at) (bindings_of l.bindings) l.front (line_tokens 0 l.rest))
 
 abbrev pub decreases-tokens : goal.decreases-tokens
 decreases-tokens l = length l.rest

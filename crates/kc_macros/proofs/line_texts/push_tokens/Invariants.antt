@@ -1,6 +1,6 @@
 use Rattle.std.proofs.Common.{◌≡◌, ◌++◌, drop}
 use Rattle.kc_macros_model.specs.LineForms.{line_bytes}
-use Rattle.kc_macros.specs.LineContents.{tokens_of}
+use Rattle.kc_macros.specs.between.LineContents.{tokens_of}
 use Rattle.kc_macros.proofs.line_texts.push_tokens.Given as goal
 
 -- the bytes of the tokens that are left

@@ -3,9 +3,10 @@ use Rattle.std.specs.Prelude.{option_map}
 use Rattle.kc_macros_model.specs.Programs.{returns as returns_value}
 use Rattle.kc_macros_model.specs.Expansion.{reported}
 use Rattle.kc_macros.specs.Runs.{place_of}
-use Rattle.kc_macros.specs.checker.BuiltIns.{said}
-use Rattle.kc_macros.proofs.ExpandLemmas.{returns_so}
+use Rattle.kc_macros.specs.checker.BuiltIns.{message_value}
+use Rattle.kc_macros.proofs.ExpansionLemmas.{returns_so}
 use Rattle.kc_macros.proofs.names.notice_value.Goals as goal
 
 pub returns-in-None : goal.returns-in-None
-returns-in-None c = returns_so c.args.run.now _ _ (ap (λ o. said (reported (place_of c.args.at) c.args.kind) (option_map (λ (t : Bor (List ℕ)). t.now) o)) c.in-None.is ∙ ap (λ v. returns_value (Some v)) (sym (c.from_vec.ensures ∙ c.new.ensures.items)))
+returns-in-None c = returns_so c.args.run.now _ _ (ap (λ o. message_value (reported (place_of c.args.at) c.args.kind)
+    (option_map (λ (t : Bor (List ℕ)). t.now) o)) c.in-None.is ∙ ap (λ v. returns_value (Some v)) (sym (c.from_vec.ensures ∙ c.new.ensures.items)))

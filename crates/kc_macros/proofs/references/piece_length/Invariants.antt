@@ -1,6 +1,6 @@
 use Rattle.std.proofs.Common.{◌≡◌, ◌≤◌, take, drop}
 use Rattle.kc_macros_model.specs.References.{pieces}
-use Rattle.kc_macros.proofs.CutLemmas.{front_onto}
+use Rattle.kc_macros.proofs.PieceLemmas.{front_onto}
 use Rattle.kc_macros.proofs.references.piece_length.Given as goal
 
 -- no comma before the place parts

@@ -4,7 +4,9 @@ use Rattle.kc_macros.proofs.TokenLemmas.{item_here, item_later}
 use Rattle.kc_macros.proofs.token_values.has_plain_dollar.Goals as goal
 
 pub returns-then-is_plain_dollar_front : goal.returns-then-is_plain_dollar_front
-returns-then-is_plain_dollar_front c = sym (c.items.invariant ∙ item_here is_plain_dollar false c.items.rest.now (search rules) (sym c.if-is_plain_dollar_front.ensures))
+returns-then-is_plain_dollar_front c = sym (c.items.invariant ∙ item_here is_plain_dollar false c.items.rest.now (search rules)
+    (sym c.if-is_plain_dollar_front.ensures.value))
 
 pub items-preserved : goal.items-preserved
-items-preserved c = item_later is_plain_dollar false c.items.rest.now (search rules) c.item_length.result c.item_length.ensures.length (sym c.is_plain_dollar_front.ensures ∙ c.if-is_plain_dollar_front.false) c.args.text.now c.items.invariant
+items-preserved c = item_later is_plain_dollar false c.items.rest.now (search rules) c.item_length.result c.item_length.ensures.value
+    (sym c.is_plain_dollar_front.ensures.value ∙ c.if-is_plain_dollar_front.false) c.args.text.now c.items.invariant

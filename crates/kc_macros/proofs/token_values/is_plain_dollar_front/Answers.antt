@@ -3,7 +3,11 @@ use Rattle.kc_macros.proofs.TokenLemmas.{reference_is_no_dollar, dollar_by_byte}
 use Rattle.kc_macros.proofs.token_values.is_plain_dollar_front.Goals as goal
 
 pub returns-then-begins_reference_at : goal.returns-then-begins_reference_at
-returns-then-begins_reference_at c = sym (reference_is_no_dollar c.args.text.now (sym c.begins_reference_at.ensures ∙ c.if-begins_reference_at.true))
+returns-then-begins_reference_at c = record {
+  value = sym (reference_is_no_dollar c.args.text.now (sym c.begins_reference_at.ensures.value ∙ c.if-begins_reference_at.true));
+}
 
 pub returns : goal.returns
-returns c = sym (dollar_by_byte c.args.text.now c.requires (sym c.begins_reference_at.ensures ∙ c.if-begins_reference_at.false))
+returns c = record {
+  value = sym (dollar_by_byte c.args.text.now c.requires.not_empty (sym c.begins_reference_at.ensures.value ∙ c.if-begins_reference_at.false));
+}

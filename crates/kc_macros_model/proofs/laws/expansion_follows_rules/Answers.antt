@@ -1,5 +1,5 @@
 use Rattle.kc_macros_model.proofs.ExpansionByRules.{expansion_keeps_the_rules}
-use Rattle.kc_macros_model.proofs.RulesExpanded.{rules_are_expanded}
+use Rattle.kc_macros_model.proofs.RuleExpansions.{rules_are_expanded}
 use Rattle.kc_macros_model.proofs.laws.expansion_follows_rules.Goals as goal
 
 pub returns : goal.returns

@@ -1,4 +1,4 @@
-use Rattle.kc_macros_model.proofs.WrittenAgain.{nothing_is_left, written_lines_stay}
+use Rattle.kc_macros_model.proofs.SecondExpansions.{nothing_is_left, written_lines_stay}
 use Rattle.kc_macros_model.proofs.laws.nothing_is_left_to_expand.Goals as goal
 
 pub returns : goal.returns

@@ -6,6 +6,7 @@ use Rattle.kc_rules.proofs.names.push_conditions.Given as goal
 abbrev pub invariant-loop-force : goal.invariant-loop-force
 invariant-loop-force l = record {
   names : (p : List ℕ → Bool)
-      → passes_some_name l.tree.exprs p l.names.items ≡ (passes_some_name l.tree.exprs p l.initial.names.items || in_reverse_dependencies l.tree.exprs p (take l.force-index l.all));
+      → passes_some_name l.tree.exprs p l.names.items ≡ (passes_some_name l.tree.exprs p l.initial.names.items || in_reverse_dependencies l.tree.exprs p
+      (take l.force-index l.all));
   found : HasFound l.tree.exprs l.walk l.names.items;
 }

@@ -6,6 +6,7 @@ use Rattle.kc_rules.proofs.names.push_member_defaults.Given as goal
 abbrev pub invariant-loop-default : goal.invariant-loop-default
 invariant-loop-default l = record {
   names : (p : List ℕ → Bool)
-      → passes_some_name l.tree.exprs p l.names.items ≡ (passes_some_name l.tree.exprs p l.initial.names.items || in_member_defaults l.tree.tree l.tree.exprs p (take l.default-index l.defaults));
+      → passes_some_name l.tree.exprs p l.names.items ≡ (passes_some_name l.tree.exprs p l.initial.names.items || in_member_defaults l.tree.tree l.tree.exprs p
+      (take l.default-index l.defaults));
   found : HasFound l.tree.exprs l.walk l.names.items;
 }

@@ -6,6 +6,7 @@ use Rattle.kc_rules.proofs.names.push_ranges.Given as goal
 abbrev pub invariant-loop-range : goal.invariant-loop-range
 invariant-loop-range l = record {
   names : (p : List ℕ → Bool)
-      → passes_some_name l.tree.exprs p l.names.items ≡ (passes_some_name l.tree.exprs p l.initial.names.items || in_ranges l.tree.exprs p (take l.range-index l.ranges));
+      → passes_some_name l.tree.exprs p l.names.items ≡ (passes_some_name l.tree.exprs p l.initial.names.items || in_ranges l.tree.exprs p
+      (take l.range-index l.ranges));
   found : HasFound l.tree.exprs l.walk l.names.items;
 }

@@ -1,6 +1,7 @@
 use Rattle.std.proofs.Common.{arith, inl, inr}
 use Rattle.std.proofs.lemmas.List.{length-map}
 use Rattle.kc_expr.specs.Token.{lexemes_of, lexeme_of}
+use Rattle.kc_expr.proofs.GrammarComplete.{expr_complete}
 use Rattle.kc_statements.proofs.AttributeLemmas.{extent_within, default_unread}
 use Rattle.kc_statements.proofs.Growing.{grows_on}
 use Rattle.kc_statements.proofs.Later.{node_held}
@@ -18,14 +19,15 @@ returns-in-Ok-optional_if-clause-gives c = λ f.
     let r = c.in-Ok.ensures.ok in
     let s = c.in-Ok-optional_if.ensures in
     valued_reported c.parse_expr.new.self c.optional_if.new.arena f (lexemes_of c.args.tokens.now) c.in-Ok.read.0 c.in-Ok.read.1 c.in-Ok-optional_if.condition
-    r.expr s.grows r.reads r.stands c.in-Ok.ensures.end s.gives
+    r.expr s.grows (expr_complete _ r.expr r.in_grammar) r.stands c.in-Ok.ensures.end s.gives
 
 pub returns-in-Err-optional_if-clause-gives : goal.returns-in-Err-optional_if-clause-gives
 returns-in-Err-optional_if-clause-gives c = λ f.
     let r = c.in-Ok.ensures.ok in
     elim (c.in-Err-optional_if.ensures.gives) [
       | inl m ↦ inl m
-      | inr e ↦ inr (valued_refused f (lexemes_of c.args.tokens.now) c.in-Ok.read.1 r.expr c.in-Err-optional_if.kind r.reads c.in-Ok.ensures.end e)
+      | inr e ↦ inr (valued_refused f (lexemes_of c.args.tokens.now) c.in-Ok.read.1 r.expr c.in-Err-optional_if.kind
+          (expr_complete _ r.expr r.in_grammar) c.in-Ok.ensures.end e)
     ]
 
 pub returns-in-Ok-optional_if-clause-grows : goal.returns-in-Ok-optional_if-clause-grows

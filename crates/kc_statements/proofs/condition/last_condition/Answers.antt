@@ -1,6 +1,7 @@
 use Rattle.std.proofs.Common.{arith, inr, drop, length-drop, ap, sym, ◌∙◌, Ok}
 use Rattle.std.proofs.lemmas.List.{length-map}
 use Rattle.kc_expr.specs.Token.{lexemes_of, lexeme_of}
+use Rattle.kc_expr.proofs.GrammarComplete.{expr_complete}
 use Rattle.kc_statements.proofs.FormLemmas.{condition_after, condition_last, condition_unread, unread}
 use Rattle.kc_tree_model.specs.Forms.{last_condition}
 use Rattle.kc_statements.proofs.condition.last_condition.Goals as goal
@@ -8,7 +9,7 @@ use Rattle.kc_statements.proofs.condition.last_condition.Goals as goal
 pub returns-then-next-tokens-clause-gives : goal.returns-then-next-tokens-clause-gives
 returns-then-next-tokens-clause-gives c =
     let r = c.in-Ok.ensures.ok in
-    inr (condition_after (drop c.args.at (lexemes_of c.args.tokens.now)) r.expr r.reads
+    inr (condition_after (drop c.args.at (lexemes_of c.args.tokens.now)) r.expr (expr_complete _ r.expr r.in_grammar)
     (omega (
       arith,
       c.in-Ok.ensures.end,
@@ -21,7 +22,7 @@ returns-then-next-tokens-clause-gives c =
 pub returns-clause-gives : goal.returns-clause-gives
 returns-clause-gives c =
     let r = c.in-Ok.ensures.ok in
-    condition_last (drop c.args.at (lexemes_of c.args.tokens.now)) r.expr r.reads
+    condition_last (drop c.args.at (lexemes_of c.args.tokens.now)) r.expr (expr_complete _ r.expr r.in_grammar)
     (omega (
       arith,
       c.in-Ok.ensures.end,

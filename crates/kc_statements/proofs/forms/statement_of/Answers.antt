@@ -66,7 +66,8 @@ returns-in-Modules-clause-gives c =
     by_keyword c.args.arena.now c.modules_line.result (lexemes_of c.args.tokens.now) c.in-Modules.is (c.modules_line.ensures.gives c.args.arena.now)
 
 pub returns-in-Optional-clause-gives : goal.returns-in-Optional-clause-gives
-returns-in-Optional-clause-gives c = by_keyword c.args.arena.now c.optional_line.result (lexemes_of c.args.tokens.now) c.in-Optional.is (c.optional_line.ensures.gives c.args.arena.now)
+returns-in-Optional-clause-gives c = by_keyword c.args.arena.now c.optional_line.result (lexemes_of c.args.tokens.now) c.in-Optional.is
+    (c.optional_line.ensures.gives c.args.arena.now)
 
 pub returns-in-Optional-clause-held : goal.returns-in-Optional-clause-held
 returns-in-Optional-clause-held c = c.optional_line.ensures.held c.args.arena.now

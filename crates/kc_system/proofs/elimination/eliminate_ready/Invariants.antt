@@ -9,5 +9,6 @@ invariant-loop-u g l = record {
   eliminating : Eliminating (g.G.Graph.size l.graph) (g.G.Graph.dependencies l.graph) l.eliminated.items l.flags;
   passed : Passed (g.G.Graph.size l.graph) (g.G.Graph.dependencies l.graph) l.flags l.next;
   grows : Grows l.initial.eliminated.items l.eliminated.items;
-  beyond : (u : ℕ) → Contains (take l.u-index l.units) u → WaitsBeyond (g.G.Graph.dependencies l.graph) l.eliminated.items (length l.initial.eliminated.items) u;
+  beyond : (u : ℕ) → Contains (take l.u-index l.units) u → WaitsBeyond (g.G.Graph.dependencies l.graph) l.eliminated.items
+      (length l.initial.eliminated.items) u;
 }

@@ -11,7 +11,8 @@ invariant-loop-place g l = record {
   undo : Undoes l.log.items l.initial.values l.values;
   steps : g.S.System.count l.meter ≡ min (g.S.System.count l.initial.meter + l.evaluated) (2 ^ 64 - 1);
   size : l.pending.size ≡ l.initial.pending.size;
-  revising : Revising (g.S.Graph.size l.plan.system.now) (g.S.Graph.dependencies l.plan.system.now) (g.S.System.rule l.plan.system.now) l.plan.order.now l.users (is_pending l.initial.pending) l.initial.values l.values (is_pending l.pending) (logged_units l.log.items) l.evaluated;
+  revising : Revising (g.S.Graph.size l.plan.system.now) (g.S.Graph.dependencies l.plan.system.now) (g.S.System.rule l.plan.system.now) l.plan.order.now l.users
+      (is_pending l.initial.pending) l.initial.values l.values (is_pending l.pending) (logged_units l.log.items) l.evaluated;
 }
 
 abbrev pub decreases-loop-place : goal.decreases-loop-place

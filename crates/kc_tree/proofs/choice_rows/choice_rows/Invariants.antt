@@ -8,5 +8,6 @@ use Rattle.kc_tree.proofs.choice_rows.choice_rows.Given as goal
 
 abbrev pub invariant-loop-i : goal.invariant-loop-i
 invariant-loop-i l =
-    (exprs : Exprs) (read : List Read) (s : RepresentsListing l.listing read) (k : RepresentsAllConditions exprs l.listing.texts.items l.conditions (length l.conditions) (reverse l.groups) read)
+    (exprs : Exprs) (read : List Read) (s : RepresentsListing l.listing read)
+    (k : RepresentsAllConditions exprs l.listing.texts.items l.conditions (length l.conditions) (reverse l.groups) read)
     → AreRowsTo l.listing exprs l.groups l.conditions read s k l.i l.rows.items

@@ -40,7 +40,8 @@ loop-i-preserved c = λ read k.
     let walked = k.shown in
     elim c.match-index.branch [
       | in-Config+in_ok-push_definition w ↦ (
-          let more = rw (w.lines_of-lines.ensures.lines, w.conditions_of-own.ensures.value, w.dependency_of-dependency.ensures.value) at w.in_ok-push_definition.ensures.ok in
+          let more = rw (w.lines_of-lines.ensures.lines, w.conditions_of-own.ensures.value, w.dependency_of-dependency.ensures.value) at
+          w.in_ok-push_definition.ensures.ok in
           let held = subst (All (LineNodesExist l.names.arena)) w.lines_of-lines.ensures.lines w.lines_of-lines.ensures.held in
           rw w.found-is (gathered_definition l.names read h.names l.texts.items l.lines.items l.groups.items c.args.groups.now c.args.conditions.now
           h.groups_are walked c.loop-i.i w.in-Config.s c.loop-i.found w.push_definition.new.found

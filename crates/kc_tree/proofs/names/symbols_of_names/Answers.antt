@@ -9,7 +9,8 @@ use Rattle.kc_tree.specs.checker.NameTable.{IsTable}
 use Rattle.kc_tree.specs.declared.parts.SymbolRow.{SymbolRow}
 use Rattle.kc_tree.proofs.names.symbols_of_names.Goals as goal
 
-module _ (names s : ℕ) (symbols : List SymbolRow) (row : SymbolRow) (table : List (Option ℕ)) (differ : (a b : ℕ) (p q : SymbolRow) → slice_get symbols a ≡ Some p → slice_get symbols b ≡ Some q → p.name ≡ q.name → a ≡ b)
+module _ (names s : ℕ) (symbols : List SymbolRow) (row : SymbolRow) (table : List (Option ℕ)) (differ : (a b : ℕ) (p q : SymbolRow)
+    → slice_get symbols a ≡ Some p → slice_get symbols b ≡ Some q → p.name ≡ q.name → a ≡ b)
     (here : slice_get symbols s ≡ Some row) (within : row.name < length table) (t : IsTable names symbols s table) where
   reported_more : (a : ℕ) (r : SymbolRow) → a < s + 1 → slice_get symbols a ≡ Some r → (a < s) ⊎ (s ≤ a)
       → get_or (set table row.name (Some s)) r.name None ≡ Some a

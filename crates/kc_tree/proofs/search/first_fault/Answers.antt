@@ -35,7 +35,8 @@ returns-then-is_some c = record {
   fault = λ read h.
       let l = c.args.listing.now in
       let within : c.loop-i.i < length l.groups.items = omega arith in
-      let here = fault_here l.names.arena l.texts.items l.lines.items l.groups.items read h.groups_are c.args.language c.loop-i.i c.group_fault-fault.result within
+      let here = fault_here l.names.arena l.texts.items l.lines.items l.groups.items read h.groups_are c.args.language c.loop-i.i
+      c.group_fault-fault.result within
       (c.loop-i.invariant.none read h) (λ p at. c.group_fault-fault.ensures.fault read p h at) in
       let t = reported_some c.group_fault-fault.result (sym c.is_some.ensures ∙ c.if-is_some.true) in
       t.1 ∙ sym (fault_all c.args.language read (c.loop-i.i + 1) t.0 (sym here ∙ t.1));
@@ -62,7 +63,8 @@ loop-i-preserved c =
       counted = λ read h. one_counted l.names.arena (names_defined read) l.texts.items l.lines.items l.groups.items read h.groups_are c.loop-i.i
           c.loop-i.choices c.if-begins_choice.choices c.index.result.now.head within what (c.loop-i.invariant.counted read h) count;
       none = λ read h.
-          let here = fault_here l.names.arena l.texts.items l.lines.items l.groups.items read h.groups_are c.args.language c.loop-i.i c.group_fault-fault.result within
+          let here = fault_here l.names.arena l.texts.items l.lines.items l.groups.items read h.groups_are c.args.language c.loop-i.i
+          c.group_fault-fault.result within
           (c.loop-i.invariant.none read h) (λ p at. c.group_fault-fault.ensures.fault read p h at) in
           sym here ∙ reported_none c.group_fault-fault.result (sym c.is_some.ensures ∙ c.if-is_some.false);
     }

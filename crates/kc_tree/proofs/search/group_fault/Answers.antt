@@ -76,7 +76,8 @@ returns-in_default c =
     record {
       fault = λ read p h at.
           let a = place_at l.names.arena (names_defined read) l.texts.items l.lines.items l.groups.items read h.groups_are c.args.i p c.requires.here at in
-          sym (nothing_reported c.args.language l.names.arena (names_defined read) l.texts.items (group_at l.groups.items c.args.i).head (contents_of read) p a.head
+          sym (nothing_reported c.args.language l.names.arena (names_defined read) l.texts.items (group_at l.groups.items c.args.i).head
+          (contents_of read) p a.head
           (λ s w. c.in_default.not-Config s (group ∙ w)) (λ w. c.in_default.not-Choice (group ∙ w)));
       many = c.requires.many;
       marks = λ s. at_most_more (is_choice_code (group_at l.groups.items c.args.i).head) _ c.args.choices (c.requires.small s);

@@ -50,7 +50,8 @@ one_symbol a b e = cc
 one_choice : (a b : ℕ) → ChoiceUnit a ≡ ChoiceUnit b → a ≡ b
 one_choice a b e = cc
 
-module _ (symbols choices u : ℕ) (units : List TreeUnit) (of_symbol of_choice : List ℕ) (differ : (a b : ℕ) (x : TreeUnit) → slice_get units a ≡ Some x → slice_get units b ≡ Some x → a ≡ b)
+module _ (symbols choices u : ℕ) (units : List TreeUnit) (of_symbol of_choice : List ℕ) (differ : (a b : ℕ) (x : TreeUnit) → slice_get units a ≡ Some x
+    → slice_get units b ≡ Some x → a ≡ b)
     (t : AreNumbered symbols choices units u of_symbol of_choice) where
   symbol_more : (s : ℕ) → slice_get units u ≡ Some (SymbolUnit s) → s < symbols → AreNumbered symbols choices units (u + 1) (set of_symbol s u) of_choice
   symbol_more s here below =

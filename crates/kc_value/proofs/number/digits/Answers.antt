@@ -8,7 +8,8 @@ pub returns-in_err-value : goal.returns-in_err-value
 returns-in_err-value c = record {
   value = let d = drop_more c.args.text.now c.loop-byte.byte-index 0 c.loop-byte-test.true in
       let i = rw d at c.loop-byte.invariant.rest in
-      rw c.from_residual.ensures (sym (none_from_digit c.args.base (2 ^ 64) c.loop-byte.value (get_or c.args.text.now c.loop-byte.byte-index 0) (drop (c.loop-byte.byte-index + 1) c.args.text.now) (omega arith) (sym c.in_err-value.ensures.value)) ∙ i);
+      rw c.from_residual.ensures (sym (none_from_digit c.args.base (2 ^ 64) c.loop-byte.value (get_or c.args.text.now c.loop-byte.byte-index 0)
+      (drop (c.loop-byte.byte-index + 1) c.args.text.now) (omega arith) (sym c.in_err-value.ensures.value)) ∙ i);
 }
 
 pub returns : goal.returns
@@ -23,8 +24,10 @@ loop-byte-preserved c =
     let d = drop_more c.args.text.now c.loop-byte.byte-index 0 c.loop-byte-test.true in
     let i = rw d at c.loop-byte.invariant.rest in
     record {
-      rest = sym (goes_on c.args.base (2 ^ 64) c.loop-byte.value (get_or c.args.text.now c.loop-byte.byte-index 0) c.in_ok-value.value (drop (c.loop-byte.byte-index + 1) c.args.text.now) (sym c.in_ok-value.ensures.value)) ∙ i;
-      fits = with_digit_below c.args.base (2 ^ 64) c.loop-byte.value (get_or c.args.text.now c.loop-byte.byte-index 0) c.in_ok-value.value (sym c.in_ok-value.ensures.value);
+      rest = sym (goes_on c.args.base (2 ^ 64) c.loop-byte.value (get_or c.args.text.now c.loop-byte.byte-index 0) c.in_ok-value.value
+          (drop (c.loop-byte.byte-index + 1) c.args.text.now) (sym c.in_ok-value.ensures.value)) ∙ i;
+      fits = with_digit_below c.args.base (2 ^ 64) c.loop-byte.value (get_or c.args.text.now c.loop-byte.byte-index 0) c.in_ok-value.value
+          (sym c.in_ok-value.ensures.value);
     }
 
 pub push_digit-requires-clause-high : goal.push_digit-requires-clause-high

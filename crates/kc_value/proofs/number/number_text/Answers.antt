@@ -8,12 +8,14 @@ use Rattle.kc_value.proofs.number.number_text.Goals as goal
 
 pub returns-in-Int-clause-reads_back : goal.returns-in-Int-clause-reads_back
 returns-in-Int-clause-reads_back c =
-    IfOk-weaker c.from_str.result (λ t. string_bytes t ≡ number_spelling c.args.kind c.args.value) (λ t. number_of_text c.args.kind (string_bytes t) ≡ Some c.args.value)
+    IfOk-weaker c.from_str.result (λ t. string_bytes t ≡ number_spelling c.args.kind c.args.value) (λ t. number_of_text c.args.kind (string_bytes t)
+    ≡ Some c.args.value)
     (λ t e. ap (number_of_text c.args.kind) e ∙ spelling_read_back c.args.kind c.args.value c.requires.fits) (search rules)
 
 pub returns-in-Hex-clause-reads_back : goal.returns-in-Hex-clause-reads_back
 returns-in-Hex-clause-reads_back c =
-    IfOk-weaker c.format-in-Hex.result (λ t. string_bytes t ≡ number_spelling c.args.kind c.args.value) (λ t. number_of_text c.args.kind (string_bytes t) ≡ Some c.args.value)
+    IfOk-weaker c.format-in-Hex.result (λ t. string_bytes t ≡ number_spelling c.args.kind c.args.value)
+    (λ t. number_of_text c.args.kind (string_bytes t) ≡ Some c.args.value)
     (λ t e. ap (number_of_text c.args.kind) e ∙ spelling_read_back c.args.kind c.args.value c.requires.fits) (search rules)
 
 pub returns-in-Int-clause-text : goal.returns-in-Int-clause-text

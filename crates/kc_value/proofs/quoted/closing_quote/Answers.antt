@@ -11,8 +11,11 @@ loop-i-preserved c =
     let d = drop_more c.args.bytes.now c.loop-i.i 0 c.loop-i-test.true in
     let inv = rw d at c.loop-i.invariant in
     elim c.if-escaped.branch [
-      | then-escaped w ↦ rw w.escaped-is (sym (closing_escaped c.loop-i.i c.args.quote (get_or c.args.bytes.now c.loop-i.i 0) (drop (c.loop-i.i + 1) c.args.bytes.now)) ∙ (rw w.if-escaped.true at inv))
-      | else-escaped+else-byte-quote w ↦ rw w.escaped-is (sym (closing_other c.loop-i.i c.args.quote (get_or c.args.bytes.now c.loop-i.i 0) (drop (c.loop-i.i + 1) c.args.bytes.now) (ne_eqb _ _ w.if-byte-quote.false)) ∙ (rw w.if-escaped.false at inv))
+      | then-escaped w ↦ rw w.escaped-is (sym (closing_escaped c.loop-i.i c.args.quote (get_or c.args.bytes.now c.loop-i.i 0)
+          (drop (c.loop-i.i + 1) c.args.bytes.now)) ∙ (rw w.if-escaped.true at inv))
+      | else-escaped+else-byte-quote w ↦
+          rw w.escaped-is (sym (closing_other c.loop-i.i c.args.quote (get_or c.args.bytes.now c.loop-i.i 0) (drop (c.loop-i.i + 1) c.args.bytes.now)
+          (ne_eqb _ _ w.if-byte-quote.false)) ∙ (rw w.if-escaped.false at inv))
     ]
 
 pub returns-then-byte-quote-clause-place : goal.returns-then-byte-quote-clause-place

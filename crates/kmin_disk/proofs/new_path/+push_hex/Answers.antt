@@ -15,4 +15,4 @@ returns t c =
     let before = c.in_ok-push_hex.ensures in
     let digits = hex_digits-suc c.args.count c.args.number some in
     let assoc = append_assoc (string_bytes c.args.text.now) (hex_digits (c.args.count - 1) (c.args.number / 16)) (hex_digit (c.args.number % 16) ∷ []) in
-    grind (arith, common_steps, before, digits, assoc, c.hex_digit.ensures, c.push.ensures.bytes, c.push.ensures.ascii)
+    grind (arith, common_steps, before, digits, assoc, c.hex_digit.ensures.value, c.push.ensures.bytes, c.push.ensures.ascii)

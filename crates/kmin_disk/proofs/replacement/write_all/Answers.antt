@@ -12,7 +12,8 @@ loop-written-preserved g c =
     let count = c.in-Ok.count in
     let fits : count ≤ length rest = c.in-Ok.ensures.bound in
     let some : 0 < count = omega (arith, c.in-Ok.count-test.1) in
-    let next = subst (λ (r : List ℕ). Takes (g.D.WriteDisk.draft c.loop-written.new) (g.D.WriteDisk.draft c.write_some.new.new) (take count r)) is_rest c.in-Ok.ensures.taken in
+    let next = subst (λ (r : List ℕ). Takes (g.D.WriteDisk.draft c.loop-written.new) (g.D.WriteDisk.draft c.write_some.new.new) (take count r)) is_rest
+    c.in-Ok.ensures.taken in
     record {
       within = (let within = c.loop-written.invariant.within in let e = ap length is_rest in omega (arith, length-drop n text));
       takes = takes_next _ _ _ text n count c.loop-written.invariant.takes next;

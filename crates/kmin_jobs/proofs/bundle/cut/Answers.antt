@@ -1,4 +1,4 @@
-use Rattle.kmin_jobs.proofs.Cutting.{found, passed}
+use Rattle.kmin_jobs.proofs.BundleCuts.{found, passed}
 use Rattle.kmin_jobs.proofs.bundle.cut.Goals as goal
 use Rattle.std.proofs.Common.{◌∙◌, sym, arith}
 use Rattle.std.proofs.lemmas.Grind.{common_steps}

@@ -1,8 +1,8 @@
 use Rattle.std.proofs.Common.{[], ◌∷◌, refl, arith}
 use Rattle.std.proofs.lemmas.Grind.{common_steps}
 use Rattle.kmin_jobs.specs.BundleAnswers.{large_line, unread_line, unread, too_large, for_memory}
-use Rattle.kmin_jobs.specs.StandardError.{none}
-use Rattle.kmin_jobs.proofs.Taking.{lines_one}
+use Rattle.kmin_tidy.specs.StandardError.{none}
+use Rattle.kmin_tidy.proofs.WriterLemmas.{lines_one}
 use Rattle.kmin_jobs.proofs.Sequences.{memory_err}
 use Rattle.kmin_jobs.proofs.bundle.read_whole.Goals as goal
 

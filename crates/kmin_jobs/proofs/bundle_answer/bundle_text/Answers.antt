@@ -1,6 +1,6 @@
 use Rattle.std.proofs.Common.{rules}
 use Rattle.kmin_jobs.proofs.Sequences.{if_err}
-use Rattle.kmin_jobs.proofs.BundleAnswering.{tree_stopped, bundle_answers, configuration_stopped}
+use Rattle.kmin_jobs.proofs.BundleOutputs.{tree_stopped, bundle_answers, configuration_stopped}
 use Rattle.kmin_jobs.proofs.bundle_answer.bundle_text.Goals as goal
 
 pub returns-in_err-settled-clause-stopped : goal.returns-in_err-settled-clause-stopped

@@ -3,7 +3,7 @@ use Rattle.std.proofs.lemmas.Grind.{common_steps}
 use Rattle.kc_tree_model.specs.TreeFiles.{Files, with_file}
 use Rattle.kc_rules.specs.between.SettledViews.{tree_of_settled}
 use Rattle.kmin_jobs.specs.Answers.{AreAccepted}
-use Rattle.kmin_jobs.specs.StandardError.{TakesLines, none}
+use Rattle.kmin_tidy.specs.StandardError.{TakesLines, none}
 use Rattle.kmin_jobs.specs.between.RunErrors.{status_of}
 use Rattle.kmin_jobs.specs.between.TreeStops.{StopsAtTexts, for_memory}
 use Rattle.kmin_jobs.proofs.Sequences.{memory_err}
@@ -18,7 +18,8 @@ returns-clause-accepted g c =
 pub returns-clause-stopped : goal.returns-clause-stopped
 returns-clause-stopped g c =
     let texts = c.in_ok-insert.ensures.ok ∙ ap (λ (fs : Files). with_file fs (codes "Kconfig") c.args.tree.now) c.with_seed-texts.ensures in
-    let stops = λ (fs : Files) (names : Files). IfErr c.settled_tree.result (λ stop. (lines : List (List ℕ)) × StopsAtTexts fs names (codes "Kconfig") (status_of stop) lines × TakesLines
+    let stops = λ (fs : Files) (names : Files). IfErr c.settled_tree.result (λ stop. (lines : List (List ℕ))
+    × StopsAtTexts fs names (codes "Kconfig") (status_of stop) lines × TakesLines
     (g.E.Sink.taken c.args.err.now) (g.E.Sink.failures c.args.err.now) lines (g.E.Sink.taken c.settled_tree.new.err)
     (g.E.Sink.failures c.settled_tree.new.err)) in
     subst (λ (fs : Files). stops fs fs) texts (subst (λ (names : Files). stops c.insert.new.self names) c.of_texts-names.ensures c.settled_tree.ensures.stopped)

@@ -4,7 +4,7 @@ use Rattle.kc_dotconfig_model.specs.ConfigFiles.{empty_assignment}
 use Rattle.kc_dotconfig.proofs.Holding.{lies_alone}
 use Rattle.kmin_jobs.specs.BundleAnswers.{bundle_content}
 use Rattle.kmin_jobs.proofs.Sequences.{stopped_for_memory, if_err, memory_err}
-use Rattle.kmin_jobs.proofs.BundleAnswering.{memory_stops, memory_loaded, full_answers}
+use Rattle.kmin_jobs.proofs.BundleOutputs.{memory_stops, memory_loaded, full_answers}
 use Rattle.kmin_jobs.proofs.bundle_answer.full_over.Goals as goal
 
 pub returns-in_err-fragment-clause-stopped : goal.returns-in_err-fragment-clause-stopped

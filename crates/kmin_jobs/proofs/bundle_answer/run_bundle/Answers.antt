@@ -1,9 +1,9 @@
 use Rattle.std.proofs.Common.{[], ◌∷◌, ◌++◌, refl, rules}
-use Rattle.kmin_jobs.specs.Reports.{output_line}
+use Rattle.kmin_tidy.specs.Reports.{output_line}
 use Rattle.kmin_jobs.specs.BundleAnswers.{in_bundle, at_write}
-use Rattle.kmin_jobs.proofs.Taking.{lines_append}
+use Rattle.kmin_tidy.proofs.WriterLemmas.{lines_append}
 use Rattle.kmin_jobs.proofs.Sequences.{if_err}
-use Rattle.kmin_jobs.proofs.Answering.{lines_kept}
+use Rattle.kmin_jobs.proofs.JobOutputs.{lines_kept}
 use Rattle.kmin_jobs.proofs.bundle_answer.run_bundle.Goals as goal
 
 pub returns-in_err-text-clause-stopped : goal.returns-in_err-text-clause-stopped

@@ -1,9 +1,9 @@
 use Rattle.std.proofs.Common.{[], ◌∷◌, ◌++◌, map, refl, subst}
 use Rattle.kc_macros.specs.Runs.{fault_of, notice_of}
 use Rattle.kmin_jobs.specs.MacroReports.{macro_fault_line, macro_notice_line}
-use Rattle.kmin_jobs.specs.StandardError.{TakesLines, none}
+use Rattle.kmin_tidy.specs.StandardError.{TakesLines, none}
 use Rattle.kmin_jobs.specs.between.ExpansionStops.{at_fault, for_memory}
-use Rattle.kmin_jobs.proofs.Taking.{lines_append, lines_one}
+use Rattle.kmin_tidy.proofs.WriterLemmas.{lines_append, lines_one}
 use Rattle.kmin_jobs.proofs.Sequences.{map_twice, memory_err}
 use Rattle.kmin_jobs.proofs.expanded_trees.expanded_tree.Goals as goal
 
@@ -30,7 +30,8 @@ returns-clause-stopped g c =
     let items = c.in_ok-notices.field-0.notices.items in
     let expanded = rw c.in-Err.is at c.in_ok-notices.ensures.expanded in
     let reported = rw c.deref-in-Err.ensures.value at c.report_macro_notices-in-Err.ensures in
-    let lines = subst (λ ls. TakesLines (g.E.Sink.taken c.args.err.now) (g.E.Sink.failures c.args.err.now) ls (g.E.Sink.taken c.report_macro_notices-in-Err.new.err)
+    let lines = subst (λ ls. TakesLines (g.E.Sink.taken c.args.err.now) (g.E.Sink.failures c.args.err.now) ls
+    (g.E.Sink.taken c.report_macro_notices-in-Err.new.err)
     (g.E.Sink.failures c.report_macro_notices-in-Err.new.err)) (map_twice macro_notice_line notice_of items) reported in (
       map macro_notice_line (map notice_of items) ++ macro_fault_line (fault_of c.in-Err.fault) ∷ [],
       at_fault (map notice_of items) (fault_of c.in-Err.fault) expanded refl refl,

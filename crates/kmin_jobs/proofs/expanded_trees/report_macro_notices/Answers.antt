@@ -2,8 +2,8 @@ use Rattle.std.proofs.Common.{subst, rules}
 use Rattle.kc_macros.specs.Runs.{notice_of}
 use Rattle.kc_macros.specs.declared.stop.MacroNotice.{MacroNotice}
 use Rattle.kmin_jobs.specs.MacroReports.{macro_notice_line}
-use Rattle.kmin_jobs.specs.StandardError.{TakesLine, none}
-use Rattle.kmin_jobs.proofs.Taking.{lines_next}
+use Rattle.kmin_tidy.specs.StandardError.{TakesLine, none}
+use Rattle.kmin_tidy.proofs.WriterLemmas.{lines_next}
 use Rattle.kmin_jobs.proofs.expanded_trees.report_macro_notices.Goals as goal
 
 pub loop-notice-init : goal.loop-notice-init

@@ -1,7 +1,7 @@
 use Rattle.std.proofs.Common.{map, take}
 use Rattle.kc_macros.specs.Runs.{notice_of}
 use Rattle.kmin_jobs.specs.MacroReports.{macro_notice_line}
-use Rattle.kmin_jobs.specs.StandardError.{TakesLines}
+use Rattle.kmin_tidy.specs.StandardError.{TakesLines}
 use Rattle.kmin_jobs.proofs.expanded_trees.report_macro_notices.Given as goal
 
 abbrev pub invariant-loop-notice : goal.invariant-loop-notice

@@ -6,4 +6,5 @@ use Rattle.kmin_jobs.proofs.job_answers.define.Given as goal
 
 abbrev pub invariant-loop-definition : goal.invariant-loop-definition
 invariant-loop-definition l =
-    (question : List ℕ) → keyword_in_table l.answers question ≡ or_else (defined_answer (map definition_view (take l.definition-index l.definitions)) question) (keyword_in_table l.fn.answers question)
+    (question : List ℕ) → keyword_in_table l.answers question ≡ or_else (defined_answer (map definition_view (take l.definition-index l.definitions)) question)
+    (keyword_in_table l.fn.answers question)

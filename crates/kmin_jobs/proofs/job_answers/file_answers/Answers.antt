@@ -4,9 +4,9 @@ use Rattle.std.proofs.lemmas.List.{take_all}
 use Rattle.kmin_jobs.specs.FileContents.{Known}
 use Rattle.kmin_jobs.specs.JobAnswers.{FilesRecord}
 use Rattle.kmin_jobs.specs.JobAnswers as answers
-use Rattle.kmin_jobs.specs.StandardError.{none}
-use Rattle.kmin_jobs.proofs.Taking.{lines_append}
-use Rattle.kmin_jobs.proofs.AnswerFilesRead.{record_append, stopped_later}
+use Rattle.kmin_tidy.specs.StandardError.{none}
+use Rattle.kmin_tidy.proofs.WriterLemmas.{lines_append}
+use Rattle.kmin_jobs.proofs.AnswerFileLists.{record_append, stopped_later}
 use Rattle.kmin_jobs.proofs.Sequences.{if_err, paths_next, paths_at}
 use Rattle.kmin_jobs.proofs.job_answers.file_answers.Goals as goal
 

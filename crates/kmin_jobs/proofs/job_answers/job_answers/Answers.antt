@@ -16,5 +16,6 @@ returns-clause-answers g c =
     let lent = rw c.deref-3.ensures.value at c.in_ok-lend.ensures.lent in
     answers_of_job _ _ (expansion_view c.args.expansion.now) c.in_ok-answers.answers c.define.new.answers _
     (rw c.deref.ensures.value at c.in_ok-answers.ensures.recorded) (rw c.deref-2.ensures.value at c.in_ok-define.ensures)
-    (subst (λ (variable_of : List ℕ → VariableContent). AreLent variable_of (expansion_view c.args.expansion.now).environment c.define.new.answers c.lend.new.answers)
+    (subst (λ (variable_of : List ℕ → VariableContent). AreLent variable_of (expansion_view c.args.expansion.now).environment c.define.new.answers
+    c.lend.new.answers)
     variable lent)

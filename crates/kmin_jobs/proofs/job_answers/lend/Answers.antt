@@ -20,7 +20,8 @@ loop-name-preserved g c =
       same = c.lend_one.ensures.same ∙ c.loop-name.invariant.same;
       lent = rw (paths_next c.args.names.now k absent (search rules))
           (lent_append _ _ (name.now ∷ []) _ _ _ c.loop-name.invariant.lent
-          (subst (λ (variable : List ℕ → VariableContent). AreLent variable (name.now ∷ []) c.loop-name.answers c.lend_one.new.answers) variable c.in_ok-lend_one.ensures.lent));
+          (subst (λ (variable : List ℕ → VariableContent). AreLent variable (name.now ∷ []) c.loop-name.answers c.lend_one.new.answers) variable
+          c.in_ok-lend_one.ensures.lent));
     }
 
 pub returns-clause-lent : goal.returns-clause-lent

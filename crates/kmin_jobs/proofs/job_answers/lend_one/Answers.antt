@@ -1,14 +1,15 @@
 use Rattle.std.proofs.Common.{◌≡◌, false, sym, ◌∙◌}
 use Rattle.std.specs.Prelude.{is_some, option_map, string_bytes}
 use Rattle.kc_tree_model.specs.Keywords.{keyword_in_table}
-use Rattle.kmin_jobs.proofs.AnswerFilesRead.{on_ok_map}
+use Rattle.kmin_jobs.proofs.AnswerFileLists.{on_ok_map}
 use Rattle.kmin_jobs.proofs.LentAnswers.{lent_kept, lent_new, no_answer}
 use Rattle.kmin_jobs.proofs.TreesBelow.{known_same}
 use Rattle.kmin_jobs.proofs.job_answers.lend_one.Goals as goal
 
 pub returns-then-has-clause-lent : goal.returns-then-has-clause-lent
 returns-then-has-clause-lent g c =
-    lent_kept (g.F.Files.variable_of c.args.files.now) c.args.answers.now c.args.name.now (rw c.as_bytes-question.ensures.value at (sym c.has.ensures ∙ c.if-has.true))
+    lent_kept (g.F.Files.variable_of c.args.files.now) c.args.answers.now c.args.name.now
+    (rw c.as_bytes-question.ensures.value at (sym c.has.ensures ∙ c.if-has.true))
 
 pub returns-in_err-value-clause-same : goal.returns-in_err-value-clause-same
 returns-in_err-value-clause-same g c =

@@ -1,5 +1,5 @@
-use Rattle.kmin_jobs.specs.StandardError.{none}
-use Rattle.kmin_jobs.proofs.AnswerFilesRead.{reports_fault}
+use Rattle.kmin_tidy.specs.StandardError.{none}
+use Rattle.kmin_jobs.proofs.AnswerFileLists.{reports_fault}
 use Rattle.kmin_jobs.proofs.job_answers.record.Goals as goal
 
 pub returns-in-Ok-clause-unreported : goal.returns-in-Ok-clause-unreported

@@ -1,6 +1,6 @@
-use Rattle.kmin_jobs.specs.StandardError.{none}
-use Rattle.kmin_jobs.proofs.Taking.{lines_one}
-use Rattle.kmin_jobs.proofs.AnswerFilesRead.{other_status, other_lines}
+use Rattle.kmin_tidy.specs.StandardError.{none}
+use Rattle.kmin_tidy.proofs.WriterLemmas.{lines_one}
+use Rattle.kmin_jobs.proofs.AnswerFileLists.{other_status, other_lines}
 use Rattle.kmin_jobs.proofs.job_answers.report_answers_fault.Goals as goal
 
 pub returns-in-OutOfMemory-clause-reported : goal.returns-in-OutOfMemory-clause-reported
@@ -12,5 +12,6 @@ returns-in-Read-clause-reported g c = rw c.in-Read.is (lines_one _ _ _ _ _ (rw c
 pub returns-in_default : goal.returns-in_default
 returns-in_default g c = record {
   status = other_status c.args.fault.kind c.in_default.not-Read c.in_default.not-OutOfMemory;
-  reported = rw (other_lines c.args.path.now c.args.fault.line c.args.fault.kind c.in_default.not-OutOfMemory) (lines_one _ _ _ _ _ c.write_report-in_default.ensures);
+  reported = rw (other_lines c.args.path.now c.args.fault.line c.args.fault.kind c.in_default.not-OutOfMemory)
+      (lines_one _ _ _ _ _ c.write_report-in_default.ensures);
 }

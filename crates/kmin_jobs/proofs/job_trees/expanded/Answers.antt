@@ -13,10 +13,14 @@ returns-in_err-tree-clause-stopped g c =
 
 pub returns-clause-accepted : goal.returns-clause-accepted
 returns-clause-accepted g c =
-    settled_accepted (known_by (g.F.Files.content_of c.args.files.now) (g.F.Files.regular_content_of c.args.files.now) (g.F.Files.names_of c.args.files.now) (g.F.Files.variable_of c.args.files.now)) _ _ c.args.settings.now.language (expansion_view c.args.expansion.now) _ _ _ _ _ _ _ _ c.in_ok-tree.ensures.expanded
+    settled_accepted (known_by (g.F.Files.content_of c.args.files.now) (g.F.Files.regular_content_of c.args.files.now) (g.F.Files.names_of c.args.files.now)
+    (g.F.Files.variable_of c.args.files.now)) _ _ c.args.settings.now.language (expansion_view c.args.expansion.now) _ _ _ _ _ _ _ _
+    c.in_ok-tree.ensures.expanded
     c.settled_expanded.result c.settled_expanded.ensures.accepted c.settled_expanded.ensures.unreported
 
 pub returns-clause-stopped : goal.returns-clause-stopped
 returns-clause-stopped g c =
-    settled_stopped (known_by (g.F.Files.content_of c.args.files.now) (g.F.Files.regular_content_of c.args.files.now) (g.F.Files.names_of c.args.files.now) (g.F.Files.variable_of c.args.files.now)) _ _ c.args.settings.now.language (expansion_view c.args.expansion.now) _ _ _ _ _ _ _ _ c.in_ok-tree.ensures.expanded
+    settled_stopped (known_by (g.F.Files.content_of c.args.files.now) (g.F.Files.regular_content_of c.args.files.now) (g.F.Files.names_of c.args.files.now)
+    (g.F.Files.variable_of c.args.files.now)) _ _ c.args.settings.now.language (expansion_view c.args.expansion.now) _ _ _ _ _ _ _ _
+    c.in_ok-tree.ensures.expanded
     c.settled_expanded.result c.settled_expanded.ensures.stopped

@@ -1,6 +1,6 @@
-use Rattle.kmin_jobs.specs.StandardError.{none}
-use Rattle.kmin_jobs.proofs.Taking.{lines_one}
-use Rattle.kmin_jobs.proofs.EndingLines.{last_lines_none}
+use Rattle.kmin_tidy.specs.StandardError.{none}
+use Rattle.kmin_tidy.proofs.WriterLemmas.{lines_one}
+use Rattle.kmin_jobs.proofs.LastLines.{last_lines_none}
 use Rattle.kmin_jobs.proofs.output.exit_status.Goals as goal
 
 pub returns-in-Memory-clause-reported : goal.returns-in-Memory-clause-reported

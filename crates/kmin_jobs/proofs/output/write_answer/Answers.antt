@@ -1,5 +1,5 @@
-use Rattle.kmin_jobs.specs.StandardError.{none}
-use Rattle.kmin_jobs.proofs.Taking.{lines_one}
+use Rattle.kmin_tidy.specs.StandardError.{none}
+use Rattle.kmin_tidy.proofs.WriterLemmas.{lines_one}
 use Rattle.kmin_jobs.proofs.output.write_answer.Goals as goal
 
 pub returns-in-Ok-clause-unreported : goal.returns-in-Ok-clause-unreported

@@ -1,7 +1,7 @@
 use Rattle.std.proofs.Common.{rules, ℕ, List, [], get_or}
 use Rattle.std.specs.Borrow.{Bor}
-use Rattle.kmin_jobs.specs.StandardError.{TakesPart}
-use Rattle.kmin_jobs.proofs.Taking.{on_err, part_next}
+use Rattle.kmin_tidy.specs.StandardError.{TakesPart}
+use Rattle.kmin_tidy.proofs.WriterLemmas.{on_err, part_next}
 use Rattle.kmin_jobs.proofs.report.write_pieces.Goals as goal
 
 pub returns-in_err-write_out-clause-part : goal.returns-in_err-write_out-clause-part

@@ -1,7 +1,7 @@
 use Rattle.std.proofs.Common.{ℕ, List, take}
 use Rattle.std.specs.List.{flat_map}
 use Rattle.std.specs.Borrow.{Bor}
-use Rattle.kmin_jobs.specs.StandardError.{TakesWhole}
+use Rattle.kmin_tidy.specs.StandardError.{TakesWhole}
 use Rattle.kmin_jobs.proofs.report.write_pieces.Given as goal
 
 abbrev pub invariant-loop-piece : goal.invariant-loop-piece

@@ -1,6 +1,6 @@
 use Rattle.std.proofs.Common.{rules, slice_get}
 use Rattle.kmin_jobs.specs.Reports.{unit_text}
-use Rattle.kmin_jobs.proofs.Taking.{on_err, part_next}
+use Rattle.kmin_tidy.proofs.WriterLemmas.{on_err, part_next}
 use Rattle.kmin_jobs.proofs.report.write_units.Goals as goal
 
 pub returns-in_err-write_unit-clause-part : goal.returns-in_err-write_unit-clause-part

@@ -1,6 +1,6 @@
 use Rattle.std.proofs.Common.{take}
 use Rattle.kmin_jobs.specs.Reports.{units_text}
-use Rattle.kmin_jobs.specs.StandardError.{TakesWhole}
+use Rattle.kmin_tidy.specs.StandardError.{TakesWhole}
 use Rattle.kmin_jobs.proofs.report.write_units.Given as goal
 
 abbrev pub invariant-loop-unit : goal.invariant-loop-unit

@@ -8,4 +8,5 @@ use Rattle.kmin_jobs.proofs.symbol_lines.difference_lines.Given as goal
 -- the lines of the differences so far
 abbrev pub invariant-loop-difference : goal.invariant-loop-difference
 invariant-loop-difference l =
-    l.text.items ≡ flat_map (λ (d : ToldDifference). line_between l.strings (tree_of_settled l.settled) l.left l.right d.symbol) (take l.difference-index l.differences)
+    l.text.items ≡ flat_map (λ (d : ToldDifference). line_between l.strings (tree_of_settled l.settled) l.left l.right d.symbol)
+    (take l.difference-index l.differences)

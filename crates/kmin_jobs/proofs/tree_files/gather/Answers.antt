@@ -1,7 +1,7 @@
 use Rattle.std.proofs.Common.{arith}
 use Rattle.std.proofs.lemmas.Grind.{common_steps}
 use Rattle.std.proofs.Common.{refl}
-use Rattle.kmin_jobs.proofs.Answering.{below_none}
+use Rattle.kmin_jobs.proofs.JobOutputs.{below_none}
 use Rattle.kmin_jobs.proofs.tree_files.gather.Goals as goal
 
 pub returns-then-lacks_file-clause-read : goal.returns-then-lacks_file-clause-read
@@ -33,7 +33,10 @@ returns-clause-below c = grind (arith, common_steps)
 
 pub open_first-requires : goal.open_first-requires
 open_first-requires g c =
-    record { below = below_none (g.F.Files.content_of c.args.files.now) c.args.root.now _ c.with_language-texts.result refl c.with_language-texts.ensures.empty }
+    record {
+      below = below_none (g.F.Files.content_of c.args.files.now) c.args.root.now _ c.with_language-texts.result refl
+          c.with_language-texts.ensures.empty;
+    }
 
 pub returns-clause-read : goal.returns-clause-read
 returns-clause-read c = grind (arith, common_steps)

@@ -1,6 +1,6 @@
 use Rattle.std.proofs.Common.{rules, arith}
 use Rattle.std.proofs.lemmas.Grind.{common_steps, elements}
-use Rattle.kmin_jobs.proofs.Gathering.{inserted}
+use Rattle.kmin_jobs.proofs.TextGrowth.{inserted}
 use Rattle.kmin_jobs.proofs.tree_files.insert_one.Goals as goal
 
 pub returns-clause-below : goal.returns-clause-below

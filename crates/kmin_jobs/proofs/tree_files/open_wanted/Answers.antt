@@ -1,6 +1,6 @@
 use Rattle.std.proofs.Common.{◌∙◌, arith}
 use Rattle.std.proofs.lemmas.Grind.{common_steps, elements}
-use Rattle.kmin_jobs.proofs.Gathering.{below_again, below_back}
+use Rattle.kmin_jobs.proofs.TextGrowth.{below_again, below_back}
 use Rattle.kmin_jobs.proofs.tree_files.open_wanted.Goals as goal
 
 pub loop-preserved : goal.loop-preserved
@@ -9,9 +9,11 @@ loop-preserved g c =
     let put = c.insert_all.ensures in
     record {
       same = λ other. put.same other ∙ i.same other;
-      below = below_back (g.F.Files.content_of c.args.files.now) (g.F.Files.content_of c.loop.files) c.args.root.now _ _ c.insert_all.new.texts i.below.in_language i.same
+      below = below_back (g.F.Files.content_of c.args.files.now) (g.F.Files.content_of c.loop.files) c.args.root.now _ _ c.insert_all.new.texts
+          i.below.in_language i.same
           put.below;
-      again = below_again (g.F.Files.content_of c.loop.files) (g.F.Files.content_of c.insert_all.new.files) c.args.root.now _ _ c.insert_all.new.texts i.below.in_language put.same
+      again = below_again (g.F.Files.content_of c.loop.files) (g.F.Files.content_of c.insert_all.new.files) c.args.root.now _ _ c.insert_all.new.texts
+          i.below.in_language put.same
           put.below;
     }
 

@@ -1,7 +1,8 @@
 use Rattle.std.proofs.Common.{◌≡◌, ◌++◌, ◌∷◌, [], ℕ, List, ap, ◌∙◌, append_assoc, arith}
 use Rattle.std.proofs.lemmas.Grind.{common_steps, elements}
-use Rattle.kmin_jobs.specs.FileContents.{OpensAs, path_below}
-use Rattle.kmin_jobs.proofs.Gathering.{front_read}
+use Rattle.kmin_jobs.specs.FileContents.{path_below}
+use Rattle.kmin_disk.specs.Contents.{OpensAs}
+use Rattle.kmin_jobs.proofs.TextGrowth.{front_read}
 use Rattle.kmin_jobs.proofs.tree_files.read_below.Goals as goal
 
 pub returns-in-Some-clause-bytes : goal.returns-in-Some-clause-bytes

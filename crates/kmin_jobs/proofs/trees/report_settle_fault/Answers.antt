@@ -1,5 +1,5 @@
-use Rattle.kmin_jobs.specs.StandardError.{none}
-use Rattle.kmin_jobs.proofs.Taking.{lines_one}
+use Rattle.kmin_tidy.specs.StandardError.{none}
+use Rattle.kmin_tidy.proofs.WriterLemmas.{lines_one}
 use Rattle.kmin_jobs.proofs.trees.report_settle_fault.Goals as goal
 
 pub returns-in-OutOfMemory-clause-reported : goal.returns-in-OutOfMemory-clause-reported

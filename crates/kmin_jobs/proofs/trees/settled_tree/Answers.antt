@@ -1,10 +1,10 @@
 use Rattle.std.proofs.Common.{[], refl, rules}
-use Rattle.kmin_jobs.specs.StandardError.{none}
+use Rattle.kmin_tidy.specs.StandardError.{none}
 use Rattle.kmin_jobs.specs.Stops.{faulty}
 use Rattle.kmin_jobs.specs.between.FileNames.{names_of}
 use Rattle.kmin_jobs.specs.between.TreeStops.{at_texts, for_memory}
-use Rattle.kmin_jobs.proofs.Taking.{lines_one}
-use Rattle.kmin_jobs.proofs.Accepting.{settle_stops}
+use Rattle.kmin_tidy.proofs.WriterLemmas.{lines_one}
+use Rattle.kmin_jobs.proofs.TreeResults.{settle_stops}
 use Rattle.kmin_jobs.proofs.trees.settled_tree.Goals as goal
 
 pub returns-in-Err-clause-stopped : goal.returns-in-Err-clause-stopped
@@ -22,7 +22,8 @@ pub returns-in-Err-settle-clause-stopped : goal.returns-in-Err-settle-clause-sto
 returns-in-Err-settle-clause-stopped g c =
     let read = rw c.in-Ok.is at c.requires.read in (
       _,
-      settle_stops c.args.texts.now (names_of c.args.names.now) c.args.first.now c.in-Ok.tree.tree c.in-Err-settle.fault c.report_settle_fault-stop.result read.0 read.1
+      settle_stops c.args.texts.now (names_of c.args.names.now) c.args.first.now c.in-Ok.tree.tree c.in-Err-settle.fault c.report_settle_fault-stop.result
+          read.0 read.1
           c.in-Err-settle.ensures.cycle c.report_settle_fault-stop.ensures.status,
       rw c.in-Err-settle.ensures.back at c.report_settle_fault-stop.ensures.reported,
     )

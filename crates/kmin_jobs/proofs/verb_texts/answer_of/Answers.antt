@@ -1,4 +1,4 @@
-use Rattle.kmin_jobs.proofs.Answering.{canonical_text}
+use Rattle.kmin_jobs.proofs.JobOutputs.{canonical_text}
 use Rattle.kmin_jobs.proofs.verb_texts.answer_of.Goals as goal
 
 pub returns-in-Min-clause-text : goal.returns-in-Min-clause-text

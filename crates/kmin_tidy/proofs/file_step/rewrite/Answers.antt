@@ -23,7 +23,8 @@ returns-then-options-clause-rewritten g c =
     if_ok_map c.write_file.result _ _ (λ end w. (
       line,
       c.in_ok-push_difference_line.ensures,
-      subst (λ (write : Bool). IsRewritten write a b path bytes least line end) (sym c.if-options.true) (rewritten_by a b path bytes least line end other refl w),
+      subst (λ (write : Bool). IsRewritten write a b path bytes least line end) (sym c.if-options.true)
+          (rewritten_by a b path bytes least line end other refl w),
     ))
     c.write_file.ensures.written
 
@@ -34,8 +35,11 @@ returns-then-options-clause-stopped g c =
 
 pub returns-else-options-clause-rewritten : goal.returns-else-options-clause-rewritten
 returns-else-options-clause-rewritten g c =
-    let other : c.args.least.now ≢ c.args.bytes.now = differ c.args.least.now c.args.bytes.now c.eq.result c.eq.ensures c.if-eq.false in
-    (difference_line c.args.path.now c.args.bytes.now c.args.least.now, c.in_ok-push_difference_line.ensures, shown other c.if-options.false refl refl refl refl)
+    let other : c.args.least.now ≢ c.args.bytes.now = differ c.args.least.now c.args.bytes.now c.eq.result c.eq.ensures c.if-eq.false in (
+      difference_line c.args.path.now c.args.bytes.now c.args.least.now,
+      c.in_ok-push_difference_line.ensures,
+      shown other c.if-options.false refl refl refl refl,
+    )
 
 pub returns-in_err-push_difference_line-clause-stopped : goal.returns-in_err-push_difference_line-clause-stopped
 returns-in_err-push_difference_line-clause-stopped g c = memory_stop c.from_residual.result _ c.from_residual.ensures (inl (refl, refl))

@@ -16,7 +16,8 @@ returns-then-is_refused_for-clause-step g c =
       [],
       sym (append-nil c.args.text.now.items),
       notices_step s a c.args.path.now c.report_of_notices.result c.args.file.bytes.items c.args.file.fragment read c.requires.accepted.fragment asked.0
-          (map_some notice_pair c.args.file.fragment.notices.items some) c.report_of_notices.ensures.notices c.report_of_notices.ensures.problem c.report_of_notices.ensures.outcome,
+          (map_some notice_pair c.args.file.fragment.notices.items some) c.report_of_notices.ensures.notices c.report_of_notices.ensures.problem
+          c.report_of_notices.ensures.outcome,
     )
 
 pub tidy_allowed-requires : goal.tidy_allowed-requires

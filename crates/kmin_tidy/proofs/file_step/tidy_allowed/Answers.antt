@@ -33,7 +33,8 @@ returns-clause-stopped g c =
       allowed = c.requires.allowed;
     } in
     if_err_map c.rewrite.result _ _ (λ stop h. stops_rewrite s (disk_of state (g.D.WriteDisk.failures c.args.disk.now))
-    (disk_of (g.D.ReadDisk.state c.rewrite.new.disk) (g.D.WriteDisk.failures c.rewrite.new.disk)) c.args.path.now c.args.bytes.now c.deref.result.now notices stop minimises h)
+    (disk_of (g.D.ReadDisk.state c.rewrite.new.disk) (g.D.WriteDisk.failures c.rewrite.new.disk)) c.args.path.now c.args.bytes.now c.deref.result.now notices
+    stop minimises h)
     c.rewrite.ensures.stopped
 
 pub returns-in_err-least-clause-stopped : goal.returns-in_err-least-clause-stopped

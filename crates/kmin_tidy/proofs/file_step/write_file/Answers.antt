@@ -13,7 +13,8 @@ returns-in-Err-clause-written g c =
     if_ok_map c.end_of_fault.result _ _ (λ end h.
     written_by (disk_of (g.D.ReadDisk.state c.args.disk.now) (g.D.WriteDisk.failures c.args.disk.now))
     (disk_of (g.D.ReadDisk.state c.replace.new.disk) (g.D.WriteDisk.failures c.replace.new.disk)) c.args.path.now c.args.least.now c.in-Err.fault end
-    c.in-Err.ensures.err c.in-Err.ensures.failures (λ e. c.in-Err.ensures.not_regular (ap Err e)) (λ e. c.in-Err.ensures.names_taken (ap Err e)) h) c.end_of_fault.ensures.failed
+    c.in-Err.ensures.err c.in-Err.ensures.failures (λ e. c.in-Err.ensures.not_regular (ap Err e)) (λ e. c.in-Err.ensures.names_taken (ap Err e)) h)
+    c.end_of_fault.ensures.failed
 
 pub returns-in-Err-clause-stopped : goal.returns-in-Err-clause-stopped
 returns-in-Err-clause-stopped g c =

@@ -2,7 +2,7 @@ use Rattle.std.proofs.Common.{◌≡◌, map, ap, ◌∙◌, subst}
 use Rattle.kc_dotconfig.specs.Fragments.{notice_pair}
 use Rattle.kmin_tidy.specs.Reports.{notice_line, notice_lines}
 use Rattle.kmin_tidy.specs.StandardError.{TakesLines}
-use Rattle.kmin_tidy.proofs.Taking.{lines_append}
+use Rattle.kmin_tidy.proofs.WriterLemmas.{lines_append}
 use Rattle.kmin_tidy.proofs.RefusalLemmas.{map_twice}
 use Rattle.kmin_tidy.proofs.report.report_file.Goals as goal
 
@@ -13,5 +13,6 @@ returns g c =
     let same : map (λ notice. notice_line path (notice_pair notice)) c.deref.result.now ≡ notice_lines path (map notice_pair items) =
     ap (map (λ notice. notice_line path (notice_pair notice))) c.deref.ensures.value ∙ map_twice (notice_line path) notice_pair items in
     lines_append _ _ _ _ _ _ _ _
-    (subst (λ lines. TakesLines (g.E.Sink.taken c.args.err.now) (g.E.Sink.failures c.args.err.now) lines (g.E.Sink.taken c.report_notices.new.err) (g.E.Sink.failures c.report_notices.new.err)) same c.report_notices.ensures)
+    (subst (λ lines. TakesLines (g.E.Sink.taken c.args.err.now) (g.E.Sink.failures c.args.err.now) lines (g.E.Sink.taken c.report_notices.new.err)
+    (g.E.Sink.failures c.report_notices.new.err)) same c.report_notices.ensures)
     c.report_problem.ensures

@@ -3,7 +3,7 @@ use Rattle.kc_dotconfig_model.specs.declared.notice.NoticeKind.TheVariants.{Unkn
 use Rattle.kc_dotconfig.specs.Fragments.{notice_pair}
 use Rattle.kmin_tidy.specs.Reports.{notice_line}
 use Rattle.kmin_tidy.specs.StandardError.{none}
-use Rattle.kmin_tidy.proofs.Taking.{lines_next}
+use Rattle.kmin_tidy.proofs.WriterLemmas.{lines_next}
 use Rattle.kmin_tidy.proofs.report.report_notices.Goals as goal
 
 pub loop-notice-init : goal.loop-notice-init

@@ -1,5 +1,5 @@
 use Rattle.kmin_tidy.specs.StandardError.{none}
-use Rattle.kmin_tidy.proofs.Taking.{lines_one}
+use Rattle.kmin_tidy.proofs.WriterLemmas.{lines_one}
 use Rattle.kmin_tidy.proofs.report.report_problem.Goals as goal
 
 pub returns-in-Some : goal.returns-in-Some

@@ -8,7 +8,7 @@ use Rattle.kmin_tidy.specs.Runs.{Tidies, paths_of}
 use Rattle.kmin_tidy.specs.StandardError.{none}
 use Rattle.kmin_tidy.specs.checker.ReportLines.{report_lines}
 use Rattle.kmin_tidy.specs.checker.FileResults.{StopsFile}
-use Rattle.kmin_tidy.proofs.Taking.{lines_append}
+use Rattle.kmin_tidy.proofs.WriterLemmas.{lines_append}
 use Rattle.kmin_tidy.proofs.WholeRuns.{tidies_none, tidies_more, paths_next, paths_at, stops_run, if_err}
 use Rattle.kmin_tidy.proofs.whole_run.tidy_each.Goals as goal
 
@@ -70,7 +70,8 @@ returns-in_err-report-clause-stopped g c =
     subst (λ (sys : Settled). StopsFile (settings_of sys c.args.format.now c.args.options) b after path stop) inv.system c.in_err-report.ensures.stopped in
     if_err c.from_residual.result stop _ (search rules) (
       inv.ran.0,
-      stops_run s a b after (paths_of c.args.paths.now) (paths_of (take i c.args.paths.now)) (paths_of (drop (suc i) c.args.paths.now)) path c.loop-path.text.items inv.ran.0
+      stops_run s a b after (paths_of c.args.paths.now) (paths_of (take i c.args.paths.now)) (paths_of (drop (suc i) c.args.paths.now)) path
+          c.loop-path.text.items inv.ran.0
           c.loop-path.status stop (paths_at c.args.paths.now i absent h) inv.ran.1 stopped,
       inv.ran.2,
     )

@@ -15,5 +15,6 @@ loop-text-preserved c = elim c.match-definition_of.branch [
 
 pub returns : goal.returns
 returns c =
-    c.loop-text.invariant ∙ ap (filter_map (λ (text : Bor (List ℕ)). parsed.definition_of text.now)) (take_all c.loop-text.text-index c.args.texts.now (omega arith))
+    c.loop-text.invariant ∙ ap (filter_map (λ (text : Bor (List ℕ)). parsed.definition_of text.now))
+    (take_all c.loop-text.text-index c.args.texts.now (omega arith))
     ∙ sym (filter_map_map parsed.definition_of (λ (text : Bor (List ℕ)). text.now) c.args.texts.now)

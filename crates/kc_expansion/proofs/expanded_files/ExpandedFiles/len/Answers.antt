@@ -6,5 +6,5 @@ use Rattle.kc_expansion.proofs.expanded_files.ExpandedFiles.len.Goals as goal
 pub returns-clause-distinct : goal.returns-clause-distinct
 returns-clause-distinct c = subst HasDistinctKeys c.self.view_is (distinct_keys c.self.inside.files.entries c.len.ensures.unique)
 
-pub returns-clause-len : goal.returns-clause-len
-returns-clause-len c = c.len.ensures.len ∙ sym (count_files c.self.inside.files.entries) ∙ ap length c.self.view_is
+pub returns-clause-value : goal.returns-clause-value
+returns-clause-value c = c.len.ensures.len ∙ sym (count_files c.self.inside.files.entries) ∙ ap length c.self.view_is

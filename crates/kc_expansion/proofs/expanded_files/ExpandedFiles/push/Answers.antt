@@ -10,7 +10,7 @@ returns-clause-ok c =
     let text = c.args.text.value.items in
     let entries = c.self.inside.files.entries in
     let there : has_key (map expanded_file entries) c.in_ok-key.key.items ≡ false =
-    ap (λ (fs : List ExpandedFile). has_key fs c.in_ok-key.key.items) c.self.view_is ∙ ap (λ k. has_key old k) c.in_ok-key.ensures.items ∙ c.requires in
+    ap (λ (fs : List ExpandedFile). has_key fs c.in_ok-key.key.items) c.self.view_is ∙ ap (λ k. has_key old k) c.in_ok-key.ensures.items ∙ c.requires.absent in
     ap (λ es. map expanded_file es) c.in_ok-insert.ensures.entries
     ∙ file_inserted entries c.in_ok-key.key (record { path = c.in_ok-path.path; text = c.args.text }) there
     ∙ ap (λ (fs : List ExpandedFile). fs ++ record { key = c.in_ok-key.key.items; path = c.in_ok-path.path.items; text = text } ∷ []) c.self.view_is

@@ -5,7 +5,7 @@ use Rattle.indexmap.specs.IndexMap.{insert_entry}
 use Rattle.kc_macros_model.specs.ReadingStates.{ExpandedFile}
 use Rattle.kc_expansion.specs.declared.expanded_files.FileOfKey.{FileOfKey}
 use Rattle.kc_expansion.specs.checker.ExpandedViews.{with_file}
-use Rattle.kc_expansion.proofs.KeyLemmas.{put_or_there, seen_as, grown_where_new, count_files}
+use Rattle.kc_expansion.proofs.KeyLemmas.{added_or_there, viewed_as, grown_where_new, count_files}
 use Rattle.kc_expansion.proofs.expanded_files.ExpandedFiles.push_first.Goals as goal
 
 pub returns-clause-ok : goal.returns-clause-ok
@@ -17,8 +17,8 @@ returns-clause-ok c =
     let path = c.in_ok-path.path in
     let new : FileOfKey = record { path = path; text = c.args.text } in
     let put = c.or_insert.result.now in
-    seen_as _ (insert_entry (λ (a b : Vec ℕ Global). bytes_eq a.items b.items) entries key put) _ (search rules)
-    (put_or_there entries key new put (lookup (λ (j : Vec ℕ Global). bytes_eq key.items j.items) entries) refl
+    viewed_as _ (insert_entry (λ (a b : Vec ℕ Global). bytes_eq a.items b.items) entries key put) _ (search rules)
+    (added_or_there entries key new put (lookup (λ (j : Vec ℕ Global). bytes_eq key.items j.items) entries) refl
     (c.or_insert.ensures.value ∙ ap (λ o. unwrap_or o new) c.in_ok-self-inside.ensures.value)
     ∙ ap (λ (fs : List ExpandedFile). with_file key.items path.items text fs) c.self.view_is
     ∙ ap (λ k. with_file k path.items text old) c.in_ok-key.ensures.items

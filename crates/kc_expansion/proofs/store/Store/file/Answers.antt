@@ -13,7 +13,8 @@ returns-clause-grows g c =
     let path = c.args.path.now in
     let read = file_of c.in_ok-read.read in
     let e : c.insert.new.self ≡ old.files ++ (path, read) ∷ [] = c.in_ok-insert.ensures.ok ∙ ap (λ r. old.files ++ (path, r) ∷ []) c.in_ok-kept.ensures in
-    subst (λ (fs : List (List ℕ × FileRead)). let new : KnownFiles = record { files = fs; folders = old.folders } in Grows (g.F.TreeFiles.contents c.args.files.now) (known_of old) new) (sym e)
+    subst (λ (fs : List (List ℕ × FileRead)). let new : KnownFiles = record { files = fs; folders = old.folders } in
+    Grows (g.F.TreeFiles.contents c.args.files.now) (known_of old) new) (sym e)
     (file_more (g.F.TreeFiles.contents c.args.files.now) (known_of old) path read c.in_ok-read.ensures.matched)
 
 pub returns-clause-read : goal.returns-clause-read

@@ -8,7 +8,8 @@ pub returns-clause-grows : goal.returns-clause-grows
 returns-clause-grows c = rw (← c.self.view_is) (grows c.self.inside.store c.insert_name.new.self c.self.invariant c.insert_name.ensures.extends)
 
 pub returns-clause-nodes : goal.returns-clause-nodes
-returns-clause-nodes c = rw (← c.self.view_is) (same_exprs c.self.inside.store c.insert_name.new.self c.self.invariant c.insert_name.ensures.extends c.insert_name.ensures.nodes)
+returns-clause-nodes c = rw (← c.self.view_is) (same_exprs c.self.inside.store c.insert_name.new.self c.self.invariant c.insert_name.ensures.extends
+    c.insert_name.ensures.nodes)
 
 pub returns-clause-names : goal.returns-clause-names
 returns-clause-names c = rw (← c.self.view_is) c.in_ok-index.ensures.names

@@ -16,4 +16,11 @@ returns-clause-ascending c =
 pub returns-clause-exact : goal.returns-clause-exact
 returns-clause-exact c =
     let d = dedup_is eqb c.sort_unstable.new.self.items c.dedup.new.self.items c.dedup.ensures.filtered in
-    λ i. (reported_in c.args.self.now c.self.inside.store c.self.view_is c.args.id c.index.result c.index.ensures c.self.invariant c.new-found.result.items c.push_names.new.found.items c.sort_unstable.new.self.items c.dedup.new.self.items c.new-found.ensures.items c.in_ok-push_names.ensures.words c.in_ok-push_names.ensures.held c.sort_unstable.ensures.permutation d i, in_reported c.args.self.now c.self.inside.store c.self.view_is c.args.id c.index.result c.index.ensures c.self.invariant c.new-found.result.items c.push_names.new.found.items c.sort_unstable.new.self.items c.dedup.new.self.items c.new-found.ensures.items c.in_ok-push_names.ensures.words c.in_ok-push_names.ensures.held c.sort_unstable.ensures.permutation d i)
+    λ i. (
+      reported_in c.args.self.now c.self.inside.store c.self.view_is c.args.id c.index.result c.index.ensures c.self.invariant c.new-found.result.items
+          c.push_names.new.found.items c.sort_unstable.new.self.items c.dedup.new.self.items c.new-found.ensures.items c.in_ok-push_names.ensures.words
+          c.in_ok-push_names.ensures.held c.sort_unstable.ensures.permutation d i,
+      in_reported c.args.self.now c.self.inside.store c.self.view_is c.args.id c.index.result c.index.ensures c.self.invariant c.new-found.result.items
+          c.push_names.new.found.items c.sort_unstable.new.self.items c.dedup.new.self.items c.new-found.ensures.items c.in_ok-push_names.ensures.words
+          c.in_ok-push_names.ensures.held c.sort_unstable.ensures.permutation d i,
+    )

@@ -15,13 +15,17 @@ returns-in-Ok-clause-end c = ap (λ n. c.args.at + n) (c.extent_len.ensures.coun
 
 pub returns-in-Ok-clause-ok : goal.returns-in-Ok-clause-ok
 returns-in-Ok-clause-ok c =
-    let end : c.args.at + c.extent_len.result ≡ expr_end (lexemes_of c.args.tokens.now) c.args.at = ap (λ n. c.args.at + n) (c.extent_len.ensures.count ∙ ap (λ us. length (extent us)) (tail_pieces c.args.tokens.now c.args.at)) in
-    rw c.at.ensures (line_read c.args.tokens.now (take (c.args.at + c.extent_len.result) c.args.tokens.now) c.args.at (c.args.at + c.extent_len.result) refl end c.parse_to_end.new.self c.args.condition c.in-Ok.id c.in-Ok.ensures.ok)
+    let end : c.args.at + c.extent_len.result ≡ expr_end (lexemes_of c.args.tokens.now) c.args.at =
+    ap (λ n. c.args.at + n) (c.extent_len.ensures.count ∙ ap (λ us. length (extent us)) (tail_pieces c.args.tokens.now c.args.at)) in
+    rw c.at.ensures (line_read c.args.tokens.now (take (c.args.at + c.extent_len.result) c.args.tokens.now) c.args.at
+    (c.args.at + c.extent_len.result) refl end c.parse_to_end.new.self c.args.condition c.in-Ok.id c.in-Ok.ensures.ok)
 
 pub returns-in-Err-clause-fault : goal.returns-in-Err-clause-fault
 returns-in-Err-clause-fault c =
-    let end : c.args.at + c.extent_len.result ≡ expr_end (lexemes_of c.args.tokens.now) c.args.at = ap (λ n. c.args.at + n) (c.extent_len.ensures.count ∙ ap (λ us. length (extent us)) (tail_pieces c.args.tokens.now c.args.at)) in
-    line_refused c.args.tokens.now (take (c.args.at + c.extent_len.result) c.args.tokens.now) c.args.at (c.args.at + c.extent_len.result) refl end c.in-Err.fault c.in-Err.ensures.fault
+    let end : c.args.at + c.extent_len.result ≡ expr_end (lexemes_of c.args.tokens.now) c.args.at =
+    ap (λ n. c.args.at + n) (c.extent_len.ensures.count ∙ ap (λ us. length (extent us)) (tail_pieces c.args.tokens.now c.args.at)) in
+    line_refused c.args.tokens.now (take (c.args.at + c.extent_len.result) c.args.tokens.now) c.args.at
+    (c.args.at + c.extent_len.result) refl end c.in-Err.fault c.in-Err.ensures.fault
 
 pub parse_to_end-requires-clause-sound : goal.parse_to_end-requires-clause-sound
 parse_to_end-requires-clause-sound c = grind (arith, common_steps)

@@ -8,7 +8,12 @@ pub push_unvisited-requires-clause-there : goal.push_unvisited-requires-clause-t
 push_unvisited-requires-clause-there c = rw c.index.ensures (within_nodes c.args.self.now c.self.inside.store c.args.id c.self.view_is c.requires.there)
 
 pub push_unvisited-requires-clause-room : goal.push_unvisited-requires-clause-room
-push_unvisited-requires-clause-room c = omega (arith, c.requires.found.room, length-nodes c.self.inside.store, ap (λ (x : Exprs). length x.nodes) c.self.view_is)
+push_unvisited-requires-clause-room c = omega (
+  arith,
+  c.requires.found.room,
+  length-nodes c.self.inside.store,
+  ap (λ (x : Exprs). length x.nodes) c.self.view_is,
+)
 
 pub returns-in-Err-clause-err : goal.returns-in-Err-clause-err
 returns-in-Err-clause-err c = search rules

@@ -4,7 +4,13 @@ use Rattle.kc_expr.proofs.Places.{place-position}
 use Rattle.kc_expr.proofs.store.Store.find.Goals as goal
 
 pub returns-in-Some : goal.returns-in-Some
-returns-in-Some c = record { value = sym c.in-Some.is ∙ c.get_index_of.ensures.index ∙ sym (place-position string_bytes c.args.name.now c.args.self.now.names.keys) }
+returns-in-Some c = record {
+  value = sym c.in-Some.is ∙ c.get_index_of.ensures.index
+      ∙ sym (place-position string_bytes c.args.name.now c.args.self.now.names.keys);
+}
 
 pub returns-in-None : goal.returns-in-None
-returns-in-None c = record { value = sym c.in-None.is ∙ c.get_index_of.ensures.index ∙ sym (place-position string_bytes c.args.name.now c.args.self.now.names.keys) }
+returns-in-None c = record {
+  value = sym c.in-None.is ∙ c.get_index_of.ensures.index
+      ∙ sym (place-position string_bytes c.args.name.now c.args.self.now.names.keys);
+}

@@ -22,7 +22,12 @@ placed c =
 extended : (c : goal.In_ok-index) → Extends c.args.self.now (record c.args.self.now { names = c.insert_full.new.self })
 extended c =
     let v = c.in_ok-from_str.field-0 in
-    record { names = rw c.in_ok-index.ensures.keys (pushed_prefix (list_any (λ k. bytes_eq (string_bytes v) (string_bytes k)) c.args.self.now.names.keys) c.args.self.now.names.keys v); texts = take-length c.args.self.now.texts.items; nodes = take-length c.args.self.now.nodes.items }
+    record {
+      names = rw c.in_ok-index.ensures.keys (pushed_prefix (list_any (λ k. bytes_eq (string_bytes v) (string_bytes k)) c.args.self.now.names.keys)
+          c.args.self.now.names.keys v);
+      texts = take-length c.args.self.now.texts.items;
+      nodes = take-length c.args.self.now.nodes.items;
+    }
 
 pub returns-clause-extends : goal.returns-clause-extends
 returns-clause-extends c = extended c
@@ -31,9 +36,17 @@ pub returns-clause-sound : goal.returns-clause-sound
 returns-clause-sound c =
     let v = c.in_ok-from_str.field-0 in
     let distinct : AreDistinct (map string_bytes c.insert_full.new.self.keys) =
-    subst (λ (ks : List (String Global)). AreDistinct (map string_bytes ks)) (sym c.in_ok-index.ensures.keys) (distinct_pushed string_bytes (string_bytes v) v refl c.args.self.now.names.keys c.requires.sound.distinct) in
+    subst (λ (ks : List (String Global)). AreDistinct (map string_bytes ks)) (sym c.in_ok-index.ensures.keys)
+    (distinct_pushed string_bytes (string_bytes v) v refl c.args.self.now.names.keys c.requires.sound.distinct) in
     let few : length c.insert_full.new.self.keys ≤ 2 ^ 32 =
-    omega (arith, ap length c.in_ok-index.ensures.keys, pushed_long (list_any (λ k. bytes_eq (string_bytes v) (string_bytes k)) c.args.self.now.names.keys) c.args.self.now.names.keys v, c.in_ok-index_of_32_bits.ensures.below, c.len.ensures) in
+    omega (
+      arith,
+      ap length c.in_ok-index.ensures.keys,
+      pushed_long (list_any (λ k. bytes_eq (string_bytes v) (string_bytes k)) c.args.self.now.names.keys)
+          c.args.self.now.names.keys v,
+      c.in_ok-index_of_32_bits.ensures.below,
+      c.len.ensures,
+    ) in
     sound_on c.args.self.now (record c.args.self.now { names = c.insert_full.new.self }) c.requires.sound (extended c) refl distinct few
 
 pub returns-clause-place : goal.returns-clause-place

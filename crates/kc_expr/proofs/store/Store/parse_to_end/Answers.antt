@@ -18,17 +18,21 @@ returns-in_err-id-clause-fault c =
 
 pub returns-then-next-tokens-clause-fault : goal.returns-then-next-tokens-clause-fault
 returns-then-next-tokens-clause-fault c =
-    whole_too_long (lexemes_of c.args.tokens.now) c.args.condition c.args.at c.args.depth c.parse_ors.new.self _ _ c.in_ok-id.ensures.parses (omega (arith, length-drop c.in_ok-id.next (lexemes_of c.args.tokens.now), length-map c.args.tokens.now lexeme_of)) _ c.fault_at.ensures
+    whole_too_long (lexemes_of c.args.tokens.now) c.args.condition c.args.at c.args.depth c.parse_ors.new.self _ _ c.in_ok-id.ensures.parses
+    (omega (arith, length-drop c.in_ok-id.next (lexemes_of c.args.tokens.now), length-map c.args.tokens.now lexeme_of)) _ c.fault_at.ensures
 
 pub returns-clause-ok : goal.returns-clause-ok
-returns-clause-ok c = whole_parsed (lexemes_of c.args.tokens.now) c.args.condition c.args.at c.args.depth c.parse_ors.new.self _ _ c.in_ok-id.ensures.parses (omega (arith, length-map c.args.tokens.now lexeme_of))
+returns-clause-ok c = whole_parsed (lexemes_of c.args.tokens.now) c.args.condition c.args.at c.args.depth c.parse_ors.new.self _ _ c.in_ok-id.ensures.parses
+    (omega (arith, length-map c.args.tokens.now lexeme_of))
 
 pub returns-in-Some-clause-ok : goal.returns-in-Some-clause-ok
 returns-in-Some-clause-ok c =
     let e = c.in-Some.ensures in
     let reads : read_all_tokens c.args.depth (drop c.args.at (lexemes_of c.args.tokens.now)) ≡ Ok (alone (constant_or named c.in-Some.text.now)) =
-    word_whole (drop c.args.at (lexemes_of c.args.tokens.now)) (constant_or named c.in-Some.text.now) e.kind e.operand (sym (drop_one c.args.at (lexemes_of c.args.tokens.now)) ∙ e.last) c.args.depth in
-    IfOk-weaker c.parse_word.result _ _ (λ id s. record { expr = alone (constant_or named c.in-Some.text.now); reads = reads; stands = s }) c.parse_word.ensures.stands
+    word_whole (drop c.args.at (lexemes_of c.args.tokens.now)) (constant_or named c.in-Some.text.now) e.kind e.operand
+    (sym (drop_one c.args.at (lexemes_of c.args.tokens.now)) ∙ e.last) c.args.depth in
+    IfOk-weaker c.parse_word.result _ _ (λ id s. record { expr = alone (constant_or named c.in-Some.text.now); reads = reads; stands = s })
+    c.parse_word.ensures.stands
 
 pub returns-in-Some-clause-fault : goal.returns-in-Some-clause-fault
 returns-in-Some-clause-fault c = grind (arith, common_steps)

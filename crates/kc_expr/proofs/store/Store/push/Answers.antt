@@ -4,13 +4,16 @@ use Rattle.kc_expr.proofs.StoreLemmas.{push_extends, push_sound, push_represents
 use Rattle.kc_expr.proofs.store.Store.push.Goals as goal
 
 pub returns-clause-sound : goal.returns-clause-sound
-returns-clause-sound c = push_sound c.args.self.now (record c.args.self.now { nodes = c.push.new.self }) c.args.node c.requires.sound c.in_ok-push.ensures.items refl refl (omega (arith, c.index_of_32_bits.ensures, c.in_ok-id.ensures.below)) c.requires.fits
+returns-clause-sound c = push_sound c.args.self.now (record c.args.self.now { nodes = c.push.new.self }) c.args.node c.requires.sound c.in_ok-push.ensures.items
+    refl refl (omega (arith, c.index_of_32_bits.ensures, c.in_ok-id.ensures.below)) c.requires.fits
 
 pub returns-clause-extends : goal.returns-clause-extends
-returns-clause-extends c = push_extends c.args.self.now (record c.args.self.now { nodes = c.push.new.self }) c.args.node c.requires.sound c.in_ok-push.ensures.items refl refl
+returns-clause-extends c = push_extends c.args.self.now (record c.args.self.now { nodes = c.push.new.self }) c.args.node c.requires.sound
+    c.in_ok-push.ensures.items refl refl
 
 pub returns-clause-stands : goal.returns-clause-stands
-returns-clause-stands c = push_represents c.args.self.now (record c.args.self.now { nodes = c.push.new.self }) c.args.node c.requires.sound c.in_ok-push.ensures.items refl refl c.in_ok-id.id (omega (arith, c.in_ok-id.ensures.number, c.len.ensures, c.args.self.now.nodes.ok.0))
+returns-clause-stands c = push_represents c.args.self.now (record c.args.self.now { nodes = c.push.new.self }) c.args.node c.requires.sound
+    c.in_ok-push.ensures.items refl refl c.in_ok-id.id (omega (arith, c.in_ok-id.ensures.number, c.len.ensures, c.args.self.now.nodes.ok.0))
 
 pub returns-in_err-push-clause-extends : goal.returns-in_err-push-clause-extends
 returns-in_err-push-clause-extends c = grind (arith, common_steps)

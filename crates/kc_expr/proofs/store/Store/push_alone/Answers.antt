@@ -11,17 +11,21 @@ use Rattle.kc_expr.proofs.store.Store.push_alone.Goals as goal
 
 pub push-requires-3-clause-fits : goal.push-requires-3-clause-fits
 push-requires-3-clause-fits c =
-    let id = represents_later c.push.new.self c.push-2.new.self c.in_ok-id.id _ c.push.ensures.sound (extends_on c.push.new.self c.intern.new.self c.push-2.new.self c.intern.ensures.extends c.push-2.ensures.extends) c.in_ok-id.ensures.stands in
+    let id = represents_later c.push.new.self c.push-2.new.self c.in_ok-id.id _ c.push.ensures.sound
+    (extends_on c.push.new.self c.intern.new.self c.push-2.new.self c.intern.ensures.extends c.push-2.ensures.extends) c.in_ok-id.ensures.stands in
     (represents_node c.push-2.new.self c.in_ok-id.id _ id, represents_node c.push-2.new.self c.in_ok-name.name _ c.in_ok-name.ensures.stands)
 
 pub returns-clause-stands : goal.returns-clause-stands
 returns-clause-stands c =
     let m = sym c.is_constant_m.ensures ∙ c.if-not-is_constant_m.false in
     let alone_m = ap alone (m_leaf c.args.leaf (stored_names c.args.self.now) c.args.self.now.texts.items m) in
-    let id = represents_later c.push.new.self c.push-2.new.self c.in_ok-id.id _ c.push.ensures.sound (extends_on c.push.new.self c.intern.new.self c.push-2.new.self c.intern.ensures.extends c.push-2.ensures.extends) c.in_ok-id.ensures.stands in
+    let id = represents_later c.push.new.self c.push-2.new.self c.in_ok-id.id _ c.push.ensures.sound
+    (extends_on c.push.new.self c.intern.new.self c.push-2.new.self c.intern.ensures.extends c.push-2.ensures.extends) c.in_ok-id.ensures.stands in
     let left : node_expr (exprs_in c.push-2.new.self) c.in_ok-id.id ≡ alone (constant M) = id.is ∙ alone_m in
-    let right : node_expr (exprs_in c.push-2.new.self) c.in_ok-name.name ≡ alone (named modules) = c.in_ok-name.ensures.stands.is ∙ ap (λ x. alone (named x)) c.in_ok-modules.ensures.name in
-    let whole = ap (λ e. both e (node_expr (exprs_in c.push-2.new.self) c.in_ok-name.name)) left ∙ ap (both (alone (constant M))) right ∙ sym (m_condition c.args.condition c.args.leaf (stored_names c.args.self.now) c.args.self.now.texts.items c.if-not-condition.false m) in
+    let right : node_expr (exprs_in c.push-2.new.self) c.in_ok-name.name ≡ alone (named modules) = c.in_ok-name.ensures.stands.is
+    ∙ ap (λ x. alone (named x)) c.in_ok-modules.ensures.name in
+    let whole = ap (λ e. both e (node_expr (exprs_in c.push-2.new.self) c.in_ok-name.name)) left ∙ ap (both (alone (constant M))) right
+    ∙ sym (m_condition c.args.condition c.args.leaf (stored_names c.args.self.now) c.args.self.now.texts.items c.if-not-condition.false m) in
     IfOk-weaker c.push-3.result _ _ (λ i s. subst (Represents (exprs_in c.push-3.new.self) i) whole s) c.push-3.ensures.stands
 
 pub push-requires-clause-sound : goal.push-requires-clause-sound
@@ -61,7 +65,8 @@ pub returns-in_err-name-clause-sound : goal.returns-in_err-name-clause-sound
 returns-in_err-name-clause-sound c = c.push-2.ensures.sound
 
 pub returns-in_err-name-clause-extends : goal.returns-in_err-name-clause-extends
-returns-in_err-name-clause-extends c = extends_on c.args.self.now c.intern.new.self c.push-2.new.self (extends_on c.args.self.now c.push.new.self c.intern.new.self c.push.ensures.extends c.intern.ensures.extends) c.push-2.ensures.extends
+returns-in_err-name-clause-extends c = extends_on c.args.self.now c.intern.new.self c.push-2.new.self
+    (extends_on c.args.self.now c.push.new.self c.intern.new.self c.push.ensures.extends c.intern.ensures.extends) c.push-2.ensures.extends
 
 pub push-requires-3-clause-sound : goal.push-requires-3-clause-sound
 push-requires-3-clause-sound c = c.push-2.ensures.sound
@@ -70,7 +75,9 @@ pub returns-clause-sound : goal.returns-clause-sound
 returns-clause-sound c = c.push-3.ensures.sound
 
 pub returns-clause-extends : goal.returns-clause-extends
-returns-clause-extends c = extends_on c.args.self.now c.push-2.new.self c.push-3.new.self (extends_on c.args.self.now c.intern.new.self c.push-2.new.self (extends_on c.args.self.now c.push.new.self c.intern.new.self c.push.ensures.extends c.intern.ensures.extends) c.push-2.ensures.extends) c.push-3.ensures.extends
+returns-clause-extends c = extends_on c.args.self.now c.push-2.new.self c.push-3.new.self
+    (extends_on c.args.self.now c.intern.new.self c.push-2.new.self (extends_on c.args.self.now c.push.new.self c.intern.new.self c.push.ensures.extends
+    c.intern.ensures.extends) c.push-2.ensures.extends) c.push-3.ensures.extends
 
 pub returns-clause-memory : goal.returns-clause-memory
 returns-clause-memory c = grind (arith, common_steps)

@@ -3,7 +3,7 @@ use Rattle.std.specs.Prelude.{bytes_eq}
 use Rattle.kc_tree_model.specs.Keywords.{keyword_in_table}
 use Rattle.kc_macros.specs.checker.TableView.{answer_of_entry}
 use Rattle.kc_macros.proofs.TableLemmas.{answer_items}
-use Rattle.kc_macros.proofs.InsertLemmas.{inserted_at}
+use Rattle.kc_macros.proofs.EntryLemmas.{inserted_at}
 use Rattle.kc_macros.proofs.answer_table.AnswerTable.set.Goals as goal
 
 pub returns-clause-ok : goal.returns-clause-ok

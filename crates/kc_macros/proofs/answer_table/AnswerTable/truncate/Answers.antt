@@ -5,4 +5,5 @@ use Rattle.kc_macros.proofs.answer_table.AnswerTable.truncate.Goals as goal
 
 pub returns : goal.returns
 returns c =
-    ap (λ es. map answer_of_entry es) c.truncate.ensures.entries ∙ take_entries c.args.len c.self.inside.entries.entries ∙ ap (λ t. take c.args.len t) c.self.view_is
+    ap (λ es. map answer_of_entry es) c.truncate.ensures.entries ∙ take_entries c.args.len c.self.inside.entries.entries
+    ∙ ap (λ t. take c.args.len t) c.self.view_is

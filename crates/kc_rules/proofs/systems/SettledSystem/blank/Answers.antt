@@ -5,10 +5,16 @@ use Rattle.kc_rules.proofs.Blanks.{blank_tri, blank_text, blank_member}
 use Rattle.kc_rules.proofs.systems.SettledSystem.blank.Goals as goal
 
 pub returns-in-Bool : goal.returns-in-Bool
-returns-in-Bool c = record { ok = blank_tri c.args.self.now.rules.tree.tree c.args.u c.in-Symbol.s _ c.in-Symbol.ensures.unit c.symbol.ensures.symbol (ap is_tri_kind c.in-Bool.is) }
+returns-in-Bool c = record {
+  ok = blank_tri c.args.self.now.rules.tree.tree c.args.u c.in-Symbol.s _ c.in-Symbol.ensures.unit c.symbol.ensures.symbol
+      (ap is_tri_kind c.in-Bool.is);
+}
 
 pub returns-in-Tristate : goal.returns-in-Tristate
-returns-in-Tristate c = record { ok = blank_tri c.args.self.now.rules.tree.tree c.args.u c.in-Symbol.s _ c.in-Symbol.ensures.unit c.symbol.ensures.symbol (ap is_tri_kind c.in-Tristate.is) }
+returns-in-Tristate c = record {
+  ok = blank_tri c.args.self.now.rules.tree.tree c.args.u c.in-Symbol.s _ c.in-Symbol.ensures.unit c.symbol.ensures.symbol
+      (ap is_tri_kind c.in-Tristate.is);
+}
 
 pub returns-in_ok-copied-in-Text : goal.returns-in_ok-copied-in-Text
 returns-in_ok-copied-in-Text c = record {

@@ -4,4 +4,5 @@ use Rattle.kmin_disk.proofs.MemorySteps.{appends_holds}
 use Rattle.kmin_disk.proofs.memory_disk.MemoryDisk.add.Goals as goal
 
 pub returns-clause-added : goal.returns-clause-added
-returns-clause-added c = appends_holds _ _ (Holds c.in_ok-path.path c.args.content) _ _ c.args.content (λ any history. refl) c.in_ok-path.ensures.ok c.in_ok-push.ensures.items
+returns-clause-added c = appends_holds _ _ (Holds c.in_ok-path.path c.args.content) _ _ c.args.content
+    (λ any history. refl) c.in_ok-path.ensures.ok c.in_ok-push.ensures.items

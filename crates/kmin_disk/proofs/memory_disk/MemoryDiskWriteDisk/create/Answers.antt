@@ -16,5 +16,6 @@ returns-in-Ok-clause-made c =
     let log = c.fails.ensures.log in
     let began = subst (λ (es : List Event). AppendsHolds es c.begin.new.self.log.items new_path Unfinished) (ap (λ l. l.items) log) c.in-Ok.ensures.began in
     let apart : new_path ≢ path = search rules in
-    let free : newest ((memory_state old).history new_path) ≡ Some nothing = subst (λ (es : List Event). newest ((memory_state es).history new_path) ≡ Some nothing) (ap (λ l. l.items) log) c.in-Nothing.ensures in
+    let free : newest ((memory_state old).history new_path) ≡ Some nothing =
+    subst (λ (es : List Event). newest ((memory_state es).history new_path) ≡ Some nothing) (ap (λ l. l.items) log) c.in-Nothing.ensures in
     creates_in_memory old c.begin.new.self.log.items path new_path made began c.in-Ok.ensures.draft.0 c.in-Ok.ensures.draft.1 c.in-Ok.ensures.draft.2 apart free

@@ -10,4 +10,5 @@ returns-in-Ok-clause-removed c =
     let old = c.args.self.now.log.items in
     let new = c.push.new.self.items in
     let event : Event = Holds c.args.new.path Nothing in
-    removes_in_memory old new c.args.new (appends_holds old new event (string_bytes c.args.new.path) (string_bytes c.args.new.path) Nothing (λ any history. refl) refl (c.in-Ok.ensures.items ∙ ap (λ l. l.items ++ event ∷ []) c.fails.ensures.log))
+    removes_in_memory old new c.args.new (appends_holds old new event (string_bytes c.args.new.path) (string_bytes c.args.new.path) Nothing
+    (λ any history. refl) refl (c.in-Ok.ensures.items ∙ ap (λ l. l.items ++ event ∷ []) c.fails.ensures.log))

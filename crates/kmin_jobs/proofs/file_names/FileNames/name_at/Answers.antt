@@ -1,5 +1,5 @@
 use Rattle.std.proofs.Common.{sym, ◌∙◌, ap, Some, ℕ, List}
-use Rattle.kmin_jobs.proofs.FileNaming.{absent_name, plain_name, found_name}
+use Rattle.kmin_jobs.proofs.FileNameLemmas.{absent_name, plain_name, found_name}
 use Rattle.kmin_jobs.proofs.file_names.FileNames.name_at.Goals as goal
 
 pub returns-in_err-key : goal.returns-in_err-key

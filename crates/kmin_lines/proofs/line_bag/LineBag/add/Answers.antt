@@ -17,5 +17,6 @@ returns c = λ lines has few.
       len = let l = has.len in let a = length-append lines (c.args.line.now ∷ []) in omega arith;
       each = added (λ any. get_by (λ k. bytes_eq any k.now) m) (λ any. get_by (λ k. bytes_eq any k.now) n) lines line c.times-count.result has.each
           c.times-count.ensures
-          (λ any. hash_map_updates_str line m n _ c.in_ok-insert.ensures.updates any ∙ ap (λ v. cond (bytes_eq line any) (Some v) (get_by (λ k. bytes_eq any k.now) m)) one_more);
+          (λ any. hash_map_updates_str line m n _ c.in_ok-insert.ensures.updates any
+          ∙ ap (λ v. cond (bytes_eq line any) (Some v) (get_by (λ k. bytes_eq any k.now) m)) one_more);
     }

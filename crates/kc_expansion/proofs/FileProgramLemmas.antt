@@ -1,0 +1,247 @@
+-- Programs that read files, one after another.
+use Rattle.std.proofs.Common.{◌≡◌, ℕ, List, Option, Some, Result, Ok, Err, refl, sym, ap, ◌∙◌, subst}
+use Rattle.std.specs.Prelude.{IsErrAnd, IfOk, OnOk}
+use Rattle.std.proofs.lemmas.List.{append-nil}
+use Rattle.kc_tree_model.specs.Keywords.{keyword_in_table}
+use Rattle.kc_macros_model.specs.Programs.{Fault, read_file, Program, returns, fails, stops, does, ◌>>=◌}
+use Rattle.kc_macros_model.specs.Worlds.{World, Ending, returned, failed, stopped, Outcome, ended}
+use Rattle.kc_macros_model.specs.AnswerFiles.{Recorded}
+use Rattle.kc_macros.specs.declared.stop.Stop.{Stop}
+use Rattle.kc_macros.specs.declared.stop.Stop.TheVariants as kinds
+use Rattle.kc_macros.specs.RunStates.{RunState, after_outcome}
+use Rattle.kc_macros.specs.between.Stops.{FailsWith}
+use Rattle.kc_macros.specs.Runs.{RunEnd, ends, out_of_memory, end_of_stop, end_of, HasAnswers, Runs, fault_of}
+use Rattle.kc_macros.proofs.RunLemmas.{RunsIn, in_world, same_answers}
+use Rattle.kc_expansion.proofs.JoinedRuns.{in_world_then, in_world_failed, in_world_stopped}
+use Rattle.kc_expansion.specs.TreeContents.{TreeContents}
+use Rattle.kc_expansion.specs.between.KnownFiles.{FileRead, KnownFiles, AreBytes, Agrees, Grows}
+use Rattle.kc_expansion.specs.between.FileRuns.{Comes}
+use Rattle.kc_expansion.specs.between.Reads.{FileRun, file_run, Reaches, reached, cut_short, Reads}
+use Rattle.kc_expansion.specs.checker.ProgramSteps.{outcome_in, MeetIn, Leads, Steps}
+use Rattle.kc_expansion.proofs.ProgramLemmas.{nothing_after}
+use Rattle.kc_expansion.proofs.StoreLemmas.{grows_same}
+
+-- a program that comes to its end at once
+at_end : {A : Type 0} (w : World) (s : RunState) (p : Program A) (e : Ending A) → outcome_in w s p ≡ ended s.left e → RunsIn w s s p e
+at_end w s p e h = record {
+  state = ap (λ ns. let t : RunState = record s { notices = ns } in t) (sym (append-nil s.notices)) ∙ ap (after_outcome s) (sym h);
+  ending = ap (λ (o : Outcome _). o.ending) h;
+}
+
+pub reaches_in : {A : Type 0} (w : World) (k : KnownFiles) (s t : RunState) (p : Program A) (e : Ending A) → Agrees w k → HasAnswers w s.answers
+    → Reaches k s t p (ends e) → RunsIn w s t p e
+reaches_in w k s t p e a h (reached f) = let r = f w a h in record { state = r.0; ending = r.1 }
+
+reaches_by : {A : Type 0} (k : KnownFiles) (s t : RunState) (p : Program A) (e : Ending A)
+    → ((w : World) → Agrees w k → HasAnswers w s.answers → RunsIn w s t p e) → Reaches k s t p (ends e)
+reaches_by k s t p e f = reached (λ w a h. let r = f w a h in (r.state, r.ending))
+
+pub grows_then : (a b c : FileRun) (h : b.contents ≡ a.contents) → Grows a.contents a.known b.known → Grows b.contents b.known c.known
+    → Grows a.contents a.known c.known
+grows_then a b c h g k =
+    let later : Grows a.contents b.known c.known = subst (λ (t : TreeContents). Grows t b.known c.known) h k in
+    record { worlds = λ w x. g.worlds w (later.worlds w x); matched = λ x. later.matched (g.matched x) }
+
+-- a run that reads nothing
+pub reads_by_run : {A : Type 0} (contents : TreeContents) (known : KnownFiles) (s t : RunState) (p : Program A) (e : RunEnd A) → Runs s t p e
+    → Reads (file_run contents known s) (file_run contents known t) p e
+reads_by_run {A = A} contents known s t p e a = record { same = refl; grows = grows_same contents known; reaches = by_cases e a }
+  where
+    by_cases : (e : RunEnd A) → Runs s t p e → Reaches known s t p e
+    by_cases (ends e) a = reaches_by known s t p e (λ w _ h. in_world w s t p e h a)
+    by_cases out_of_memory a = cut_short
+
+-- a program that only reads
+pub reads_by_files : {A : Type 0} (a b : FileRun) (p : Program A) (e : Ending A) → b.contents ≡ a.contents → Grows a.contents a.known b.known → b.run ≡ a.run
+    → Comes b.known p e → Reads a b p (ends e)
+reads_by_files a b p e same grows run c = record {
+  same = same;
+  grows = grows;
+  reaches = subst (λ (t : RunState). Reaches b.known a.run t p (ends e)) (sym run)
+      (reaches_by b.known a.run a.run p e (λ w h _. at_end w a.run p e (c.in_world w h a.run.all_answered a.run.left)));
+}
+
+pub reads_nothing : {A : Type 0} (a : FileRun) (x : A) → Reads a a (returns x) (ends (returned x))
+reads_nothing a x = record {
+  same = refl;
+  grows = grows_same a.contents a.known;
+  reaches = reaches_by a.known a.run a.run (returns x) (returned x) (λ w _ _. at_end w a.run (returns x) (returned x) refl);
+}
+
+pub reads_fault : {A : Type 0} (a : FileRun) (g : Fault) → Reads {A = A} a a (fails g) (ends (failed g))
+reads_fault a g = record {
+  same = refl;
+  grows = grows_same a.contents a.known;
+  reaches = reaches_by a.known a.run a.run (fails g) (failed g) (λ w _ _. at_end w a.run (fails g) (failed g) refl);
+}
+
+pub reads_stop : {A : Type 0} (a : FileRun) → Reads {A = A} a a stops (ends stopped)
+reads_stop a = record {
+  same = refl;
+  grows = grows_same a.contents a.known;
+  reaches = reaches_by a.known a.run a.run stops stopped (λ w _ _. at_end w a.run stops stopped refl);
+}
+
+-- a program leads to itself, and to one that is the same
+pub leads_same : {A : Type 0} (a : FileRun) (p q : Program A) → p ≡ q → Leads a p a q
+leads_same a p q h = record {
+  same = refl;
+  grows = grows_same a.contents a.known;
+  meet = λ w _ _. record {
+    answers = refl;
+    state = ap (λ r. after_outcome a.run (outcome_in w a.run r)) h;
+    ending = ap (λ r. (outcome_in w a.run r).ending) h;
+  };
+}
+
+pub leads_then : {A : Type 0} (a b c : FileRun) (p q r : Program A) → Leads a p b q → Leads b q c r → Leads a p c r
+leads_then a b c p q r f g = record {
+  same = g.same ∙ f.same;
+  grows = grows_then a b c f.same f.grows g.grows;
+  meet = λ w k h.
+      let one = f.meet w (g.grows.worlds w k) h in
+      let two = g.meet w k (subst (λ (es : Recorded). HasAnswers w es) (sym one.answers) h) in
+      record { answers = two.answers ∙ one.answers; state = one.state ∙ two.state; ending = one.ending ∙ two.ending };
+}
+
+module _ {A B : Type 0} (a b : FileRun) (p : Program A) (f : A → Program B) where
+  -- a program that returned a value, before another
+  pub leads_on : (x : A) → Reads a b p (ends (returned x)) → Leads a (p >>= f) b (f x)
+  leads_on x r = record {
+    same = r.same;
+    grows = r.grows;
+    meet = λ w k h.
+        let first = reaches_in w b.known a.run b.run p (returned x) k h r.reaches in
+        let last = outcome_in w b.run (f x) in
+        let whole = in_world_then w a.run p f x b.run (after_outcome b.run last) last.ending first (record { state = refl; ending = refl }) in
+        record { answers = same_answers w a.run b.run p (returned x) first; state = sym whole.state; ending = whole.ending };
+  }
+
+  -- a program that stopped early, before another
+  pub reads_early : (stop : Stop) → Reads a b p (end_of_stop stop) → Reads a b (p >>= f) (end_of_stop stop)
+  reads_early stop r = record { same = r.same; grows = r.grows; reaches = by_cases stop r.reaches }
+    where
+      by_cases : (stop : Stop) → Reaches b.known a.run b.run p (end_of_stop stop) → Reaches b.known a.run b.run (p >>= f) (end_of_stop stop)
+      by_cases (kinds.Fault g) e = reaches_by b.known a.run b.run (p >>= f) (failed (fault_of g))
+          (λ w k h. in_world_failed w a.run p f (fault_of g) b.run (reaches_in w b.known a.run b.run p (failed (fault_of g)) k h e))
+      by_cases kinds.Unanswered e = reaches_by b.known a.run b.run (p >>= f) stopped
+          (λ w k h. in_world_stopped w a.run p f b.run (reaches_in w b.known a.run b.run p stopped k h e))
+      by_cases kinds.OutOfMemory e = cut_short
+
+-- the end of what a program leads to is its end
+pub reads_on : {A : Type 0} (a b c : FileRun) (p q : Program A) (e : RunEnd A) → Leads a p b q → Reads b c q e → Reads a c p e
+reads_on {A = A} a b c p q e f r = record { same = r.same ∙ f.same; grows = grows_then a b c f.same f.grows r.grows; reaches = by_cases e r.reaches }
+  where
+    by_cases : (e : RunEnd A) → Reaches c.known b.run c.run q e → Reaches c.known a.run c.run p e
+    by_cases (ends e) h = reaches_by c.known a.run c.run p e (λ w k x.
+        let one = f.meet w (r.grows.worlds w k) x in
+        let two = reaches_in w c.known b.run c.run q e k (subst (λ (es : Recorded). HasAnswers w es) (sym one.answers) x) h in
+        record { state = two.state ∙ sym one.state; ending = one.ending ∙ two.ending })
+    by_cases out_of_memory h = cut_short
+
+-- a program that leads to a value returns it
+pub reads_value : {A : Type 0} (a b : FileRun) (p : Program A) (x : A) → Leads a p b (returns x) → Reads a b p (ends (returned x))
+reads_value a b p x f = reads_on a b b p (returns x) (ends (returned x)) f (reads_nothing b x)
+
+-- memory ran out after a part of a program
+pub out_after : {A X : Type 0} (a b : FileRun) (p q : Program A) (view : X → A) (r : Result X Stop) → Leads a p b q → IsErrAnd r (λ e. e ≡ kinds.OutOfMemory)
+    → Reads a b p (end_of view r)
+out_after a b p q view (Ok x) f h = absurd h
+out_after a b p q view (Err e) f h = record {
+  same = f.same;
+  grows = f.grows;
+  reaches = subst (λ (x : Stop). Reaches b.known a.run b.run p (end_of_stop x)) (sym h) cut_short;
+}
+
+-- a stop after a part of a program is passed on
+pub stopped_after : {A X : Type 0} (a b c : FileRun) (p q : Program A) (view : X → A) (stop : Stop) (r : Result X Stop) → Leads a p b q
+    → IsErrAnd r (λ e. e ≡ stop) → Reads b c q (end_of_stop stop) → Reads a c p (end_of view r)
+stopped_after a b c p q view stop (Ok x) f h k = absurd h
+stopped_after a b c p q view stop (Err e) f h k = subst (λ (x : Stop). Reads a c p (end_of_stop x)) (sym h) (reads_on a b c p q (end_of_stop stop) f k)
+
+-- a step for which memory runs out, after a program that leads to it
+pub steps_out : {A X : Type 0} (a b : FileRun) (p q : Program A) (next : X → Program A) (r : Result X Stop) → Leads a p b q
+    → IsErrAnd r (λ e. e ≡ kinds.OutOfMemory) → Steps a b p next r
+steps_out a b p q next (Ok x) f h = absurd h
+steps_out a b p q next (Err e) f h = record {
+  same = f.same;
+  grows = f.grows;
+  reaches = subst (λ (x : Stop). Reaches b.known a.run b.run p (end_of_stop x)) (sym h) cut_short;
+}
+
+pub steps_stopped : {A X : Type 0} (a b c : FileRun) (p q : Program A) (next : X → Program A) (stop : Stop) (r : Result X Stop) → Leads a p b q
+    → IsErrAnd r (λ e. e ≡ stop) → Reads b c q (end_of_stop stop) → Steps a c p next r
+steps_stopped a b c p q next stop (Ok x) f h k = absurd h
+steps_stopped a b c p q next stop (Err e) f h k = subst (λ (x : Stop). Reads a c p (end_of_stop x)) (sym h) (reads_on a b c p q (end_of_stop stop) f k)
+
+-- a file that was read
+pub leads_read : {A : Type 0} (a b : FileRun) (path : List ℕ) (f : Option (List ℕ) → Program A) (q : Program A) (read : FileRead) → b.contents ≡ a.contents
+    → Grows a.contents a.known b.known → b.run ≡ a.run
+    → keyword_in_table b.known.files path ≡ Some read → ((bytes : Option (List ℕ)) → AreBytes read bytes → f bytes ≡ q) → Leads a (does (read_file path) f) b q
+leads_read {A = A} a b path f q read same grows run e h = record {
+  same = same;
+  grows = grows;
+  meet = λ w k _.
+      let there : f (w.bytes path) ≡ q = h (w.bytes path) (k.files path read e) in
+      subst (λ (t : RunState). MeetIn w a.run (does (read_file path) f) t q) (sym run) (record {
+        answers = refl;
+        state = ap (λ (p : Program A). let o = outcome_in w a.run p in
+            let r : Outcome A = record { notices = o.notices; questions = o.questions; left = o.left; ending = o.ending } in after_outcome a.run r) there;
+        ending = ap (λ (p : Program A). (outcome_in w a.run p).ending) there;
+      });
+}
+
+pub steps_on : {A X : Type 0} (a b c : FileRun) (p q : Program A) (next : X → Program A) (r : Result X Stop) → Leads a p b q → Steps b c q next r
+    → Steps a c p next r
+steps_on a b c p q next (Ok x) f s = leads_then a b c p q (next x) f s
+steps_on a b c p q next (Err stop) f s = reads_on a b c p q (end_of_stop stop) f s
+
+-- a program that is a fault, or a value
+pub reads_fails : {A : Type 0} (a : FileRun) (p : Program A) (f : Fault) (stop : Stop) → p ≡ fails f → FailsWith f stop → Reads a a p (end_of_stop stop)
+reads_fails {A = A} a p f stop h k = reads_on a a a p (fails f) (end_of_stop stop) (leads_same a p (fails f) h) (by_cases stop k)
+  where
+    by_cases : (stop : Stop) → FailsWith f stop → Reads {A = A} a a (fails f) (end_of_stop stop)
+    by_cases (kinds.Fault g) k = subst (λ (g : Fault). Reads {A = A} a a (fails f) (ends (failed g))) (sym k) (reads_fault a f)
+    by_cases kinds.Unanswered k = absurd k
+    by_cases kinds.OutOfMemory k = record { same = refl; grows = grows_same a.contents a.known; reaches = cut_short }
+
+pub reads_returns : {A : Type 0} (a : FileRun) (p : Program A) (x : A) → p ≡ returns x → Reads a a p (ends (returned x))
+reads_returns a p x h = reads_on a a a p (returns x) (ends (returned x)) (leads_same a p (returns x) h) (reads_nothing a x)
+
+-- a stop for a fault
+pub fails_by : {A : Type 0} (a b : FileRun) (p : Program A) (f : Fault) (stop : Stop) → FailsWith f stop → Reads a b p (ends (failed f))
+    → Reads a b p (end_of_stop stop)
+fails_by a b p f (kinds.Fault g) k r = subst (λ (g : Fault). Reads a b p (ends (failed g))) (sym k) r
+fails_by a b p f kinds.Unanswered k r = absurd k
+fails_by a b p f kinds.OutOfMemory k r = record { same = r.same; grows = r.grows; reaches = cut_short }
+
+-- memory ran out at once
+pub out_now : {A X : Type 0} (a b : FileRun) (p : Program A) (view : X → A) (r : Result X Stop) → b.contents ≡ a.contents → Grows a.contents a.known b.known
+    → IsErrAnd r (λ e. e ≡ kinds.OutOfMemory) → Reads a b p (end_of view r)
+out_now a b p view (Ok x) same grows h = absurd h
+out_now a b p view (Err e) same grows h = record {
+  same = same;
+  grows = grows;
+  reaches = subst (λ (x : Stop). Reaches b.known a.run b.run p (end_of_stop x)) (sym h) cut_short;
+}
+
+pub steps_out_now : {A X : Type 0} (a b : FileRun) (p : Program A) (next : X → Program A) (r : Result X Stop) → b.contents ≡ a.contents
+    → Grows a.contents a.known b.known → IsErrAnd r (λ e. e ≡ kinds.OutOfMemory) → Steps a b p next r
+steps_out_now a b p next (Ok x) same grows h = absurd h
+steps_out_now a b p next (Err e) same grows h = record {
+  same = same;
+  grows = grows;
+  reaches = subst (λ (x : Stop). Reaches b.known a.run b.run p (end_of_stop x)) (sym h) cut_short;
+}
+
+pub if_ok : {T E : Type 0} (r : Result T E) (P Q : T → Type 0) → ((x : T) → P x → Q x) → IfOk r P → IfOk r Q
+if_ok (Ok x) P Q f h = f x h
+if_ok (Err e) P Q f h = tt
+
+-- a program that returned a value leads to the value
+pub leads_value : {A : Type 0} (a b : FileRun) (p : Program A) (x : A) → Reads a b p (ends (returned x)) → Leads a p b (returns x)
+leads_value a b p x r = leads_then a a b p (p >>= returns) (returns x) (leads_same a p (p >>= returns) (sym (nothing_after p))) (leads_on a b p returns x r)
+
+pub on_ok : {T E : Type 0} (r : Result T E) (P Q : Type 0) → (P → Q) → OnOk r P → OnOk r Q
+on_ok (Ok x) P Q f h = f h
+on_ok (Err e) P Q f h = tt

@@ -1,0 +1,158 @@
+-- The steps of an expansion.
+use Rattle.std.proofs.Common.{◌≡◌, ℕ, suc, ◌+◌, ◌-◌, ◌<◌, ◌≤◌, Bool, true, false, ◌&&◌, List, [], ◌∷◌, ◌++◌, length, map, Some, sym, ap, ◌∙◌, subst, arith}
+use Rattle.std.specs.Prelude.{is_some}
+use Rattle.kc_macros_model.specs.declared.fault.MacroKind.TheVariants.{TooDeep}
+use Rattle.kc_macros_model.specs.Limits.{max_text_bytes}
+use Rattle.kc_macros_model.specs.Programs.{Place, Fault, Program, returns, fails, ◌>>=◌}
+use Rattle.kc_macros_model.specs.References.{Item, byte, items}
+use Rattle.kc_macros_model.specs.Variables.{Value, value_length, Bindings}
+use Rattle.kc_macros_model.specs.Expansion.{spends, unless_too_long, item_value, item_values, expanded}
+use Rattle.kc_macros_model.specs.Worlds.{returned}
+use Rattle.kc_macros.specs.declared.stop.Stop.{Stop}
+use Rattle.kc_macros.specs.declared.stop.Stop.TheVariants as kinds
+use Rattle.kc_macros.specs.RunStates.{RunState}
+use Rattle.kc_macros.specs.Runs.{RunEnd, ends, end_of_stop, Runs, cut_short}
+use Rattle.kc_macros.specs.between.Stops.{FailsWith}
+use Rattle.kc_macros.specs.checker.Events.{FailsIf, spent}
+use Rattle.kc_macros.specs.checker.PartialValues.{known_bytes, value_if_known, too_long, values_left}
+use Rattle.kc_macros.specs.checker.ProgramSteps.{Leads}
+use Rattle.kc_macros.proofs.RunLemmas.{then_runs, stops_early, runs_nothing}
+use Rattle.kc_macros.proofs.EventLemmas.{runs_failed}
+use Rattle.kc_macros.proofs.ProgramLemmas.{runs_same, leads_same, leads_then, leads_on}
+use Rattle.kc_macros.proofs.PartialValueLemmas.{fits, fits_not, all_left, none_left, one_left, text_left, text_left_out}
+
+-- a program that fails
+pub fails_so : {A : Type 0} (s : RunState) (p : Program A) (f : Fault) (stop : Stop) → p ≡ fails f → FailsWith f stop → Runs s s p (end_of_stop stop)
+fails_so s p f stop h k = runs_same s s p (fails f) (end_of_stop stop) h (runs_failed s f stop k)
+
+-- where a stop comes only if a fact holds
+pub fails_where : {A : Type 0} (s : RunState) (p : Program A) (P : Type 0) (f : Fault) (stop : Stop) → (P → p ≡ fails f) → FailsIf P f stop
+    → Runs s s p (end_of_stop stop)
+fails_where s p P f (kinds.Fault g) h k = fails_so s p f (kinds.Fault g) (h k.0) k.1
+fails_where s p P f kinds.Unanswered h k = absurd k
+fails_where s p P f kinds.OutOfMemory h k = cut_short
+
+-- a value that is returned
+pub returns_so : {A : Type 0} (s : RunState) (p : Program A) (x : A) → p ≡ returns x → Runs s s p (ends (returned x))
+returns_so s p x h = runs_same s s p (returns x) (ends (returned x)) h (runs_nothing s x)
+
+-- the rest of an expansion, whose value costs its length
+abbrev pub paid : Place → Value → Program Value
+paid at v = spends at (value_length v) (returns v)
+
+module _ (at : Place) (more : ℕ) (b : Bindings) (names : List (List ℕ)) (args : List Value) (text : List ℕ) where
+  abbrev whole : Program Value
+  whole = expanded more at b names args text
+
+  abbrev inner : Program Value
+  inner = item_values at (item_value (expanded (more - 1) at b) at b names args) 0 (items false 0 text)
+
+  pub too_deep : more ≡ 0 → whole ≡ fails (record { at = at; kind = TooDeep; text = [] })
+  too_deep h = ap (λ m. expanded m at b names args text) h
+
+  whole_is : (0 < more) → whole ≡ spent at (length text + 1) >>= (λ u. inner >>= paid at)
+  whole_is h = ap (λ m. expanded m at b names args text) (let e : more ≡ suc (more - 1) = omega (arith, h) in e)
+
+  module _ (h : 0 < more) (s t u v : RunState) where
+    pub whole_unpaid : (stop : Stop) → Runs s t (spent at (length text + 1)) (end_of_stop stop) → Runs s t whole (end_of_stop stop)
+    whole_unpaid stop a = runs_same s t whole (spent at (length text + 1) >>= (λ u. inner >>= paid at)) (end_of_stop stop) (whole_is h)
+        (stops_early s t (spent at (length text + 1)) (λ u. inner >>= paid at) stop a)
+
+    paid_first : (e : RunEnd Value) → Runs s t (spent at (length text + 1)) (ends (returned (tt {0}))) → Runs t v (inner >>= paid at) e → Runs s v whole e
+    paid_first e a b = runs_same s v whole (spent at (length text + 1) >>= (λ u. inner >>= paid at)) e (whole_is h)
+        (then_runs s t (spent at (length text + 1)) (λ u. inner >>= paid at) (tt {0}) v e a b)
+
+    pub whole_stopped : (stop : Stop) → Runs s t (spent at (length text + 1)) (ends (returned (tt {0}))) → Runs t v inner (end_of_stop stop)
+        → Runs s v whole (end_of_stop stop)
+    whole_stopped stop a b = paid_first (end_of_stop stop) a (stops_early t v inner (paid at) stop b)
+
+    pub whole_unpaid_value : (x : Value) (n : ℕ) (stop : Stop) → n ≡ value_length x → Runs s t (spent at (length text + 1)) (ends (returned (tt {0})))
+        → Runs t u inner (ends (returned x)) → Runs u v (spent at n) (end_of_stop stop) → Runs s v whole (end_of_stop stop)
+    whole_unpaid_value x n stop e a b c =
+        let paid_so : Runs u v (spent at (value_length x)) (end_of_stop stop) = subst (λ k. Runs u v (spent at k) (end_of_stop stop)) e c in
+        paid_first (end_of_stop stop) a (then_runs t u inner (paid at) x v (end_of_stop stop) b
+        (stops_early u v (spent at (value_length x)) (λ w. returns x) stop paid_so))
+
+    pub whole_returned : (x : Value) (n : ℕ) → n ≡ value_length x → Runs s t (spent at (length text + 1)) (ends (returned (tt {0})))
+        → Runs t u inner (ends (returned x)) → Runs u v (spent at n) (ends (returned (tt {0}))) → Runs s v whole (ends (returned x))
+    whole_returned x n e a b c =
+        let paid_so : Runs u v (spent at (value_length x)) (ends (returned (tt {0}))) = subst (λ k. Runs u v (spent at k) (ends (returned (tt {0})))) e c in
+        paid_first (ends (returned x)) a (then_runs t u inner (paid at) x v (ends (returned x)) b
+        (then_runs u v (spent at (value_length x)) (λ w. returns x) (tt {0}) v (ends (returned x)) paid_so (runs_nothing v x)))
+
+module _ (at : Place) (value : Item → Program Value) (s : RunState) (known : Bool) (bytes : List ℕ) where
+  -- the value of a text, before its first item
+  pub begins_all : (is : List Item) → known ≡ true → bytes ≡ [] → Leads s (item_values at value 0 is) s (values_left at value known bytes is)
+  begins_all is h k =
+      leads_same s (item_values at value 0 is) (values_left at value known bytes is)
+      (all_left at value true [] is ∙ ap (λ b. values_left at value b [] is) (sym h) ∙ ap (λ b. values_left at value known b is) (sym k))
+
+  -- no item is left
+  pub ends_all : (first : RunState) (p : Program Value) (is : List Item) (v : Value) → is ≡ [] → v ≡ value_if_known known bytes
+      → Leads first p s (values_left at value known bytes is) → Runs first s p (ends (returned v))
+  ends_all first p is v h k a =
+      a.leads s (ends (returned v)) (returns_so s (values_left at value known bytes is) v (ap (values_left at value known bytes) h
+      ∙ none_left at value known bytes ∙ ap returns (sym k)))
+
+module _ (at : Place) (value : Item → Program Value) (bytes_stay : (c : ℕ) → value (byte c) ≡ returns (Some (c ∷ []))) (s : RunState) (known : Bool)
+    (bytes text plain : List ℕ) (later : List Item)
+    (cut : items false 0 text ≡ map byte plain ++ later) (within : length bytes ≤ max_text_bytes) where
+  abbrev at_first : Program Value
+  at_first = values_left at value known bytes (items false 0 text)
+
+  -- bytes that are too many
+  pub plain_too_long : (stop : Stop) → FailsIf (max_text_bytes < length bytes + length plain) (too_long at) stop → Runs s s at_first (end_of_stop stop)
+  plain_too_long stop h =
+      fails_where s at_first (max_text_bytes < length bytes + length plain) (too_long at) stop
+      (λ l. ap (values_left at value known bytes) cut ∙ text_left_out at value bytes_stay known plain bytes later within l) h
+
+  module _ (short : length bytes + length plain ≤ max_text_bytes) (known2 : Bool) (bytes2 : List ℕ) (same_known : known2 ≡ known)
+      (same_bytes : bytes2 ≡ bytes ++ plain) where
+    after_plain : at_first ≡ values_left at value known2 bytes2 later
+    after_plain =
+        ap (values_left at value known bytes) cut ∙ text_left at value bytes_stay known plain bytes later short
+        ∙ ap (λ b. values_left at value b (bytes ++ plain) later) (sym same_known) ∙ ap (λ b. values_left at value known2 b later) (sym same_bytes)
+
+    -- bytes alone
+    pub plain_leads : (is : List Item) → later ≡ is → Leads s at_first s (values_left at value known2 bytes2 is)
+    plain_leads is h = leads_same s at_first (values_left at value known2 bytes2 is) (after_plain ∙ ap (values_left at value known2 bytes2) h)
+
+    -- a `$(` without its `)`
+    pub plain_unterminated : (i : Item) (more : List Item) (f : Fault) (stop : Stop) → later ≡ i ∷ more → value i ≡ fails f → FailsWith f stop
+        → Runs s s at_first (end_of_stop stop)
+    plain_unterminated i more f stop h k w =
+        fails_so s at_first f stop
+        (after_plain ∙ ap (values_left at value known2 bytes2) h ∙ one_left at value known2 bytes2 i more
+        ∙ ap (λ p. p >>= (λ v. unless_too_long at (length bytes2 + value_length v)
+        (values_left at value (known2 && is_some v) (bytes2 ++ known_bytes v) more))) k) w
+
+    module _ (i : Item) (more : List Item) (front : later ≡ i ∷ more) where
+      abbrev rest_after : Value → Program Value
+      rest_after v = unless_too_long at (length bytes2 + value_length v) (values_left at value (known2 && is_some v) (bytes2 ++ known_bytes v) more)
+
+      to_item : at_first ≡ value i >>= rest_after
+      to_item = after_plain ∙ ap (values_left at value known2 bytes2) front ∙ one_left at value known2 bytes2 i more
+
+      -- an item whose value isn't found
+      pub item_stopped : (t : RunState) (stop : Stop) → Runs s t (value i) (end_of_stop stop) → Runs s t at_first (end_of_stop stop)
+      item_stopped t stop a = runs_same s t at_first (value i >>= rest_after) (end_of_stop stop) to_item (stops_early s t (value i) rest_after stop a)
+
+      -- a value that is too long
+      pub item_too_long : (t : RunState) (v : Value) (stop : Stop) → Runs s t (value i) (ends (returned v))
+          → FailsIf (max_text_bytes < length bytes2 + value_length v) (too_long at) stop → Runs s t at_first (end_of_stop stop)
+      item_too_long t v stop a h =
+          runs_same s t at_first (value i >>= rest_after) (end_of_stop stop) to_item
+          (then_runs s t (value i) rest_after v t (end_of_stop stop) a
+          (fails_where t (rest_after v) (max_text_bytes < length bytes2 + value_length v) (too_long at) stop
+          (λ l. fits_not at (length bytes2 + value_length v) (values_left at value (known2 && is_some v) (bytes2 ++ known_bytes v) more) l) h))
+
+      -- a value that fits
+      pub item_leads : (t : RunState) (v : Value) (known3 : Bool) (bytes3 : List ℕ) → Runs s t (value i) (ends (returned v))
+          → length bytes2 + value_length v ≤ max_text_bytes
+          → known3 ≡ (known2 && is_some v) → bytes3 ≡ bytes2 ++ known_bytes v → Leads s at_first t (values_left at value known3 bytes3 more)
+      item_leads t v known3 bytes3 a l k b =
+          leads_then s s t at_first (value i >>= rest_after) (values_left at value known3 bytes3 more) (leads_same s at_first (value i >>= rest_after) to_item)
+          (leads_then s t t (value i >>= rest_after) (rest_after v) (values_left at value known3 bytes3 more) (leads_on s t (value i) rest_after v a)
+          (leads_same t (rest_after v) (values_left at value known3 bytes3 more)
+          (fits at (length bytes2 + value_length v) (values_left at value (known2 && is_some v) (bytes2 ++ known_bytes v) more) l
+          ∙ ap (λ c. values_left at value c (bytes2 ++ known_bytes v) more) (sym k) ∙ ap (λ c. values_left at value known3 c more) (sym b))))

@@ -1,0 +1,18 @@
+use Rattle.std.proofs.Common.{◌≡◌, ◌≤◌, length, take}
+use Rattle.kc_tree_model.specs.LogicalLines.{split_at_newlines}
+use Rattle.kc_macros_model.specs.AnswerFiles.{first_line, recorded_from}
+use Rattle.kc_macros.specs.ReadAnswers.{end_of_file}
+use Rattle.kc_macros.specs.checker.LinesView.{bytes_of, lines_view}
+use Rattle.kc_macros.proofs.file_records.record_lines.Given as goal
+
+-- the lines before the rest are recorded
+abbrev pub invariant-loop-at : goal.invariant-loop-at
+invariant-loop-at l = record {
+  few : l.count ≤ 1048576;
+  same : recorded_from (end_of_file l.fn.cut) (first_line l.fn.table) (split_at_newlines l.fn.bytes)
+      ≡ recorded_from (end_of_file l.fn.cut) (lines_view l.count (bytes_of l.waiting) l.table) (split_at_newlines l.rest);
+  extends : take (length l.fn.table) l.table ≡ l.fn.table;
+}
+
+abbrev pub decreases-loop-at : goal.decreases-loop-at
+decreases-loop-at l = length l.rest

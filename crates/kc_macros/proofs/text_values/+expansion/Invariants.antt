@@ -1,0 +1,50 @@
+use Rattle.std.proofs.Common.{◌≤◌, ◌+◌, ◌*◌, false, length, drop}
+use Rattle.kc_macros_model.specs.Limits.{max_text_bytes}
+use Rattle.kc_macros_model.specs.References.{items}
+use Rattle.kc_macros_model.specs.Expansion.{piece_values}
+use Rattle.kc_macros.specs.checker.Texts.{texts_of}
+use Rattle.kc_macros.specs.checker.PartialValues.{values_left}
+use Rattle.kc_macros.specs.checker.Pieces.{pieces_left}
+use Rattle.kc_macros.specs.checker.ProgramSteps.{Leads}
+use Rattle.kc_macros.specs.checker.Frames.{frame_place, frame_item, frame_value, frame_items}
+use Rattle.kc_macros.proofs.text_values.+expansion.Given as goal
+
+abbrev pub decreases-expanded : goal.decreases-expanded
+decreases-expanded l = 8 * l.frame.now.more
+
+abbrev pub decreases-text_items : goal.decreases-text_items
+decreases-text_items l = 8 * l.frame.now.more + 7
+
+abbrev pub decreases-next_items : goal.decreases-next_items
+decreases-next_items l = 8 * l.frame.now.more + 6
+
+abbrev pub decreases-reference_value : goal.decreases-reference_value
+decreases-reference_value l = 8 * l.frame.now.more + 5
+
+abbrev pub decreases-call_value : goal.decreases-call_value
+decreases-call_value l = 8 * l.frame.now.more + 4
+
+abbrev pub decreases-named_value : goal.decreases-named_value
+decreases-named_value l = 8 * l.frame.now.more + 3
+
+abbrev pub decreases-recursive_value : goal.decreases-recursive_value
+decreases-recursive_value l = 8 * l.frame.now.more + 2
+
+abbrev pub decreases-piece_values : goal.decreases-piece_values
+decreases-piece_values l = 8 * l.frame.now.more + 1
+
+-- what is left of the items
+abbrev pub invariant-text_items-items : goal.invariant-text_items-items
+invariant-text_items-items l = record {
+  within : length l.out.bytes.items ≤ max_text_bytes;
+  left : Leads l.fn.run (frame_items l.frame l.fn.text) l.run (values_left (frame_place l.frame) (frame_item l.frame) l.out.known l.out.bytes.items
+      (items false 0 l.rest));
+}
+
+abbrev pub decreases-text_items-items : goal.decreases-text_items-items
+decreases-text_items-items l = length l.rest
+
+-- what is left of the pieces
+abbrev pub invariant-piece_values-pieces : goal.invariant-piece_values-pieces
+invariant-piece_values-pieces l = Leads l.fn.run (piece_values (frame_value l.frame) (texts_of l.pieces)) l.run
+    (pieces_left (frame_value l.frame) l.values.items (texts_of (drop l.piece-index l.pieces)))

@@ -1,0 +1,17 @@
+-- Assignments, as the code has them.
+use Rattle.std.specs.Prelude.{ℕ, List}
+use Rattle.kc_macros_model.specs.Programs.{Place, Program, returns, ◌>>=◌}
+use Rattle.kc_macros_model.specs.Variables.{Bindings, with_variable}
+use Rattle.kc_macros_model.specs.Assignments.{Operator, sets_now, appends, sets, variable_assigned}
+use Rattle.kc_macros.specs.declared.assignments.Operator.{Operator as CodeOperator}
+use Rattle.kc_macros.specs.declared.assignments.Operator.TheVariants as kinds
+
+-- an operator of the code as the definitions have it
+abbrev pub operator_of : CodeOperator → Operator
+operator_of kinds.SetsNow = sets_now
+operator_of kinds.Appends = appends
+operator_of kinds.Sets = sets
+
+-- the bindings after an assignment to a name
+abbrev pub bindings_assigned : Place → Bindings → (name : List ℕ) → Operator → List ℕ → Program Bindings
+bindings_assigned at b name operator text = variable_assigned at b operator text (b name) >>= λ v. returns (with_variable name v b)

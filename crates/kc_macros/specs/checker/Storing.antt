@@ -1,8 +1,0 @@
--- The limit and the work of what is stored.
-use Rattle.std.specs.Prelude.{ℕ}
-use Rattle.kc_macros_model.specs.Programs.{Place, Program}
-use Rattle.kc_macros_model.specs.Expansion.{unless_too_long}
-use Rattle.kc_macros.specs.checker.Events.{spent}
-
-abbrev pub stored_bytes : Place → ℕ → Program (Unit {0})
-stored_bytes at n = unless_too_long at n (spent at n)

@@ -1,0 +1,213 @@
+//! The value of a text: each reference in it replaced by its value, from left to right.
+ghost use Rattle.std.specs.Prelude.{◌≡◌, ◌<◌, ◌≤◌, false, Some, length, IfOk};
+ghost use Rattle.kc_macros_model.specs.References.{reference, items};
+ghost use Rattle.kc_macros_model.specs.Variables.{recursive};
+ghost use Rattle.kc_macros_model.specs.Expansion.{piece_values, call_value, named_value, text_value};
+ghost use Rattle.kc_macros_model.specs.Limits.{max_text_bytes};
+ghost use Rattle.kc_macros.specs.between.Variables.{bindings_of};
+ghost use Rattle.kc_macros.specs.Runs.{place_of, Runs, end_of};
+ghost use Rattle.kc_macros.specs.checker.Texts.{texts_of};
+ghost use Rattle.kc_macros.specs.checker.PartialValues.{values_left};
+ghost use Rattle.kc_macros.specs.checker.ProgramSteps.{Steps};
+ghost use Rattle.kc_macros.specs.checker.Frames.{frame_place, frame_bindings, frame_names, frame_expander, frame_item, frame_value, frame_items};
+
+use super::bindings::Bindings;
+use super::bytes::Bytes;
+use super::events::{fault, spend};
+use super::frame::{Frame, is_recursion, with_name};
+use super::limits::{MAX_OPEN_EXPANSIONS, MAX_PIECES};
+use super::names::unbound_value;
+use super::parameter::argument_of;
+use super::partial_value::{
+    PartialValue, copied_value, empty_value, push_text, push_value, value_if_known, value_length,
+};
+use super::references::{pieces, plain_length, reference_at_front};
+use super::run::Run;
+use super::stop::{Place, Stop};
+use super::variable::Variable;
+use kc_macros_model::MacroKind;
+
+/// The value of a text in a frame; a fault where too many expansions are open within each other.
+#[cycle(expansion)]
+fn expanded(run: &mut Run<'_>, frame: &Frame<'_>, text: &[u8]) -> Result<Option<Bytes>, Stop>
+    ensures { Runs run.old run.new (frame_value frame.now text.now) (end_of (λ v. v) result) }
+{
+    if frame.more == 0 {
+        return Err(fault(run.alloc(), frame.at, MacroKind::TooDeep, b""));
+    }
+    let inner = Frame {
+        at: frame.at,
+        bindings: frame.bindings,
+        names: frame.names,
+        args: frame.args,
+        more: frame.more - 1,
+    };
+    spend(run, frame.at, text.len() + 1)?;
+    let value = text_items(run, &inner, text)?;
+    spend(run, frame.at, value_length(&value))?;
+    Ok(value)
+}
+
+/// The values of the items of a text, one after the other.
+#[cycle(expansion)]
+fn text_items(run: &mut Run<'_>, frame: &Frame<'_>, text: &[u8]) -> Result<Option<Bytes>, Stop>
+    ensures { Runs run.old run.new (frame_items frame.now text.now) (end_of (λ v. v) result) }
+{
+    let mut out = empty_value(run.alloc());
+    let mut rest = text;
+    'items: while !rest.is_empty() {
+        rest = next_items(run, frame, rest, &mut out)?;
+    }
+    Ok(value_if_known(out))
+}
+
+/// Appends the bytes before the first reference of a text, and the value of that, to `out`; returns the rest.
+#[cycle(expansion)]
+fn next_items<'t>(
+    run: &mut Run<'_>,
+    frame: &Frame<'_>,
+    text: &'t [u8],
+    out: &mut PartialValue,
+) -> Result<&'t [u8], Stop>
+    requires not_empty { 0 < length text.now }
+    requires small { length out.old.bytes.items ≤ max_text_bytes }
+    ensures steps { Steps run.old run.new (values_left (frame_place frame.now) (frame_item frame.now) out.old.known out.old.bytes.items (items false 0 text.now)) (λ rest. values_left (frame_place frame.now) (frame_item frame.now) out.new.known out.new.bytes.items (items false 0 rest.now)) result }
+    ensures shorter { IfOk result (λ rest. length rest.now < length text.now) }
+    ensures small { IfOk result (λ rest. length out.new.bytes.items ≤ max_text_bytes) }
+{
+    let plain = plain_length(text);
+    push_text(out, run.alloc(), frame.at, &text[..plain])?;
+    let rest = &text[plain..];
+    if rest.is_empty() {
+        return Ok(rest);
+    }
+    let Some((inside, after)) = reference_at_front(rest) else {
+        return Err(fault(run.alloc(), frame.at, MacroKind::Unterminated, b""));
+    };
+    let value = reference_value(run, frame, inside)?;
+    push_value(out, run.alloc(), frame.at, value)?;
+    Ok(after)
+}
+
+/// The value of a reference, by the bytes between its parentheses.
+#[cycle(expansion)]
+fn reference_value(
+    run: &mut Run<'_>,
+    frame: &Frame<'_>,
+    inside: &[u8],
+) -> Result<Option<Bytes>, Stop>
+    ensures { Runs run.old run.new (frame_item frame.now (reference inside.now)) (end_of (λ v. v) result) }
+{
+    if let Some(value) = argument_of(frame.args, inside) {
+        return Ok(copied_value(run.alloc(), value)?);
+    }
+    let pieces = pieces(run.alloc(), inside)?;
+    if pieces.len() > MAX_PIECES {
+        return Err(fault(run.alloc(), frame.at, MacroKind::Arguments, b""));
+    }
+    let values = piece_values(run, frame, pieces.as_slice())?;
+    call_value(run, frame, values.as_slice())
+}
+
+/// The values of the pieces of a reference, in order.
+#[cycle(expansion)]
+fn piece_values(
+    run: &mut Run<'_>,
+    frame: &Frame<'_>,
+    pieces: &[&[u8]],
+) -> Result<Vec<Option<Bytes>>, Stop>
+    ensures { Runs run.old run.new (piece_values (frame_value frame.now) (texts_of pieces.now)) (end_of (λ vs. vs.items) result) }
+{
+    let mut values = Vec::new(run.alloc());
+    'pieces: for piece in pieces {
+        let value = expanded(run, frame, piece)?;
+        values.push(value)?;
+    }
+    Ok(values)
+}
+
+/// The value of a reference, by the values of its pieces: a name and its arguments.
+#[cycle(expansion)]
+fn call_value(
+    run: &mut Run<'_>,
+    frame: &Frame<'_>,
+    values: &[Option<Bytes>],
+) -> Result<Option<Bytes>, Stop>
+    ensures { Runs run.old run.new (call_value (frame_expander frame.now) (frame_place frame.now) (frame_bindings frame.now) (frame_names frame.now) values.now) (end_of (λ v. v) result) }
+{
+    if values.is_empty() {
+        return Err(fault(run.alloc(), frame.at, MacroKind::Undefined, b""));
+    }
+    match &values[0] {
+        Some(name) => named_value(run, frame, name.as_slice(), &values[1..]),
+        None => Ok(None),
+    }
+}
+
+/// The value of a name with these arguments: of a variable, or of a name that isn't one.
+#[cycle(expansion)]
+fn named_value(
+    run: &mut Run<'_>,
+    frame: &Frame<'_>,
+    name: &[u8],
+    args: &[Option<Bytes>],
+) -> Result<Option<Bytes>, Stop>
+    ensures { Runs run.old run.new (named_value (frame_expander frame.now) (frame_place frame.now) (frame_names frame.now) name.now args.now (frame_bindings frame.now name.now)) (end_of (λ v. v) result) }
+{
+    match frame.bindings.get(name) {
+        None => unbound_value(run, frame.at, name, args),
+        Some(Variable::Simple(value)) => Ok(copied_value(run.alloc(), value)?),
+        Some(Variable::Recursive(text)) => {
+            recursive_value(run, frame, name, args, text.as_slice())
+        }
+    }
+}
+
+/// The value of a recursive variable with this text, called with these arguments.
+#[cycle(expansion)]
+fn recursive_value(
+    run: &mut Run<'_>,
+    frame: &Frame<'_>,
+    name: &[u8],
+    args: &[Option<Bytes>],
+    text: &[u8],
+) -> Result<Option<Bytes>, Stop>
+    ensures { Runs run.old run.new (named_value (frame_expander frame.now) (frame_place frame.now) (frame_names frame.now) name.now args.now (Some (recursive text.now))) (end_of (λ v. v) result) }
+{
+    if is_recursion(frame.names, name, args) {
+        return Err(fault(run.alloc(), frame.at, MacroKind::Recursion, name));
+    }
+    let names = with_name(run.alloc(), name, frame.names)?;
+    let inner = Frame {
+        at: frame.at,
+        bindings: frame.bindings,
+        names: names.as_slice(),
+        args,
+        more: frame.more,
+    };
+    expanded(run, &inner, text)
+}
+
+/// The value of a text of a line: each reference in it is replaced by its value, from left to right; unknown where it
+/// depends on a question without an answer.
+///
+/// # Errors
+///
+/// The first fault of the expansion, or memory ran out.
+pub fn text_value(
+    run: &mut Run<'_>,
+    at: Place<'_>,
+    bindings: &Bindings,
+    text: &[u8],
+) -> Result<Option<Bytes>, Stop>
+    ensures { Runs run.old run.new (text_value (place_of at.entry) (bindings_of bindings.now) text.now) (end_of (λ v. v) result) }
+{
+    let frame = Frame {
+        at,
+        bindings,
+        names: &[],
+        args: &[],
+        more: MAX_OPEN_EXPANSIONS,
+    };
+    expanded(run, &frame, text)
+}

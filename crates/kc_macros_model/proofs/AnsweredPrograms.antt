@@ -1,0 +1,68 @@
+-- Programs that never stop where each question has an answer.
+use Rattle.std.proofs.Common.{◌≡◌, ℕ, Bool, true, false, cond, List, [], Option, Some, None, Ok, Err, refl}
+use Rattle.std.specs.Prelude.{nat_lt, ◌-◌}
+use Rattle.kc_macros_model.specs.declared.fault.MacroKind.TheVariants.{TooMany}
+use Rattle.kc_macros_model.specs.Programs.{Place, Answer, spend, report, ask, read_file, list_folder, Program, returns, fails, stops, does, ◌>>=◌}
+use Rattle.kc_macros_model.specs.Worlds.{World, reply, open_question, if_unanswered, unless_unanswered, stopped, Outcome, after_event, unless_fault, outcome}
+
+-- a program doesn't stop where no question is open, and what it returns has a fact
+abbrev pub NeverStops : {A : Type 0} → World → (A → Type 0) → Program A → Type 0
+NeverStops w P (returns x) = P x
+NeverStops w P (fails f) = Unit {0}
+NeverStops w P stops = ⊥
+NeverStops w P (does e k) = open_question w e ≡ [] → NeverStops w P (k (reply w e))
+
+pub never_mono : {A : Type 0} (w : World) (P Q : A → Type 0) → ((x : A) → P x → Q x) → (p : Program A) → NeverStops w P p → NeverStops w Q p
+never_mono w P Q f (returns x) h = f x h
+never_mono w P Q f (fails g) h = tt
+never_mono w P Q f stops h = absurd h
+never_mono w P Q f (does e k) h = λ n. never_mono w P Q f (k (reply w e)) (h n)
+
+never_both : {A B : Type 0} (w : World) (P : B → Type 0) (p : Program A) (f : A → Program B) → NeverStops w (λ x. NeverStops w P (f x)) p
+    → NeverStops w P (p >>= f)
+never_both w P (returns x) f h = h
+never_both w P (fails g) f h = tt
+never_both w P stops f h = absurd h
+never_both w P (does e k) f h = λ n. never_both w P (k (reply w e)) f (h n)
+
+-- one program after another, of which the second never stops after a value with a fact that the first gives
+pub never_then : {A B : Type 0} (w : World) (Q : A → Type 0) (P : B → Type 0) (p : Program A) (f : A → Program B)
+    → NeverStops w Q p → ((x : A) → Q x → NeverStops w P (f x)) → NeverStops w P (p >>= f)
+never_then w Q P p f h k = never_both w P p f (never_mono w Q (λ x. NeverStops w P (f x)) k p h)
+
+module _ {A : Type 0} (w : World) (P : A → Type 0) where
+  -- an outcome that stopped
+  abbrev Stopped : Outcome A → Type 0
+  Stopped o = o.ending ≡ stopped
+
+  spent_never : (left : ℕ) (at : Place) (work : ℕ) (k : Unit {0} → Program A) → ((n : ℕ) → Stopped (outcome true w n (k (tt {0}))) → ⊥)
+      → Stopped (outcome true w left (does (spend at work) k)) → ⊥
+  spent_never left at work k ih = by_test (nat_lt left work)
+    where
+      by_test : (b : Bool) → Stopped (unless_fault left (cond b (Err (record { at = at; kind = TooMany; text = [] })) (Ok (left - work)))
+          (λ n. after_event w (spend at work) (outcome true w n (k (tt {0}))))) → ⊥
+      by_test true e = let z : ⊥ = cc in z
+      by_test false e = ih (left - work) e
+
+  asked_never : (left : ℕ) (at : Place) (question : List ℕ) (k : Option Answer → Program A)
+      → ((r : Option Answer) → NeverStops w P (k r) → Stopped (outcome true w left (k r)) → ⊥)
+      → (if_unanswered question (w.answer question) ≡ [] → NeverStops w P (k (w.answer question))) → Stopped
+      (outcome true w left (does (ask at question) k)) → ⊥
+  asked_never left at question k ih = by_answer (w.answer question)
+    where
+      by_answer : (a : Option Answer) → (if_unanswered question a ≡ [] → NeverStops w P (k a))
+          → Stopped (unless_fault left (unless_unanswered at question left a)
+          (λ n. after_event (record w { answer = λ q. a }) (ask at question) (outcome true w n (k a)))) → ⊥
+      by_answer None h e = let z : ⊥ = cc in z
+      by_answer (Some a) h e = ih (Some a) (h refl) e
+
+  -- a job that must have all answers doesn't stop
+  pub job_never_stops : (left : ℕ) (p : Program A) → NeverStops w P p → Stopped (outcome true w left p) → ⊥
+  job_never_stops left (returns x) h e = let z : ⊥ = cc in z
+  job_never_stops left (fails f) h e = let z : ⊥ = cc in z
+  job_never_stops left stops h e = absurd h
+  job_never_stops left (does (report n) k) h e = job_never_stops left (k (tt {0})) (h refl) e
+  job_never_stops left (does (read_file path) k) h e = job_never_stops left (k (w.bytes path)) (h refl) e
+  job_never_stops left (does (list_folder folder) k) h e = job_never_stops left (k (w.names folder)) (h refl) e
+  job_never_stops left (does (spend at work) k) h e = spent_never left at work k (λ n. job_never_stops n (k (tt {0})) (h refl)) e
+  job_never_stops left (does (ask at question) k) h e = asked_never left at question k (λ r. job_never_stops left (k r)) h e

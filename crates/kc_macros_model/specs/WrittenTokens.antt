@@ -1,0 +1,116 @@
+-- How each token of a line is written once its references have values.
+use Rattle.std.specs.Prelude.{ℕ, Bool, true, false, not, ◌&&◌, ◌||◌, ◌==◌, List, [], ◌∷◌, ◌++◌, flat_map, Some, None, codes, bytes_eq, if◌then◌else◌}
+use Rattle.std.specs.List.{list_all, list_any}
+use Rattle.kc_expr.specs.Token.{is_word_byte}
+use Rattle.kc_tree_model.specs.Keywords.{keywords}
+use Rattle.kc_tree_model.specs.declared.keyword.Keyword.{Keyword}
+use Rattle.kc_macros_model.specs.declared.fault.MacroKind.TheVariants.{Unterminated}
+use Rattle.kc_macros_model.specs.Programs.{Place, Program, returns, ◌>>=◌}
+use Rattle.kc_macros_model.specs.References.{Item, byte, escaped, reference, unterminated, item_bytes, items, is_reference, is_plain_dollar}
+use Rattle.kc_macros_model.specs.Variables.{Value, joined_values, Bindings}
+use Rattle.kc_macros_model.specs.Expansion.{fault, text_value}
+use Rattle.kc_macros_model.specs.LineTokens.{LineToken, gap, run, quoted, other, broken}
+
+-- words with a meaning inside a statement
+abbrev pub inner_keywords : List (List ℕ)
+inner_keywords = codes "on" ∷ codes "env" ∷ codes "defconfig_list" ∷ codes "allnoconfig_y" ∷ []
+
+-- whether a word has a meaning in the language of trees
+abbrev pub is_keyword : List ℕ → Bool
+is_keyword s = list_any (λ (e : List ℕ × Keyword). bytes_eq e.0 s) keywords || list_any (bytes_eq s) inner_keywords
+
+-- whether a byte needs no quotes: a letter, a digit, `_` or `-`
+abbrev pub is_bare_byte : ℕ → Bool
+is_bare_byte c = is_word_byte c && not (c == 46 || (c == 47))
+
+-- a text with a backslash before each backslash, each `$` and each quote of this sort
+abbrev pub escaped_text : (quote : ℕ) → List ℕ → List ℕ
+escaped_text quote s = flat_map (λ c. if c == 92 || (c == 36) || (c == quote) then 92 ∷ c ∷ [] else c ∷ []) s
+
+-- a text in quotes
+abbrev pub in_quotes_of : (quote : ℕ) → List ℕ → List ℕ
+in_quotes_of quote s = quote ∷ (escaped_text quote s ++ quote ∷ [])
+
+-- the sort of a token as it is written; one that depends on a question without an answer isn't written yet
+pub data TokenSort : Type 0 where
+  a_gap : TokenSort
+  a_word : TokenSort
+  a_quoted : TokenSort
+  an_other : TokenSort
+  an_unknown : TokenSort
+
+-- a token as it is written, and the text that it means to the reader
+pub record WrittenToken : Type 0 where
+  pub sort : TokenSort
+  pub bytes : List ℕ
+  pub meaning : Value
+
+-- a token with these bytes and this meaning
+abbrev pub written_as : TokenSort → List ℕ → List ℕ → WrittenToken
+written_as sort bytes meaning = record { sort = sort; bytes = bytes; meaning = Some meaning }
+
+-- the value of a run as one token: a space if it is empty, a word if it is bare and no keyword, else in quotes
+abbrev pub token_of_text : List ℕ → WrittenToken
+token_of_text [] = written_as a_gap (32 ∷ []) []
+token_of_text (c ∷ s) =
+    if list_all is_bare_byte (c ∷ s) && not (is_keyword (c ∷ s)) then written_as a_word (c ∷ s) (c ∷ s)
+    else written_as a_quoted (in_quotes_of 34 (c ∷ s)) (c ∷ s)
+
+-- the value of a run as one token, which may be unknown
+abbrev pub token_of_value : Value → WrittenToken
+token_of_value None = record { sort = an_unknown; bytes = []; meaning = None }
+token_of_value (Some text) = token_of_text text
+
+-- bytes between quotes, and the text that they mean
+pub record WrittenBody : Type 0 where
+  pub bytes : List ℕ
+  pub meaning : Value
+
+-- bytes between quotes with this meaning
+abbrev pub body_of : List ℕ → List ℕ → WrittenBody
+body_of bytes meaning = record { bytes = bytes; meaning = Some meaning }
+
+-- the value of a reference between quotes, with the backslashes that it needs
+abbrev pub body_of_value : (quote : ℕ) → Value → WrittenBody
+body_of_value quote None = record { bytes = []; meaning = None }
+body_of_value quote (Some text) = body_of (escaped_text quote text) text
+
+-- bytes between quotes one after the other
+abbrev pub joined_bodies : WrittenBody → WrittenBody → WrittenBody
+joined_bodies a b = record { bytes = a.bytes ++ b.bytes; meaning = joined_values a.meaning b.meaning }
+
+-- an item between quotes: a reference becomes its value, a `$` that begins none is escaped
+abbrev pub written_item : Place → Bindings → (quote : ℕ) → Item → Program WrittenBody
+written_item at b quote (byte c) = returns (body_of (if c == 36 then 92 ∷ c ∷ [] else c ∷ []) (c ∷ []))
+written_item at b quote (escaped c) = returns (body_of (92 ∷ c ∷ []) (c ∷ []))
+written_item at b quote (reference inside) = text_value at b (item_bytes (reference inside)) >>= λ v. returns (body_of_value quote v)
+written_item at b quote (unterminated rest) = fault at Unterminated []
+
+-- the items between quotes as they are written
+abbrev pub written_items : Place → Bindings → (quote : ℕ) → List Item → Program WrittenBody
+written_items at b quote [] = returns (body_of [] [])
+written_items at b quote (i ∷ is) = written_item at b quote i >>= λ first. written_items at b quote is >>= λ rest. returns (joined_bodies first rest)
+
+-- bytes between quotes as a token
+abbrev pub token_of_body : (quote : ℕ) → WrittenBody → WrittenToken
+token_of_body quote body = record { sort = a_quoted; bytes = quote ∷ (body.bytes ++ quote ∷ []); meaning = body.meaning }
+
+-- the value of a run, which is its own text if it has no `$`
+abbrev pub run_value : Place → Bindings → List ℕ → Program Value
+run_value at b s = elim (list_any (λ c. c == 36) s) [ true ↦ text_value at b s | false ↦ returns (Some s) ]
+
+-- a run as it is written: its value as one token; a run with a `$` that begins no reference stays, for the reader to refuse
+abbrev pub written_run : Place → Bindings → List ℕ → Program WrittenToken
+written_run at b s =
+    elim (list_any is_plain_dollar (items false 0 s)) [
+      | true ↦ returns (written_as an_other s [])
+      | false ↦ elim (list_any is_reference (items false 0 s)) [ true ↦ text_value at b s >>= λ v. returns (token_of_value v) | false ↦ returns (written_as a_word s s) ]
+    ]
+
+-- a token as it is written
+abbrev pub written_token : Place → Bindings → LineToken → Program WrittenToken
+written_token at b (gap s) = returns (written_as a_gap s [])
+written_token at b (run s) = written_run at b s
+written_token at b (quoted quote s) = written_items at b quote (items true 0 s) >>= λ body. returns (token_of_body quote body)
+written_token at b (other s) = returns (written_as an_other s [])
+written_token at b (broken s) = fault at Unterminated []

@@ -1,0 +1,43 @@
+//! A disk that can only be read.
+ghost use Rattle.std.specs.Prelude.{◌≡◌};
+
+use crate::disk::ReadDisk;
+use crate::kind::FileKind;
+use kc_value::Seed;
+
+/// A disk whose files can only be read: code that has no other can't change a file.
+#[derive(Drop)]
+pub struct ReadOnly<'a, D> {
+    disk: &'a D,
+}
+
+impl<'a, D: ReadDisk> ReadOnly<'a, D> {
+    /// The files of `disk`, for reading alone.
+    pub fn new(disk: &'a D) -> ReadOnly<'a, D>
+        ensures { ⟦<ReadOnly<'a, D> as ReadDisk>⟧.state result ≡ D.state disk.now }
+    {
+        ReadOnly { disk }
+    }
+}
+
+impl<D: ReadDisk> ReadDisk for ReadOnly<'_, D> {
+    type File = D::File;
+
+    ghost state = { λ view. D.state view.disk.now };
+
+    fn seed(&self) -> Seed {
+        self.disk.seed()
+    }
+
+    fn kind(&self, path: &str) -> FileKind {
+        self.disk.kind(path)
+    }
+
+    fn open(&self, path: &str) -> Option<D::File> {
+        self.disk.open(path)
+    }
+
+    fn size_of(&self, file: &D::File) -> usize {
+        self.disk.size_of(file)
+    }
+}

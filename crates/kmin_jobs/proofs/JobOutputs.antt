@@ -1,0 +1,232 @@
+-- The outputs of commands.
+use Rattle.std.proofs.Common.{◌≡◌, ◌≢◌, ℕ, Bool, true, false, zero, suc, ◌≤◌, ◌⊎◌, inl, inr, append-nil, List, [], ◌∷◌, ◌++◌, Option, Some, Result, Ok, Err, Vec, IfOk, IfErr, refl, sym, ap, ◌∙◌, subst, arith}
+use Rattle.std.specs.declared.alloc.AllocError.{AllocError}
+use Rattle.std.specs.declared.alloc.Global.{Global}
+use Rattle.std.specs.List.{flat_map}
+use Rattle.kc_expr.specs.declared.language.Language.{Language}
+use Rattle.kc_tree_model.specs.TreeFiles.{Files, file_at}
+use Rattle.kc_tree_model.specs.Trees.{Tree}
+use Rattle.kc_rules_model.specs.declared.profile.Profile.{Profile}
+use Rattle.kc_rules.specs.declared.rules.Settled.{Settled}
+use Rattle.kc_rules.specs.between.SettledViews.{tree_of_settled, profile_of}
+use Rattle.kc_dotconfig_model.specs.Formats.{FileFormat}
+use Rattle.kc_dotconfig_model.specs.ConfigLines.{LineMeaning}
+use Rattle.kc_dotconfig_model.specs.ConfigFiles.{empty_assignment}
+use Rattle.kc_rules_model.specs.declared.values.UnitValue.{UnitValue}
+use Rattle.kc_dotconfig.specs.Configured.{Configured, IsSolved, tree_in}
+use Rattle.kc_minimal_model.specs.Differences.{differences}
+use Rattle.kmin_words.specs.Jobs.{Settings, Task, over, compare, paths_of}
+use Rattle.kmin_words.specs.declared.job.Verb.{Verb}
+use Rattle.kmin_words.specs.declared.job.Verb.TheVariants.{Min}
+use Rattle.kc_minimal_model.specs.CanonicalText.{IsCanonicalText}
+use Rattle.kc_rules_model.specs.declared.values.UserValue.{UserValue}
+use Rattle.kmin_jobs.specs.declared.run_error.RunError.{RunError}
+use Rattle.kmin_jobs.specs.declared.verb_texts.AnswerText.{AnswerText}
+use Rattle.kmin_jobs.specs.FileContents.{FileContent, Known, AreTextsBelow}
+use Rattle.kmin_jobs.specs.JobTexts.{TreeTexts, AreTextsOfJob}
+use Rattle.kmin_jobs.specs.Reports.{notice_lines, last_lines}
+use Rattle.kmin_tidy.specs.Reports.{output_line}
+use Rattle.kmin_tidy.specs.StandardError.{TakesLines}
+use Rattle.kmin_jobs.specs.Answers.{AreAccepted, Resolve, Answer, files_assignment, of_files, of_comparison, IsTextOfVerb, difference_line}
+use Rattle.kmin_jobs.specs.Statuses.{status_of_list, listed}
+use Rattle.kmin_jobs.specs.Stops.{Stops, StopsAmongFiles, StopsBefore, among_files}
+use Rattle.kmin_jobs.specs.Stops as stops
+use Rattle.kmin_jobs.specs.between.LoadResults.{AreLoaded}
+use Rattle.kmin_jobs.specs.between.RunErrors.{status_of}
+use Rattle.kmin_tidy.proofs.WriterLemmas.{lines_append}
+use Rattle.kmin_jobs.proofs.Sequences.{mean_again}
+
+-- the solution that a configuration of a known tree has
+pub resolved : (content_of : List ℕ → FileContent) (settings : Settings) (config : Configured) (settled : Settled) (paths : List (List ℕ))
+    (taken taken_after : Option (List ℕ)) (failed failed_after : ℕ)
+    → config.system ≡ settled → profile_of settled ≡ settings.profile → IsSolved config
+    → (l : AreLoaded content_of settings.format settings.strict (tree_of_settled settled) paths (empty_assignment (tree_of_settled settled)) config.users
+    taken failed
+    taken_after failed_after)
+    → Resolve content_of settings (tree_of_settled settled) paths l.meanings config.values
+resolved content_of settings config settled paths taken taken_after failed failed_after e p s l =
+    let gives = rw e at s.gives in
+    record { mean = l.mean; gives = rw (← p, ← l.users_are) gives }
+
+pub answers_files : (content_of : List ℕ → FileContent) (settings : Settings) (verb : Verb) (exit_code : Bool) (config : Configured) (settled : Settled)
+    (paths : List (List ℕ)) (text : List ℕ) (status : ℕ) (taken taken_after : Option (List ℕ)) (failed failed_after : ℕ)
+    → config.system ≡ settled → profile_of settled ≡ settings.profile → IsSolved config
+    → AreLoaded content_of settings.format settings.strict (tree_of_settled settled) paths (empty_assignment (tree_of_settled settled)) config.users taken
+    failed taken_after
+    failed_after
+    → IsTextOfVerb settings (tree_in config) config.users config.values verb text
+    → status ≡ status_of_list exit_code (listed (tree_in config) config.users config.values verb)
+    → (notices : List (List ℕ)) × ((texts : Files) → AreAccepted texts settings.tree (tree_of_settled settled)
+    → Answer content_of settings texts (over verb paths exit_code) text status notices)
+    × TakesLines taken failed notices taken_after failed_after
+answers_files content_of settings verb exit_code config settled paths text status taken taken_after failed failed_after e p s l t n =
+    let same : IsTextOfVerb settings (tree_of_settled settled) (files_assignment (tree_of_settled settled) l.meanings) config.values verb text =
+    rw (← l.users_are, ← e) t in
+    let number : status ≡ status_of_list exit_code (listed (tree_of_settled settled) (files_assignment (tree_of_settled settled) l.meanings)
+    config.values verb) =
+    rw (← l.users_are, ← e) n in (
+      notice_lines paths l.meanings,
+      (λ texts accepted. of_files (tree_of_settled settled) verb paths exit_code l.meanings config.values refl accepted
+          (resolved content_of settings config settled paths taken taken_after failed failed_after e p s l) same number refl),
+      l.reported,
+    )
+
+-- the text of `min`, if it is made
+pub canonical_text : (format : FileFormat) (profile : Profile) (tree : Tree) (users : List (Option UserValue)) (values : List UnitValue) (verb : Verb)
+    (r : Result (Vec ℕ Global) AllocError) (a : Result AnswerText AllocError)
+    → verb ≡ Min
+    → IfOk r (λ text. IsCanonicalText format profile tree values text.items)
+    → IfOk a (λ answer. r ≡ Ok answer.text)
+    → IfOk a (λ answer. (settings : Settings) → settings.format ≡ format → settings.profile ≡ profile
+    → IsTextOfVerb settings tree users values verb answer.text.items)
+canonical_text format profile tree users values verb r (Err e) m h k = tt
+canonical_text format profile tree users values verb r (Ok answer) m h k =
+    let made : IsCanonicalText format profile tree values answer.text.items = rw k at h in λ settings p q. rw (m, p, q) made
+
+-- the status of a list is 0 or 1
+pub status_at_most_one : {A : Type 0} (says_so : Bool) (listed : List A) → status_of_list says_so listed ≤ 1
+status_at_most_one false listed = omega arith
+status_at_most_one true [] = omega arith
+status_at_most_one true (x ∷ xs) = omega arith
+
+resolve_again : (content_of others : List ℕ → FileContent) (settings : Settings) (tree : Tree) (paths : List (List ℕ)) (meanings : List (List LineMeaning))
+    (values : List UnitValue)
+    → ((path : List ℕ) → others path ≡ content_of path) → Resolve others settings tree paths meanings values
+    → Resolve content_of settings tree paths meanings values
+resolve_again content_of others settings tree paths meanings values same r =
+    record { mean = mean_again content_of others settings.format settings.strict tree paths meanings same r.mean; gives = r.gives }
+
+pub answers_comparison : (content_of others : List ℕ → FileContent) (settings : Settings) (left right : Configured) (settled : Settled) (a b : List ℕ)
+    (text : List ℕ) (status : ℕ) (taken middle taken_after : Option (List ℕ)) (failed failed_middle failed_after : ℕ)
+    → ((path : List ℕ) → others path ≡ content_of path)
+    → left.system ≡ settled → right.system ≡ settled → profile_of settled ≡ settings.profile → IsSolved left → IsSolved right
+    → AreLoaded content_of settings.format settings.strict (tree_of_settled settled) (a ∷ []) (empty_assignment (tree_of_settled settled)) left.users taken
+    failed middle
+    failed_middle
+    → AreLoaded others settings.format settings.strict (tree_of_settled settled) (b ∷ []) (empty_assignment (tree_of_settled settled)) right.users middle
+    failed_middle
+    taken_after failed_after
+    → text ≡ flat_map (difference_line settings.format.strings (tree_in left)) (differences (tree_in left) left.values right.values)
+    → status ≡ status_of_list true (differences (tree_in left) left.values right.values)
+    → (notices : List (List ℕ)) × ((texts : Files) → AreAccepted texts settings.tree (tree_of_settled settled)
+    → Answer content_of settings texts (compare a b) text status notices)
+    × TakesLines taken failed notices taken_after failed_after
+answers_comparison content_of others settings left right settled a b text status taken middle taken_after failed failed_middle failed_after same l r p sl sr hl
+    hr t s = (
+      notice_lines (a ∷ []) hl.meanings ++ notice_lines (b ∷ []) hr.meanings,
+      (λ texts accepted. of_comparison (tree_of_settled settled) a b hl.meanings hr.meanings left.values right.values refl accepted
+          (resolved content_of settings left settled (a ∷ []) taken middle failed failed_middle l p sl hl)
+          (resolve_again content_of others settings (tree_of_settled settled) (b ∷ []) hr.meanings right.values same
+          (resolved others settings right settled (b ∷ []) middle taken_after failed_middle failed_after r p sr hr))
+          (rw (← l) t) (rw (← l) s) refl),
+      lines_append taken middle failed failed_middle _ _ taken_after failed_after hl.reported hr.reported,
+    )
+
+-- no texts
+pub below_none : (content_of : List ℕ → FileContent) (root : List ℕ) (language : Language) (texts : Files) → texts.language ≡ language → texts.list ≡ []
+    → AreTextsBelow content_of root language texts
+below_none content_of root language texts e f = record {
+  in_language = e;
+  content = λ path bytes h. (let z : file_at (record { language = texts.language; list = [] }) path ≡ Some bytes =
+      ap (λ (fs : List (List ℕ × List ℕ)). file_at (record { language = texts.language; list = fs }) path) (sym f) ∙ h in cc);
+}
+
+-- known files stay known
+among_again : (content_of others : List ℕ → FileContent) (format : FileFormat) (strict : Bool) (tree : Tree) (paths : List (List ℕ)) (status : ℕ)
+    (lines : List (List ℕ))
+    → ((path : List ℕ) → others path ≡ content_of path) → StopsAmongFiles others format strict tree paths status lines
+    → StopsAmongFiles content_of format strict tree paths status lines
+among_again content_of others format strict tree paths status lines same (stops.at_file front back path own meanings p m s e) =
+    stops.at_file front back path own meanings p (mean_again content_of others format strict tree front meanings same m)
+    (subst (λ content. stops.StopsAtFile content format strict tree path status own) (same path) s) e
+among_again content_of others format strict tree paths status lines same (stops.for_memory front back meanings p m s e) =
+    stops.for_memory front back meanings p (mean_again content_of others format strict tree front meanings same m) s e
+
+answer_again : (content_of others : List ℕ → FileContent) (settings : Settings) (texts : Files) (task : Task) (text : List ℕ) (status : ℕ)
+    (notices : List (List ℕ))
+    → ((path : List ℕ) → others path ≡ content_of path) → Answer others settings texts task text status notices
+    → Answer content_of settings texts task text status notices
+answer_again content_of others settings texts task text status notices same (of_files tree verb paths exit_code meanings values k a r t s n) =
+    of_files tree verb paths exit_code meanings values k a (resolve_again content_of others settings tree paths meanings values same r) t s n
+answer_again content_of others settings texts task text status notices same (of_comparison tree left right lm rm v w k a r q t s n) =
+    of_comparison tree left right lm rm v w k a (resolve_again content_of others settings tree (left ∷ []) lm v same r)
+    (resolve_again content_of others settings tree (right ∷ []) rm w same q) t s n
+
+-- the output of a command, or its end, over the texts of its tree
+module _ (known : Known) (others : List ℕ → FileContent) (settings : Settings) (task : Task) (tree : Tree) (t : TreeTexts)
+    (same : (path : List ℕ) → others path ≡ known.content path)
+    (are : AreTextsOfJob known settings t) (accepted : AreAccepted t.texts settings.tree tree)
+    (taken middle taken_after : Option (List ℕ)) (failed failed_middle failed_after : ℕ) (before : TakesLines taken failed t.lines middle failed_middle) where
+  pub job_answers : (r : Result AnswerText RunError)
+      → IfOk r (λ answer. (notices : List (List ℕ)) × ((texts : Files) → AreAccepted texts settings.tree tree
+      → Answer others settings texts task answer.text.items answer.status notices) × TakesLines middle failed_middle notices taken_after failed_after)
+      → IfOk r (λ answer. (t : TreeTexts) × (notices : List (List ℕ)) × AreTextsOfJob known settings t × Answer known.content settings t.texts task
+      answer.text.items answer.status notices × TakesLines taken failed (t.lines ++ notices) taken_after failed_after)
+  job_answers (Err stop) h = tt
+  job_answers (Ok answer) h = (
+    t,
+    h.0,
+    are,
+    answer_again known.content others settings t.texts task answer.text.items answer.status h.0 same (h.1 t.texts accepted),
+    lines_append taken middle failed failed_middle t.lines h.0 taken_after failed_after before h.2,
+  )
+
+  pub job_stops : (r : Result AnswerText RunError)
+      → IfErr r (λ stop. (lines : List (List ℕ)) × StopsAmongFiles others settings.format settings.strict tree (paths_of task) (status_of stop) lines
+      × TakesLines middle
+      failed_middle lines taken_after failed_after)
+      → IfErr r (λ stop. (lines : List (List ℕ)) × StopsBefore known settings task (status_of stop) lines × TakesLines taken failed lines taken_after
+      failed_after)
+  job_stops (Ok answer) h = tt
+  job_stops (Err stop) h = (
+    t.lines ++ h.0,
+    among_files t tree h.0 are accepted (among_again known.content others settings.format settings.strict tree (paths_of task)
+        (status_of stop) h.0 same h.1) refl,
+    lines_append taken middle failed failed_middle t.lines h.0 taken_after failed_after before h.2,
+  )
+
+-- nothing more was reported
+pub lines_kept : (before middle after : Option (List ℕ)) (failed failed_middle failed_after : ℕ) (lines : List (List ℕ))
+    → TakesLines before failed lines middle failed_middle → TakesLines middle failed_middle [] after failed_after
+    → TakesLines before failed lines after failed_after
+lines_kept before middle after failed failed_middle failed_after lines h k =
+    subst (λ all. TakesLines before failed all after failed_after) (append-nil lines)
+    (lines_append before middle failed failed_middle lines [] after failed_after h k)
+
+-- the status of an output is 0 or 1
+small : (n : ℕ) → n ≤ 1 → (n ≡ 0) ⊎ (n ≡ 1)
+small zero h = inl refl
+small (suc zero) h = inr refl
+small (suc (suc n)) h = absurd (omega arith)
+
+pub no_other_status : (n : ℕ) → n ≤ 1 → (n ≢ 0) × (n ≢ 1) → ⊥
+no_other_status n h k = elim (small n h) [ inl e ↦ k.0 e | inr e ↦ k.1 e ]
+
+-- a write of an output failed
+pub write_stops : (known : Known) (settings : Settings) (task : Task) (text : List ℕ) (made status : ℕ) (taken middle taken_after : Option (List ℕ))
+    (failed failed_middle failed_after : ℕ)
+    → status ≡ 5
+    → (t : TreeTexts) × (notices : List (List ℕ)) × AreTextsOfJob known settings t × Answer known.content settings t.texts task text made notices
+    × TakesLines taken failed (t.lines ++ notices) middle failed_middle
+    → TakesLines middle failed_middle (output_line ∷ []) taken_after failed_after
+    → (lines : List (List ℕ)) × Stops known settings task status lines × TakesLines taken failed (lines ++ last_lines status) taken_after failed_after
+write_stops known settings task text made status taken middle taken_after failed failed_middle failed_after e w h = (
+  (w.0.lines ++ w.1) ++ output_line ∷ [],
+  stops.at_write w.0 text made w.1 w.2 w.3 e refl,
+  rw e (subst (λ all. TakesLines taken failed all taken_after failed_after) (sym (append-nil ((w.0.lines ++ w.1) ++ output_line ∷ [])))
+      (lines_append taken middle failed failed_middle (w.0.lines ++ w.1) (output_line ∷ []) taken_after failed_after w.4 h)),
+)
+
+-- a job ended, and its last line is reported
+pub job_ends : (known : Known) (settings : Settings) (task : Task) (stop : RunError) (status : ℕ) (taken middle taken_after : Option (List ℕ))
+    (failed failed_middle failed_after : ℕ)
+    → status ≡ status_of stop
+    → (lines : List (List ℕ)) × StopsBefore known settings task (status_of stop) lines × TakesLines taken failed lines middle failed_middle
+    → TakesLines middle failed_middle (last_lines status) taken_after failed_after
+    → (lines : List (List ℕ)) × Stops known settings task status lines × TakesLines taken failed (lines ++ last_lines status) taken_after failed_after
+job_ends known settings task stop status taken middle taken_after failed failed_middle failed_after e w h = (
+  w.0,
+  stops.before_answer (subst (λ n. StopsBefore known settings task n w.0) (sym e) w.1),
+  lines_append taken middle failed failed_middle w.0 (last_lines status) taken_after
+      failed_after w.2 h,
+)

@@ -1,0 +1,36 @@
+-- The lines of what ends a run, by its cases.
+use Rattle.std.proofs.Common.{◌≡◌, ℕ, List, [], ◌∷◌, refl}
+use Rattle.kc_dotconfig_model.specs.declared.fault.LoadKind.{LoadKind}
+use Rattle.kc_dotconfig_model.specs.declared.fault.LoadKind.TheVariants.{Malformed, NotUtf8, LineTooLong, TooManyLines, Read, OutOfMemory, TooLarge}
+use Rattle.kmin_jobs.specs.declared.run_error.RunError.{RunError}
+use Rattle.kmin_jobs.specs.declared.run_error.RunError.TheVariants.{Tree, Configuration, Failed, Memory}
+use Rattle.kmin_jobs.specs.Reports.{last_lines}
+use Rattle.kmin_tidy.specs.Reports.{fault_line}
+use Rattle.kmin_jobs.specs.between.LoadStops.{load_lines, load_status}
+use Rattle.kmin_jobs.specs.between.RunErrors.{status_of}
+
+-- nothing follows but where memory ran out
+pub last_lines_none : (stop : RunError) → (stop ≡ Memory → ⊥) → last_lines (status_of stop) ≡ []
+last_lines_none Tree h = refl
+last_lines_none Configuration h = refl
+last_lines_none Failed h = refl
+last_lines_none Memory h = absurd (h refl)
+
+-- each fault has a line, unless memory ran out
+pub load_lines_one : (path : List ℕ) (number : ℕ) (kind : LoadKind) → (kind ≡ OutOfMemory → ⊥) → load_lines path number kind ≡ fault_line path number kind ∷ []
+load_lines_one path number Malformed h = refl
+load_lines_one path number NotUtf8 h = refl
+load_lines_one path number LineTooLong h = refl
+load_lines_one path number TooManyLines h = refl
+load_lines_one path number Read h = refl
+load_lines_one path number OutOfMemory h = absurd (h refl)
+load_lines_one path number TooLarge h = refl
+
+pub load_status_4 : (kind : LoadKind) → (kind ≡ OutOfMemory → ⊥) → (kind ≡ Read → ⊥) → 4 ≡ load_status kind
+load_status_4 Malformed h k = refl
+load_status_4 NotUtf8 h k = refl
+load_status_4 LineTooLong h k = refl
+load_status_4 TooManyLines h k = refl
+load_status_4 Read h k = absurd (k refl)
+load_status_4 OutOfMemory h k = absurd (h refl)
+load_status_4 TooLarge h k = refl

@@ -1,0 +1,40 @@
+use Rattle.std.proofs.Common.{◌≤◌, true, ◌∷◌, [], refl, subst, sym, rules}
+use Rattle.kc_dotconfig.specs.Configured.{tree_in}
+use Rattle.kc_minimal_model.specs.Differences.{differences}
+use Rattle.kmin_words.specs.Jobs.{settings_view}
+use Rattle.kmin_jobs.proofs.Sequences.{stopped_more, stopped_later, stopped_for_memory, if_err, memory_err}
+use Rattle.kmin_jobs.proofs.JobOutputs.{answers_comparison, status_at_most_one}
+use Rattle.kmin_jobs.proofs.job_output.answer_comparison.Goals as goal
+
+pub returns-in_err-left-clause-stopped : goal.returns-in_err-left-clause-stopped
+returns-in_err-left-clause-stopped g c =
+    let content_of = g.F.Files.content_of c.args.files.now in
+    if_err c.from_residual.result c.in_err-left.field-0.0 _ (search rules)
+    (stopped_more content_of content_of _ _ _ _ _ _ _ _ (c.args.left.now ∷ []) (c.args.right.now ∷ []) _ refl c.in_err-left.ensures.stopped)
+
+pub returns-in_err-right-clause-stopped : goal.returns-in_err-right-clause-stopped
+returns-in_err-right-clause-stopped g c =
+    if_err c.from_residual-in_err-right.result c.in_err-right.field-0.0 _ (search rules)
+    (stopped_later (g.F.Files.content_of c.args.files.now) (g.F.Files.content_of c.configured_by.new.files) _ _ _ _ _ _ _ _ (c.args.left.now ∷ [])
+    (c.args.right.now ∷ []) _ _ _ _ _ refl
+    c.configured_by.ensures.same c.in_ok-left.ensures.loaded c.in_err-right.ensures.stopped)
+
+pub returns-in_err-answer-clause-stopped : goal.returns-in_err-answer-clause-stopped
+returns-in_err-answer-clause-stopped g c =
+    let others = g.F.Files.content_of c.configured_by.new.files in
+    memory_err _ _ c.from_residual-in_err-answer.ensures (λ stop status.
+    stopped_later (g.F.Files.content_of c.args.files.now) others _ _ _ _ _ _ _ _ (c.args.left.now ∷ []) (c.args.right.now ∷ []) _ _ _ _ _ refl
+    c.configured_by.ensures.same c.in_ok-left.ensures.loaded
+    (stopped_for_memory others others _ _ _ _ _ _ _ _ (c.args.right.now ∷ []) [] _ _ _ refl status c.in_ok-right.ensures.loaded))
+
+pub returns-clause-status : goal.returns-clause-status
+returns-clause-status g c = subst (λ n. n ≤ 1) (sym c.in_ok-answer.ensures.status)
+    (status_at_most_one true (differences (tree_in c.in_ok-left.left) c.in_ok-left.left.values c.in_ok-right.right.values))
+
+pub returns-clause-answer : goal.returns-clause-answer
+returns-clause-answer g c =
+    answers_comparison (g.F.Files.content_of c.args.files.now) (g.F.Files.content_of c.configured_by.new.files) (settings_view c.args.settings.now)
+    c.in_ok-left.left c.in_ok-right.right c.args.settled.now c.args.left.now c.args.right.now _ _ _ _ _ _ _ _
+    c.configured_by.ensures.same c.in_ok-left.ensures.settled c.in_ok-right.ensures.settled c.requires.profile c.in_ok-left.ensures.solved
+    c.in_ok-right.ensures.solved
+    c.in_ok-left.ensures.loaded c.in_ok-right.ensures.loaded c.in_ok-answer.ensures.text c.in_ok-answer.ensures.status

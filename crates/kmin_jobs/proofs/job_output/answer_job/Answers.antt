@@ -1,0 +1,31 @@
+use Rattle.std.proofs.Common.{rules}
+use Rattle.kc_rules.specs.between.SettledViews.{tree_of_settled}
+use Rattle.kmin_words.specs.Jobs.{settings_view, task_view}
+use Rattle.kmin_jobs.specs.FileContents.{known_by}
+use Rattle.kmin_jobs.specs.Stops.{at_tree}
+use Rattle.kmin_jobs.proofs.Sequences.{if_err}
+use Rattle.kmin_jobs.proofs.JobOutputs.{job_answers, job_stops}
+use Rattle.kmin_jobs.proofs.job_output.answer_job.Goals as goal
+
+pub returns-in_err-settled-clause-stopped : goal.returns-in_err-settled-clause-stopped
+returns-in_err-settled-clause-stopped g c =
+    let stopped = c.in_err-settled.ensures.stopped in
+    if_err c.from_residual.result c.in_err-settled.field-0.0 _ (search rules) (stopped.0, at_tree stopped.1, stopped.2)
+
+pub returns-clause-answer : goal.returns-clause-answer
+returns-clause-answer g c =
+    let accepted = c.in_ok-settled.ensures.accepted in
+    job_answers (known_by (g.F.Files.content_of c.args.files.now) (g.F.Files.regular_content_of c.args.files.now) (g.F.Files.names_of c.args.files.now)
+    (g.F.Files.variable_of c.args.files.now))
+    (g.F.Files.content_of c.job_tree.new.files) (settings_view c.args.job.now.settings)
+    (task_view c.args.job.now.task) (tree_of_settled c.in_ok-settled.settled) accepted.0
+    c.job_tree.ensures.same accepted.1 accepted.2 _ _ _ _ _ _ accepted.3 c.answer_over-answer.result c.answer_over-answer.ensures.answer
+
+pub returns-clause-stopped : goal.returns-clause-stopped
+returns-clause-stopped g c =
+    let accepted = c.in_ok-settled.ensures.accepted in
+    job_stops (known_by (g.F.Files.content_of c.args.files.now) (g.F.Files.regular_content_of c.args.files.now) (g.F.Files.names_of c.args.files.now)
+    (g.F.Files.variable_of c.args.files.now))
+    (g.F.Files.content_of c.job_tree.new.files) (settings_view c.args.job.now.settings)
+    (task_view c.args.job.now.task) (tree_of_settled c.in_ok-settled.settled) accepted.0
+    c.job_tree.ensures.same accepted.1 accepted.2 _ _ _ _ _ _ accepted.3 c.answer_over-answer.result c.answer_over-answer.ensures.stopped

@@ -1,0 +1,14 @@
+use Rattle.std.proofs.Common.{refl}
+use Rattle.kc_rules.specs.between.SettledViews.{tree_of_settled}
+use Rattle.kc_dotconfig_model.specs.between.Formats.{file_format}
+use Rattle.kmin_tidy.proofs.ReadingLemmas.{fault_of_part, part_not_read}
+use Rattle.kmin_tidy.proofs.accepted_file.fault_of_part.Goals as goal
+
+pub unreachable-requires : goal.unreachable-requires
+unreachable-requires c =
+    part_not_read (file_format c.args.format.now) (tree_of_settled c.args.settled.now) c.args.bytes.now _ _ _ c.in-Ok.ensures.ok
+
+pub returns : goal.returns
+returns c =
+    fault_of_part (file_format c.args.format.now) (tree_of_settled c.args.settled.now) c.args.bytes.now c.new.result.rest.now _ _ _ _
+    c.in-Err.fault.kind c.in-Err.fault.line refl c.new.ensures c.in-Err.ensures.fault

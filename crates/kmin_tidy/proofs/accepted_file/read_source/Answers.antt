@@ -1,0 +1,31 @@
+use Rattle.std.proofs.Common.{◌≡◌, ℕ, List, sym, subst, refl}
+use Rattle.kc_value.specs.declared.reading.ReadEnd.TheVariants.{AtEnd}
+use Rattle.kc_rules.specs.between.SettledViews.{tree_of_settled}
+use Rattle.kc_dotconfig_model.specs.between.Formats.{file_format}
+use Rattle.kmin_tidy.specs.MinimalFiles.{AreKnownBytes}
+use Rattle.kmin_tidy.specs.checker.Readings.{IsFragmentOf, for_memory}
+use Rattle.kmin_tidy.proofs.ReadingLemmas.{if_ok_map, if_err_map, whole_content, faulty_read}
+use Rattle.kmin_tidy.proofs.accepted_file.read_source.Goals as goal
+
+pub returns-in-Ok-clause-ok : goal.returns-in-Ok-clause-ok
+returns-in-Ok-clause-ok g c =
+    let format = file_format c.args.format.now in
+    let tree = tree_of_settled c.args.settled.now in
+    if_ok_map c.accept_read.result _ _ (λ file h. λ known opens. record {
+      read = subst (λ (b : List ℕ). AreKnownBytes known b) (sym h.1)
+          (whole_content known (g.S.Source.left c.args.source.now) (g.S.Source.left c.read_up_to.new.source) c.in-Ok.read.bytes.items opens
+          c.in-Ok.ensures.bytes
+          (c.in-Ok.ensures.at_end h.0));
+      fragment = subst (λ (b : List ℕ). IsFragmentOf format tree b file.fragment) (sym h.1) h.2;
+    }) c.accept_read.ensures.ok
+
+pub returns-in-Ok-clause-fault : goal.returns-in-Ok-clause-fault
+returns-in-Ok-clause-fault g c =
+    if_err_map c.accept_read.result _ _ (λ fault h. λ known opens.
+    faulty_read (file_format c.args.format.now) (tree_of_settled c.args.settled.now) known (g.S.Source.left c.args.source.now)
+    (g.S.Source.left c.read_up_to.new.source) c.in-Ok.read.bytes.items fault.kind fault.line (c.in-Ok.read.end ≡ AtEnd) opens c.in-Ok.ensures.bytes
+    c.in-Ok.ensures.at_end h)
+    c.accept_read.ensures.fault
+
+pub returns-in-Err-clause-fault : goal.returns-in-Err-clause-fault
+returns-in-Err-clause-fault g c = λ known opens. for_memory refl

@@ -1,0 +1,112 @@
+//! A run over files, with what it writes.
+ghost use Rattle.std.specs.Prelude.{◌≡◌, ◌∷◌, [], ℕ, List, false};
+ghost use Rattle.std.specs.Io.KnownBytes.{Appends};
+ghost use Rattle.kmin_tidy.specs.Options.{settings_of};
+ghost use Rattle.kmin_tidy.specs.Steps.{disk_of};
+ghost use Rattle.kmin_tidy.specs.Runs.{paths_of};
+ghost use Rattle.kmin_tidy.specs.Ends.{Ends};
+ghost use Rattle.kmin_tidy.specs.Promises.{Became, AreTidy};
+ghost use Rattle.kmin_tidy.specs.StandardError.{TakesLines};
+ghost use Rattle.kmin_tidy.specs.checker.ReportLines.{stop_line};
+ghost use Rattle.kmin_tidy.specs.checker.Endings.{status_of_stop, IsWrittenOut};
+
+use crate::options::TidyOptions;
+use crate::report::{report_output, report_stop};
+use crate::stop::Stop;
+use crate::whole_run::{Tidied, tidy_all};
+use kc_dotconfig::Format;
+use kc_minimal::write_out;
+use kc_rules::Settled;
+use kc_value::Sink;
+use kmin_disk::WriteDisk;
+use std::alloc::Global;
+
+/// Goes over configuration files, each by itself, over the tree `settled`. Returns the exit status.
+///
+/// With `write` each file that isn't its own minimal file is replaced by it, whole or not at all; without it nothing on
+/// the disk changes. A file that can't be read or isn't accepted is left as it is, and so is one with notices under
+/// `strict`, and with `write` unless `drop` is given. Nothing but its own bytes decides what becomes of a file.
+///
+/// Standard output `out` has a line for each file that isn't minimal, `FILE: K out, L in` or `FILE: order`, in the order
+/// of `paths`. It is written once, at the end, and not at all where the run ends early. Standard error `err` has the
+/// notices of files, `FILE:LINE: KIND` for what isn't accepted, `FILE: Write` for what isn't replaced, `NEWFILE: Left`
+/// for a new file that couldn't be removed, `output: Write` and `out of memory`.
+///
+/// The status is 6 where memory ran out and 5 where a new file is left, which both end the run, and 5 where the output
+/// can't be written. Else it is that of the first file that isn't accepted or replaced: 4 for what its bytes are, 5 for
+/// a failed read or write. Else it is 1 where a file isn't minimal and isn't replaced, and 0.
+pub fn tidy_files<D: WriteDisk, O: Sink, E: Sink>(
+    alloc: Global,
+    settled: &Settled,
+    format: &Format,
+    options: TidyOptions,
+    paths: &[&str],
+    disk: &mut D,
+    out: &mut O,
+    err: &mut E,
+) -> u8
+    ensures ends { (reports : List (List ℕ)) × Ends (settings_of settled.now format.now options) (disk_of (D.state disk.old) (D.failures disk.old))
+        (disk_of (D.state disk.new) (D.failures disk.new)) (paths_of paths.now) (O.taken out.old) (O.taken out.new) (O.failures out.old)
+        (O.failures out.new) reports result × TakesLines (E.taken err.old) (E.failures err.old) reports (E.taken err.new) (E.failures err.new) }
+
+    // However the run ends, each place is as before, or its file was replaced by its minimal file, or a new file is
+    // left there.
+    ensures became { (place : List ℕ) → Became (settings_of settled.now format.now options) ((D.state disk.old).history place)
+        ((D.state disk.new).history place) }
+
+    ensures unasked { options.write ≡ false → D.state disk.new ≡ D.state disk.old }
+
+    // A run over files that are minimal or refused, as after a first run, replaces nothing and writes no line.
+    ensures again { AreTidy (settings_of settled.now format.now options) (D.state disk.old) (paths_of paths.now) → D.state disk.new ≡ D.state disk.old }
+    ensures silent { AreTidy (settings_of settled.now format.now options) (D.state disk.old) (paths_of paths.now)
+        → Appends (O.taken out.old) (O.taken out.new) [] }
+{
+    run_to_end(alloc, settled, format, options, paths, disk, out, err)
+}
+
+/// Tidies the files as `tidy_files` does; the contract states only how the run ends.
+fn run_to_end<D: WriteDisk, O: Sink, E: Sink>(
+    alloc: Global,
+    settled: &Settled,
+    format: &Format,
+    options: TidyOptions,
+    paths: &[&str],
+    disk: &mut D,
+    out: &mut O,
+    err: &mut E,
+) -> u8
+    ensures { (reports : List (List ℕ)) × Ends (settings_of settled.now format.now options) (disk_of (D.state disk.old) (D.failures disk.old))
+        (disk_of (D.state disk.new) (D.failures disk.new)) (paths_of paths.now) (O.taken out.old) (O.taken out.new) (O.failures out.old)
+        (O.failures out.new) reports result × TakesLines (E.taken err.old) (E.failures err.old) reports (E.taken err.new) (E.failures err.new) }
+{
+    match tidy_all(alloc, settled, format, options, paths, disk, err) {
+        Ok(tidied) => write_text(&tidied, out, err),
+        Err(stop) => end_early(&stop, err),
+    }
+}
+
+/// Writes the text of a run, and returns its status.
+fn write_text<O: Sink, E: Sink>(tidied: &Tidied, out: &mut O, err: &mut E) -> u8
+    ensures { (reports : List (List ℕ)) × IsWrittenOut tidied.now (O.taken out.old) (O.taken out.new) (O.failures out.old)
+        (O.failures out.new) reports result × TakesLines (E.taken err.old) (E.failures err.old) reports (E.taken err.new) (E.failures err.new) }
+{
+    match write_out(out, &tidied.text) {
+        Ok(()) => tidied.status,
+        Err(_) => {
+            report_output(err);
+            5
+        }
+    }
+}
+
+/// Reports why a run ends early, and returns its status.
+fn end_early<E: Sink>(stop: &Stop, err: &mut E) -> u8
+    ensures status { result ≡ status_of_stop stop.now }
+    ensures reported { TakesLines (E.taken err.old) (E.failures err.old) (stop_line stop.now ∷ []) (E.taken err.new) (E.failures err.new) }
+{
+    report_stop(stop, err);
+    match stop {
+        Stop::Memory => 6,
+        Stop::Left(_) => 5,
+    }
+}

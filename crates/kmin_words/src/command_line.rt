@@ -1,0 +1,315 @@
+//! Parses the words of the command line into a job.
+ghost use Rattle.std.specs.Prelude.{◌≡◌, Ok, IfOk, map, option_map, List, ℕ};
+ghost use Rattle.std.specs.Borrow.{Bor};
+ghost use Rattle.clap.specs.Words.{found_of};
+ghost use Rattle.kc_dotconfig_model.specs.between.Prefixes.{prefix_bytes};
+ghost use Rattle.kmin_words.specs.Jobs.{settings_view, questions_view, task_view, paths_of};
+ghost use Rattle.kmin_words.specs.between.WordValues as parsed;
+ghost use Rattle.kmin_words.specs.checker.Refusals.{Agrees};
+
+use crate::commands::{command_names, explained_names, program};
+use crate::expansion_words::{check_inputs, expansion_if_given, expansion_of};
+use crate::job::{Job, Questions, Saving, Settings, Task, Tidying, Verb};
+use crate::kinds::kind_asked;
+use crate::messages::message_tables;
+use crate::names::{nearest, with_tip};
+use crate::output_words::job_and_output;
+use crate::refusal::Refusal;
+use crate::tidy_words::tidying_of;
+use crate::values::{is_given, value_of, values_of};
+use clap::error::ErrorKind;
+use clap::{ArgMatches, Error};
+use kc_dotconfig_model::{Format, Prefix, Strings};
+use kc_expr::Language;
+use kc_rules_model::Profile;
+use std::alloc::{AllocError, Global};
+
+/// The words after the program's name, parsed.
+#[derive(Drop)]
+pub enum ParsedWords<'a> {
+    /// A command over configuration files whose output goes to standard output.
+    Job(Job<'a>),
+    /// A command over configuration files whose output goes to a file.
+    Save(Saving<'a>),
+    /// `kmin wants`, which lists the open questions of a tree's macros.
+    Questions(Questions<'a>),
+    /// `kmin tidy`, which compares each file with its minimal file, or replaces it.
+    Tidy(Tidying<'a>),
+    /// The help or the version that was asked for.
+    Help(String),
+    /// The message for words that are refused.
+    Refused(String),
+}
+
+/// Reads the words after the program's name.
+pub fn read_words<'a>(alloc: Global, words: &'a [&'a str]) -> Result<ParsedWords<'a>, AllocError>
+    ensures { IfOk result parsed.HasFoundValues }
+{
+    let help = kind_asked(alloc, message_tables(), words)?;
+    if !help.is_empty() {
+        return Ok(ParsedWords::Help(help));
+    }
+    match program(alloc)?.try_get_matches_from(words) {
+        Ok(matches) => job_of(alloc, &matches),
+        Err(error) => clap_message(alloc, words, &error),
+    }
+}
+
+/// The help or the message that `clap` gives in place of a job, unless memory ran out.
+fn clap_message<'a>(
+    alloc: Global,
+    words: &[&str],
+    error: &Error,
+) -> Result<ParsedWords<'a>, AllocError>
+    ensures { IfOk result parsed.HasFoundValues }
+{
+    if error.kind() == ErrorKind::OutOfMemory {
+        return Err(AllocError);
+    }
+    let text = format!(in alloc; "{error}")?;
+    if error.kind() == ErrorKind::InvalidSubcommand {
+        return Ok(ParsedWords::Refused(with_some_tip(alloc, words, text)?));
+    }
+    if error.use_stderr() {
+        return Ok(ParsedWords::Refused(text));
+    }
+    Ok(ParsedWords::Help(text))
+}
+
+/// Adds the tip of a similar name to the message for an unknown command, unless it has a tip or no name is similar.
+fn with_some_tip(alloc: Global, words: &[&str], message: String) -> Result<String, AllocError> {
+    if message.contains("\n  tip: ") {
+        return Ok(message);
+    }
+    match name_near(alloc, words)? {
+        Some(name) => with_tip(alloc, &message, name),
+        None => Ok(message),
+    }
+}
+
+/// A name similar to a mistyped word: that of a command, or after `help` any that it explains.
+fn name_near(alloc: Global, words: &[&str]) -> Result<Option<&'static str>, AllocError> {
+    match words {
+        [first, second] if *first == "help" => nearest(alloc, second, &explained_names(alloc)?),
+        [first, ..] if *first != "help" => nearest(alloc, first, &command_names(alloc)?),
+        _ => Ok(None),
+    }
+}
+
+/// The job of words that `clap` accepts, or the message for a value that isn't allowed.
+fn job_of<'a>(alloc: Global, matches: &ArgMatches<'a>) -> Result<ParsedWords<'a>, AllocError>
+    ensures { IfOk result parsed.HasFoundValues }
+{
+    let Some((name, matches)) = matches.subcommand() else {
+        return Ok(ParsedWords::Refused(String::new(alloc)));
+    };
+    named_job(alloc, name, matches)
+}
+
+/// The job of a command by its name, or the message for a value that isn't allowed.
+fn named_job<'a>(
+    alloc: Global,
+    name: &str,
+    matches: &ArgMatches<'a>,
+) -> Result<ParsedWords<'a>, AllocError>
+    ensures { IfOk result (parsed.HasValues name.now (found_of matches.now)) }
+{
+    match name {
+        "wants" => parsed_questions(alloc, matches),
+        "tidy" => parsed_tidying(alloc, matches),
+        _ => parsed_job(alloc, name, matches),
+    }
+}
+
+/// The command `wants`, or the message for a value that isn't allowed.
+fn parsed_questions<'a>(
+    alloc: Global,
+    matches: &ArgMatches<'a>,
+) -> Result<ParsedWords<'a>, AllocError>
+    ensures { IfOk result (parsed.AreQuestions (parsed.questions_of (found_of matches.now))) }
+{
+    match questions_of(alloc, matches) {
+        Ok(questions) => Ok(ParsedWords::Questions(questions)),
+        Err(Refusal::Words(line)) => Ok(ParsedWords::Refused(String::from_str(alloc, line)?)),
+        Err(Refusal::OutOfMemory) => Err(AllocError),
+    }
+}
+
+/// The command `tidy`, or the message for a value that isn't allowed.
+fn parsed_tidying<'a>(
+    alloc: Global,
+    matches: &ArgMatches<'a>,
+) -> Result<ParsedWords<'a>, AllocError>
+    ensures { IfOk result (parsed.IsTidying (parsed.tidying_of (found_of matches.now))) }
+{
+    match tidying_of(alloc, matches) {
+        Ok(tidying) => Ok(ParsedWords::Tidy(tidying)),
+        Err(Refusal::Words(line)) => Ok(ParsedWords::Refused(String::from_str(alloc, line)?)),
+        Err(Refusal::OutOfMemory) => Err(AllocError),
+    }
+}
+
+/// A command over configuration files, or the message for a value that isn't allowed.
+fn parsed_job<'a>(
+    alloc: Global,
+    name: &str,
+    matches: &ArgMatches<'a>,
+) -> Result<ParsedWords<'a>, AllocError>
+    ensures { IfOk result (parsed.AreJob (parsed.job_and_output_of name.now (found_of matches.now))) }
+{
+    match job_and_output(alloc, name, matches) {
+        Ok((job, output)) => Ok(with_output(job, output)),
+        Err(Refusal::Words(line)) => Ok(ParsedWords::Refused(String::from_str(alloc, line)?)),
+        Err(Refusal::OutOfMemory) => Err(AllocError),
+    }
+}
+
+/// A command over configuration files, with its output file if one is given.
+fn with_output<'a>(job: Job<'a>, output: Option<&'a str>) -> ParsedWords<'a>
+    ensures { parsed.AreJob (Ok ((settings_view job.entry.settings, task_view job.entry.task), option_map (λ path. path.now) output.entry)) result }
+{
+    match output {
+        Some(output) => ParsedWords::Save(Saving { job, output }),
+        None => ParsedWords::Job(job),
+    }
+}
+
+/// The command `wants`, with its values.
+fn questions_of<'a>(alloc: Global, matches: &ArgMatches<'a>) -> Result<Questions<'a>, Refusal>
+    ensures { Agrees questions_view (parsed.questions_of (found_of matches.now)) result }
+{
+    let expansion = expansion_of(alloc, matches)?;
+    check_inputs(matches, &[])?;
+    let root = value_of(matches, "root");
+    let tree = value_of(matches, "tree");
+    Ok(Questions {
+        root,
+        tree,
+        expansion,
+    })
+}
+
+/// A command over configuration files, with its options and files.
+pub(crate) fn job_with<'a>(
+    alloc: Global,
+    name: &str,
+    matches: &ArgMatches<'a>,
+) -> Result<Job<'a>, Refusal>
+    ensures { Agrees (λ job. (settings_view job.settings, task_view job.task)) (parsed.job_of name.now (found_of matches.now)) result }
+{
+    let task = task_of(alloc, name, matches)?;
+    let settings = settings_beside(alloc, matches, &task)?;
+    Ok(Job { settings, task })
+}
+
+/// The options of a command, which are refused where they and its files name standard input twice.
+fn settings_beside<'a>(
+    alloc: Global,
+    matches: &ArgMatches<'a>,
+    task: &Task<'a>,
+) -> Result<Settings<'a>, Refusal>
+    ensures { Agrees settings_view (parsed.settings_of (found_of matches.now) (paths_of (task_view task.now))) result }
+{
+    match task {
+        Task::Over { files, .. } => settings_of(alloc, matches, files),
+        Task::Compare { left, right } => settings_of(alloc, matches, &[left, right]),
+    }
+}
+
+/// The value of `--prefix`, which is refused if it is no prefix of names.
+fn prefix_of(text: &str) -> Result<Prefix, Refusal>
+    ensures { Agrees prefix_bytes (parsed.prefix_of text.now) result }
+{
+    match Prefix::of(text.as_bytes()) {
+        Some(prefix) => Ok(prefix),
+        None => Err(Refusal::Words("prefix: Malformed\n")),
+    }
+}
+
+/// The options of a command over configuration files of these paths, which may name standard input once.
+pub(crate) fn settings_of<'a>(
+    alloc: Global,
+    matches: &ArgMatches<'a>,
+    paths: &[&str],
+) -> Result<Settings<'a>, Refusal>
+    ensures { Agrees settings_view (parsed.settings_of (found_of matches.now) (map (λ (path : Bor (List ℕ)). path.now) paths.now)) result }
+{
+    let prefix = prefix_of(value_of(matches, "prefix"))?;
+    let expansion = expansion_if_given(alloc, matches)?;
+    check_inputs(matches, paths)?;
+    Ok(Settings {
+        root: value_of(matches, "root"),
+        tree: value_of(matches, "tree"),
+        language: language_of(value_of(matches, "language"), expansion.is_some()),
+        format: Format {
+            prefix,
+            strings: strings_of(value_of(matches, "strings")),
+        },
+        profile: profile_of(value_of(matches, "imply")),
+        strict: is_given(matches, "strict"),
+        expansion,
+    })
+}
+
+/// The form of strings that a value of `--strings` names.
+fn strings_of(value: &str) -> Strings
+    ensures { result ≡ parsed.strings_of value.now }
+{
+    match value {
+        "raw" => Strings::Raw,
+        _ => Strings::Escaped,
+    }
+}
+
+/// The language that a value of `--language` names. Without a value it is that of Linux where macros are expanded, and
+/// else the strict one.
+fn language_of(value: &str, is_expanded: bool) -> Language
+    ensures { result ≡ parsed.language_of value.now is_expanded }
+{
+    match value {
+        "strict" => Language::Strict,
+        "linux" => Language::Linux,
+        _ if is_expanded => Language::Linux,
+        _ => Language::Strict,
+    }
+}
+
+/// The profile that a value of `--imply` names.
+fn profile_of(value: &str) -> Profile
+    ensures { result ≡ parsed.profile_of value.now }
+{
+    match value {
+        "classic" => Profile::Classic,
+        _ => Profile::Present,
+    }
+}
+
+/// The command of a name, with its files in their order, and with `--exit-code` where it is given.
+fn task_of<'a>(alloc: Global, name: &str, matches: &ArgMatches<'a>) -> Result<Task<'a>, AllocError>
+    ensures { IfOk result (λ task. task_view task ≡ parsed.task_of name.now (found_of matches.now)) }
+{
+    match verb_of(name) {
+        Some(verb) => Ok(Task::Over {
+            verb,
+            files: values_of(alloc, matches, "FILE")?,
+            exit_code: is_given(matches, "exit-code"),
+        }),
+        None => Ok(Task::Compare {
+            left: value_of(matches, "LEFT"),
+            right: value_of(matches, "RIGHT"),
+        }),
+    }
+}
+
+/// The verb that the name of a command means; `None` for `compare`.
+fn verb_of(name: &str) -> Option<Verb>
+    ensures { result ≡ parsed.verb_of name.now }
+{
+    match name {
+        "min" => Some(Verb::Min),
+        "full" => Some(Verb::Full),
+        "missed" => Some(Verb::Missed),
+        "check" => Some(Verb::Check),
+        _ => None,
+    }
+}
