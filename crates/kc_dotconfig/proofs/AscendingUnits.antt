@@ -8,7 +8,7 @@ use Rattle.std.proofs.lemmas.Bool.{ltb-true}
 use Rattle.std.proofs.lemmas.List.{length_push}
 use Rattle.std.specs.BTreeMap.{insert_entry}
 use Rattle.kc_rules_model.specs.declared.values.UserValue.{UserValue}
-use Rattle.kc_dotconfig.specs.checker.Ascending.{Above, Rises, Below}
+use Rattle.kc_dotconfig.specs.checker.UserValueOrder.{Above, Rises, Below}
 
 same_unit : (p q : ℕ × UserValue) → Some p ≡ Some q → p.0 ≡ q.0
 same_unit p q e = let same : p ≡ q = cc in ap (λ (r : ℕ × UserValue). r.0) same

@@ -11,7 +11,7 @@ use Rattle.kc_system.specs.Changes.{changed_users}
 use Rattle.kc_rules_model.specs.declared.values.UserValue.{UserValue}
 use Rattle.kc_dotconfig.specs.Fragments.{changes_of, users_of, notice_pair}
 use Rattle.kc_dotconfig.specs.checker.Accumulation.{IsGathered}
-use Rattle.kc_dotconfig.specs.checker.Ascending.{Above, Rises, Below}
+use Rattle.kc_dotconfig.specs.checker.UserValueOrder.{Above, Rises, Below}
 use Rattle.kc_tree_model.specs.Trees.{Tree}
 use Rattle.kc_dotconfig_model.specs.declared.notice.Notice.{Notice}
 use Rattle.kc_dotconfig_model.specs.declared.notice.NoticeKind.{NoticeKind}

@@ -1,11 +1,11 @@
 pub mod Insertions
-pub mod Accumulating
+pub mod LineAccumulation
 pub mod ReadingSteps
 pub mod WholeReads
 pub mod LineMeanings
-pub mod Fitting
+pub mod UserValueFits
 pub mod LineParts
-pub mod Holding
+pub mod UserValueUnits
 pub mod FragmentFits
-pub mod Solving
+pub mod ConfigSolutions
 pub mod AscendingUnits

@@ -16,10 +16,10 @@ use Rattle.kc_dotconfig_model.specs.LoadFaults.{complete, IsFirstFault, OccursAt
 use Rattle.kc_tree_model.specs.TreeLookup.{IsConsistent}
 use Rattle.kc_dotconfig_model.specs.PrefixGrammar.{is_prefix}
 use Rattle.kc_dotconfig.specs.Fragments.{FitsTree, users_of, notice_pair}
-use Rattle.kc_dotconfig.proofs.Fitting.{fragment_fits}
+use Rattle.kc_dotconfig.proofs.UserValueFits.{fragment_fits}
 use Rattle.kc_dotconfig.specs.ReadResults.{MAX_READ, IsReadAs, IsRefused, IsCutShort, ReportsFault}
 use Rattle.kc_dotconfig.specs.checker.Accumulation.{fault_line, Holds, AcceptsBytes, EndsWell, EndsBadly, IsGathered, IsFragmentOf}
-use Rattle.kc_dotconfig.specs.checker.Ascending.{Rises, Below}
+use Rattle.kc_dotconfig.specs.checker.UserValueOrder.{Rises, Below}
 use Rattle.kc_dotconfig_model.proofs.FirstFaults.{failed_reads}
 use Rattle.kc_dotconfig_model.proofs.FaultsAtCuts.{clean, known_newlines, nothing_told}
 

@@ -1,4 +1,4 @@
 pub mod Fragments
 pub mod ReadResults
-pub mod Configured
+pub mod ConfigStates
 pub mod checker

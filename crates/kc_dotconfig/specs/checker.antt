@@ -1,4 +1,4 @@
 pub mod MeaningViews
 pub mod Accumulation
 pub mod Configs
-pub mod Ascending
+pub mod UserValueOrder

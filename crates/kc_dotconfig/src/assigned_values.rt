@@ -2,7 +2,7 @@
 ghost use Rattle.std.specs.Prelude.{◌≡◌, ℕ, List, [], IfOk, OnOk, IsTrue};
 ghost use Rattle.std.specs.BTreeMap.{insert_entry};
 ghost use Rattle.std.specs.Ordering.{nat_cmp};
-ghost use Rattle.kc_dotconfig.specs.checker.Ascending.{Rises, Below};
+ghost use Rattle.kc_dotconfig.specs.checker.UserValueOrder.{Rises, Below};
 
 use kc_rules_model::UserValue;
 use std::alloc::{AllocError, Global};
@@ -22,7 +22,7 @@ pub(crate) struct AssignedValues {
 impl Model for AssignedValues {
     ghost use Rattle.std.specs.Prelude.{◌≡◌, ◌⊎◌, ℕ, List, [], ◌++◌};
     ghost use Rattle.kc_rules_model.specs.declared.values.UserValue.{UserValue};
-    ghost use Rattle.kc_dotconfig.specs.checker.Ascending.{Rises};
+    ghost use Rattle.kc_dotconfig.specs.checker.UserValueOrder.{Rises};
 
     ghost Value = { List (ℕ × UserValue) };
 
@@ -74,7 +74,7 @@ fn put(map: &mut BTreeMap<u32, UserValue>, unit: u32, user: UserValue) -> Result
 }
 
 impl AssignedValues {
-    /// Nothing.
+    /// A list without user values.
     pub(crate) fn new(alloc: Global) -> AssignedValues
         ensures { result ≡ [] }
     {
@@ -102,7 +102,7 @@ impl AssignedValues {
         put(&mut self.mapped, unit, user)
     }
 
-    /// The list.
+    /// The user values with their units, in ascending order of units.
     pub(crate) fn into_list(self) -> Result<Vec<(u32, UserValue)>, AllocError>
         ensures { IfOk result (λ list. list.items ≡ self) }
     {

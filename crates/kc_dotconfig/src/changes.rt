@@ -1,5 +1,5 @@
 //! Changes of an assignment, and the units that they give user values.
-ghost use Rattle.std.specs.Prelude.{◌≡◌, ◌<◌, ◌++◌, ℕ, List, Option, Some, None, IfOk, OnOk, length, map, take, filter, is_none, replicate, slice_get};
+ghost use Rattle.std.specs.Prelude.{◌≡◌, ◌<◌, ◌++◌, ℕ, Option, Some, None, IfOk, OnOk, length, take, filter, is_none, replicate, slice_get};
 ghost use Rattle.kc_system.specs.Changes.{changed_users};
 ghost use Rattle.kc_system.specs.Solutions.{user_of};
 ghost use Rattle.kc_dotconfig.specs.Fragments.{changes_of};

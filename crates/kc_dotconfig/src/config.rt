@@ -7,13 +7,13 @@ ghost use Rattle.kc_rules_model.specs.Dependencies.{dependencies};
 ghost use Rattle.kc_rules_model.specs.SymbolValues.{value_of_symbol};
 ghost use Rattle.kc_rules.specs.between.SettledViews.{tree_of_settled, value_view, value_of_ref};
 ghost use Rattle.kc_dotconfig_model.specs.ConfigFiles.{empty_assignment, overlay};
-ghost use Rattle.kc_dotconfig_model.specs.Missed.{missed};
+ghost use Rattle.kc_dotconfig_model.specs.MissedAssignments.{missed};
 ghost use Rattle.kc_dotconfig.specs.Fragments.{FitsTree, users_of};
-ghost use Rattle.kc_dotconfig.specs.Configured.{tree_in, IsSolved};
+ghost use Rattle.kc_dotconfig.specs.ConfigStates.{tree_in, IsSolved};
 
 use super::changes::{merge_units, push_cleared, push_users, units_assigned, users_assigned};
 use super::fragment::Fragment;
-use super::missed::missed_symbols;
+use super::missed_assignments::missed_symbols;
 use kc_rules::{Settled, Steps};
 use kc_rules_model::{UnitValue, UserValue};
 use kc_system::{Graph, Report, Session};
@@ -35,7 +35,7 @@ pub struct Config<'a> {
 }
 
 impl<'a> Model for Config<'a> {
-    ghost use Rattle.kc_dotconfig.specs.Configured.{Configured};
+    ghost use Rattle.kc_dotconfig.specs.ConfigStates.{Configured};
     ghost use Rattle.kc_dotconfig.specs.checker.Configs.{IsSoundConfig};
 
     ghost Value = { Configured };
@@ -165,7 +165,7 @@ impl<'a> Config<'a> {
         })
     }
 
-    /// The settled tree.
+    /// The settled tree of a configuration.
     pub fn settled(&self) -> &'a Settled
         ensures { result.now ≡ self.now.system }
     {

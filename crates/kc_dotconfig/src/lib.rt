@@ -7,13 +7,13 @@ mod assigned_values;
 mod changes;
 mod config;
 mod fragment;
+mod fragment_reader;
 mod line_buffer;
 mod line_parts;
 mod meanings;
-mod missed;
-mod reading;
+mod missed_assignments;
 
 pub use config::Config;
 pub use fragment::Fragment;
+pub use fragment_reader::read_config;
 pub use kc_dotconfig_model::{Format, LoadFault, LoadKind, Notice, NoticeKind, Prefix, Strings};
-pub use reading::read_config;

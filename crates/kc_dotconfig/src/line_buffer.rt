@@ -1,5 +1,5 @@
 //! The line so far of a file that comes in pieces.
-ghost use Rattle.std.specs.Prelude.{◌≡◌, ℕ, ◌+◌, ◌<◌, ◌≤◌, [], ◌++◌, length, IfOk, IfErr, OnOk, ◌⊎◌, OnErr};
+ghost use Rattle.std.specs.Prelude.{◌≡◌, ℕ, ◌+◌, ◌<◌, ◌≤◌, [], ◌++◌, length, IfErr, OnOk, ◌⊎◌, OnErr};
 
 use kc_dotconfig_model::LoadKind;
 use kc_value::MAX_LINE_BYTES;

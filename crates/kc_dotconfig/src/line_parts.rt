@@ -28,7 +28,7 @@ pub(crate) fn trimmed(line: &str) -> &str
     &line[..end]
 }
 
-/// The rest of a text after a prefix of ASCII.
+/// What follows a prefix of ASCII in a text; `None` where the text has another front.
 fn after_front<'a>(front: &[u8], line: &'a str) -> Option<&'a str>
     requires ascii { IsAscii front.now }
     ensures some { IfSome result (λ rest. after_front front.now line.now ≡ Some rest.now) }

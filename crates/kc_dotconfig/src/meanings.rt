@@ -1,5 +1,5 @@
 //! The meaning of a line.
-ghost use Rattle.std.specs.Prelude.{◌≡◌, ◌<◌, List, ℕ, IfOk, IfSome, Some, length, is_some, slice_get, option_map};
+ghost use Rattle.std.specs.Prelude.{◌≡◌, ◌<◌, ℕ, IfOk, IfSome, Some, length, is_some, slice_get, option_map};
 ghost use Rattle.kc_tree_model.specs.Trees.{Symbol};
 ghost use Rattle.kc_tree_model.specs.TreeLookup.{symbol_named};
 ghost use Rattle.kc_value.specs.Number.{number_of_text};
@@ -23,9 +23,9 @@ use std::alloc::{AllocError, Global};
 pub(crate) enum Meaning {
     /// A user value of a unit.
     Assigns(u32, UserValue),
-    /// A notice.
+    /// A line with a notice.
     Noted(NoticeKind),
-    /// Nothing.
+    /// A line that assigns nothing, and has no notice.
     Nothing,
 }
 

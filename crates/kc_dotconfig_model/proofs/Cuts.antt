@@ -7,7 +7,7 @@ use Rattle.std.proofs.lemmas.List.Sums.{sum_by-cons, sum_by-append}
 use Rattle.kc_dotconfig_model.specs.PrefixGrammar.{lacks}
 use Rattle.kc_dotconfig_model.specs.ConfigFiles.{file_lines}
 use Rattle.kc_dotconfig_model.specs.LoadFaults.{newlines}
-use Rattle.kc_dotconfig_model.specs.between.Cutting.{IsEnded}
+use Rattle.kc_dotconfig_model.specs.between.PartialFiles.{IsEnded}
 
 -- two cuts of one list
 pub overlap : (xs ys zs ws : List ℕ) → xs ++ ys ≡ zs ++ ws → length xs ≤ length zs → (m : List ℕ) × (zs ≡ xs ++ m) × (ys ≡ m ++ ws)

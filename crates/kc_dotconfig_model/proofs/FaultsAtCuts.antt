@@ -16,7 +16,7 @@ use Rattle.kc_dotconfig_model.specs.ConfigLines.{LineMeaning, Means, silent, emp
 use Rattle.kc_dotconfig_model.specs.ConfigFiles.{file_lines, FileMeans}
 use Rattle.kc_value.specs.declared.limits.TheConstants.{MAX_CONFIG_BYTES, MAX_CONFIG_LINES, MAX_LINE_BYTES}
 use Rattle.kc_dotconfig_model.specs.LoadFaults.{complete, newlines, IsLineAt, OccursAt, rank_of, IsFirstFault, IsAccepted}
-use Rattle.kc_dotconfig_model.specs.between.Cutting.{IsSound, IsEnded, IsCut}
+use Rattle.kc_dotconfig_model.specs.between.PartialFiles.{IsSound, IsEnded, IsCut}
 use Rattle.kc_dotconfig_model.proofs.Cuts.{split, Stands, earlier, this, later, stands, Ends, no_shorter, no_longer, same_front, a_line, newlines_append, none_in_line, first_of_lines, last_of_lines, lines_behind, one_of, zip_length, zip_append, ended_count}
 
 abbrev Part : FileFormat → Tree → List ℕ → List ℕ → List LineMeaning → List ℕ → List ℕ → Type 0

@@ -17,7 +17,7 @@ use Rattle.kc_value.specs.declared.tri.Tri.{Tri}
 use Rattle.kc_value.specs.declared.tri.Tri.TheVariants.{N, Y}
 use Rattle.kc_value.specs.declared.value.Kind.{Kind}
 use Rattle.kc_value.specs.declared.value.Kind.TheVariants.{Bool as Boolean, Tristate, Text, Int, Hex}
-use Rattle.kc_value.specs.Quoted.{IsBody, none, plain, pair, IsQuoted}
+use Rattle.kc_value.specs.QuotedTexts.{IsBody, none, plain, pair, IsQuoted}
 use Rattle.kc_tree_model.specs.Trees.{Tree, Symbol}
 use Rattle.kc_tree_model.specs.TreeLookup.{has_newline, IsConsistent, unit_of}
 use Rattle.kc_system.specs.Solutions.{user_of, FitsUsers}

@@ -14,7 +14,7 @@ use Rattle.kc_value.specs.declared.limits.TheConstants.{MAX_CONFIG_BYTES, MAX_CO
 use Rattle.kc_dotconfig_model.specs.LoadFaults.{complete, cut_short, newlines, OccursAt, IsFirstFault, IsAccepted}
 use Rattle.kc_dotconfig_model.specs.FileLaws.{EachFileIsJudged, EachCutFileIsJudged}
 use Rattle.kc_dotconfig_model.specs.between.LineMeanings.{line_meaning}
-use Rattle.kc_dotconfig_model.specs.between.Cutting.{IsSound, IsCut}
+use Rattle.kc_dotconfig_model.specs.between.PartialFiles.{IsSound, IsCut}
 use Rattle.kc_dotconfig_model.proofs.LineLaws.{line_read}
 use Rattle.kc_dotconfig_model.proofs.FirstFaults.{failed_reads}
 use Rattle.kc_dotconfig_model.proofs.FaultsAtCuts.{AtEnd, too_large, too_many, too_long, not_utf8, malformed, accepted, held, line_ended, nothing_told}

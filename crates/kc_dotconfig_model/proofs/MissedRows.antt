@@ -4,7 +4,7 @@ use Rattle.kc_value.specs.declared.tri.Tri.TheVariants.{N, M, Y}
 use Rattle.kc_rules_model.specs.declared.values.UnitValue.TheVariants.{Member as MemberValue}
 use Rattle.kc_rules_model.specs.declared.values.UserValue.TheVariants.{Member as MemberUser}
 use Rattle.kc_rules_model.proofs.RowTrees.{n, m, y, sets, tree_hidden, tree_pick, tree_imply}
-use Rattle.kc_dotconfig_model.specs.Missed.{missed}
+use Rattle.kc_dotconfig_model.specs.MissedAssignments.{missed}
 
 hidden_symbol : missed tree_hidden (sets N ∷ []) (y ∷ []) ≡ 0 ∷ []
 hidden_symbol = refl

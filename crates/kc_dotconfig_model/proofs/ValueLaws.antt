@@ -7,7 +7,7 @@ use Rattle.kc_value.specs.declared.tri.Tri.TheVariants.{N, M, Y}
 use Rattle.kc_value.specs.declared.value.Kind.{Kind}
 use Rattle.kc_value.specs.declared.value.Kind.TheVariants.{Bool as Boolean, Tristate, Text, Int, Hex}
 use Rattle.kc_value.specs.Number.{int_text, hex_text}
-use Rattle.kc_value.specs.Quoted.{IsBody, none, plain, pair, IsQuoted}
+use Rattle.kc_value.specs.QuotedTexts.{IsBody, none, plain, pair, IsQuoted}
 use Rattle.kc_tree_model.specs.Trees.{Tree, Symbol}
 use Rattle.kc_tree_model.specs.TreeLookup.{unit_of}
 use Rattle.kc_rules_model.specs.declared.values.UserValue.TheVariants.{Text as TextUser, Member as MemberUser}

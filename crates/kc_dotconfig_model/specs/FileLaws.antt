@@ -20,7 +20,7 @@ abbrev pub LinesHaveOneMeaning : Type 0
 LinesHaveOneMeaning = (format : FileFormat) (tree : Tree) (line : List ℕ) (a b : LineMeaning) → is_prefix format.prefix ≡ true
     → Means format tree line a → Means format tree line b → a ≡ b
 
--- and so does each file
+-- each file has at most one meaning
 abbrev pub FilesHaveOneMeaning : Type 0
 FilesHaveOneMeaning = (format : FileFormat) (tree : Tree) (bytes : List ℕ) (a b : List LineMeaning) → is_prefix format.prefix ≡ true
     → FileMeans format tree bytes a → FileMeans format tree bytes b → a ≡ b
@@ -82,7 +82,7 @@ EachFileIsJudged = (format : FileFormat) (tree : Tree) (bytes : List ℕ) → is
     → IsAccepted format tree bytes
     ⊎ ((kind : LoadKind) × (number : ℕ) × IsFirstFault format tree complete bytes kind number)
 
--- and each that a failed read cut short has a first fault
+-- each file that a failed read cut short has a first fault
 abbrev pub EachCutFileIsJudged : Type 0
 EachCutFileIsJudged = (format : FileFormat) (tree : Tree) (bytes : List ℕ) → is_prefix format.prefix ≡ true
     → (kind : LoadKind) × (number : ℕ) × IsFirstFault format tree cut_short bytes kind number

@@ -1,6 +1,6 @@
 -- How a configuration file is spelled: the prefix before its names, and the form of its strings.
 use Rattle.std.specs.Prelude.{◌≡◌, ℕ, List, [], ◌∷◌, ◌++◌, codes}
-use Rattle.kc_value.specs.Quoted.{quoted, IsQuoted}
+use Rattle.kc_value.specs.QuotedTexts.{quoted, IsQuoted}
 use Rattle.kc_dotconfig_model.specs.declared.format.Strings.{Strings}
 use Rattle.kc_dotconfig_model.specs.declared.format.Strings.TheVariants.{Escaped, Raw}
 

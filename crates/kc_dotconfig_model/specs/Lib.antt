@@ -4,6 +4,6 @@ pub mod ConfigLines
 pub mod ConfigFiles
 pub mod LoadFaults
 pub mod KindNames
-pub mod Missed
+pub mod MissedAssignments
 pub mod FileLaws
 pub mod between

@@ -62,7 +62,7 @@ IsConsideredAt format tree complete bytes kind byte number = OccursAt format tre
 IsConsideredAt format tree cut_short bytes kind byte number =
     (OccursAt format tree bytes kind byte number × (byte < length bytes)) ⊎ ((kind ≡ Read) × (byte ≡ length bytes) × (number ≡ newlines bytes + 1))
 
--- the first fault
+-- the first fault of a file, which is complete or was cut short by a failed read
 pub record IsFirstFault (format : FileFormat) (tree : Tree) (extent : InputEnd) (bytes : List ℕ) (kind : LoadKind) (number : ℕ) : Type 0 where
   pub byte : ℕ
   pub comes : IsConsideredAt format tree extent bytes kind byte number

@@ -2,4 +2,4 @@ pub mod Prefixes
 pub mod Formats
 pub mod LineMeanings
 pub mod LineMeaningLaws
-pub mod Cutting
+pub mod PartialFiles

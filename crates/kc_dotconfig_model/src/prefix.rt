@@ -66,7 +66,7 @@ impl Prefix {
         })
     }
 
-    /// The bytes.
+    /// The bytes of the prefix.
     pub fn as_bytes(&self) -> &[u8]
         ensures { result.now ≡ prefix_bytes self.now }
     {

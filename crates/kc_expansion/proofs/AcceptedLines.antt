@@ -26,7 +26,7 @@ use Rattle.kc_tree_model.specs.Forms.{leading_expr, ◌>>=◌, statement_of, con
 use Rattle.kc_tree_model.specs.Blocks.{Group}
 use Rattle.kc_tree_model.specs.Placement.{is_allowed, is_left_out, is_stray_end, is_glob_path}
 use Rattle.kc_tree_model.specs.Limits.{is_in_list, is_too_deep, is_too_many}
-use Rattle.kc_tree_model.specs.Reading.{statement_by_keyword, statement_by_word, statement_of_tokens, statement_or_fault, statement_on_line, path_to_read}
+use Rattle.kc_tree_model.specs.TreeReading.{statement_by_keyword, statement_by_word, statement_of_tokens, statement_or_fault, statement_on_line, path_to_read}
 use Rattle.kc_tree_model.proofs.HelpLines.{help_alike}
 use Rattle.kc_tree_model.proofs.NestedTrees.LineFits.{unless_ok, bind_ok}
 use Rattle.kc_macros_model.specs.Limits.{max_text_bytes}

@@ -19,10 +19,10 @@ use Rattle.kc_tree_model.specs.LogicalLines.{PhysicalLine, LogicalLine, split_at
 use Rattle.kc_tree_model.specs.Statements.{config, choice, menu, condition, comment, source, mainmenu, ends, Statement, head, attribute, block_of_head, path_of_head}
 use Rattle.kc_tree_model.specs.Blocks.{Group, GroupHead, Position, of_head, file_end, from_head, open_blocks, innermost, sourced_path}
 use Rattle.kc_tree_model.specs.Limits.{is_in_list, without_repeats, FileSource, size_in, open_files, files_read, source_fault as reader_fault}
-use Rattle.kc_tree_model.specs.Reading.{Outcome as Reading, statement_on_line, with_group, with_statement, path_to_read, at_file_end, continue_after_file, continue_after_source, continue_after_statement, continue_after_line, read_lines, read_file as read_whole_file, read_root, reading}
+use Rattle.kc_tree_model.specs.TreeReading.{Outcome as Reading, statement_on_line, with_group, with_statement, path_to_read, at_file_end, continue_after_file, continue_after_source, continue_after_statement, continue_after_line, read_lines, read_file as read_whole_file, read_root, reading}
 use Rattle.kc_tree_model.specs.TreeFaults.{first_tree_fault}
 use Rattle.kc_tree_model.specs.MoreFiles.{AreAmong}
-use Rattle.kc_tree_model.proofs.NestedTrees.Building.{EndsMatch, ends_first}
+use Rattle.kc_tree_model.proofs.NestedTrees.OpenTrees.{EndsMatch, ends_first}
 use Rattle.kc_tree_model.proofs.NestedTrees.LineFits.{Fits, line_fits}
 use Rattle.kc_tree_model.proofs.NestedTrees.OpenBlocks.{popped}
 use Rattle.kc_tree_model.proofs.NestedTrees.ReadingNests.{AllBlocks, Since, Closes, Reads, after_given, file_closes}

@@ -6,7 +6,7 @@ use Rattle.std.specs.Cmp.{first_so, second_so}
 use Rattle.std.proofs.Math.Seq.{take-append_seam, get_or-append_seam}
 use Rattle.std.proofs.lemmas.Bool.{eqb-true, lt-ltb, le-leb}
 use Rattle.std.proofs.lemmas.List.{append-nil}
-use Rattle.kc_value.specs.Quoted.{IsBody, none, plain, pair, unescaped}
+use Rattle.kc_value.specs.QuotedTexts.{IsBody, none, plain, pair, unescaped}
 use Rattle.kc_value.proofs.QuotedLaws.{body_means}
 use Rattle.kc_expr.specs.declared.language.Language.{Language}
 use Rattle.kc_expr.specs.declared.language.Language.TheVariants.{Strict, Linux}

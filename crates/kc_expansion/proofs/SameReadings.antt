@@ -14,7 +14,7 @@ use Rattle.kc_tree_model.specs.LogicalLines.{LogicalLine, lines_of}
 use Rattle.kc_tree_model.specs.Statements.{Statement, head, attribute, path_of_head}
 use Rattle.kc_tree_model.specs.Blocks.{Group, Position, sourced_path, file_end, innermost}
 use Rattle.kc_tree_model.specs.Limits.{is_in_list, FileSource, bytes_in, size_in, files_read, open_files, source_fault}
-use Rattle.kc_tree_model.specs.Reading.{statement_on_line, with_statement, with_group, path_to_read, Outcome, at_file_end, continue_after_file, continue_after_source, continue_after_statement, continue_after_line, read_lines, read_file, read_root, reading}
+use Rattle.kc_tree_model.specs.TreeReading.{statement_on_line, with_statement, with_group, path_to_read, Outcome, at_file_end, continue_after_file, continue_after_source, continue_after_statement, continue_after_line, read_lines, read_file, read_root, reading}
 use Rattle.kc_macros_model.specs.Worlds.{returned, expansion}
 use Rattle.kc_expansion.specs.TreeLaws.{paths_met, text_of_key, IsGivenBack, ReadingsStay}
 use Rattle.kc_expansion.proofs.AcceptedTrees.{accepted_trees_stay, unfolded_none}

@@ -9,7 +9,7 @@ use Rattle.kc_expr.specs.Token.{next_token}
 use Rattle.kc_expr.specs.Grammar.{read_expr}
 use Rattle.kc_tree_model.specs.LogicalLines.{lines_of}
 use Rattle.kc_tree_model.specs.Limits.{is_in_list, source_fault}
-use Rattle.kc_tree_model.specs.Reading.{statement_on_line, reading}
+use Rattle.kc_tree_model.specs.TreeReading.{statement_on_line, reading}
 use Rattle.kc_tree_model.specs.TreeFaults.{tree_faults, first_tree_fault}
 use Rattle.kc_macros_model.specs.Expansion.{text_value}
 use Rattle.kc_macros_model.specs.ReadingStates.{ExpandedFile, has_key}

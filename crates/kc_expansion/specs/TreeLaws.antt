@@ -7,7 +7,7 @@ use Rattle.kc_tree_model.specs.LogicalLines.{LogicalLine, begins_help}
 use Rattle.kc_tree_model.specs.Statements.{Statement}
 use Rattle.kc_tree_model.specs.Blocks.{Group, sourced_path}
 use Rattle.kc_tree_model.specs.Limits.{is_in_list}
-use Rattle.kc_tree_model.specs.Reading.{statement_on_line, path_to_read, reading}
+use Rattle.kc_tree_model.specs.TreeReading.{statement_on_line, path_to_read, reading}
 use Rattle.kc_tree_model.specs.TreeFaults.{first_tree_fault}
 use Rattle.kc_tree_model.specs.MoreFiles.{reading_from, AreAmong}
 use Rattle.kc_macros_model.specs.Limits.{max_work}

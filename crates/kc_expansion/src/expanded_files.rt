@@ -1,5 +1,5 @@
 //! Expanded files and their keys.
-ghost use Rattle.std.specs.Prelude.{◌≡◌, ◌<◌, ◌^◌, ℕ, false, List, [], ◌∷◌, ◌++◌, decimal, length, not, IfOk, OnOk, OnErr, option_map, slice_get, if◌then◌else◌};
+ghost use Rattle.std.specs.Prelude.{◌≡◌, ◌<◌, ◌^◌, false, List, [], ◌∷◌, ◌++◌, decimal, length, not, IfOk, OnOk, OnErr, option_map, slice_get};
 ghost use Rattle.kc_expansion.specs.ExpandedTexts.{file_of_slices};
 ghost use Rattle.kc_macros_model.specs.ReadingStates.{is_taken, has_key, key_of};
 ghost use Rattle.kc_expansion.specs.PathsOfKeys.{path_of_key};

@@ -1,6 +1,6 @@
 //! The places of the lines of a file, and the lines that are replaced.
-ghost use Rattle.std.specs.Prelude.{true, ◌≡◌, ◌<◌, ◌≤◌, ◌+◌, ◌-◌, ◌++◌, ℕ, suc, ◌==◌, length, count_by, drop, take, slice_range, OnOk};
-ghost use Rattle.kc_tree_model.specs.LogicalLines.{is_continued, physical_lines, split_at_newlines};
+ghost use Rattle.std.specs.Prelude.{true, ◌≡◌, ◌<◌, ◌≤◌, ◌+◌, ◌-◌, ◌++◌, ℕ, ◌==◌, length, count_by, drop, take, OnOk};
+ghost use Rattle.kc_tree_model.specs.LogicalLines.{physical_lines, split_at_newlines};
 ghost use Rattle.kc_macros_model.specs.TreeExpansion.{lines_written};
 ghost use Rattle.kc_expansion.specs.checker.LineViews.{is_first_continued, IsHelpPassed};
 ghost use Rattle.kc_expansion.specs.checker.WrittenViews.{text_up_to};

@@ -1,16 +1,15 @@
 //! The first step of a line: it is written, or sources files.
-ghost use Rattle.std.specs.Prelude.{◌≡◌, Bool, List, true, false, ◌||◌, not, nat_lt, length, IfOk, IfErr, Some, option_map};
+ghost use Rattle.std.specs.Prelude.{◌≡◌, false, ◌||◌, not, nat_lt, length, IfOk, IfErr, Some, option_map};
 ghost use Rattle.std.specs.Str.{is_utf8};
 ghost use Rattle.kc_macros_model.specs.Limits.{max_text_bytes};
-ghost use Rattle.kc_macros_model.specs.LineForms.{form_of, without_gaps};
+ghost use Rattle.kc_macros_model.specs.LineForms.{without_gaps};
 ghost use Rattle.kc_macros_model.specs.Programs.{Place as LinePlace, returns};
 ghost use Rattle.kc_macros_model.specs.ReadingStates.{ReadingState, progress, written_line};
 ghost use Rattle.kc_macros_model.specs.TreeExpansion.{SourceReader, choice_written, form_written, short_line, tokens_written, line_written};
 ghost use Rattle.kc_macros.specs.between.Variables.{bindings_of};
-ghost use Rattle.kc_macros.specs.between.AssignmentViews.{operator_of};
 ghost use Rattle.kc_macros.specs.Runs.{place_of, Runs, end_of};
 ghost use Rattle.kc_macros.specs.between.LineContents.{tokens_of};
-ghost use Rattle.kc_macros.specs.between.LineFormViews.{source_sort_of, form_view};
+ghost use Rattle.kc_macros.specs.between.LineFormViews.{form_view};
 ghost use Rattle.kc_expansion.specs.TreeContents.{TreeContents};
 ghost use Rattle.kc_expansion.specs.between.KnownFiles.{KnownFiles};
 ghost use Rattle.kc_expansion.specs.between.Reads.{FileRun, file_run, Reads};

@@ -1,5 +1,5 @@
 //! Matches of names and the pieces of patterns.
-ghost use Rattle.std.specs.Prelude.{◌≡◌, ℕ, ◌+◌, ◌<◌, ◌≤◌, List, [], ◌∷◌, ◌||◌, ◌==◌, ◌&&◌, Bool, true, false, length, drop, slice_index, slice_index_or, IfOk, vec_len};
+ghost use Rattle.std.specs.Prelude.{◌≡◌, ℕ, ◌+◌, ◌<◌, List, [], ◌∷◌, ◌||◌, ◌==◌, ◌&&◌, true, false, length, drop, slice_index, slice_index_or, IfOk};
 ghost use Rattle.std.specs.List.{list_any};
 ghost use Rattle.std.specs.Str.{is_utf8};
 ghost use Rattle.kc_tree_model.specs.TreeLookup.{has_newline};

@@ -1,5 +1,5 @@
 //! The paths of `source` lines.
-ghost use Rattle.std.specs.Prelude.{◌≡◌, ◌==◌, ◌&&◌, not, ◌++◌, ◌∷◌, decimal, IfOk, if◌then◌else◌};
+ghost use Rattle.std.specs.Prelude.{◌≡◌, ◌==◌, ◌&&◌, IfOk};
 ghost use Rattle.std.specs.List.{list_any};
 ghost use Rattle.kc_macros_model.specs.PathPatterns.{is_pattern, is_wildcard};
 ghost use Rattle.kc_macros_model.specs.TreeExpansion.{begins_with_slash, folder_of, list_name};

@@ -263,7 +263,7 @@ fn push_if(
     Ok(())
 }
 
-/// Those of some paths whose files can be read.
+/// The paths of a list whose files can be read.
 pub(crate) fn readable_paths<F: TreeFiles>(
     alloc: Global,
     store: &mut Store,

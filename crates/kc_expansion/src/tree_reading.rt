@@ -1,5 +1,5 @@
 //! The reading of a tree: a sourced file is read at its `source` line.
-ghost use Rattle.std.specs.Prelude.{◌≡◌, ◌<◌, ◌≤◌, ◌||◌, ◌++◌, not, nat_lt, false, Some, [], length, drop, IfOk};
+ghost use Rattle.std.specs.Prelude.{◌≡◌, ◌<◌, ◌≤◌, ◌||◌, not, nat_lt, false, Some, length, drop, IfOk};
 ghost use Rattle.std.specs.Str.{is_utf8};
 ghost use Rattle.kc_tree_model.specs.LogicalLines.{split_at_newlines};
 ghost use Rattle.kc_macros_model.specs.Limits.{max_text_bytes};

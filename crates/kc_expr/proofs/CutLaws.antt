@@ -8,15 +8,15 @@ use Rattle.kc_expr.specs.declared.token.NextToken.TheVariants.{White, Comment, T
 use Rattle.kc_expr.specs.declared.token.Token.{Token as CodeToken}
 use Rattle.kc_expr.specs.declared.token.TokenKind.{TokenKind}
 use Rattle.kc_expr.specs.Token.{Lexeme, with_front, is_white_byte, lexemes_of, next_token, lexemes_from}
-use Rattle.kc_expr.specs.TokenGrammar.{IsToken, IsLongest, IsCut, ends, comment, white, token, IsFirstFault, here, after_white, after_token}
-use Rattle.kc_expr.proofs.Lexing.{lexemes_white, lexemes_comment, lexemes_fault, with_front_none}
+use Rattle.kc_expr.specs.TokenGrammar.{IsToken, IsLongest, IsCut, ends, comment, white, token, IsFirstTokenFault, here, after_white, after_token}
+use Rattle.kc_expr.proofs.TokenSteps.{lexemes_white, lexemes_comment, lexemes_fault, with_front_none}
 use Rattle.kc_expr.proofs.TokenFronts.{Says, lead_says}
 use Rattle.kc_expr.proofs.TokenLaws.{first_byte, token_at, token_read}
 
 -- the tokens of a line from a place on, or its first fault
 abbrev pub IsReading : Language → ℕ → List ℕ → Result (List Lexeme) ExprFault → Type 0
 IsReading language at bytes (Ok ps) = IsCut language at bytes ps
-IsReading language at bytes (Err fault) = IsFirstFault language at bytes fault
+IsReading language at bytes (Err fault) = IsFirstTokenFault language at bytes fault
 
 after_white_byte : (language : Language) (at c : ℕ) (bytes : List ℕ) (r : Result (List Lexeme) ExprFault) → is_white_byte c ≡ true
     → IsReading language (at + 1) bytes r → IsReading language at (c ∷ bytes) r
@@ -60,7 +60,7 @@ pub read_cut : (language : Language) (n at : ℕ) (bytes : List ℕ) (ps : List 
 read_cut language n at bytes ps l h = subst (IsReading language at bytes) h (read_is language n at bytes l)
 
 pub read_fault : (language : Language) (n at : ℕ) (bytes : List ℕ) (fault : ExprFault) → length bytes ≤ n → lexemes_from language 0 at bytes ≡ Err fault
-    → IsFirstFault language at bytes fault
+    → IsFirstTokenFault language at bytes fault
 read_fault language n at bytes fault l h = subst (IsReading language at bytes) h (read_is language n at bytes l)
 
 -- the results of a call, with no tokens before
@@ -71,6 +71,6 @@ cut_of_call language line before ps e h =
     (sym (with_front_none (lexemes_from language 0 0 line)) ∙ ap (λ x. with_front (lexemes_of x) (lexemes_from language 0 0 line)) (sym e) ∙ h)
 
 pub fault_of_call : (language : Language) (line : List ℕ) (fault : ExprFault) → (fault.kind ≡ OutOfMemory) ⊎ (lexemes_from language 0 0 line ≡ Err fault)
-    → (fault.kind ≡ OutOfMemory) ⊎ IsFirstFault language 0 line fault
+    → (fault.kind ≡ OutOfMemory) ⊎ IsFirstTokenFault language 0 line fault
 fault_of_call language line fault (inl m) = inl m
 fault_of_call language line fault (inr h) = inr (read_fault language (length line) 0 line fault (omega arith) h)

@@ -4,7 +4,7 @@ use Rattle.std.specs.Prelude.{position, option_map}
 use Rattle.std.specs.List.{list_any, position_or_len}
 use Rattle.std.proofs.lemmas.Bool.{le-ltb, lt-ltb, ltb-true, or_parts, eqb-true}
 use Rattle.kc_value.proofs.ClosingSteps.{further}
-use Rattle.kc_value.specs.Quoted.{IsBody, none, plain, pair}
+use Rattle.kc_value.specs.QuotedTexts.{IsBody, none, plain, pair}
 use Rattle.kc_expr.specs.declared.language.Language.{Language}
 use Rattle.kc_expr.specs.declared.language.Language.TheVariants.{Strict, Linux}
 use Rattle.kc_expr.specs.Token.{bare_dollar, dollar_left_out}

@@ -2,7 +2,7 @@
 use Rattle.std.proofs.Common.{◌≡◌, ℕ, suc, ◌+◌, ◌⊎◌, inl, inr, true, false, eqb, List, [], ◌∷◌, ◌++◌, length, take, Option, Some, None, Result, Ok, Err, refl, ap, sym, ◌∙◌, append_assoc, length-append, arith}
 use Rattle.std.proofs.lemmas.Bool.{both_ways, eq-eqb}
 use Rattle.std.proofs.Math.Seq.{take-append_seam}
-use Rattle.kc_value.specs.Quoted.{IsBody, closing}
+use Rattle.kc_value.specs.QuotedTexts.{IsBody, closing}
 use Rattle.kc_value.proofs.QuotedLaws.{body_closes, closed}
 use Rattle.kc_expr.specs.declared.fault.ExprFault.{ExprFault}
 use Rattle.kc_expr.specs.declared.fault.ExprKind.TheVariants.{BadToken, UnclosedQuote, LeftOut}
@@ -11,10 +11,10 @@ use Rattle.kc_expr.specs.declared.token.NextToken.{NextToken}
 use Rattle.kc_expr.specs.declared.token.NextToken.TheVariants.{White, Comment, Token, Fault}
 use Rattle.kc_expr.specs.Grammar.{is_quote}
 use Rattle.kc_expr.specs.Token.{Lexeme, with_front, is_white_byte, next_token, dollar_left_out, quoted_up_to, quoted_or_left_out, lexemes_from}
-use Rattle.kc_expr.specs.TokenGrammar.{HasDollarsOf, NothingBegins, IsFaultAt, dollar, unclosed, dollar_between, other_byte, IsCut, IsFirstFault, here, after_white, after_token}
+use Rattle.kc_expr.specs.TokenGrammar.{HasDollarsOf, NothingBegins, IsFaultAt, dollar, unclosed, dollar_between, other_byte, IsCut, IsFirstTokenFault, here, after_white, after_token}
 use Rattle.kc_expr.proofs.CutLaws.{IsReading, read_is}
 use Rattle.kc_expr.proofs.Dollars.{left_out_first}
-use Rattle.kc_expr.proofs.Lexing.{lexemes_white, lexemes_fault}
+use Rattle.kc_expr.proofs.TokenSteps.{lexemes_white, lexemes_fault}
 use Rattle.kc_expr.proofs.TokenFronts.{Says, lead_says}
 use Rattle.kc_expr.proofs.TokenLaws.{cut_read, white_lead, lead_quoted, quote_facts, quote_no_slash, token_at, token_read}
 
@@ -85,7 +85,7 @@ fault_lead language at c bytes fault none (dollar_between front back means rest 
 fault_lead language at c bytes fault none (other_byte d q) = other_read language at c bytes none d q
 
 -- a line with this first fault is read so
-pub fault_read : (language : Language) (at : ℕ) (bytes : List ℕ) (fault : ExprFault) → IsFirstFault language at bytes fault
+pub fault_read : (language : Language) (at : ℕ) (bytes : List ℕ) (fault : ExprFault) → IsFirstTokenFault language at bytes fault
     → lexemes_from language 0 at bytes ≡ Err fault
 fault_read language at bytes fault (here {c = c} {bytes = bs} none is) =
     let (n, lead, place) = fault_lead language at c bs fault none is in
@@ -107,7 +107,7 @@ module _ (language : Language) (line : List ℕ) where
   Tokens = (ps : List Lexeme) × IsCut language 0 line ps
 
   abbrev Faults : Type 0
-  Faults = (fault : ExprFault) × IsFirstFault language 0 line fault
+  Faults = (fault : ExprFault) × IsFirstTokenFault language 0 line fault
 
   either_reading : (r : Result (List Lexeme) ExprFault) → IsReading language 0 line r → Tokens ⊎ Faults
   either_reading (Ok ps) h = inl (ps, h)
@@ -119,11 +119,11 @@ module _ (language : Language) (line : List ℕ) where
   one_reading : (r s : Result (List Lexeme) ExprFault) → IsReading language 0 line r → IsReading language 0 line s → r ≡ s
   one_reading r s h k = sym (reading_is language 0 line r h) ∙ reading_is language 0 line s k
 
-  pub no_two_readings : (ps : List Lexeme) (fault : ExprFault) → IsCut language 0 line ps → IsFirstFault language 0 line fault → ⊥
+  pub no_two_readings : (ps : List Lexeme) (fault : ExprFault) → IsCut language 0 line ps → IsFirstTokenFault language 0 line fault → ⊥
   no_two_readings ps fault h k = let e = one_reading (Ok ps) (Err fault) h k in cc
 
   pub one_cut : (ps qs : List Lexeme) → IsCut language 0 line ps → IsCut language 0 line qs → ps ≡ qs
   one_cut ps qs h k = let e = one_reading (Ok ps) (Ok qs) h k in cc
 
-  pub one_fault : (e f : ExprFault) → IsFirstFault language 0 line e → IsFirstFault language 0 line f → e ≡ f
+  pub one_fault : (e f : ExprFault) → IsFirstTokenFault language 0 line e → IsFirstTokenFault language 0 line f → e ≡ f
   one_fault e f h k = let q = one_reading (Err e) (Err f) h k in cc

@@ -5,7 +5,7 @@ use Rattle.kc_expr.specs.declared.fault.ExprKind.TheVariants.{Malformed, TooDeep
 use Rattle.kc_expr.specs.Token.{Lexeme}
 use Rattle.kc_expr.specs.Expr.{Expr}
 use Rattle.kc_expr.specs.Grammar.{ors, IsExpr, Read, is_operand_kind, read_factor, read_ors, read_to_end, read_expr}
-use Rattle.kc_expr.specs.ExprFaults.{IsBeginning, IsFault, malformed, too_deep, HasNoFault, IsFirstFault, at_token, at_end}
+use Rattle.kc_expr.specs.ExprFaults.{IsBeginning, IsFault, malformed, too_deep, HasNoFault, IsFirstExprFault, at_token, at_end}
 use Rattle.kc_expr.proofs.Beginnings.{Begins, ArePrefixes, IsPrefix, whole_begins, front_begins, within_more}
 use Rattle.kc_expr.proofs.GrammarComplete.{expr_complete, expr_read}
 use Rattle.kc_expr.proofs.GrammarLaws.{expr_sound}
@@ -64,7 +64,7 @@ wrong_fault front t never = malformed (λ d b.
     none_begin front t (64 + d) (never (64 + d) (omega arith)) (more_begin d (64 + d) (front ++ t ∷ []) (omega arith) b))
 
 first_of : (ts front : List Lexeme) {k : ExprKind} {us : List Lexeme} → ((e : Expr) → IsExpr ors 64 ts e → ⊥) → ts ≡ front ++ us → HasNoFault front
-    → Cause ors 64 front k us → IsFirstFault ts (k, us)
+    → Cause ors 64 front k us → IsFirstExprFault ts (k, us)
 first_of ts front none is clear (ends n h b) = at_end (subst HasNoFault (sym (is ∙ append-nil front)) clear) none
 first_of ts front none is clear (wrong {t = t} n h b again) =
     at_token front t is clear (wrong_fault front t (λ n h vs e q.
@@ -81,20 +81,20 @@ other_rest : (q : Read) (e x : Expr) (t : Lexeme) (ts : List Lexeme) → q ≡ O
 other_rest q e x t ts h k = let z : t ∷ ts ≡ [] = ap rest_of (sym h ∙ k) in cc
 
 first_by : (ts : List Lexeme) (q : Read) (f : ExprKind × List Lexeme) → ((e : Expr) → IsExpr ors 64 ts e → ⊥) → Outcome ors 64 ts q
-    → read_to_end q ≡ Err f → IsFirstFault ts f
+    → read_to_end q ≡ Err f → IsFirstExprFault ts f
 first_by ts (Err g) f none y h =
     let q : g ≡ f = cc in
     let (n, l, b) = cause_begins ors 64 y.front y.cause in
-    subst (IsFirstFault ts) q (first_of ts y.front none y.is (no_fault y.front y.within y.deeper n b y.begins y.splits y.prefixes) y.cause)
+    subst (IsFirstExprFault ts) q (first_of ts y.front none y.is (no_fault y.front y.within y.deeper n b y.begins y.splits y.prefixes) y.cause)
 first_by ts (Ok (e, [])) f none y h = cc
 first_by ts (Ok (e, t ∷ us)) f none y h =
     let q : (Malformed, t ∷ us) ≡ f = cc in
     let b = whole_begins ors 64 y.front e y.whole in
-    subst (IsFirstFault ts) q (at_token y.front t y.is (no_fault y.front y.front [] 64 b b (sym (append-nil y.front)) tt)
+    subst (IsFirstExprFault ts) q (at_token y.front t y.is (no_fault y.front y.front [] 64 b b (sym (append-nil y.front)) tt)
     (wrong_fault y.front t (λ n h vs x q. other_rest (read_ors (read_factor n) (y.front ++ t ∷ vs)) e x t vs (y.again n h (t ∷ vs) refl) q)))
 
 -- the fault that is read is the first one
-pub first_fault : (ts : List Lexeme) (f : ExprKind × List Lexeme) → read_expr ts ≡ Err f → IsFirstFault ts f
+pub first_fault : (ts : List Lexeme) (f : ExprKind × List Lexeme) → read_expr ts ≡ Err f → IsFirstExprFault ts f
 unfolding read_expr
 first_fault ts f h = first_by ts (read_ors (read_factor 64) ts) f (λ e x. let q = expr_complete ts e x in cc) (expr_outcome 64 ts) h
 
@@ -132,7 +132,7 @@ by_places ls rs xs ys t u j k clear x none y (inr (inr (q, same, rest))) =
     let kinds = one_kind rs u z y in cc
 
 -- there is one first fault
-one_first : (ts : List Lexeme) {f g : ExprKind × List Lexeme} → IsFirstFault ts f → IsFirstFault ts g → f ≡ g
+one_first : (ts : List Lexeme) {f g : ExprKind × List Lexeme} → IsFirstExprFault ts f → IsFirstExprFault ts g → f ≡ g
 one_first ts (at_token {us = xs} {kind = j} ls t e clear x) (at_token {us = ys} {kind = k} rs u h none y) =
     by_places ls rs xs ys t u j k clear x none y (places ls rs t u xs ys (sym e ∙ h))
 one_first ts (at_token {us = xs} {kind = j} ls t e clear x) (at_end none away) = absurd (none ls xs t j e x)
@@ -146,12 +146,12 @@ no_fault_begins front us t (malformed none) b =
 no_fault_begins front us t (too_deep d o x none) b =
     none (front_begins ors 64 (front ++ t ∷ []) us (subst (Begins ors 64) (sym (append_assoc front (t ∷ []) us)) b))
 
-no_first : (ts : List Lexeme) (e : Expr) {f : ExprKind × List Lexeme} → IsExpr ors 64 ts e → IsFirstFault ts f → ⊥
+no_first : (ts : List Lexeme) (e : Expr) {f : ExprKind × List Lexeme} → IsExpr ors 64 ts e → IsFirstExprFault ts f → ⊥
 no_first ts e x (at_token {us = us} front t is clear y) = no_fault_begins front us t y (subst (Begins ors 64) is (whole_begins ors 64 ts e x))
 no_first ts e x (at_end clear none) = none e x
 
 -- the first fault is read
-pub fault_read : (ts : List Lexeme) (f : ExprKind × List Lexeme) → IsFirstFault ts f → read_expr ts ≡ Err f
+pub fault_read : (ts : List Lexeme) (f : ExprKind × List Lexeme) → IsFirstExprFault ts f → read_expr ts ≡ Err f
 fault_read ts f x = by_result (read_expr ts) refl
   where
     by_result : (r : Result Expr (ExprKind × List Lexeme)) → read_expr ts ≡ r → read_expr ts ≡ Err f

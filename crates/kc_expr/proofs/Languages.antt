@@ -1,6 +1,6 @@
 -- Lines that two languages read alike.
 use Rattle.std.proofs.Common.{◌≡◌, ℕ, zero, suc, ◌+◌, pred, Bool, true, false, List, [], ◌∷◌, take, Option, Some, None, Result, Ok, Err, refl, ap, sym, ◌∙◌, subst}
-use Rattle.kc_value.specs.Quoted.{closing}
+use Rattle.kc_value.specs.QuotedTexts.{closing}
 use Rattle.kc_expr.specs.declared.fault.ExprFault.{ExprFault}
 use Rattle.kc_expr.specs.declared.language.Language.{Language}
 use Rattle.kc_expr.specs.declared.language.Language.TheVariants.{Strict, Linux}

@@ -11,7 +11,7 @@ use Rattle.kc_expr.specs.Expr.{alone, both, constant, named, modules}
 use Rattle.kc_expr.specs.Grammar.{is_quote, operand_of_kind}
 use Rattle.kc_expr.specs.checker.Conditions.{as_condition}
 use Rattle.kc_expr.specs.checker.Nodes.{operand_of}
-use Rattle.kc_expr.specs.checker.Parsing.{first_operand, is_m}
+use Rattle.kc_expr.specs.checker.ParserResults.{first_operand, is_m}
 use Rattle.kc_expr.specs.Token.{lexemes_of, lexeme_of}
 
 pub quote_ascii : (c : ℕ) → is_quote c ≡ true → c < 128

@@ -9,7 +9,7 @@ pub mod GrammarLaws
 pub mod KeptLists
 pub mod Languages
 pub mod LeafLemmas
-pub mod Lexing
+pub mod TokenSteps
 pub mod NamesInLemmas
 pub mod NameLemmas
 pub mod NamesRead

@@ -11,7 +11,7 @@ use Rattle.kc_expr.specs.checker.Conditions.{as_condition}
 use Rattle.kc_expr.specs.NamesIn.{operand_names, names_in}
 use Rattle.kc_expr.specs.between.Names.{with_name, with_names}
 use Rattle.kc_expr.specs.checker.Nodes.{operand_of}
-use Rattle.kc_expr.specs.checker.Parsing.{names_of_m}
+use Rattle.kc_expr.specs.checker.ParserResults.{names_of_m}
 use Rattle.kc_expr.specs.checker.Store.{stored_names, exprs_in, IsSound, Extends, HasNamesOf}
 use Rattle.kc_expr.proofs.StoreLemmas.{represents_later}
 

@@ -22,10 +22,29 @@ tail_distinct n ns d i j h k e = omega (arith, d (suc i) (suc j) (omega arith) (
 at_place : (t : Bool) (i : ℕ) (y : List ℕ) (o : Option ℕ) → t ≡ false → o ≡ Some i → cond t (Some 0) (option_map suc o) ≡ Some (suc i)
 at_place t i y o e f = rw (e, f) refl
 
+pub place_by : (b : Bool) (n m : ℕ) (o : Option ℕ) → o ≡ cond (ltb n m) (Some n) None → cond b (Some 0) (option_map suc o)
+    ≡ cond (ltb (cond (not b) (1 + n) 0) (suc m)) (Some (cond (not b) (1 + n) 0)) None
+place_by true n m o e = let t : ltb 0 (suc m) ≡ true = lt-ltb _ _ (omega arith) in rw t refl
+place_by false n m o e = rw e (by_test (ltb n m) refl)
+  where
+    by_test : (t : Bool) → ltb n m ≡ t → option_map suc (cond t (Some n) None) ≡ cond (ltb (1 + n) (suc m)) (Some (1 + n)) None
+    by_test true f = let l : n < m = ltb-true n m f in let g : ltb (1 + n) (suc m) ≡ true = lt-ltb _ _ (omega arith) in rw g (ap Some (omega arith))
+    by_test false f = let l : m ≤ n = ltb-false n m f in let g : ltb (1 + n) (suc m) ≡ false = le-ltb _ _ (omega arith) in rw g refl
+
+-- among no names it has no place
+pub place_of_none : (x : List ℕ) → index_of_name x [] ≡ None
+unfolding index_of_name
+place_of_none x = refl
+
+-- a name is the first one, or is found among the others
+pub place_of_more : (x y : List ℕ) (ys : List (List ℕ)) → index_of_name x (y ∷ ys) ≡ cond (bytes_eq x y) (Some 0) (option_map suc (index_of_name x ys))
+unfolding index_of_name
+place_of_more x y ys = sym (place_by (bytes_eq x y) (position_or_len (bytes_eq x) ys) (length ys) (index_of_name x ys) refl)
+
 pub place_at : (names : List (List ℕ)) (i : ℕ) → AreDistinct names → i < length names → index_of_name (get_or names i []) names ≡ Some i
 place_at [] i d h = absurd (omega arith)
-place_at (n ∷ ns) zero d h = rw (same_bytes n) refl
-place_at (n ∷ ns) (suc i) d h = at_place (bytes_eq (get_or ns i []) n) i n (index_of_name (get_or ns i []) ns)
+place_at (n ∷ ns) zero d h = place_of_more n n ns ∙ rw (same_bytes n) refl
+place_at (n ∷ ns) (suc i) d h = place_of_more (get_or ns i []) n ns ∙ at_place (bytes_eq (get_or ns i []) n) i n (index_of_name (get_or ns i []) ns)
     (other_bytes (get_or ns i []) n (λ e. omega (arith, d zero (suc i) (omega arith) h (sym e)))) (place_at ns i (tail_distinct n ns d) (omega arith))
 
 -- a name that is held at a place is found there
@@ -38,20 +57,12 @@ seen_at names i symbol_values d h = ap (option_and_then symbol_values) (place_at
 
 -- names that are held under keys
 module _ {K : Type 0} (name : K → List ℕ) (x : List ℕ) where
-  place_by : (b : Bool) (n m : ℕ) (o : Option ℕ) → o ≡ cond (ltb n m) (Some n) None → cond b (Some 0) (option_map suc o)
-      ≡ cond (ltb (cond (not b) (1 + n) 0) (suc m)) (Some (cond (not b) (1 + n) 0)) None
-  place_by true n m o e = let t : ltb 0 (suc m) ≡ true = lt-ltb _ _ (omega arith) in rw t refl
-  place_by false n m o e = rw e (by_test (ltb n m) refl)
-    where
-      by_test : (t : Bool) → ltb n m ≡ t → option_map suc (cond t (Some n) None) ≡ cond (ltb (1 + n) (suc m)) (Some (1 + n)) None
-      by_test true f = let l : n < m = ltb-true n m f in let g : ltb (1 + n) (suc m) ≡ true = lt-ltb _ _ (omega arith) in rw g (ap Some (omega arith))
-      by_test false f = let l : m ≤ n = ltb-false n m f in let g : ltb (1 + n) (suc m) ≡ false = le-ltb _ _ (omega arith) in rw g refl
-
   -- the place of a name is that of its key
   pub place-position : (ks : List K) → index_of_name x (map name ks) ≡ position (λ k. bytes_eq x (name k)) ks
-  place-position [] = refl
-  place-position (k ∷ ks) = place_by (bytes_eq x (name k)) (position_or_len (λ k. bytes_eq x (name k)) ks) (length ks) (index_of_name x (map name ks))
-      (place-position ks)
+  place-position [] = place_of_none x
+  place-position (k ∷ ks) =
+      place_of_more x (name k) (map name ks)
+      ∙ place_by (bytes_eq x (name k)) (position_or_len (λ k. bytes_eq x (name k)) ks) (length ks) (index_of_name x (map name ks)) (place-position ks)
 
   held_by : (b : Bool) (n : ℕ) (o : Option ℕ) (r : Bool) → (r ≡ true → o ≡ Some n) → (b || r) ≡ true
       → cond b (Some 0) (option_map suc o) ≡ Some (cond (not b) (1 + n) 0)
@@ -60,15 +71,15 @@ module _ {K : Type 0} (name : K → List ℕ) (x : List ℕ) where
 
   held : (ks : List K) → list_any (λ k. bytes_eq x (name k)) ks ≡ true → index_of_name x (map name ks) ≡ Some (position_or_len (λ k. bytes_eq x (name k)) ks)
   held [] h = cc
-  held (k ∷ ks) h = held_by (bytes_eq x (name k)) (position_or_len (λ k. bytes_eq x (name k)) ks) (index_of_name x (map name ks))
+  held (k ∷ ks) h = place_of_more x (name k) (map name ks) ∙ held_by (bytes_eq x (name k)) (position_or_len (λ k. bytes_eq x (name k)) ks) (index_of_name x (map name ks))
       (list_any (λ k. bytes_eq x (name k)) ks) (held ks) h
 
   new_last : (v : K) → name v ≡ x → (ks : List K) → list_any (λ k. bytes_eq x (name k)) ks ≡ false → index_of_name x (map name (ks ++ v ∷ []))
       ≡ Some (position_or_len (λ k. bytes_eq x (name k)) ks)
-  new_last v e [] h = rw e (let t = same_bytes x in rw t refl)
+  new_last v e [] h = place_of_more x (name v) [] ∙ rw e (let t = same_bytes x in rw t refl)
   new_last v e (k ∷ ks) h =
       let (f, r) = or_parts (bytes_eq x (name k)) (list_any (λ k. bytes_eq x (name k)) ks) h in
-      rw (f, new_last v e ks r) (ap Some (omega arith))
+      place_of_more x (name k) (map name (ks ++ v ∷ [])) ∙ rw (f, new_last v e ks r) (ap Some (omega arith))
 
   not_there : (ks : List K) → list_any (λ k. bytes_eq x (name k)) ks ≡ false → (i : ℕ) → i < length (map name ks) → get_or (map name ks) i [] ≡ x → ⊥
   not_there [] h i l e = omega arith
@@ -110,8 +121,10 @@ module _ {K : Type 0} (name : K → List ℕ) (x : List ℕ) where
   some_by false (Some i) r e = e
 
   has_place : (ks : List K) → is_some (index_of_name x (map name ks)) ≡ list_any (λ k. bytes_eq x (name k)) ks
-  has_place [] = refl
-  has_place (k ∷ ks) = some_by (bytes_eq x (name k)) (index_of_name x (map name ks)) (list_any (λ k. bytes_eq x (name k)) ks) (has_place ks)
+  has_place [] = ap is_some (place_of_none x)
+  has_place (k ∷ ks) =
+      ap is_some (place_of_more x (name k) (map name ks))
+      ∙ some_by (bytes_eq x (name k)) (index_of_name x (map name ks)) (list_any (λ k. bytes_eq x (name k)) ks) (has_place ks)
 
   -- it comes after the others, unless it is there
   pub names_pushed : (v : K) → name v ≡ x → (ks : List K) → map name (cond (list_any (λ k. bytes_eq x (name k)) ks) ks (ks ++ v ∷ []))
@@ -145,5 +158,5 @@ there_by true x n ns i ih f g = let z = first_place i g in (omega (arith, z), rw
 there_by false x n ns i ih f g = let (j, h, e) = place_tail (index_of_name x ns) i g in let r = ih j h in (omega (arith, r.0, e), rw e r.1)
 
 pub place_there : (x : List ℕ) (names : List (List ℕ)) (i : ℕ) → index_of_name x names ≡ Some i → (i < length names) × (get_or names i [] ≡ x)
-place_there x [] i e = cc
-place_there x (n ∷ ns) i e = there_by (bytes_eq x n) x n ns i (place_there x ns) refl e
+place_there x [] i e = let h = place_of_none x in cc
+place_there x (n ∷ ns) i e = there_by (bytes_eq x n) x n ns i (place_there x ns) refl (sym (place_of_more x n ns) ∙ e)

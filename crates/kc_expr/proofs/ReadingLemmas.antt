@@ -9,7 +9,7 @@ use Rattle.kc_expr.specs.declared.store.Store.{Store}
 use Rattle.kc_expr.specs.declared.token.Token.{Token as CodeToken}
 use Rattle.kc_expr.specs.Expr.{Expr}
 use Rattle.kc_expr.specs.Grammar.{extent, is_operand_kind, is_close, read_expr, IsExpr, ors, fault_of}
-use Rattle.kc_expr.specs.checker.Parsing.{read_all_tokens, IsParsedToEnd, IsRefusedToEnd}
+use Rattle.kc_expr.specs.checker.ParserResults.{read_all_tokens, IsParsedToEnd, IsRefusedToEnd}
 use Rattle.kc_expr.specs.between.ParseResults.{expr_tokens, expr_end, ReadsExpr, RefusesExpr}
 use Rattle.kc_expr.specs.checker.Store.{exprs_in}
 use Rattle.kc_expr.specs.Token.{Lexeme, lexemes_of, lexeme_of}

@@ -4,7 +4,7 @@ use Rattle.std.specs.Prelude.{take_while}
 use Rattle.std.specs.List.{list_all}
 use Rattle.std.proofs.lemmas.Bool.{and_parts, both_ways, eqb-true}
 use Rattle.std.proofs.Math.Seq.{take-append_seam}
-use Rattle.kc_value.specs.Quoted.{IsBody, closing, unescaped}
+use Rattle.kc_value.specs.QuotedTexts.{IsBody, closing, unescaped}
 use Rattle.kc_value.proofs.QuotedLaws.{body_closes, closed, IsClosed}
 use Rattle.kc_expr.specs.declared.fault.ExprKind.{ExprKind}
 use Rattle.kc_expr.specs.declared.fault.ExprKind.TheVariants.{BadToken, UnclosedQuote, LeftOut}
@@ -18,7 +18,7 @@ use Rattle.kc_expr.specs.Grammar.{is_quote}
 use Rattle.kc_expr.specs.Token.{is_white_byte, is_word_byte, next_token, next_operator, dollar_left_out, quoted_up_to, quoted_or_left_out}
 use Rattle.kc_expr.specs.TokenGrammar.{IsQuotedToken, IsToken, IsLongest, NothingBegins, IsFaultAt, dollar, unclosed, dollar_between, other_byte}
 use Rattle.kc_expr.proofs.Dollars.{dollars_between, first_left_out}
-use Rattle.kc_expr.proofs.Lexing.{word_run}
+use Rattle.kc_expr.proofs.TokenSteps.{word_run}
 use Rattle.kc_expr.proofs.TokenLaws.{run_all, run_front, front_run, quote_facts, quote_no_slash, lead_quoted, quoted_lead}
 
 -- a token at the front of bytes, the longest that fits

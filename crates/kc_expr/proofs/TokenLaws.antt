@@ -6,7 +6,7 @@ use Rattle.std.proofs.lemmas.Bool.{and_parts, or_cases, eqb-true}
 use Rattle.std.proofs.lemmas.Bool.Decides.{nat_tests}
 use Rattle.std.proofs.lemmas.List.Sums.{take_while-cons}
 use Rattle.std.proofs.Math.Seq.{take-append_seam, drop-append_seam}
-use Rattle.kc_value.specs.Quoted.{closing}
+use Rattle.kc_value.specs.QuotedTexts.{closing}
 use Rattle.kc_value.proofs.QuotedLaws.{body_closes}
 use Rattle.kc_expr.specs.declared.language.Language.{Language}
 use Rattle.kc_expr.specs.declared.token.NextToken.TheVariants.{White, Comment, Token}
@@ -18,7 +18,7 @@ use Rattle.kc_expr.specs.Grammar.{is_quote}
 use Rattle.kc_expr.specs.Token.{Lexeme, is_white_byte, is_word_byte, next_token, dollar_left_out, quoted_up_to, quoted_or_left_out, lexemes_from}
 use Rattle.kc_expr.specs.TokenGrammar.{IsQuotedToken, IsToken, IsLongest, IsCut, ends, comment, white, token}
 use Rattle.kc_expr.proofs.Dollars.{none_left_out}
-use Rattle.kc_expr.proofs.Lexing.{lexemes_white, lexemes_comment, lexemes_token, word_run}
+use Rattle.kc_expr.proofs.TokenSteps.{lexemes_white, lexemes_comment, lexemes_token, word_run}
 
 -- bytes of one sort are of no other
 pub word_no_white : (c : ℕ) → is_word_byte c ≡ true → is_white_byte c ≡ false

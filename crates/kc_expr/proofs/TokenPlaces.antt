@@ -7,7 +7,7 @@ use Rattle.kc_expr.specs.declared.token.Token.{Token as CodeToken}
 use Rattle.kc_expr.specs.declared.token.TokenKind.{TokenKind}
 use Rattle.kc_expr.specs.declared.token.TokenKind.TheVariants.{Word, Quoted, Relation, Not, And, Or, Open, Close}
 use Rattle.kc_expr.specs.Grammar.{end_of, fault_of, extent, is_operand_kind, is_close}
-use Rattle.kc_expr.specs.checker.Parsing.{first_kind, first_relation, relation_of}
+use Rattle.kc_expr.specs.checker.ParserResults.{first_kind, first_relation, relation_of}
 use Rattle.kc_expr.specs.Token.{Lexeme, lexemes_of, lexeme_of}
 use Rattle.kc_expr.proofs.LeafLemmas.{lexeme_at, nothing_at}
 

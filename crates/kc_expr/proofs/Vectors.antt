@@ -9,7 +9,7 @@ use Rattle.kc_expr.specs.declared.token.TokenKind.TheVariants.{Word, Quoted}
 use Rattle.kc_expr.specs.declared.fault.ExprKind.TheVariants.{BadToken, UnclosedQuote, LeftOut}
 use Rattle.kc_expr.specs.declared.language.Language.TheVariants.{Strict, Linux}
 use Rattle.kc_expr.specs.Token.{lexemes_from, next_token, Lexeme}
-use Rattle.kc_expr.specs.TokenGrammar.{IsFirstFault}
+use Rattle.kc_expr.specs.TokenGrammar.{IsFirstTokenFault}
 use Rattle.kc_expr.specs.declared.fault.ExprFault.{ExprFault}
 use Rattle.kc_expr.proofs.CutLaws.{read_fault}
 use Rattle.kc_expr.proofs.FaultLaws.{one_fault}
@@ -88,13 +88,13 @@ unfolding next_token
 bare_dollar_in_linux = refl
 
 -- the first fault of a line, by the token language, and one that comes after it
-unclosed_quote_is_first : IsFirstFault Strict 0 (codes "a \"b") (record { offset = 2; kind = UnclosedQuote })
+unclosed_quote_is_first : IsFirstTokenFault Strict 0 (codes "a \"b") (record { offset = 2; kind = UnclosedQuote })
 unclosed_quote_is_first = read_fault Strict 4 0 (codes "a \"b") _ (omega arith) quote_is_not_closed
 
-dollar_between_quotes_is_first : IsFirstFault Strict 0 (codes "a \"b\\$\"") (record { offset = 5; kind = LeftOut })
+dollar_between_quotes_is_first : IsFirstTokenFault Strict 0 (codes "a \"b\\$\"") (record { offset = 5; kind = LeftOut })
 dollar_between_quotes_is_first = read_fault Strict 7 0 (codes "a \"b\\$\"") _ (omega arith) dollar_in_a_pair_is_left_out
 
-later_fault_is_not_first : IsFirstFault Linux 0 (codes "a $b") (record { offset = 3; kind = LeftOut }) → ⊥
+later_fault_is_not_first : IsFirstTokenFault Linux 0 (codes "a $b") (record { offset = 3; kind = LeftOut }) → ⊥
 later_fault_is_not_first h =
     let same = one_fault Linux (codes "a $b") _ _ (read_fault Linux 4 0 (codes "a $b") _ (omega arith) bare_dollar_in_linux) h in
     omega (arith, ap (λ (f : ExprFault). f.offset) same)

@@ -10,7 +10,7 @@ use Rattle.std.proofs.lemmas.List.Folds.{list_any-append}
 use Rattle.std.proofs.lemmas.Bool.{cases_lt, cases_eq}
 use Rattle.kc_expr.specs.between.Arena.{Exprs, node_expr}
 use Rattle.kc_expr.specs.between.Visits.{mentions, passes_some_name, is_visited}
-use Rattle.kc_expr.specs.checker.Visiting.{stamped, HasFoundTo, HasVisited, IsWalking}
+use Rattle.kc_expr.specs.checker.ExpressionWalks.{stamped, HasFoundTo, HasVisited, IsWalking}
 
 -- no stamp is that of a later turn
 later_stamp : (turn s : ℕ) → s < turn → (s == turn) ≡ false

@@ -22,7 +22,7 @@ abbrev pub HasNoFault : List Lexeme → Type 0
 HasNoFault ts = (us vs : List Lexeme) (t : Lexeme) (kind : ExprKind) → ts ≡ us ++ t ∷ vs → IsFault us t kind → ⊥
 
 -- The first fault, and the tokens from its place on: that of the first token that has one; else, of tokens that are no expression, Malformed at their end.
-pub data IsFirstFault : List Lexeme → ExprKind × List Lexeme → Type 0 where
+pub data IsFirstExprFault : List Lexeme → ExprKind × List Lexeme → Type 0 where
   at_token : {ts us : List Lexeme} {kind : ExprKind} (front : List Lexeme) (t : Lexeme) → ts ≡ front ++ t ∷ us → HasNoFault front
-      → IsFault front t kind → IsFirstFault ts (kind, t ∷ us)
-  at_end : {ts : List Lexeme} → HasNoFault ts → ((e : Expr) → IsExpr ors MAX_EXPR_DEPTH ts e → ⊥) → IsFirstFault ts (Malformed, [])
+      → IsFault front t kind → IsFirstExprFault ts (kind, t ∷ us)
+  at_end : {ts : List Lexeme} → HasNoFault ts → ((e : Expr) → IsExpr ors MAX_EXPR_DEPTH ts e → ⊥) → IsFirstExprFault ts (Malformed, [])

@@ -1,7 +1,7 @@
 -- The grammar of expressions, over tokens ("Menu dependencies").
 use Rattle.std.specs.Prelude.{◌≡◌, ℕ, zero, suc, ◌-◌, Bool, true, false, ◌&&◌, ◌||◌, ◌==◌, List, [], ◌∷◌, ◌++◌, length, take, drop, slice_index, nat_le, Option, Some, None, Result, Ok, Err, bytes_eq, if◌then◌else◌}
 use Rattle.kc_value.specs.declared.limits.TheConstants.{MAX_EXPR_DEPTH}
-use Rattle.kc_value.specs.Quoted.{unescaped}
+use Rattle.kc_value.specs.QuotedTexts.{unescaped}
 use Rattle.kc_value.specs.declared.tri.Tri.{Tri}
 use Rattle.kc_value.specs.declared.tri.Tri.TheVariants.{N, M, Y}
 use Rattle.kc_expr.specs.declared.fault.ExprFault.{ExprFault}
@@ -12,7 +12,7 @@ use Rattle.kc_expr.specs.declared.token.TokenKind.TheVariants.{Word, Quoted, Rel
 use Rattle.kc_expr.specs.Token.{Lexeme}
 use Rattle.kc_expr.specs.Expr.{Expr, Operand, constant, named, quoted, alone, related, negated, both, either}
 
--- a quote
+-- whether a byte is a quote
 abbrev pub is_quote : ℕ → Bool
 is_quote c = c == 34 || (c == 39)
 
@@ -75,7 +75,7 @@ is_operand_kind Word = true
 is_operand_kind Quoted = true
 is_operand_kind _ = false
 
--- a closing parenthesis
+-- whether a token is a closing parenthesis
 abbrev pub is_close : TokenKind → Bool
 is_close Close = true
 is_close _ = false
@@ -129,12 +129,12 @@ abbrev pub after_operand : Operand → List Lexeme → Read
 after_operand a [] = Ok (alone a, [])
 after_operand a (t ∷ ts) = elim t.kind [ Relation op ↦ right_operand (related op a) ts | _ ↦ Ok (alone a, t ∷ ts) ]
 
--- `&&`
+-- whether a token is `&&`
 abbrev pub is_and : TokenKind → Bool
 is_and And = true
 is_and _ = false
 
--- `||`
+-- whether a token is `||`
 abbrev pub is_or : TokenKind → Bool
 is_or Or = true
 is_or _ = false

@@ -1,5 +1,5 @@
 -- The values of names.
-use Rattle.std.specs.Prelude.{◌≡◌, ℕ, suc, ◌<◌, List, [], ◌∷◌, length, Option, Some, None, option_map, option_and_then, bytes_eq, slice_index_or, if◌then◌else◌}
+use Rattle.std.specs.Prelude.{◌≡◌, ℕ, ◌<◌, List, [], length, Option, option_and_then, bytes_eq, slice_index_or, position}
 use Rattle.kc_expr.specs.Expr.{SymbolValue, Environment}
 use Rattle.kc_expr.specs.declared.lookup.Looked.{Looked}
 
@@ -8,9 +8,8 @@ abbrev pub symbol_value_of : Looked → SymbolValue
 symbol_value_of l = record { kind = l.kind; tri = l.tri; text = l.text.now }
 
 -- the place of a name in a list
-abbrev pub index_of_name : List ℕ → List (List ℕ) → Option ℕ
-index_of_name x [] = None
-index_of_name x (y ∷ ys) = if bytes_eq x y then Some 0 else option_map suc (index_of_name x ys)
+unfoldable pub index_of_name : List ℕ → List (List ℕ) → Option ℕ
+index_of_name x names = position (bytes_eq x) names
 
 -- no name occurs twice
 abbrev pub AreDistinct : List (List ℕ) → Type 0

@@ -1,6 +1,6 @@
 -- The tokens of a line.
 use Rattle.std.specs.Prelude.{ℕ, zero, suc, pred, ◌+◌, Bool, true, false, ◌&&◌, ◌||◌, ◌==◌, nat_le, List, [], ◌∷◌, ◌++◌, length, take, drop, map, take_while, position, Option, Some, None, option_map, Result, Ok, Err, slice_index, if◌then◌else◌}
-use Rattle.kc_value.specs.Quoted.{closing}
+use Rattle.kc_value.specs.QuotedTexts.{closing}
 use Rattle.kc_expr.specs.declared.fault.ExprFault.{ExprFault}
 use Rattle.kc_expr.specs.declared.fault.ExprKind.TheVariants.{BadToken, UnclosedQuote, LeftOut}
 use Rattle.kc_expr.specs.declared.language.Language.{Language}

@@ -1,7 +1,7 @@
 -- The token language, apart from how a line is scanned ("Menu dependencies").
 use Rattle.std.specs.Prelude.{◌≡◌, ℕ, ◌+◌, ◌<◌, ◌≤◌, true, false, ◌==◌, List, [], ◌∷◌, ◌++◌, length, codes}
 use Rattle.std.specs.List.{list_all, list_any}
-use Rattle.kc_value.specs.Quoted.{IsBody}
+use Rattle.kc_value.specs.QuotedTexts.{IsBody}
 use Rattle.kc_expr.specs.declared.fault.ExprFault.{ExprFault}
 use Rattle.kc_expr.specs.declared.fault.ExprKind.TheVariants.{BadToken, UnclosedQuote, LeftOut}
 use Rattle.kc_expr.specs.declared.language.Language.{Language}
@@ -72,7 +72,7 @@ pub data IsFaultAt (language : Language) (at : ℕ) : List ℕ → ExprFault →
   other_byte : {c : ℕ} {bytes : List ℕ} → (c == 36) ≡ false → is_quote c ≡ false → IsFaultAt language at (c ∷ bytes) (record { offset = at; kind = BadToken })
 
 -- a line from a place on is white bytes and tokens, each the longest that fits, up to a byte at which nothing begins, and this is its fault
-pub data IsFirstFault (language : Language) : ℕ → List ℕ → ExprFault → Type 0 where
-  here : {at c : ℕ} {bytes : List ℕ} {fault : ExprFault} → NothingBegins language c bytes → IsFaultAt language at (c ∷ bytes) fault → IsFirstFault language at (c ∷ bytes) fault
-  after_white : {at c : ℕ} {bytes : List ℕ} {fault : ExprFault} → is_white_byte c ≡ true → IsFirstFault language (at + 1) bytes fault → IsFirstFault language at (c ∷ bytes) fault
-  after_token : {at : ℕ} {fault : ExprFault} (kind : TokenKind) (text rest : List ℕ) → IsToken language kind text → IsLongest language text (text ++ rest) → IsFirstFault language (at + length text) rest fault → IsFirstFault language at (text ++ rest) fault
+pub data IsFirstTokenFault (language : Language) : ℕ → List ℕ → ExprFault → Type 0 where
+  here : {at c : ℕ} {bytes : List ℕ} {fault : ExprFault} → NothingBegins language c bytes → IsFaultAt language at (c ∷ bytes) fault → IsFirstTokenFault language at (c ∷ bytes) fault
+  after_white : {at c : ℕ} {bytes : List ℕ} {fault : ExprFault} → is_white_byte c ≡ true → IsFirstTokenFault language (at + 1) bytes fault → IsFirstTokenFault language at (c ∷ bytes) fault
+  after_token : {at : ℕ} {fault : ExprFault} (kind : TokenKind) (text rest : List ℕ) → IsToken language kind text → IsLongest language text (text ++ rest) → IsFirstTokenFault language (at + length text) rest fault → IsFirstTokenFault language at (text ++ rest) fault

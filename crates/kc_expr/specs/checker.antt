@@ -2,8 +2,8 @@ pub mod ArenaCode
 pub mod ArenaView
 pub mod Conditions
 pub mod ExprCode
-pub mod Leads
+pub mod TokenEnds
 pub mod Nodes
-pub mod Parsing
+pub mod ParserResults
 pub mod Store
-pub mod Visiting
+pub mod ExpressionWalks

@@ -13,7 +13,7 @@ use super::operand::Operand;
 use super::parse::extent_len;
 use super::store::Store;
 use super::token::Token;
-use super::visited::VisitedSet;
+use super::visited_set::VisitedSet;
 use kc_value::{MAX_EXPR_DEPTH, Seed, Tri};
 use std::alloc::{AllocError, Global};
 use std::marker::Model;
@@ -116,7 +116,7 @@ impl Arena {
         }
     }
 
-    /// Both of two expressions. An `Err` means out of memory, and leaves the arena as it was.
+    /// The conjunction of two expressions. An `Err` means out of memory, and leaves the arena as it was.
     pub fn join(&mut self, a: ExprId, b: ExprId) -> Result<ExprId, ExprFault>
         requires left { a < length self.old.nodes }
         requires right { b < length self.old.nodes }

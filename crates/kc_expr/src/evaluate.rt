@@ -7,7 +7,6 @@ ghost use Rattle.std.specs.Cmp.Lexicographic.{slice_cmp};
 ghost use Rattle.std.specs.Ordering.{nat_cmp};
 ghost use Rattle.kc_expr.specs.Expr.{compared_by, value, operand_value, operand_text, operand_number, is_string, compared, relation_holds, letter, tri_of_kind, number_of_kind};
 ghost use Rattle.kc_value.specs.Tri.{y_for_m};
-ghost use Rattle.kc_value.specs.Kinds.{is_text_kind};
 ghost use Rattle.kc_expr.specs.between.Arena.{node_expr};
 ghost use Rattle.kc_expr.specs.checker.Nodes.{LeafFits, operand_of};
 ghost use Rattle.kc_expr.specs.checker.Store.{stored_names, exprs_in, IsSound};

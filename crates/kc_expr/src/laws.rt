@@ -5,10 +5,10 @@ ghost use Rattle.kc_expr.specs.declared.fault.ExprFault.{ExprFault};
 ghost use Rattle.kc_expr.specs.declared.language.Language.{Language};
 ghost use Rattle.kc_expr.specs.declared.language.Language.TheVariants.{Strict, Linux};
 ghost use Rattle.kc_expr.specs.Token.{Lexeme, lexemes_from};
-ghost use Rattle.kc_expr.specs.TokenGrammar.{IsCut, IsFirstFault};
+ghost use Rattle.kc_expr.specs.TokenGrammar.{IsCut, IsFirstTokenFault};
 ghost use Rattle.kc_expr.specs.declared.fault.ExprKind.{ExprKind};
 ghost use Rattle.kc_expr.specs.Expr.{Expr};
-ghost use Rattle.kc_expr.specs.ExprFaults.{IsFirstFault as IsFirstExprFault};
+ghost use Rattle.kc_expr.specs.ExprFaults.{IsFirstExprFault};
 ghost use Rattle.kc_expr.specs.Grammar.{read_expr, IsExpr, ors};
 
 /// In each language a line is read as tokens exactly where the token language cuts it so.
@@ -18,15 +18,15 @@ pub fn tokens_are_the_language()
 
 /// In each language a line is refused with a fault exactly where this is its first fault by the token language.
 pub fn token_faults_are_first_faults()
-    ensures { (language : Language) (line : List ℕ) (fault : ExprFault) → (lexemes_from language 0 0 line ≡ Err fault) ↔ IsFirstFault language 0 line fault }
+    ensures { (language : Language) (line : List ℕ) (fault : ExprFault) → (lexemes_from language 0 0 line ≡ Err fault) ↔ IsFirstTokenFault language 0 line fault }
 {}
 
 /// By the token language each line has either its tokens or its first fault, and only these.
 pub fn each_line_has_one_reading()
-    ensures some { (language : Language) (line : List ℕ) → ((ps : List Lexeme) × IsCut language 0 line ps) ⊎ ((fault : ExprFault) × IsFirstFault language 0 line fault) }
-    ensures not_both { (language : Language) (line : List ℕ) (ps : List Lexeme) (fault : ExprFault) → IsCut language 0 line ps → IsFirstFault language 0 line fault → ⊥ }
+    ensures some { (language : Language) (line : List ℕ) → ((ps : List Lexeme) × IsCut language 0 line ps) ⊎ ((fault : ExprFault) × IsFirstTokenFault language 0 line fault) }
+    ensures not_both { (language : Language) (line : List ℕ) (ps : List Lexeme) (fault : ExprFault) → IsCut language 0 line ps → IsFirstTokenFault language 0 line fault → ⊥ }
     ensures tokens { (language : Language) (line : List ℕ) (ps qs : List Lexeme) → IsCut language 0 line ps → IsCut language 0 line qs → ps ≡ qs }
-    ensures fault { (language : Language) (line : List ℕ) (e f : ExprFault) → IsFirstFault language 0 line e → IsFirstFault language 0 line f → e ≡ f }
+    ensures fault { (language : Language) (line : List ℕ) (e f : ExprFault) → IsFirstTokenFault language 0 line e → IsFirstTokenFault language 0 line f → e ≡ f }
 {}
 
 /// What the strict language reads of a line, the language of Linux reads too.

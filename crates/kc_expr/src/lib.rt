@@ -13,10 +13,10 @@ mod names;
 mod node;
 mod operand;
 mod parse;
-mod quoted;
+mod quoted_texts;
 mod store;
 mod token;
-mod visited;
+mod visited_set;
 
 pub use arena::Arena;
 pub use fault::{ExprFault, ExprKind};
@@ -28,6 +28,6 @@ pub use laws::{
 };
 pub use lookup::{Looked, Lookup};
 pub use operand::Operand;
-pub use quoted::quoted_text;
+pub use quoted_texts::quoted_text;
 pub use token::{Relop, Token, TokenKind, push_tokens, tokens};
-pub use visited::VisitedSet;
+pub use visited_set::VisitedSet;

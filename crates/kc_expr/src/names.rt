@@ -4,13 +4,13 @@ ghost use Rattle.kc_expr.specs.between.Arena.{node_expr};
 ghost use Rattle.kc_expr.specs.NamesIn.{operand_names};
 ghost use Rattle.kc_expr.specs.checker.Nodes.{LeafFits, operand_of};
 ghost use Rattle.kc_expr.specs.checker.Store.{stored_names, exprs_in, IsSound};
-ghost use Rattle.kc_expr.specs.checker.Visiting.{HasFoundTo, HasVisited};
+ghost use Rattle.kc_expr.specs.checker.ExpressionWalks.{HasFoundTo, HasVisited};
 ghost use Rattle.kc_expr.specs.between.ReverseNames.{names_in_reverse};
 
 use super::ids::NameId;
 use super::node::{Leaf, Node};
 use super::store::Store;
-use super::visited::VisitedSet;
+use super::visited_set::VisitedSet;
 use std::alloc::AllocError;
 
 /// Appends the name of a leaf, if it is one.

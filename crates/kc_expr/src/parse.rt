@@ -3,7 +3,7 @@ ghost use Rattle.std.specs.Prelude.{◌≡◌, ◌↔◌, ◌≤◌, Some, lengt
 ghost use Rattle.kc_expr.specs.declared.token.TokenKind.TheVariants.{Word, Quoted, Not, Open};
 ghost use Rattle.kc_expr.specs.Expr.{named};
 ghost use Rattle.kc_expr.specs.Grammar.{past_depth_limit, constant_or, extent, fault_of, is_close, is_operand_kind};
-ghost use Rattle.kc_expr.specs.checker.Parsing.{first_kind, first_operand, first_relation, operand_read, factor_read, ands_read, ors_read, read_all_tokens, Parses, IsParsedToEnd, IsRefusedToEnd, MeetsFault};
+ghost use Rattle.kc_expr.specs.checker.ParserResults.{first_kind, first_operand, first_relation, operand_read, factor_read, ands_read, ors_read, read_all_tokens, Parses, IsParsedToEnd, IsRefusedToEnd, MeetsFault};
 ghost use Rattle.kc_expr.specs.Token.{lexemes_of};
 
 use super::fault::{ExprFault, ExprKind};

@@ -2,8 +2,8 @@
 ghost use Rattle.std.specs.Prelude.{◌≡◌, ◌<◌, ◌≤◌, ◌⊎◌, true, false, length, take, IfSome, IfOk, IfErr, OnOk, OnErr, position, take_while, ◌==◌, ◌-◌, slice_index, [], ◌∷◌};
 ghost use Rattle.kc_expr.specs.declared.fault.ExprKind.TheVariants.{OutOfMemory};
 ghost use Rattle.kc_expr.specs.Token.{is_white_byte, is_word_byte, bare_dollar, dollar_left_out, next_token, next_quoted, next_operator, lexemes_from, lexemes_of};
-ghost use Rattle.kc_expr.specs.checker.Leads.{Reaches};
-ghost use Rattle.kc_expr.specs.TokenGrammar.{IsCut, IsFirstFault};
+ghost use Rattle.kc_expr.specs.checker.TokenEnds.{Reaches};
+ghost use Rattle.kc_expr.specs.TokenGrammar.{IsCut, IsFirstTokenFault};
 ghost use Rattle.kc_expr.specs.Token.{with_front};
 
 use super::fault::{ExprFault, ExprKind};
@@ -76,7 +76,7 @@ fn is_word(byte: u8) -> bool
     WORD_BYTES[byte as usize] != b'!'
 }
 
-/// The first `$`.
+/// The place of the first `$` of a text.
 fn first_dollar(text: &[u8]) -> Option<usize>
     ensures place { result ≡ position (λ c. c == 36) text.now }
     ensures within { IfSome result (λ k. k < length text.now) }
@@ -192,7 +192,7 @@ fn token_at_front(language: Language, bytes: &[u8]) -> NextToken
 /// The tokens of a line, up to a comment, or its first fault.
 pub fn tokens(alloc: Global, language: Language, line: &str) -> Result<Vec<Token<'_>>, ExprFault>
     ensures ok { IfOk result (λ v. IsCut language 0 line.now (lexemes_of v.items)) }
-    ensures fault { IfErr result (λ e. (e.kind ≡ OutOfMemory) ⊎ IsFirstFault language 0 line.now e) }
+    ensures fault { IfErr result (λ e. (e.kind ≡ OutOfMemory) ⊎ IsFirstTokenFault language 0 line.now e) }
 {
     let mut found = Vec::new(alloc);
     push_tokens(language, line, &mut found)?;

@@ -1,3 +1,3 @@
 pub mod CutSteps
-pub mod Joining
-pub mod Indented
+pub mod ContinuedLines
+pub mod HelpTextLines

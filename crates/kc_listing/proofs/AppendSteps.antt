@@ -10,12 +10,13 @@ use Rattle.kc_tree_model.specs.declared.keyword.Block.{Block}
 use Rattle.kc_tree_model.specs.declared.keyword.Block.TheVariants as blocks
 use Rattle.kc_tree_model.specs.Blocks.{Group, GroupHead, of_head, file_end, Side, side_of, opening, closing, inside, open_blocks, from_head, defined_name, sourced_path, opens_choice}
 use Rattle.kc_tree_model.specs.Limits.{is_in_list, FileSource, names_defined, without_repeats, size_in}
-use Rattle.kc_tree_model.specs.Reading.{with_group, with_attribute}
+use Rattle.kc_tree_model.specs.TreeReading.{with_group, with_attribute}
 use Rattle.kc_tree_model.proofs.NestedTrees.OpenBlocks.{pushed, popped, open_inside}
 use Rattle.kc_listing.specs.declared.listing.Group.{Group as CodeGroup}
 use Rattle.kc_listing.specs.declared.listing.Line.{Line as CodeLine}
 use Rattle.kc_listing.specs.declared.listing.GroupHead.{GroupHead as CodeWhat}
 use Rattle.kc_listing.specs.declared.listing.GroupHead.TheVariants as codes
+use Rattle.kc_expr.proofs.Places.{place_of_more, place_of_none}
 use Rattle.kc_expr.specs.Lookup.{index_of_name}
 use Rattle.kc_expr.specs.between.Names.{with_name}
 use Rattle.kc_statements.specs.between.StatementViews.{attribute_in}
@@ -28,7 +29,7 @@ use Rattle.kc_listing.specs.declared.state.OpenBlock.TheVariants as opens
 use Rattle.kc_listing.specs.between.SymbolTable.{HasNames}
 use Rattle.kc_listing.specs.between.ListingView.{RepresentsHead, line_in, LineNodesExist, RepresentsGroup, RepresentsGroups, RepresentsLists}
 use Rattle.kc_listing.specs.checker.StateViews.{RepresentsOpenBlock, RepresentsOpenBlocks, IsCounted, at_line}
-use Rattle.kc_listing.proofs.Growing.{groups_later, lines_held, get_more}
+use Rattle.kc_listing.proofs.ListingGrowth.{groups_later, lines_held, get_more}
 use Rattle.kc_listing.proofs.NameLemmas.{names_later}
 
 pub on_ok : {A E : Type 0} (r : Result A E) (P Q : Type 0) → (P → Q) → OnOk r P → OnOk r Q
@@ -161,8 +162,10 @@ bytes_same x y =
     same_from_decides (bytes_eq x y) (bytes_eq y x) (bytes_eq-Decides x y) ((λ e. sym ((bytes_eq-Decides y x).0 e)), (λ p. (bytes_eq-Decides y x).1 (sym p)))
 
 among_any : (x : List ℕ) (xs : List (List ℕ)) → is_some (index_of_name x xs) ≡ is_in_list x xs
-among_any x [] = refl
-among_any x (y ∷ ys) = step (bytes_eq x y) (bytes_eq y x) (bytes_same x y) (index_of_name x ys) (is_in_list x ys) (among_any x ys)
+among_any x [] = ap is_some (place_of_none x)
+among_any x (y ∷ ys) =
+    ap is_some (place_of_more x y ys)
+    ∙ step (bytes_eq x y) (bytes_eq y x) (bytes_same x y) (index_of_name x ys) (is_in_list x ys) (among_any x ys)
   where
     step : (a b : Bool) → a ≡ b → (o : Option ℕ) (r : Bool) → is_some o ≡ r → is_some (cond a (Some 0) (option_map suc o)) ≡ (b || r)
     step true b e o r f = rw (← e) refl

@@ -9,7 +9,7 @@ use Rattle.kc_tree_model.specs.Statements.{Head, config, choice, menu, condition
 use Rattle.kc_tree_model.specs.Blocks.{Group, of_head, open_blocks, opened_block, defined_name, opens_choice}
 use Rattle.kc_tree_model.specs.Limits.{FileSource, is_long_name, is_in_list, names_defined}
 use Rattle.kc_value.specs.declared.limits.TheConstants.{MAX_OPEN_BLOCKS, MAX_CHOICES, MAX_SYMBOLS}
-use Rattle.kc_tree_model.specs.Reading.{with_group}
+use Rattle.kc_tree_model.specs.TreeReading.{with_group}
 use Rattle.kc_listing.specs.declared.state.ReaderState.{ReaderState}
 use Rattle.kc_listing.specs.checker.StateViews.{Describes, at_line}
 use Rattle.kc_listing.specs.checker.Steps.{limits, AppendsHead}

@@ -1,6 +1,6 @@
 pub mod NameLemmas
 pub mod SymbolSteps
-pub mod Growing
+pub mod ListingGrowth
 pub mod AppendSteps
 pub mod OpenBlockSteps
 pub mod FileSteps

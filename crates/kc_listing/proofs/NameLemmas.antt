@@ -6,7 +6,7 @@ use Rattle.std.proofs.lemmas.List.Elements.{All-append, All-cons, All-nil}
 use Rattle.std.proofs.lemmas.Slice.Eq.{bytes_eq-Decides}
 use Rattle.kc_expr.specs.between.Arena.{Exprs, Grows}
 use Rattle.kc_expr.specs.Lookup.{index_of_name}
-use Rattle.kc_expr.proofs.Places.{place_there}
+use Rattle.kc_expr.proofs.Places.{place_of_more, place_of_none, place_there}
 use Rattle.std.proofs.lemmas.Option.{slice_get-get_or}
 use Rattle.std.specs.Prelude.{slice_get, nat_le}
 use Rattle.kc_expr.specs.between.Names.{with_name}
@@ -30,9 +30,11 @@ step_by f false o p e = over_suc f o ∙ e ∙ sym (over_suc f p)
 -- names after those of the table lead nowhere
 place_more : (f : ℕ → Option ℕ) (x : List ℕ) (xs ys : List (List ℕ)) → ((i : ℕ) → length xs ≤ i → f i ≡ None)
     → option_and_then f (index_of_name x (xs ++ ys)) ≡ option_and_then f (index_of_name x xs)
-place_more f x [] ys h = none_by f (λ i. h i (omega arith)) (index_of_name x ys)
+place_more f x [] ys h = none_by f (λ i. h i (omega arith)) (index_of_name x ys) ∙ ap (option_and_then f) (sym (place_of_none x))
 place_more f x (y ∷ xs) ys h =
-    step_by f (bytes_eq x y) (index_of_name x (xs ++ ys)) (index_of_name x xs) (place_more (λ i. f (suc i)) x xs ys (λ i l. h (suc i) (omega arith)))
+    ap (option_and_then f) (place_of_more x y (xs ++ ys))
+    ∙ step_by f (bytes_eq x y) (index_of_name x (xs ++ ys)) (index_of_name x xs) (place_more (λ i. f (suc i)) x xs ys (λ i l. h (suc i) (omega arith)))
+    ∙ ap (option_and_then f) (sym (place_of_more x y xs))
 
 number_more : (held more : List (List ℕ)) (numbers : List ℕ) (x : List ℕ) → length numbers ≤ length held
     → number_in (held ++ more) numbers x ≡ number_in held numbers x
@@ -70,8 +72,10 @@ same_by x y e = (bytes_eq-Decides y x).0 e
 
 -- the place of the last name
 place_last : (x : List ℕ) (names : List (List ℕ)) → index_of_name x names ≡ None → index_of_name x (names ++ x ∷ []) ≡ Some (length names)
-place_last x [] h = let e : bytes_eq x x ≡ true = (bytes_eq-Decides x x).1 refl in rw e refl
-place_last x (y ∷ names) h = last_by (bytes_eq x y) (index_of_name x names) (place_last x names) h
+place_last x [] h = let e : bytes_eq x x ≡ true = (bytes_eq-Decides x x).1 refl in place_of_more x x [] ∙ rw e refl
+place_last x (y ∷ names) h =
+    place_of_more x y (names ++ x ∷ [])
+    ∙ last_by (bytes_eq x y) (index_of_name x names) (place_last x names) (sym (place_of_more x y names) ∙ h)
   where
     none_of : (o : Option ℕ) → option_map suc o ≡ None → o ≡ None
     none_of None e = refl
@@ -84,8 +88,11 @@ place_last x (y ∷ names) h = last_by (bytes_eq x y) (index_of_name x names) (p
 
 -- another name keeps its place
 place_other : (x y : List ℕ) (names : List (List ℕ)) → bytes_eq y x ≡ false → index_of_name y (names ++ x ∷ []) ≡ index_of_name y names
-place_other x y [] e = rw e refl
-place_other x y (z ∷ names) e = ap (λ o. cond (bytes_eq y z) (Some 0) (option_map suc o)) (place_other x y names e)
+place_other x y [] e = place_of_more y x [] ∙ rw (e, place_of_none y) refl
+place_other x y (z ∷ names) e =
+    place_of_more y z (names ++ x ∷ [])
+    ∙ ap (λ o. cond (bytes_eq y z) (Some 0) (option_map suc o)) (place_other x y names e)
+    ∙ sym (place_of_more y z names)
 
 kept_more : (n m : ℕ) → m ≡ suc n → number_in_slot m ≡ Some n
 kept_more n m e = rw e refl

@@ -11,7 +11,7 @@ use Rattle.kc_tree_model.specs.declared.keyword.Block.TheVariants as blocks
 use Rattle.kc_tree_model.specs.Blocks.{Group, open_blocks, opened_block, sourced_path, opens_choice, is_some_block, in_choice, innermost, innermost_of}
 use Rattle.kc_tree_model.specs.declared.keyword.Block.{Block}
 use Rattle.kc_tree_model.specs.Limits.{FileSource, is_in_list, open_files}
-use Rattle.kc_tree_model.specs.Reading.{at_file_end}
+use Rattle.kc_tree_model.specs.TreeReading.{at_file_end}
 use Rattle.kc_listing.specs.declared.state.OpenBlock.{OpenBlock}
 use Rattle.kc_listing.specs.declared.state.OpenBlock.TheVariants as opens
 use Rattle.kc_listing.specs.checker.StateViews.{RepresentsOpenBlock, RepresentsOpenBlocks, IsCounted}

@@ -10,14 +10,14 @@ use Rattle.kc_tree_model.specs.Statements.{head, source}
 use Rattle.kc_tree_model.specs.declared.keyword.Block.{Block}
 use Rattle.kc_tree_model.specs.Blocks.{Group, file_end, innermost}
 use Rattle.kc_tree_model.specs.Limits.{FileSource, source_fault, bytes_in}
-use Rattle.kc_tree_model.specs.Reading.{Outcome, read_lines, read_file, statement_on_line, with_statement, with_group, at_file_end, ended_by_fault, continue_after_line, continue_after_statement}
+use Rattle.kc_tree_model.specs.TreeReading.{Outcome, read_lines, read_file, statement_on_line, with_statement, with_group, at_file_end, ended_by_fault, continue_after_line, continue_after_statement}
 use Rattle.kc_listing.specs.declared.state.ReaderState.{ReaderState}
 use Rattle.kc_listing.specs.between.ListingView.{RepresentsListing}
 use Rattle.kc_lines.specs.between.LinePlaces.{IsLogicalAt, IsLineAt}
 use Rattle.kc_listing.specs.checker.StateViews.{Describes, at_line}
 use Rattle.kc_listing.specs.checker.Faults.{IsMemory, fault_in}
 use Rattle.kc_listing.specs.checker.Steps.{line_here, HasStatement, IsSource, LineRead, IsEnded, FileRead, HelpRead, Sourced, IsAfter, EndRead, IsSourceRead, SourceRead, left_from, IsOneRead, IsLeft}
-use Rattle.kc_lines.proofs.Joining.{logical_step, help_step}
+use Rattle.kc_lines.proofs.ContinuedLines.{logical_step, help_step}
 use Rattle.std.proofs.lemmas.Bool.Decides.{nat_tests}
 use Rattle.std.specs.Prelude.{nat_lt, nat_le, is_some, sum_by, slice_range, take_while}
 use Rattle.std.proofs.lemmas.List.Sums.{take_while-cons}

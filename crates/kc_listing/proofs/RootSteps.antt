@@ -1,20 +1,21 @@
 -- The reading of the first file.
-use Rattle.std.proofs.Common.{◌≡◌, ◌⊎◌, inl, inr, ℕ, ◌≤◌, ◌<◌, true, false, List, [], ◌∷◌, length, refl, ap, sym, arith, Option, Some, None, Result, Err}
-use Rattle.std.specs.Prelude.{is_some, nat_lt}
+use Rattle.std.proofs.Common.{◌≡◌, ◌⊎◌, inl, inr, ℕ, ◌≤◌, ◌<◌, true, false, List, [], ◌∷◌, length, refl, ap, sym, ◌∙◌, arith, Option, Some, None, Result, Err}
+use Rattle.std.specs.Prelude.{is_some, nat_lt, option_and_then, slice_index}
 use Rattle.std.proofs.lemmas.Bool.{lt-ltb, le-ltb}
 use Rattle.kc_value.specs.declared.limits.TheConstants.{MAX_TREE_BYTES}
 use Rattle.kc_expr.specs.between.Arena.{Exprs}
+use Rattle.kc_expr.proofs.Places.{place_of_none}
 use Rattle.kc_tree_model.specs.declared.fault.TreeFault.{TreeFault}
 use Rattle.kc_tree_model.specs.declared.fault.TreeKind.{TreeKind}
 use Rattle.kc_tree_model.specs.declared.fault.TreeKind.TheVariants.{MissingFile, TooMany, OutOfMemory}
 use Rattle.kc_tree_model.specs.Limits.{FileSource, size_in, bytes_in}
-use Rattle.kc_tree_model.specs.Reading.{Outcome, read_root, read_file, ended_by_fault}
+use Rattle.kc_tree_model.specs.TreeReading.{Outcome, read_root, read_file, ended_by_fault}
 use Rattle.kc_listing.specs.declared.listing.Group.{Group as CodeGroup}
 use Rattle.kc_listing.specs.declared.listing.Line.{Line as CodeLine}
 use Rattle.kc_listing.specs.declared.listing.Listing.{Listing}
 use Rattle.kc_listing.specs.declared.state.ReaderState.{ReaderState}
 use Rattle.kc_listing.specs.declared.state.SourceFiles.{SourceFiles}
-use Rattle.kc_listing.specs.between.SymbolTable.{number_in}
+use Rattle.kc_listing.specs.between.SymbolTable.{number_in, number_in_slot}
 use Rattle.kc_listing.specs.between.ListingView.{RepresentsListing, RepresentsLists}
 use Rattle.kc_listing.specs.between.MemoryFaults.{no_memory}
 use Rattle.kc_listing.specs.checker.Faults.{fault_in}
@@ -24,7 +25,7 @@ use Rattle.kc_listing.specs.checker.Steps.{FileRead}
 use Rattle.kc_listing.proofs.ReaderSteps.{shown_of}
 
 no_number : (held : List (List ℕ)) (numbers name : List ℕ) → held ≡ [] → number_in held numbers name ≡ None
-no_number [] numbers name e = refl
+no_number [] numbers name e = ap (option_and_then (λ i. number_in_slot (slice_index numbers i))) (place_of_none name)
 no_number (x ∷ xs) numbers name e = cc
 
 lists_of_nothing : (exprs : Exprs) (symbols numbers : List ℕ) (texts : List (List ℕ)) (lines : List CodeLine) (groups : List CodeGroup)
@@ -33,7 +34,7 @@ lists_of_nothing exprs symbols numbers texts lines groups e s n l g = record {
   names = record {
     words = rw s refl;
     held = λ k d h. absurd (omega (arith, h, ap length s));
-    numbered = λ name. no_number exprs.names numbers name e;
+    numbered = λ name. no_number exprs.names numbers name e ∙ sym (place_of_none name);
     few = omega (arith, ap length n);
   };
   held = λ k d h. absurd (omega (arith, h, ap length l));

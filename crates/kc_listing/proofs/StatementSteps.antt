@@ -14,14 +14,14 @@ use Rattle.kc_tree_model.specs.declared.fault.TreeKind.TheVariants.{OutOfMemory,
 use Rattle.kc_tree_model.specs.Keywords.{keyword_of}
 use Rattle.kc_tree_model.specs.declared.keyword.Keyword.{Keyword}
 use Rattle.kc_tree_model.specs.declared.keyword.Keyword.TheVariants as words
-use Rattle.kc_tree_model.specs.LogicalLines.{is_help_or_fault, is_help, is_help_word, begins_help}
+use Rattle.kc_tree_model.specs.LogicalLines.{is_help_or_fault, is_help, is_help_word}
 use Rattle.kc_tree_model.specs.Statements.{Head, Attribute, Statement, head, attribute, source, path_of_head}
 use Rattle.kc_tree_model.specs.Forms.{statement_of, kind_of_fault, ◌>>=◌}
 use Rattle.kc_tree_model.specs.Placement.{is_allowed, is_left_out, is_stray_end}
 use Rattle.kc_tree_model.specs.Blocks.{Group}
 use Rattle.kc_tree_model.specs.Limits.{FileSource, is_too_deep, is_too_many, too_many_by_attribute}
 use Rattle.kc_value.specs.declared.limits.TheConstants.{MAX_LINE_BYTES}
-use Rattle.kc_tree_model.specs.Reading.{unless, statement_by_keyword, statement_of_tokens, statement_by_word, statement_or_fault, statement_on_line}
+use Rattle.kc_tree_model.specs.TreeReading.{unless, statement_by_keyword, statement_of_tokens, statement_by_word, statement_or_fault, statement_on_line}
 use Rattle.kc_tree_model.proofs.HelpLines.{help_alike}
 use Rattle.kc_listing.specs.declared.state.SourceFiles.{SourceFiles}
 use Rattle.kc_listing.specs.checker.StateViews.{file_source_of}

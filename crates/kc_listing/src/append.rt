@@ -1,11 +1,11 @@
 //! Appends statements to the listing.
-ghost use Rattle.std.specs.Prelude.{◌≡◌, ◌<◌, ◌+◌, ◌≤◌, ℕ, false, length, slice_get, List, None, Some, IfOk, IfErr, OnOk};
+ghost use Rattle.std.specs.Prelude.{◌≡◌, ◌<◌, ◌+◌, ◌≤◌, ℕ, false, slice_get, List, None, Some, IfOk, IfErr, OnOk};
 ghost use Rattle.kc_value.specs.declared.limits.TheConstants.{MAX_CHOICES, MAX_FILES, MAX_TREE_BYTES};
 ghost use Rattle.kc_tree_model.specs.declared.fault.TreeKind.TheVariants.{OutOfMemory};
 ghost use Rattle.kc_tree_model.specs.Blocks.{Group as Placed, GroupHead as Meant, of_head, closing, inside, side_of, from_head};
 ghost use Rattle.kc_tree_model.specs.Statements.{name_of_head, block_of_head, same_block, choice, source};
 ghost use Rattle.kc_tree_model.specs.Limits.{FileSource, size_in};
-ghost use Rattle.kc_tree_model.specs.Reading.{with_group};
+ghost use Rattle.kc_tree_model.specs.TreeReading.{with_group};
 ghost use Rattle.kc_listing.specs.between.ListingView.{RepresentsListing};
 ghost use Rattle.kc_listing.specs.checker.StateViews.{Describes, IsMeant, at_line};
 

@@ -1,5 +1,5 @@
 //! Statements that close the open entry, and their limits.
-ghost use Rattle.std.specs.Prelude.{◌≡◌, ◌<◌, ℕ, List, length, count_by, nat_le};
+ghost use Rattle.std.specs.Prelude.{◌≡◌, ◌<◌, List, length, count_by, nat_le};
 ghost use Rattle.kc_expr.specs.between.Arena.{node_expr};
 ghost use Rattle.kc_tree_model.specs.Blocks.{Group as Placed};
 ghost use Rattle.kc_tree_model.specs.Limits.{FileSource};

@@ -5,7 +5,7 @@ ghost use Rattle.kc_expr.specs.Token.{lexemes_of};
 ghost use Rattle.kc_tree_model.specs.Blocks.{Group};
 ghost use Rattle.kc_tree_model.specs.Limits.{FileSource};
 ghost use Rattle.kc_tree_model.specs.LogicalLines.{is_help, is_help_word};
-ghost use Rattle.kc_tree_model.specs.Reading.{statement_of_tokens, statement_by_keyword};
+ghost use Rattle.kc_tree_model.specs.TreeReading.{statement_of_tokens, statement_by_keyword};
 ghost use Rattle.kc_listing.specs.checker.StateViews.{Describes, file_source_of};
 ghost use Rattle.kc_listing.specs.checker.StatementResults.{begins_with, ReturnsStatementRead};
 ghost use Rattle.kc_listing.specs.checker.Steps.{LineRead};

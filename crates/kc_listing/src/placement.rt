@@ -1,5 +1,5 @@
 //! Checks before the form of a line.
-ghost use Rattle.std.specs.Prelude.{◌≡◌, List, option_map};
+ghost use Rattle.std.specs.Prelude.{◌≡◌, List};
 ghost use Rattle.kc_expr.specs.Token.{lexemes_of};
 ghost use Rattle.kc_tree_model.specs.Blocks.{Group as Placed};
 ghost use Rattle.kc_tree_model.specs.Limits.{FileSource};
@@ -57,7 +57,7 @@ fn same_block(a: Block, b: Block) -> bool
     }
 }
 
-/// The open entry.
+/// The entry that is open after some groups, if one is.
 fn open_entry(groups: &[Group]) -> Option<OpenEntry>
     ensures { result ≡ entry_kept groups.now }
 {

@@ -1,7 +1,7 @@
 //! Reads the files of a tree.
 ghost use Rattle.std.specs.Prelude.{◌≡◌, ◌⊎◌, ◌≤◌, [], length, Some};
 ghost use Rattle.kc_tree_model.specs.Limits.{FileSource, size_in, bytes_in};
-ghost use Rattle.kc_tree_model.specs.Reading.{read_root, reading, lenient_reading};
+ghost use Rattle.kc_tree_model.specs.TreeReading.{read_root, reading, lenient_reading};
 ghost use Rattle.kc_listing.specs.between.ListingView.{RepresentsListing};
 ghost use Rattle.kc_listing.specs.between.MemoryFaults.{no_memory};
 ghost use Rattle.kc_listing.specs.checker.StateViews.{Describes, file_source_of};

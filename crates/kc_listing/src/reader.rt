@@ -1,12 +1,10 @@
 //! Reading the files of a tree.
-ghost use Rattle.std.specs.Prelude.{◌≡◌, ◌<◌, ◌≤◌, ◌+◌, ◌-◌, ◌^◌, ◌∷◌, ℕ, List, length, drop, IfOk, IfErr, Ok};
+ghost use Rattle.std.specs.Prelude.{◌<◌, ◌≤◌, ◌+◌, ◌-◌, ◌^◌, List, length, drop, IfOk, Ok};
 ghost use Rattle.kc_tree_model.specs.Blocks.{Group};
-ghost use Rattle.kc_tree_model.specs.LogicalLines.{physical_lines, lines_of, logical_lines_from, help_line_count};
-ghost use Rattle.kc_tree_model.specs.Limits.{FileSource};
-ghost use Rattle.kc_tree_model.specs.Reading.{read_lines, read_file};
-ghost use Rattle.kc_tree_model.specs.declared.fault.TreeKind.TheVariants.{OutOfMemory};
+ghost use Rattle.kc_tree_model.specs.LogicalLines.{physical_lines, help_line_count};
+ghost use Rattle.kc_tree_model.specs.TreeReading.{read_file};
 ghost use Rattle.kc_listing.specs.checker.StateViews.{Describes, file_source_of};
-ghost use Rattle.kc_listing.specs.checker.Steps.{LineRead, HelpRead, indented, SourceRead, OneRead, IsForward, FileOfRead, IsText};
+ghost use Rattle.kc_listing.specs.checker.Steps.{HelpRead, indented, SourceRead, OneRead, IsForward, FileOfRead};
 
 use super::fault::{fault_at, fault_or_out_of_memory, out_of_memory};
 use super::line::read_logical;

@@ -1,7 +1,7 @@
 -- Lines without `$`: their words, and the tests that most words and bytes fail.
-use Rattle.std.proofs.Common.{◌≡◌, ◌≢◌, ℕ, zero, suc, ◌<◌, ◌≤◌, Bool, true, false, ◌||◌, cond, List, [], ◌∷◌, ◌++◌, length, take, drop, get_or, Option, Some, None, refl, sym, ap, ◌∙◌, subst, arith}
+use Rattle.std.proofs.Common.{◌≡◌, ◌≢◌, ℕ, zero, suc, ◌<◌, Bool, true, false, ◌||◌, cond, List, [], ◌∷◌, ◌++◌, length, take, drop, get_or, refl, sym, ap, ◌∙◌, subst, arith}
 use Rattle.std.specs.Prelude.{◌==◌, not, pred, nat_le, bytes_eq, codes, take_while}
-use Rattle.std.specs.List.{All, list_all, list_any}
+use Rattle.std.specs.List.{All, list_all}
 use Rattle.std.specs.Str.{is_utf8}
 use Rattle.std.proofs.lemmas.Bool.{and_parts, leb-false}
 use Rattle.std.proofs.lemmas.List.{drop_all}
@@ -15,8 +15,8 @@ use Rattle.kc_tree_model.specs.Limits.{is_in_list}
 use Rattle.kc_macros_model.specs.Programs.{Place, returns, ◌>>=◌}
 use Rattle.kc_macros_model.specs.Variables.{Bindings}
 use Rattle.kc_macros_model.specs.WrittenTokens.{body_of, joined_bodies, written_items}
-use Rattle.kc_macros_model.specs.References.{Item, byte, escaped, item_bytes, first_item, items, is_unterminated}
-use Rattle.kc_macros_model.specs.LineTokens.{LineToken, gap, run, broken, quoted, other, token_bytes, extent, is_run_byte, run_token, quoted_token, first_token, line_tokens}
+use Rattle.kc_macros_model.specs.References.{byte, escaped, item_bytes, first_item, items}
+use Rattle.kc_macros_model.specs.LineTokens.{LineToken, gap, run, broken, other, token_bytes, extent, is_run_byte, run_token, quoted_token, first_token, line_tokens}
 use Rattle.kc_macros_model.specs.Assignments.{without_front}
 use Rattle.kc_macros_model.specs.LineForms.{prompt_words, source_words, help_words}
 use Rattle.kc_macros.specs.checker.Bodies.{has_dollar_or_backslash}

@@ -1,5 +1,5 @@
 //! The meanings of the lines of a file of answers.
-ghost use Rattle.std.specs.Prelude.{◌≡◌, ℕ, ◌+◌, ◌<◌, ◌==◌, Some, IfSome, length, position, slice_index, option_map};
+ghost use Rattle.std.specs.Prelude.{◌≡◌, ◌+◌, ◌<◌, ◌==◌, Some, IfSome, length, position, slice_index, option_map};
 ghost use Rattle.std.specs.List.{list_all};
 ghost use Rattle.kc_expr.specs.Token.{is_white_byte};
 ghost use Rattle.kc_tree_model.specs.TreeLookup.{is_name_byte};

@@ -1,6 +1,6 @@
 //! The answers that files of answers give to the questions of macros.
-ghost use Rattle.std.specs.Prelude.{◌≡◌, ◌⊎◌, ◌+◌, ◌<◌, ◌≤◌, ℕ, List, [], length, take, Some, None, Ok, OnOk, OnErr, IfOk, IfErr, bytes_eq, is_some, option_map, if◌then◌else◌};
-ghost use Rattle.std.specs.Io.KnownBytes.{Consumes, IsAtEnd};
+ghost use Rattle.std.specs.Prelude.{◌≡◌, ◌⊎◌, ◌+◌, ◌<◌, ℕ, List, [], take, Some, None, Ok, OnOk, OnErr, IfOk, IfErr, bytes_eq, is_some, option_map, if◌then◌else◌};
+ghost use Rattle.std.specs.Io.KnownBytes.{Consumes};
 ghost use Rattle.kc_tree_model.specs.Keywords.{keyword_in_table};
 ghost use Rattle.kc_macros.specs.ReadAnswers.{ReadsToEnd, AreRecorded, IsRefused};
 

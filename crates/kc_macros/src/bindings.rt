@@ -1,5 +1,5 @@
 //! Variables by their names.
-ghost use Rattle.std.specs.Prelude.{◌≡◌, ◌∷◌, OnOk, OnErr, option_map};
+ghost use Rattle.std.specs.Prelude.{◌≡◌, OnOk, OnErr, option_map};
 ghost use Rattle.kc_macros_model.specs.Variables.{no_bindings, with_variable};
 ghost use Rattle.kc_macros.specs.between.Variables.{bindings_of, variable_of};
 

@@ -1,5 +1,5 @@
 //! The values of names that are no variables: built-in functions, parameters that weren't given, and names of the environment.
-ghost use Rattle.std.specs.Prelude.{◌≡◌, ◌≢◌, ◌∷◌, [], Some, length, decimal, IfOk, option_map};
+ghost use Rattle.std.specs.Prelude.{◌≡◌, Some, length, decimal, IfOk, option_map};
 ghost use Rattle.kc_tree_model.specs.Keywords.{keyword_in_table};
 ghost use Rattle.kc_macros_model.specs.Variables.{command_question, built_ins};
 ghost use Rattle.kc_macros_model.specs.Expansion.{fault as fault_program, reported, shell_value, built_in_value, other_value, unbound_value};

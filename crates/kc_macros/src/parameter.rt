@@ -1,5 +1,5 @@
 //! Parameters of functions, which are numbers.
-ghost use Rattle.std.specs.Prelude.{◌≡◌, ◌⊎◌, ◌<◌, ◌≤◌, ◌+◌, ◌-◌, ◌*◌, ◌^◌, true, false, length, IfSome, IfNone, option_map};
+ghost use Rattle.std.specs.Prelude.{◌≡◌, ◌⊎◌, ◌<◌, ◌≤◌, ◌+◌, ◌-◌, ◌*◌, ◌^◌, true, false, IfSome, IfNone, option_map};
 ghost use Rattle.std.specs.List.{list_all};
 ghost use Rattle.std.specs.Char.{is_digit, digit_value};
 ghost use Rattle.std.specs.Str.Parse.{digits_value};
@@ -7,7 +7,7 @@ ghost use Rattle.kc_macros_model.specs.Variables.{is_number, argument_of};
 
 use super::bytes::Bytes;
 
-/// A decimal digit.
+/// Whether a byte is a decimal digit.
 fn is_digit_byte(byte: u8) -> bool
     ensures { result ≡ is_digit byte 10 }
 {

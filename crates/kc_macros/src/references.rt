@@ -1,5 +1,5 @@
 //! References in a text: where one begins and ends, and its pieces.
-ghost use Rattle.std.specs.Prelude.{◌≡◌, ◌==◌, ◌&&◌, ◌<◌, ◌≤◌, ◌+◌, ◌^◌, ℕ, Bool, List, true, false, [], ◌∷◌, ◌++◌, drop, take, length, map, IfOk, IfSome, IfNone};
+ghost use Rattle.std.specs.Prelude.{◌≡◌, ◌==◌, ◌&&◌, ◌<◌, ◌≤◌, ◌+◌, ◌^◌, Bool, List, true, false, ◌∷◌, ◌++◌, drop, take, length, map, IfOk, IfSome, IfNone};
 ghost use Rattle.kc_macros_model.specs.References.{Item, item_bytes, open_after, inside_length, pieces, byte, reference, unterminated, items};
 ghost use Rattle.kc_macros_model.specs.ExpansionRules.{begins_reference};
 ghost use Rattle.kc_macros.specs.checker.Texts.{pieces_from, texts_of};

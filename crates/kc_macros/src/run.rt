@@ -1,5 +1,5 @@
 //! The state of a run of an expansion: its answers, the work that is left, its notices and its open questions.
-ghost use Rattle.std.specs.Prelude.{◌≡◌, ℕ, ◌-◌, ◌≤◌, [], ◌∷◌, ◌++◌, IfOk, OnOk, OnErr, Vec, map, option_map};
+ghost use Rattle.std.specs.Prelude.{◌≡◌, ℕ, ◌-◌, ◌≤◌, [], ◌∷◌, ◌++◌, IfOk, OnOk, Vec, map, option_map};
 ghost use Rattle.std.specs.declared.alloc.Global.{Global};
 ghost use Rattle.kc_tree_model.specs.Keywords.{keyword_in_table};
 ghost use Rattle.kc_macros.specs.RunStates.{run_at_start, with_question};

@@ -1,5 +1,5 @@
 //! The value of a text: each reference in it replaced by its value, from left to right.
-ghost use Rattle.std.specs.Prelude.{◌≡◌, ◌<◌, ◌≤◌, false, Some, length, IfOk};
+ghost use Rattle.std.specs.Prelude.{◌<◌, ◌≤◌, false, Some, length, IfOk};
 ghost use Rattle.kc_macros_model.specs.References.{reference, items};
 ghost use Rattle.kc_macros_model.specs.Variables.{recursive};
 ghost use Rattle.kc_macros_model.specs.Expansion.{piece_values, call_value, named_value, text_value};

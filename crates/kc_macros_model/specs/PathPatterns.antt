@@ -93,7 +93,7 @@ paths_below at (piece ∷ []) folders listed = paths_in_folders at piece folders
 paths_below at (piece ∷ next ∷ pieces) folders listed =
     paths_in_folders at piece folders listed >>= λ f. paths_below at (next ∷ pieces) (map (λ path. path ++ 47 ∷ []) f.paths) f.listed
 
--- those of some paths whose files can be read
+-- the paths of a list whose files can be read
 abbrev pub readable_paths : List (List ℕ) → Program (List (List ℕ))
 readable_paths [] = returns []
 readable_paths (path ∷ paths) = does (read_file path) (λ bytes. readable_paths paths >>= λ rest. returns (if is_some bytes then path ∷ rest else rest))

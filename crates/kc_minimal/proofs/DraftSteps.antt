@@ -10,7 +10,7 @@ use Rattle.kc_expr.specs.Expr.{Expr}
 use Rattle.kc_tree_model.specs.Trees.{Tree, Entry, definition, choice_begins, menu_begins, menu_ends, comment}
 use Rattle.kc_rules_model.specs.declared.values.UnitValue.{UnitValue}
 use Rattle.kc_rules_model.specs.Reports.{is_written}
-use Rattle.kc_minimal_model.specs.Spelling.{ended_line}
+use Rattle.kc_minimal_model.specs.SymbolLine.{ended_line}
 use Rattle.kc_minimal_model.specs.FullFile.{heading, end_line, applies, full_file}
 use Rattle.kc_minimal_model.specs.between.EntryTexts.{entry_texts}
 use Rattle.kc_minimal_model.proofs.EntryTexts.{full_file_by_entry}

@@ -7,11 +7,11 @@ use Rattle.kc_dotconfig_model.specs.Formats.{FileFormat}
 use Rattle.kc_dotconfig_model.specs.PrefixGrammar.{is_prefix}
 use Rattle.kc_dotconfig_model.specs.ConfigFiles.{file_lines}
 use Rattle.kc_value.specs.declared.limits.TheConstants.{MAX_CONFIG_BYTES, MAX_CONFIG_LINES}
-use Rattle.kc_dotconfig.specs.Configured.{Configured, tree_in, IsSolved}
+use Rattle.kc_dotconfig.specs.ConfigStates.{Configured, tree_in, IsSolved}
 use Rattle.kc_minimal_model.specs.FileLimits.{ReadFilesAreAccepted}
 use Rattle.kc_minimal_model.specs.FullFile.{full_file}
 use Rattle.kc_minimal_model.specs.FullFilesBack.{FullFilesLeadBack, IsUnlifted}
-use Rattle.kc_minimal_model.specs.Loading.{ReadsTo, Loads, has_short_lines}
+use Rattle.kc_minimal_model.specs.FileValues.{ReadsTo, Loads, has_short_lines}
 use Rattle.kc_minimal_model.specs.MinimalFile.{minimal_file}
 use Rattle.kc_minimal_model.specs.CanonicalText.{IsCanonicalText, MinimalTextsAreCanonical}
 

@@ -13,8 +13,8 @@ use Rattle.kc_dotconfig.specs.declared.fragment.Fragment.{Fragment}
 use Rattle.kc_dotconfig.specs.Fragments.{users_of}
 use Rattle.kc_dotconfig.specs.ReadResults.{IsReadAs}
 use Rattle.kc_minimal_model.specs.CanonicalText.{IsCanonicalText}
-use Rattle.kc_minimal_model.specs.Loading.{Loads}
-use Rattle.kc_minimal.specs.Minimised.{IsMinimised, IsCutOff}
+use Rattle.kc_minimal_model.specs.FileValues.{Loads}
+use Rattle.kc_minimal.specs.Minimisation.{IsMinimised, IsCutOff}
 
 module _ (format : FileFormat) (valid : is_prefix format.prefix ≡ true) (profile : Profile) (tree : Tree)
     (before after : Option (List ℕ)) (f : Fragment) (read : IsReadAs format tree before after f) (values : List UnitValue) (text : List ℕ)

@@ -6,7 +6,7 @@ use Rattle.kc_expr.specs.Expr.{SymbolValue}
 use Rattle.kc_tree_model.specs.Trees.{Tree, Symbol}
 use Rattle.kc_rules_model.specs.declared.values.UnitValue.{UnitValue}
 use Rattle.kc_rules_model.specs.SymbolValues.{value_of_symbol}
-use Rattle.kc_minimal_model.specs.Spelling.{line_with, line_of_value, symbol_line}
+use Rattle.kc_minimal_model.specs.SymbolLine.{line_with, line_of_value, symbol_line}
 use Rattle.kc_dotconfig_model.specs.Formats.{FileFormat}
 
 by_symbol : (format : FileFormat) (o : Option Symbol) (q : Option SymbolValue) (name : List ℕ) (seen : SymbolValue)

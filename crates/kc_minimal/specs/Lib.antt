@@ -1,3 +1,3 @@
-pub mod Minimised
+pub mod Minimisation
 pub mod between
 pub mod checker

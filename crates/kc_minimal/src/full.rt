@@ -1,5 +1,5 @@
 //! Full files.
-ghost use Rattle.std.specs.Prelude.{◌≡◌, ◌<◌, ◌++◌, ◌∷◌, ◌&&◌, ℕ, Bool, true, false, not, List, [], length, IfOk, OnOk, slice_index_or, slice_set, if◌then◌else◌};
+ghost use Rattle.std.specs.Prelude.{◌≡◌, ◌<◌, ◌++◌, ◌∷◌, ◌&&◌, true, false, not, List, [], length, IfOk, OnOk, slice_index_or, slice_set, if◌then◌else◌};
 ghost use Rattle.kc_expr.specs.between.Arena.{node_expr};
 ghost use Rattle.kc_tree.specs.between.Views.{entry_view, EntryFits};
 ghost use Rattle.kc_tree_model.specs.Trees.{Entry as TreeEntry, definition};
@@ -7,11 +7,11 @@ ghost use Rattle.kc_rules_model.specs.Reports.{is_written};
 ghost use Rattle.kc_rules.specs.between.SettledViews.{tree_of_settled, tree_model_of};
 ghost use Rattle.kc_dotconfig_model.specs.between.Formats.{file_format};
 ghost use Rattle.kc_dotconfig_model.specs.between.Prefixes.{prefix_bytes};
-ghost use Rattle.kc_minimal_model.specs.Spelling.{ended_line};
+ghost use Rattle.kc_minimal_model.specs.SymbolLine.{ended_line};
 ghost use Rattle.kc_minimal_model.specs.FullFile.{heading, end_line, applies, full_file};
 ghost use Rattle.kc_minimal.specs.checker.Drafts.{IsDraft};
 
-use crate::spelling::{is_n, push_symbol};
+use crate::symbol_line::{is_n, push_symbol};
 use kc_dotconfig_model::{Format, Prefix};
 use kc_expr::ExprId;
 use kc_rules::{Settled, UnitValue};

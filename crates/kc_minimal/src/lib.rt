@@ -1,18 +1,18 @@
 //! Minimal and full configuration files, and the comparison of configurations.
 #![tactic(auto)]
 
-mod comparing;
-mod differing;
+mod comparison;
+mod difference;
 mod full;
 mod minimal;
-mod minimising;
-mod spelling;
+mod minimisation;
+mod output;
+mod symbol_line;
 mod texts;
-mod writing;
 
-pub use comparing::compare;
-pub use differing::Difference;
-pub use minimising::{RunFault, minimise};
-pub use spelling::push_spelled;
+pub use comparison::compare;
+pub use difference::Difference;
+pub use minimisation::{RunFault, minimise};
+pub use output::{WriteFault, write_out};
+pub use symbol_line::push_spelled;
 pub use texts::{full_text, minimal_text};
-pub use writing::{WriteFault, write_out};

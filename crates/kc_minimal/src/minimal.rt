@@ -2,11 +2,11 @@
 ghost use Rattle.std.specs.Prelude.{◌≡◌, ◌<◌, ◌++◌, [], length, IfOk, OnOk, if◌then◌else◌};
 ghost use Rattle.kc_rules.specs.between.SettledViews.{tree_of_settled, profile_of};
 ghost use Rattle.kc_dotconfig_model.specs.between.Formats.{file_format};
-ghost use Rattle.kc_minimal_model.specs.Spelling.{ended_line};
+ghost use Rattle.kc_minimal_model.specs.SymbolLine.{ended_line};
 ghost use Rattle.kc_minimal_model.specs.MinimalFile.{is_kept, has_line, minimal_file};
 ghost use Rattle.kc_minimal.specs.checker.Values.{FitValues, AreGivenBy};
 
-use crate::spelling::{is_n, push_symbol};
+use crate::symbol_line::{is_n, push_symbol};
 use kc_dotconfig_model::Format;
 use kc_rules::{Settled, Steps, UnitValue, UserValue};
 use kc_system::System;

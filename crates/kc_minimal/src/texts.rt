@@ -6,11 +6,11 @@ ghost use Rattle.kc_rules.specs.between.SettledViews.{profile_of};
 ghost use Rattle.kc_dotconfig_model.specs.between.Formats.{file_format};
 ghost use Rattle.kc_dotconfig_model.specs.ConfigFiles.{file_lines};
 ghost use Rattle.kc_value.specs.declared.limits.TheConstants.{MAX_CONFIG_BYTES, MAX_CONFIG_LINES};
-ghost use Rattle.kc_dotconfig.specs.Configured.{tree_in};
+ghost use Rattle.kc_dotconfig.specs.ConfigStates.{tree_in};
 ghost use Rattle.kc_minimal_model.specs.CanonicalText.{IsCanonicalText};
 ghost use Rattle.kc_minimal_model.specs.FullFile.{full_file};
 ghost use Rattle.kc_minimal_model.specs.FullFilesBack.{IsUnlifted};
-ghost use Rattle.kc_minimal_model.specs.Loading.{ReadsTo, Loads, has_short_lines};
+ghost use Rattle.kc_minimal_model.specs.FileValues.{ReadsTo, Loads, has_short_lines};
 
 use crate::full::full_lines;
 use crate::minimal::minimal_lines;

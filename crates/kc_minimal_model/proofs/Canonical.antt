@@ -27,10 +27,10 @@ use Rattle.kc_rules_model.specs.Reports.{symbol_numbers}
 use Rattle.kc_dotconfig_model.specs.ConfigFiles.{FileMeans, file_assignment, empty_assignment, has_utf8_lines}
 use Rattle.kc_dotconfig_model.proofs.FittingFiles.{file_fits}
 use Rattle.kc_dotconfig_model.proofs.LineLaws.{file_read}
-use Rattle.kc_minimal_model.specs.Spelling.{ended_line}
+use Rattle.kc_minimal_model.specs.SymbolLine.{ended_line}
 use Rattle.kc_minimal_model.specs.MinimalFile.{is_kept, has_line, may_have_line, minimal_symbols, minimal_file}
 use Rattle.kc_rules_model.proofs.OrderedTrees.{IsOrderedTree}
-use Rattle.kc_minimal_model.specs.Loading.{ReadsTo}
+use Rattle.kc_minimal_model.specs.FileValues.{ReadsTo}
 use Rattle.kc_minimal_model.proofs.MinimalLineList.{lines_are_utf8}
 use Rattle.kc_minimal_model.proofs.KeptUnits.{others_fail}
 use Rattle.kc_minimal_model.proofs.KeptLines.{meant, user_meant, unit_inside}

@@ -9,7 +9,7 @@ use Rattle.kc_rules_model.specs.SymbolValues.{value_of_symbol}
 use Rattle.kc_rules_model.specs.Shapes.{value_fits}
 use Rattle.kc_rules_model.specs.Reports.{symbol_numbers}
 use Rattle.kc_minimal_model.specs.Differences.{Difference, difference_at, differences}
-use Rattle.kc_minimal_model.specs.Loading.{HaveSameValues, DifferAtASymbol}
+use Rattle.kc_minimal_model.specs.FileValues.{HaveSameValues, DifferAtASymbol}
 use Rattle.kc_minimal_model.proofs.DifferenceLaws.{differences_are_exact, none_left, same_as_itself}
 
 -- a list of what some elements give, that isn't empty, has one of them

@@ -5,7 +5,7 @@ use Rattle.std.specs.List.{list_any}
 use Rattle.kc_tree_model.specs.Trees.{Tree, Entry, definition, choice_begins, menu_begins, menu_ends, comment}
 use Rattle.kc_rules_model.specs.declared.values.UnitValue.{UnitValue}
 use Rattle.kc_rules_model.specs.Reports.{is_written}
-use Rattle.kc_minimal_model.specs.Spelling.{ended_line}
+use Rattle.kc_minimal_model.specs.SymbolLine.{ended_line}
 use Rattle.kc_minimal_model.specs.FullFile.{heading, end_line, defines, is_entry_written, is_menu_end, ends_with_menu, empty_line_before, texts_added, full_file}
 use Rattle.kc_minimal_model.specs.between.EntryTexts.{entry_texts}
 use Rattle.kc_dotconfig_model.specs.Formats.{FileFormat}

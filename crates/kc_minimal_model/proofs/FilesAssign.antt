@@ -18,7 +18,7 @@ use Rattle.kc_dotconfig_model.proofs.FittingFiles.{file_fits}
 use Rattle.kc_minimal_model.specs.MinimalFile.{has_line, minimal_symbols}
 use Rattle.kc_rules_model.proofs.OrderedTrees.{IsOrderedTree, ordered_tree}
 use Rattle.kc_minimal_model.specs.CanonicalText.{HasUnitsOfLines, HasValuesOfLines, FilesAssignTheLines, assigned_units}
-use Rattle.kc_minimal_model.specs.Loading.{ReadsTo}
+use Rattle.kc_minimal_model.specs.FileValues.{ReadsTo}
 use Rattle.std.specs.Cmp.{IsEquivalence}
 use Rattle.std.proofs.lemmas.Map.Made.{length-le_from_is_member}
 use Rattle.std.proofs.lemmas.List.{length-map, get_or-set_other}

@@ -16,7 +16,7 @@ use Rattle.kc_rules_model.specs.SymbolValues.{tri_symbol_value}
 use Rattle.kc_dotconfig_model.specs.Formats.{FileFormat}
 use Rattle.kc_dotconfig_model.specs.PrefixGrammar.{is_prefix}
 use Rattle.kc_value.specs.declared.limits.TheConstants.{MAX_PREFIX_BYTES, MAX_LINE_BYTES}
-use Rattle.kc_minimal_model.specs.Spelling.{spelled, value_line, unset_line, line_with}
+use Rattle.kc_minimal_model.specs.SymbolLine.{spelled, value_line, unset_line, line_with}
 use Rattle.kc_value.proofs.UnquotedUtf8.{ascii_then, ascii_alone}
 use Rattle.kc_dotconfig_model.proofs.TrimmedLines.{low_utf8, name_utf8}
 

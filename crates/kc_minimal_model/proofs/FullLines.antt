@@ -21,7 +21,7 @@ use Rattle.kc_rules_model.specs.Reports.{is_written, is_written_symbol}
 use Rattle.kc_dotconfig_model.specs.PrefixGrammar.{is_prefix, lacks}
 use Rattle.kc_dotconfig_model.specs.ConfigLines.{LineMeaning, assigns, notice, silent, Means, without_white_end}
 use Rattle.kc_dotconfig_model.specs.ConfigFiles.{FileMeans, file_lines, has_utf8_lines}
-use Rattle.kc_minimal_model.specs.Spelling.{symbol_line, ended_line}
+use Rattle.kc_minimal_model.specs.SymbolLine.{symbol_line, ended_line}
 use Rattle.kc_minimal_model.specs.MinimalFile.{has_line}
 use Rattle.kc_minimal_model.specs.FullFile.{heading_title, heading, end_line, applies, defines}
 use Rattle.kc_minimal_model.specs.between.EntryTexts.{entry_texts}

@@ -8,7 +8,7 @@ use Rattle.kc_rules_model.specs.declared.values.UnitValue.TheVariants.{Member as
 use Rattle.kc_rules_model.proofs.RowTrees.{n, m, y, text, always, name, otherwise, plain, one_symbol, three_symbols, tree_a, tree_lifted, tree_int, tree_string, tree_pick, tree_shown_if, tree_select, tree_hidden, tree_menu, tree_titled}
 use Rattle.kc_dotconfig_model.specs.declared.format.Strings.TheVariants.{Escaped, Raw}
 use Rattle.kc_dotconfig_model.specs.Formats.{FileFormat}
-use Rattle.kc_minimal_model.specs.Spelling.{symbol_line}
+use Rattle.kc_minimal_model.specs.SymbolLine.{symbol_line}
 use Rattle.kc_minimal_model.specs.FullFile.{full_file}
 
 abbrev escaped : List ℕ → FileFormat

@@ -25,7 +25,7 @@ use Rattle.kc_rules_model.specs.Shapes.{user_fits, unit_user_fits, symbol_user_f
 use Rattle.kc_dotconfig_model.specs.Formats.{FileFormat}
 use Rattle.kc_dotconfig_model.specs.PrefixGrammar.{is_prefix}
 use Rattle.kc_dotconfig_model.specs.ConfigLines.{LineMeaning, assigns, silent, Means}
-use Rattle.kc_minimal_model.specs.Spelling.{symbol_line, line_of_value, line_with}
+use Rattle.kc_minimal_model.specs.SymbolLine.{symbol_line, line_of_value, line_with}
 use Rattle.kc_minimal_model.specs.MinimalFile.{is_kept, has_line, may_have_line, is_line_of_its_unit}
 use Rattle.kc_minimal_model.specs.MinimalFileLaws.{IsReadAsItsAssignment}
 use Rattle.kc_tree_model.proofs.Lookups.{inside, place_is, unit_is}

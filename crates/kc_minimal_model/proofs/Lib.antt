@@ -8,7 +8,7 @@ pub mod MinimalLineList
 pub mod Canonical
 pub mod NeededUnits
 pub mod DifferenceLaws
-pub mod Accepting
+pub mod FileAcceptance
 pub mod FittingLines
 pub mod MinimalAccepted
 pub mod OwnValues

@@ -17,10 +17,10 @@ use Rattle.kc_rules_model.specs.Reports.{symbol_numbers}
 use Rattle.kc_dotconfig_model.specs.Formats.{FileFormat}
 use Rattle.kc_dotconfig_model.specs.PrefixGrammar.{is_prefix}
 use Rattle.kc_dotconfig_model.specs.ConfigFiles.{file_lines}
-use Rattle.kc_minimal_model.specs.Spelling.{symbol_line, ended_line}
+use Rattle.kc_minimal_model.specs.SymbolLine.{symbol_line, ended_line}
 use Rattle.kc_minimal_model.specs.MinimalFile.{has_line, minimal_symbols, minimal_file}
 use Rattle.kc_minimal_model.specs.CanonicalText.{at_numbers, with_lines}
-use Rattle.kc_minimal_model.proofs.Accepting.{passes_at}
+use Rattle.kc_minimal_model.proofs.FileAcceptance.{passes_at}
 use Rattle.kc_minimal_model.proofs.Canonical.{symbol_lines}
 use Rattle.kc_minimal_model.proofs.LeastFile.{passes_filter}
 use Rattle.kc_minimal_model.proofs.MinimalLineList.{minimal_file_lines}

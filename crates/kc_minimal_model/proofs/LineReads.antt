@@ -7,7 +7,7 @@ use Rattle.kc_value.specs.declared.tri.Tri.{Tri}
 use Rattle.kc_value.specs.declared.tri.Tri.TheVariants.{N, M, Y}
 use Rattle.kc_value.specs.declared.value.Kind.{Kind}
 use Rattle.kc_value.specs.declared.value.Kind.TheVariants.{Bool as Boolean, Tristate, Text, Int, Hex}
-use Rattle.kc_value.specs.Quoted.{quoted, escaped_byte, IsBody, none, plain, pair, IsQuoted}
+use Rattle.kc_value.specs.QuotedTexts.{quoted, escaped_byte, IsBody, none, plain, pair, IsQuoted}
 use Rattle.kc_expr.specs.Expr.{SymbolValue, letter}
 use Rattle.kc_tree_model.specs.Trees.{Tree, Symbol}
 use Rattle.kc_tree_model.specs.TreeLookup.{has_newline, IsConsistent, is_name_byte, unit_of}
@@ -22,7 +22,7 @@ use Rattle.kc_dotconfig_model.specs.PrefixGrammar.{is_prefix, lacks}
 use Rattle.kc_dotconfig_model.specs.ConfigLines.{LineMeaning, assigns, silent, Means, value, unset, unset_meaning, ValueMeans, tri as says_tri, chosen, quoted as says_quoted, number, tri_of_text, without_white_end}
 use Rattle.kc_dotconfig_model.specs.ConfigFiles.{file_lines}
 use Rattle.kc_minimal_model.specs.MinimalFileLaws.{StringsAreReadBack}
-use Rattle.kc_minimal_model.specs.Spelling.{line_with, value_line, unset_line}
+use Rattle.kc_minimal_model.specs.SymbolLine.{line_with, value_line, unset_line}
 use Rattle.kc_minimal_model.proofs.Bytes.{name_lacks, all_of_both, keeps_text, ends_in_ink, first_line}
 use Rattle.std.specs.Str.{IsUtf8, is_utf8}
 use Rattle.std.proofs.lemmas.Str.{IsUtf8-append, IsUtf8-from_is_utf8}

@@ -35,12 +35,12 @@ use Rattle.kc_dotconfig_model.specs.ConfigFiles.{file_lines, file_assignment, em
 use Rattle.kc_value.specs.declared.limits.TheConstants.{MAX_CONFIG_LINES, MAX_LINE_BYTES}
 use Rattle.kc_dotconfig_model.specs.LoadFaults.{IsAccepted}
 use Rattle.kc_dotconfig_model.proofs.FittingFiles.{file_fits}
-use Rattle.kc_minimal_model.specs.Spelling.{spelled, symbol_line, line_of_value, line_with}
+use Rattle.kc_minimal_model.specs.SymbolLine.{spelled, symbol_line, line_of_value, line_with}
 use Rattle.kc_minimal_model.specs.MinimalFile.{is_kept, has_line, may_have_line, minimal_symbols}
 use Rattle.kc_rules_model.proofs.OrderedTrees.{IsOrderedTree, ordered_tree}
-use Rattle.kc_minimal_model.specs.Loading.{ReadsTo}
+use Rattle.kc_minimal_model.specs.FileValues.{ReadsTo}
 use Rattle.kc_minimal_model.specs.FileLimits.{MinimalFilesAreAccepted}
-use Rattle.kc_minimal_model.proofs.Accepting.{accepted_symbols, filter_shorter}
+use Rattle.kc_minimal_model.proofs.FileAcceptance.{accepted_symbols, filter_shorter}
 use Rattle.kc_minimal_model.proofs.Canonical.{reads_back}
 use Rattle.kc_dotconfig_model.proofs.AcceptedLines.{accepted_line}
 use Rattle.kc_dotconfig_model.proofs.AssigningLines.{HasAssigningLine, assigning_line, text_line, named_so, same_symbol}

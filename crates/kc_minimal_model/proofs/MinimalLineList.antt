@@ -16,7 +16,7 @@ use Rattle.kc_rules_model.specs.Reports.{symbol_numbers}
 use Rattle.kc_dotconfig_model.specs.Formats.{FileFormat}
 use Rattle.kc_dotconfig_model.specs.PrefixGrammar.{is_prefix}
 use Rattle.kc_dotconfig_model.specs.ConfigFiles.{file_lines, has_utf8_lines}
-use Rattle.kc_minimal_model.specs.Spelling.{symbol_line, ended_line}
+use Rattle.kc_minimal_model.specs.SymbolLine.{symbol_line, ended_line}
 use Rattle.kc_minimal_model.specs.MinimalFile.{has_line, minimal_symbols, minimal_file}
 use Rattle.kc_minimal_model.specs.FileLimits.{MinimalFileLines}
 use Rattle.kc_minimal_model.proofs.Bytes.{first_line}

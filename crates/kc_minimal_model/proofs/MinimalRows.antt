@@ -10,7 +10,7 @@ use Rattle.kc_rules_model.specs.Rule.{rule}
 use Rattle.kc_rules_model.proofs.RowTrees.{n, m, y, text, tree_a, tree_default_y, tree_default_n, tree_lifted, tree_int, tree_hex, tree_string, tree_pick, tree_select, tree_imply, tree_no_modules, tree_chain, tree_hidden}
 use Rattle.kc_dotconfig_model.specs.declared.format.Strings.TheVariants.{Escaped, Raw}
 use Rattle.kc_dotconfig_model.specs.Formats.{FileFormat}
-use Rattle.kc_minimal_model.specs.Spelling.{symbol_line}
+use Rattle.kc_minimal_model.specs.SymbolLine.{symbol_line}
 use Rattle.kc_minimal_model.specs.MinimalFile.{minimal_file}
 
 abbrev escaped : List ℕ → FileFormat

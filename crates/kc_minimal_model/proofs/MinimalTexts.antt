@@ -14,9 +14,9 @@ use Rattle.kc_dotconfig_model.specs.Formats.{FileFormat}
 use Rattle.kc_dotconfig_model.specs.PrefixGrammar.{is_prefix}
 use Rattle.kc_value.specs.declared.limits.TheConstants.{MAX_CONFIG_BYTES}
 use Rattle.kc_dotconfig_model.specs.LoadFaults.{IsAccepted}
-use Rattle.kc_minimal_model.specs.Spelling.{ended_line}
+use Rattle.kc_minimal_model.specs.SymbolLine.{ended_line}
 use Rattle.kc_minimal_model.specs.MinimalFile.{has_line, minimal_symbols, minimal_file}
-use Rattle.kc_minimal_model.specs.Loading.{ReadsTo, Loads, HaveSameValues, DifferAtASymbol, has_short_lines}
+use Rattle.kc_minimal_model.specs.FileValues.{ReadsTo, Loads, HaveSameValues, DifferAtASymbol, has_short_lines}
 use Rattle.kc_minimal_model.specs.CanonicalText.{with_lines, IsCanonicalText, MinimalTextsAreCanonical}
 use Rattle.kc_rules_model.proofs.OrderedTrees.{IsOrderedTree, ordered_tree}
 use Rattle.kc_minimal_model.proofs.LeastFile.{passes_filter}
@@ -27,7 +27,7 @@ use Rattle.kc_minimal_model.proofs.DifferingSymbols.{same_values, differ_somewhe
 use Rattle.kc_minimal_model.proofs.NeededUnits.{needs_units, needs_values}
 use Rattle.kc_minimal_model.proofs.FilesAssign.{assigns_each, assigns_values, assigns_as_many}
 use Rattle.kc_minimal_model.proofs.LineNumbers.{keeps_symbol, lines_kept, line_count, symbol_dropped}
-use Rattle.kc_minimal_model.proofs.Accepting.{is_short, accepted_symbols, shorts_of_file, file_of_shorts, filter_shorter, flat_shorter}
+use Rattle.kc_minimal_model.proofs.FileAcceptance.{is_short, accepted_symbols, shorts_of_file, file_of_shorts, filter_shorter, flat_shorter}
 use Rattle.kc_minimal_model.proofs.MinimalAccepted.{few_lines, lines_are_short}
 
 module _ (format : FileFormat) (valid : is_prefix format.prefix ≡ true) (profile : Profile) (tree : Tree) (settled : IsOrderedTree tree)

@@ -27,7 +27,7 @@ use Rattle.kc_tree_model.proofs.Lookups.{inside, found_by_name, place_is, unit_i
 use Rattle.kc_dotconfig_model.specs.Formats.{FileFormat}
 use Rattle.kc_dotconfig_model.specs.PrefixGrammar.{is_prefix}
 use Rattle.kc_dotconfig_model.specs.ConfigLines.{LineMeaning, assigns, notice, silent, value, unset_meaning, ValueMeans, no_int, no_hex, without_white_end}
-use Rattle.kc_minimal_model.specs.Spelling.{symbol_line, line_of_value, line_with, value_line, unset_line}
+use Rattle.kc_minimal_model.specs.SymbolLine.{symbol_line, line_of_value, line_with, value_line, unset_line}
 use Rattle.kc_minimal_model.proofs.Bytes.{name_lacks, all_of_both, ends_in_ink}
 use Rattle.kc_minimal_model.proofs.DifferenceLaws.{text_kind}
 use Rattle.kc_minimal_model.proofs.KeptLines.{tri_kind, user_meant}

@@ -5,9 +5,10 @@ use Rattle.std.specs.Prelude.{codes}
 use Rattle.std.specs.Str.{is_utf8, chars}
 use Rattle.kc_expr.specs.Token.{next_token}
 use Rattle.kc_expr.specs.Grammar.{read_expr}
+use Rattle.kc_expr.specs.Lookup.{index_of_name}
 use Rattle.kc_tree_model.specs.LogicalLines.{lines_of}
 use Rattle.kc_tree_model.specs.Limits.{source_fault}
-use Rattle.kc_tree_model.specs.Reading.{statement_on_line, reading}
+use Rattle.kc_tree_model.specs.TreeReading.{statement_on_line, reading}
 use Rattle.kc_tree_model.specs.Contents.{tree_of_groups, tree_of_files}
 use Rattle.kc_tree_model.specs.TreeFaults.{tree_faults, first_tree_fault}
 use Rattle.kc_tree_model.specs.TreeFiles.{Files, strict_files}
@@ -27,7 +28,7 @@ use Rattle.kc_dotconfig_model.specs.LoadFaults.{IsAccepted}
 use Rattle.kc_dotconfig_model.specs.between.LineMeanings.{line_meaning, file_meanings}
 use Rattle.kc_dotconfig_model.proofs.LineLaws.{file_read}
 use Rattle.kc_minimal_model.specs.Headline.{AreComparedByMinimalFiles}
-use Rattle.kc_minimal_model.proofs.Accepting.{accepted_within}
+use Rattle.kc_minimal_model.proofs.FileAcceptance.{accepted_within}
 use Rattle.kc_minimal_model.proofs.Headlines.{compared}
 
 abbrev files : Files
@@ -41,11 +42,11 @@ unfolding next_token is_utf8 chars read_expr lines_of source_fault statement_on_
 no_fault = refl
 
 one_unit : length tree.units ≡ 1
-unfolding next_token is_utf8 chars read_expr lines_of source_fault statement_on_line reading lib.Utf8.encode tree_of_groups tree_of_files
+unfolding next_token is_utf8 chars read_expr lines_of source_fault statement_on_line reading lib.Utf8.encode tree_of_groups tree_of_files index_of_name
 one_unit = refl
 
 no_needs : dependencies tree 0 ≡ []
-unfolding dependencies next_token is_utf8 chars read_expr lines_of source_fault statement_on_line reading lib.Utf8.encode tree_of_groups tree_of_files
+unfolding dependencies next_token is_utf8 chars read_expr lines_of source_fault statement_on_line reading lib.Utf8.encode tree_of_groups tree_of_files index_of_name
 no_needs = refl
 
 empty_holds : (d : ℕ) (xs : List ℕ) → xs ≡ [] → Contains xs d → ⊥
@@ -73,7 +74,7 @@ abbrev file : List ℕ
 file = codes "CONFIG_A=y\n"
 
 meaning : file_meanings plain tree file ≡ Some (assigns 0 (TriUser Y) ∷ [])
-unfolding line_meaning next_token is_utf8 chars read_expr lines_of source_fault statement_on_line reading lib.Utf8.encode tree_of_groups tree_of_files
+unfolding line_meaning next_token is_utf8 chars read_expr lines_of source_fault statement_on_line reading lib.Utf8.encode tree_of_groups tree_of_files index_of_name
 meaning = refl
 
 is_text : has_utf8_lines file ≡ true

@@ -19,7 +19,7 @@ use Rattle.kc_dotconfig_model.specs.ConfigFiles.{file_lines, file_assignment}
 use Rattle.kc_value.specs.declared.limits.TheConstants.{MAX_CONFIG_BYTES}
 use Rattle.kc_dotconfig_model.specs.LoadFaults.{IsAccepted}
 use Rattle.kc_minimal_model.specs.MinimalFile.{has_line, minimal_symbols, minimal_file}
-use Rattle.kc_minimal_model.specs.Loading.{ReadsTo, Loads, HaveSameValues, DifferAtASymbol, has_short_lines}
+use Rattle.kc_minimal_model.specs.FileValues.{ReadsTo, Loads, HaveSameValues, DifferAtASymbol, has_short_lines}
 
 -- the elements of a list whose numbers pass a test, where the first one has the number `k`
 abbrev pub at_numbers : {A : Type 0} → (ℕ → Bool) → ℕ → List A → List A

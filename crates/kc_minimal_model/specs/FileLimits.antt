@@ -9,10 +9,10 @@ use Rattle.kc_dotconfig_model.specs.PrefixGrammar.{is_prefix}
 use Rattle.kc_value.specs.declared.limits.TheConstants.{MAX_CONFIG_BYTES, MAX_CONFIG_LINES}
 use Rattle.kc_dotconfig_model.specs.LoadFaults.{IsAccepted}
 use Rattle.kc_dotconfig_model.specs.ConfigFiles.{file_lines}
-use Rattle.kc_minimal_model.specs.Spelling.{symbol_line}
+use Rattle.kc_minimal_model.specs.SymbolLine.{symbol_line}
 use Rattle.kc_minimal_model.specs.MinimalFileLaws.{ForSolutions}
 use Rattle.kc_minimal_model.specs.MinimalFile.{minimal_file, minimal_symbols}
-use Rattle.kc_minimal_model.specs.Loading.{ReadsTo, Loads, has_short_lines}
+use Rattle.kc_minimal_model.specs.FileValues.{ReadsTo, Loads, has_short_lines}
 
 -- the lines of a minimal file are its symbols' lines, in order
 abbrev pub MinimalFileLines : Type 0

@@ -8,7 +8,7 @@ use Rattle.kc_rules_model.specs.Kinds.{is_n}
 use Rattle.kc_rules_model.specs.SymbolValues.{condition}
 use Rattle.kc_rules_model.specs.Reports.{is_written}
 use Rattle.kc_dotconfig_model.specs.Formats.{FileFormat}
-use Rattle.kc_minimal_model.specs.Spelling.{ended_line}
+use Rattle.kc_minimal_model.specs.SymbolLine.{ended_line}
 
 -- a title that begins with the prefix comes after two spaces, so that it is never read as an unset line
 abbrev pub heading_title : List ℕ → List ℕ → List ℕ

@@ -12,7 +12,7 @@ use Rattle.kc_rules_model.specs.Reports.{IsLifted}
 use Rattle.kc_dotconfig_model.specs.Formats.{FileFormat}
 use Rattle.kc_dotconfig_model.specs.PrefixGrammar.{is_prefix}
 use Rattle.kc_minimal_model.specs.FullFile.{full_file}
-use Rattle.kc_minimal_model.specs.Loading.{ReadsTo}
+use Rattle.kc_minimal_model.specs.FileValues.{ReadsTo}
 
 -- no tristate's value is above its visibility
 abbrev pub IsUnlifted : Profile → Tree → List UnitValue → Type 0

@@ -18,7 +18,7 @@ use Rattle.kc_dotconfig_model.specs.PrefixGrammar.{is_prefix}
 use Rattle.kc_dotconfig_model.specs.LoadFaults.{IsAccepted}
 use Rattle.kc_minimal_model.specs.MinimalFile.{minimal_file}
 use Rattle.kc_minimal_model.specs.Differences.{differences}
-use Rattle.kc_minimal_model.specs.Loading.{Loads, HaveSameValues}
+use Rattle.kc_minimal_model.specs.FileValues.{Loads, HaveSameValues}
 use Rattle.kc_minimal_model.specs.CanonicalText.{IsCanonicalText}
 
 -- a file gives these values and no others, and their minimal file is canonical
@@ -27,7 +27,7 @@ pub record HasCanonicalFile (format : FileFormat) (profile : Profile) (tree : Tr
   pub loads : Loads format profile tree bytes values
   pub canonical : IsCanonicalText format profile tree values (minimal_file format profile tree values)
 
--- so it is of every accepted file, over every settled tree
+-- each accepted file over a settled tree has a minimal file that is canonical
 abbrev pub MinimalFilesAreCanonical : Type 0
 MinimalFilesAreCanonical = (format : FileFormat) (profile : Profile) (tree : Tree) (bytes : List ℕ) → is_prefix format.prefix ≡ true
     → IsSettledTree tree → IsAccepted format tree bytes → HasCanonicalFile format profile tree bytes

@@ -1,8 +1,8 @@
-pub mod Spelling
+pub mod SymbolLine
 pub mod MinimalFile
 pub mod FullFile
 pub mod Differences
-pub mod Loading
+pub mod FileValues
 pub mod MinimalFileLaws
 pub mod FileLimits
 pub mod CanonicalText

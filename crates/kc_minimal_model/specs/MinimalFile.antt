@@ -12,7 +12,7 @@ use Rattle.kc_rules_model.specs.Equality.{value_is}
 use Rattle.kc_rules_model.specs.Rule.{rule}
 use Rattle.kc_rules_model.specs.Reports.{symbol_numbers}
 use Rattle.kc_dotconfig_model.specs.Formats.{FileFormat}
-use Rattle.kc_minimal_model.specs.Spelling.{ended_line}
+use Rattle.kc_minimal_model.specs.SymbolLine.{ended_line}
 
 -- a unit's value isn't what its rule gives without a user value, all other values as they are
 abbrev pub is_kept : Profile → Tree → List UnitValue → ℕ → Bool

@@ -15,7 +15,7 @@ use Rattle.kc_dotconfig_model.specs.Formats.{FileFormat, string_spelling}
 use Rattle.kc_dotconfig_model.specs.PrefixGrammar.{is_prefix}
 use Rattle.kc_dotconfig_model.specs.ConfigLines.{LineMeaning, assigns, Means, without_white_end}
 use Rattle.kc_dotconfig_model.specs.ConfigFiles.{FileMeans, file_assignment}
-use Rattle.kc_minimal_model.specs.Spelling.{value_line, symbol_line}
+use Rattle.kc_minimal_model.specs.SymbolLine.{value_line, symbol_line}
 use Rattle.kc_minimal_model.specs.Differences.{differences}
 use Rattle.kc_minimal_model.specs.MinimalFile.{minimal_file, has_line}
 
@@ -34,7 +34,7 @@ pub record IsReadAsItsAssignment (format : FileFormat) (tree : Tree) (values : L
   pub trimmed : without_white_end (symbol_line format tree values s) ≡ symbol_line format tree values s
   pub says : Means format tree (symbol_line format tree values s) (assigns (unit_of tree s) user)
 
--- where the values are those of a fitting assignment, over a consistent tree
+-- a property of the values that any fitting assignment has over any consistent tree
 abbrev pub ForSolutions : (Profile → Tree → List UnitValue → Type 0) → Type 0
 ForSolutions P =
     (profile : Profile) (tree : Tree) (users : List (Option UserValue)) (values : List UnitValue) → IsConsistent tree

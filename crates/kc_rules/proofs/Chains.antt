@@ -18,7 +18,7 @@ use Rattle.kc_tree_model.specs.Trees.{Tree}
 use Rattle.kc_rules_model.specs.Dependencies.{dependencies, needed_by}
 use Rattle.kc_rules_model.specs.checker.GraphLaw.{rules_graph}
 use Rattle.kc_rules.specs.checker.Links.{has, AreUnits, LinksBelow}
-use Rattle.kc_rules.proofs.Rising.{Rises, same_rising, both_same}
+use Rattle.kc_rules.proofs.OrderedLists.{Rises, same_rising, both_same}
 
 has_contains : (xs : List ℕ) (d : ℕ) → has xs d ≡ true → Contains xs d
 has_contains [] d e = absurd (false≢true e)

@@ -1,6 +1,6 @@
 pub mod Pushes
 pub mod Needs
-pub mod Rising
+pub mod OrderedLists
 pub mod Chains
 pub mod Orders
 pub mod ModulesLemmas

@@ -1,2 +1,2 @@
 pub mod SettledViews
-pub mod Metered
+pub mod Meters

@@ -9,9 +9,9 @@ pub struct Steps {
 }
 
 impl Steps {
-    ghost use Rattle.kc_rules.specs.between.Metered.{counted};
+    ghost use Rattle.kc_rules.specs.between.Meters.{counted};
 
-    /// None counted.
+    /// A count of no evaluations.
     pub fn new() -> Steps
         ensures { counted result ≡ 0 }
     {
@@ -25,7 +25,7 @@ impl Steps {
         self.count
     }
 
-    /// One more, to 2^64 - 1 at most.
+    /// Counts one more evaluation, to 2^64 - 1 at most.
     pub(crate) fn step(&mut self)
         ensures { counted self.new ≡ min (counted self.old + 1) u64.MAX }
     {

@@ -1,5 +1,5 @@
 //! Values of symbols and expressions.
-ghost use Rattle.std.specs.Prelude.{◌≡◌, ◌<◌, length, Some, is_none, option_map};
+ghost use Rattle.std.specs.Prelude.{◌≡◌, ◌<◌, length, Some, is_none};
 ghost use Rattle.std.specs.Option.{option_copied};
 ghost use Rattle.kc_expr.specs.between.Arena.{node_expr};
 ghost use Rattle.kc_expr.specs.Expr.{letter, symbol_tri};

@@ -1,7 +1,7 @@
 //! Kconfig as a system.
-ghost use Rattle.std.specs.Prelude.{◌≡◌, ℕ, IsTrue, length};
+ghost use Rattle.std.specs.Prelude.{IsTrue};
 ghost use Rattle.std.proofs.Common.{rules};
-ghost use Rattle.kc_rules.specs.between.Metered.{counted};
+ghost use Rattle.kc_rules.specs.between.Meters.{counted};
 ghost use Rattle.kc_rules_model.specs.Rule.{rule, as_user};
 ghost use Rattle.kc_rules_model.specs.Shapes.{value_fits, user_fits};
 ghost use Rattle.kc_rules_model.specs.Equality.{same_value, same_user};

@@ -1,5 +1,5 @@
 //! The rule of bools and tristates.
-ghost use Rattle.std.specs.Prelude.{◌≡◌, ◌<◌, not, length, map, if◌then◌else◌};
+ghost use Rattle.std.specs.Prelude.{◌≡◌, ◌<◌, length, map, if◌then◌else◌};
 ghost use Rattle.kc_expr.specs.between.Arena.{node_expr};
 ghost use Rattle.kc_tree.specs.between.Views.{symbol_view, reverse_dependency_view as kept_force, default_view, SymbolFits};
 ghost use Rattle.kc_rules.specs.checker.StoredRules.{AreNodes, AreReverseDependencies, AreDefaults};
@@ -56,7 +56,7 @@ pub(crate) fn reverse_limit(under: &Valuation<'_>, all: &[ReverseDependency]) ->
     most
 }
 
-/// Where `m` counts as `y`.
+/// A tristate, with `y` in place of `m`.
 pub(crate) fn y_for_m(value: Tri) -> Tri
     ensures { result ≡ y_for_m value }
 {

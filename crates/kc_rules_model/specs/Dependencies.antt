@@ -14,7 +14,7 @@ use Rattle.kc_value.specs.Kinds.{is_tristate}
 abbrev pub units_named : Tree → List (List ℕ) → List ℕ
 units_named tree names = filter_map (λ name. option_map (unit_of tree) (symbol_named tree name)) names
 
--- those of the symbols that select or imply, and of the conditions
+-- the units that selects or implies need: those of the symbols that have them, and of their conditions
 abbrev pub units_of_reverse_dependencies : Tree → List ReverseDependency → List ℕ
 units_of_reverse_dependencies tree fs = map (λ (f : ReverseDependency). unit_of tree f.by) fs
     ++ units_named tree (flat_map (λ (f : ReverseDependency). names_in f.condition) fs)

@@ -6,7 +6,7 @@ use Rattle.std.proofs.Math.Seq.{take-length}
 use Rattle.std.proofs.lemmas.Bool.{false≢true}
 use Rattle.std.proofs.lemmas.Bool.Decides.{nat_tests}
 use Rattle.std.proofs.lemmas.List.Folds.{list_any_more}
-use Rattle.kc_value.specs.Quoted.{unescaped}
+use Rattle.kc_value.specs.QuotedTexts.{unescaped}
 use Rattle.kc_expr.specs.Grammar.{between_quotes, is_quote, is_operand_kind}
 use Rattle.kc_expr.specs.Token.{Lexeme}
 use Rattle.kc_expr.specs.declared.token.TokenKind.{TokenKind}

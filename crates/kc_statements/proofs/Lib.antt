@@ -3,8 +3,8 @@ pub mod FormLemmas
 pub mod RangeLemmas
 pub mod TitleLemmas
 pub mod AttributeLemmas
-pub mod Later
+pub mod GrownArenas
 pub mod ValueLemmas
 pub mod GlobLemmas
-pub mod Growing
+pub mod ArenaGrowth
 pub mod LineLemmas

@@ -14,7 +14,7 @@ use Rattle.kc_tree_model.specs.Placement.{first_is}
 use Rattle.kc_tree_model.specs.Statements.{Attribute, TargetAttribute, Statement, attribute, head, config, source, modules}
 use Rattle.kc_statements.specs.between.StatementViews.{if_in, target_in, IfNodeExists}
 use Rattle.kc_statements.proofs.FormLemmas.{first_of, none_there, stepped}
-use Rattle.kc_statements.proofs.Later.{if_same}
+use Rattle.kc_statements.proofs.GrownArenas.{if_same}
 
 -- a condition after a word
 pub worded_is : (w : List ℕ) (f : Expr → Attribute) (ts : List CodeToken) → 0 < length ts → is_the_word w (lexeme_of (first_of ts)) ≡ true

@@ -14,7 +14,7 @@ use Rattle.kc_tree_model.specs.Statements.{Statement, Attribute, DefaultAttribut
 use Rattle.kc_statements.specs.between.StatementViews.{if_in, operand_or_n, operand_of_expr, default_in, OperandNodeExists}
 use Rattle.kc_statements.proofs.AttributeLemmas.{default_is}
 use Rattle.kc_statements.proofs.FormLemmas.{stepped}
-use Rattle.kc_statements.proofs.Later.{node_same}
+use Rattle.kc_statements.proofs.GrownArenas.{node_same}
 
 -- a word or a quoted text alone is read as its operand
 operand_by : (k : TokenKind) (s e : ℕ) (text : List ℕ) → is_operand_kind k ≡ true

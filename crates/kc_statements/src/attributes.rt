@@ -30,7 +30,7 @@ fn prompt(arena: &mut Arena, tokens: &[Token<'_>]) -> Result<Option<ExprId>, Tre
     optional_if(arena, tokens, 1)
 }
 
-/// `Q [if E]`.
+/// Reads what follows `prompt`: `Q [if E]`.
 pub(crate) fn prompt_line<'a>(
     arena: &mut Arena,
     tokens: &[Token<'_>],
@@ -45,7 +45,7 @@ pub(crate) fn prompt_line<'a>(
     }
 }
 
-/// `[Q [if E]]`.
+/// Reads what follows a type: `[Q [if E]]`.
 pub(crate) fn type_line<'a>(
     arena: &mut Arena,
     kind: Kind,
@@ -85,7 +85,7 @@ fn default_attribute(arena: &mut Arena, tokens: &[Token<'_>]) -> Result<DefaultA
     }
 }
 
-/// `E [if E]`.
+/// Reads what follows `default`: `E [if E]`.
 pub(crate) fn default_line<'a>(
     arena: &mut Arena,
     tokens: &[Token<'_>],
@@ -168,7 +168,7 @@ pub(crate) fn visible_line<'a>(
     }
 }
 
-/// `NAME [if E]`.
+/// Reads what follows `select` or `imply`: `NAME [if E]`.
 fn target_attribute(arena: &mut Arena, tokens: &[Token<'_>]) -> Result<TargetAttribute, TreeKind>
     ensures grows { Grows arena.old arena.new }
     ensures gives { (f : DefinedAimed → DefinedAttribute) → ReturnsOrFails (λ s. attribute (f (target_in arena.new s))) result (target_line f (lexemes_of tokens.now)) }

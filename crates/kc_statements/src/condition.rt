@@ -31,7 +31,7 @@ pub(crate) fn last_condition(
     Ok(id)
 }
 
-/// `[if E]`.
+/// Reads a condition that may be left out: `[if E]`.
 pub(crate) fn optional_if(
     arena: &mut Arena,
     tokens: &[Token<'_>],

@@ -17,7 +17,7 @@ use kc_tree_model::{Block, Keyword, TreeKind};
 use kc_value::Text;
 use std::alloc::{AllocError, Global};
 
-/// `NAME`.
+/// Reads what follows `config`: `NAME`.
 pub(crate) fn config_line<'a>(tokens: &[Token<'a>]) -> Result<Statement<'a>, TreeKind>
     ensures gives { (e : Exprs) → ReturnsOrFails (statement_in e) result (config_line (lexemes_of tokens.now)) }
     ensures held { (e : Exprs) → IfOk result (StatementNodesExist e) }
@@ -61,7 +61,7 @@ fn unquoted(alloc: Global, text: &str) -> Result<Text, TreeKind>
     }
 }
 
-/// `Q`.
+/// Reads a title: `Q`.
 fn title(alloc: Global, tokens: &[Token<'_>]) -> Result<Text, TreeKind>
     ensures { (f : List ℕ → DefinedHead) → ReturnsOrFails (λ t. head (f t)) result (titled_line f (lexemes_of tokens.now)) }
 {

@@ -1,5 +1,5 @@
 //! The first words of lines.
-ghost use Rattle.std.specs.Prelude.{◌≡◌, length, option_map};
+ghost use Rattle.std.specs.Prelude.{◌≡◌, length};
 ghost use Rattle.kc_expr.specs.Token.{lexeme_of};
 ghost use Rattle.kc_tree_model.specs.Keywords.{keyword_in_table, keywords, keyword_of as defined_keyword};
 ghost use Rattle.kc_statements.specs.checker.WordLengths.{of_length};

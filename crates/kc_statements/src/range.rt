@@ -28,7 +28,7 @@ fn operand(arena: &mut Arena, token: &Token<'_>) -> Result<ExprId, TreeKind>
     }
 }
 
-/// `OP OP [if E]`.
+/// Reads what follows `range`: `OP OP [if E]`.
 pub(crate) fn range_line<'a>(
     arena: &mut Arena,
     tokens: &[Token<'_>],

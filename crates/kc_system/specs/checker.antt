@@ -1,5 +1,5 @@
 pub mod Logs
-pub mod Pending
+pub mod PendingPlaces
 pub mod PlaceSets
 pub mod Plans
 pub mod Revision

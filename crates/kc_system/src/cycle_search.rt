@@ -1,5 +1,5 @@
 //! The search for the named cycle among the units that are left.
-ghost use Rattle.std.specs.Prelude.{◌≡◌, ℕ, ◌<◌, ◌≤◌, false, List, length, drop, IfOk};
+ghost use Rattle.std.specs.Prelude.{◌≡◌, ◌<◌, ◌≤◌, length, drop, IfOk};
 ghost use Rattle.kc_system.specs.Dependencies.{IsLeft, IsLeast, FollowsLeft, IsNamedCycle};
 ghost use Rattle.kc_system.specs.checker.Elimination.{FlagsLeft};
 

@@ -1,5 +1,5 @@
 //! An order of dependency, or the named cycle.
-ghost use Rattle.std.specs.Prelude.{◌≡◌, ℕ, ◌<◌, ◌^◌, List, true, false, length, slice_index_or, IfOk, IfErr, IfSome, IfNone};
+ghost use Rattle.std.specs.Prelude.{◌≡◌, ℕ, ◌<◌, ◌^◌, true, false, length, slice_index_or, IfOk, IfErr, IfSome, IfNone};
 ghost use Rattle.kc_system.specs.Dependencies.{IsOrder, HasNoCycle};
 ghost use Rattle.kc_system.specs.Faults.{ReportsCycle};
 ghost use Rattle.kc_system.specs.checker.Elimination.{Eliminating, FlagsLeft};

@@ -1,5 +1,5 @@
 //! Elimination of units whose dependencies are all eliminated.
-ghost use Rattle.std.specs.Prelude.{◌≡◌, ℕ, ◌<◌, ◌≤◌, Bool, true, false, List, [], length, replicate, All, IfOk, OnOk, Contains, slice_get, slice_index_or, Some};
+ghost use Rattle.std.specs.Prelude.{◌≡◌, ℕ, ◌<◌, ◌≤◌, true, false, [], length, replicate, All, OnOk, Contains, slice_get, slice_index_or, Some};
 ghost use Rattle.kc_system.specs.checker.Rows.{ListsDependents};
 ghost use Rattle.kc_system.specs.checker.Elimination.{IsEliminatedOrWaits, Eliminating, Passed, Grows, WaitsBeyond, FlagsLeft};
 

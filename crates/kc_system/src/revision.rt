@@ -1,12 +1,10 @@
 //! The revision of a valuation, unit by unit.
 ghost use Rattle.std.specs.Prelude.{◌≡◌, ◌↔◌, ℕ, ◌+◌, ◌-◌, ◌^◌, ◌<◌, true, false, List, [], Some, length, min, slice_get, IfOk, OnOk};
 ghost use Rattle.kc_system.specs.Changes.{IsCountOf};
-ghost use Rattle.kc_system.specs.Dependencies.{IsOrder};
 ghost use Rattle.kc_system.specs.checker.Plans.{IsPlan};
 ghost use Rattle.kc_system.specs.checker.Logs.{Undoes, logged_units};
-ghost use Rattle.kc_system.specs.checker.Pending.{IsDone, IsDue, is_pending};
+ghost use Rattle.kc_system.specs.checker.PendingPlaces.{IsDone, IsDue, is_pending};
 ghost use Rattle.kc_system.specs.checker.Revision.{RevisesUnit, LogsChanged};
-ghost use Rattle.kc_system.specs.checker.Rows.{ListsDependents};
 ghost use Rattle.kc_system.specs.Solutions.{Solves, FitsUsers, FitsValues, user_of};
 
 use crate::place_sets::PlaceSet;

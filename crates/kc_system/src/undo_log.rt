@@ -1,5 +1,5 @@
 //! Logs of overwritten values.
-ghost use Rattle.std.specs.Prelude.{◌≡◌, ℕ, ◌<◌, List, Some, length, slice_get, slice_set, OnOk, OnErr};
+ghost use Rattle.std.specs.Prelude.{◌≡◌, ℕ, ◌<◌, List, Some, length, slice_get, slice_set, OnOk};
 ghost use Rattle.kc_system.specs.checker.Logs.{Undoes, LogsOneMore, undone};
 
 use std::alloc::AllocError;

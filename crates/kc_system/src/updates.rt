@@ -1,10 +1,9 @@
 //! Changes of an assignment, with its values brought up to date.
 ghost use Rattle.std.specs.Prelude.{◌≡◌, ℕ, ◌+◌, ◌-◌, ◌^◌, ◌<◌, true, false, [], Some, length, min, slice_get, IfOk, OnOk, OnErr};
 ghost use Rattle.kc_system.specs.Changes.{changed_users, FitsChanges, IsTouched, IsChanged, IsCountOf, IsListOf};
-ghost use Rattle.kc_system.specs.Dependencies.{IsOrder};
 ghost use Rattle.kc_system.specs.checker.Plans.{IsPlan};
 ghost use Rattle.kc_system.specs.checker.Logs.{Undoes};
-ghost use Rattle.kc_system.specs.checker.Pending.{FitsPlaces, IsDone, IsDue, ListsChanged, is_pending};
+ghost use Rattle.kc_system.specs.checker.PendingPlaces.{FitsPlaces, IsDone, IsDue, ListsChanged, is_pending};
 ghost use Rattle.kc_system.specs.Solutions.{Solves, FitsUsers, FitsValues, user_of};
 
 use crate::place_sets::PlaceSet;

@@ -1,8 +1,8 @@
 //! Changes of user values, and the places that they make pending.
-ghost use Rattle.std.specs.Prelude.{◌≡◌, ◌≢◌, ◌↔◌, ℕ, ◌<◌, true, List, [], Some, length, slice_get, OnOk};
+ghost use Rattle.std.specs.Prelude.{◌≡◌, ◌≢◌, ◌↔◌, ℕ, ◌<◌, true, [], Some, length, slice_get, OnOk};
 ghost use Rattle.kc_system.specs.Changes.{changed_users};
 ghost use Rattle.kc_system.specs.checker.Logs.{Undoes, undone};
-ghost use Rattle.kc_system.specs.checker.Pending.{FitsPlaces, IsDone, ListsChanged, is_pending};
+ghost use Rattle.kc_system.specs.checker.PendingPlaces.{FitsPlaces, IsDone, ListsChanged, is_pending};
 
 use crate::copies::{copy_optional_user, is_same_optional_user};
 use crate::place_sets::PlaceSet;

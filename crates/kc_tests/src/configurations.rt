@@ -1,5 +1,5 @@
 //! The texts of notices and faults.
-use super::printing::is_printed;
+use super::printed_texts::is_printed;
 use kc_dotconfig_model::{LoadFault, LoadKind, NoticeKind};
 use std::test::Fail;
 

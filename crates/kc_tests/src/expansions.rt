@@ -65,7 +65,7 @@ const TEXTS: &[(&str, &str)] = &[
 /// The names of its folder that the pattern is matched with.
 const NAMES: &[(&str, &str)] = &[("b/", "K2"), ("b/", "other"), ("b/", "K1")];
 
-/// Its keys, the paths that were read for them, and its expanded texts.
+/// The keys of the expanded tree, the paths that were read for them, and the expanded texts.
 const EXPANDED: &[(&str, &str, &str)] = &[
     ("a/Kconfig", "a/Kconfig", "config C_A\n\tbool \"c\"\n\n"),
     ("Kconfig:11", "Kconfig:11", ""),

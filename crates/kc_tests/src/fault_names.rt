@@ -1,5 +1,5 @@
 //! The name of each kind of fault is the text that it is printed as.
-use super::printing::is_printed;
+use super::printed_texts::is_printed;
 use kc_expr::ExprKind;
 use kc_tree_model::TreeKind;
 use std::test::Fail;

@@ -52,19 +52,19 @@ mod minimal;
 #[cfg(test)]
 mod pieces;
 #[cfg(test)]
-mod printing;
+mod printed_texts;
 #[cfg(test)]
 mod rules;
 #[cfg(test)]
 mod sessions;
-#[cfg(test)]
-mod settling;
 #[cfg(test)]
 mod streams;
 #[cfg(test)]
 mod sums;
 #[cfg(test)]
 mod systems;
+#[cfg(test)]
+mod test_trees;
 #[cfg(test)]
 mod text_lines;
 #[cfg(test)]

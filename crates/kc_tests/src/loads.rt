@@ -1,5 +1,5 @@
 //! Configurations that hold what files assign.
-use super::settling::{fragment_twice, merged, replaced, settled};
+use super::test_trees::{fragment_twice, merged, replaced, settled};
 use kc_dotconfig::{Config, Fragment};
 use kc_rules::{Profile, Settled};
 use kc_value::{Tri, ValueRef};
@@ -34,7 +34,7 @@ fn digit(number: u32) -> u8 {
     b'0' + (number % 10) as u8
 }
 
-/// The tree, settled.
+/// A large tree, settled.
 fn large_tree(alloc: Global) -> Result<Settled, AllocError> {
     settled(alloc, &twice!(text(alloc)), Profile::Present)
 }

@@ -1,6 +1,6 @@
 //! Files that are minimised from a reader to a writer, which the program doesn't do, and the texts of faults.
-use super::printing::is_printed;
-use super::settling::settled;
+use super::printed_texts::is_printed;
+use super::test_trees::settled;
 use kc_dotconfig::Format;
 use kc_dotconfig_model::{LoadFault, LoadKind};
 use kc_minimal::{RunFault, WriteFault, minimise};

@@ -1,7 +1,7 @@
 //! Files that are minimised from a reader that gives them in pieces or fails, and to a writer that fails.
 ghost use Rattle.std.specs.Prelude.{◌<◌};
 
-use super::settling::settled;
+use super::test_trees::settled;
 use kc_dotconfig::Format;
 use kc_dotconfig_model::{LoadFault, LoadKind};
 use kc_minimal::{RunFault, WriteFault, minimise};

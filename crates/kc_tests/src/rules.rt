@@ -1,5 +1,5 @@
 //! Values of a tree: those that a session holds after many changes, and those that solving anew gives.
-use super::settling::{are_same, merged_twice, settled};
+use super::test_trees::{are_same, merged_twice, settled};
 use kc_dotconfig::Config;
 use kc_rules::{Profile, Settled, Steps};
 use kc_system::solve;

@@ -1,8 +1,7 @@
 //! Sessions of a system, and what their changes report.
 ghost use Rattle.std.specs.Prelude.{◌≡◌, length, IfOk};
-ghost use Rattle.kc_system.specs.Changes.{FitsChanges};
 ghost use Rattle.kc_system.specs.Dependencies.{IsOrder};
-ghost use Rattle.kc_tests.specs.Sums.{IsSmall, row_at};
+ghost use Rattle.kc_tests.specs.Sums.{row_at};
 
 use super::sums::{Sums, Tally, fit_changes};
 use super::systems::{order_of, sums_of};

@@ -1,5 +1,5 @@
 //! A small system that keeps both laws, beside that of the rules of a tree.
-ghost use Rattle.std.specs.Prelude.{◌≡◌, ℕ, ◌^◌, ◌<◌, ◌≤◌, List, Option, Some, length, nat_eq, IsTrue};
+ghost use Rattle.std.specs.Prelude.{◌≡◌, ◌^◌, ◌<◌, Option, Some, length, nat_eq, IsTrue};
 ghost use Rattle.kc_system.specs.Changes.{FitsChanges};
 ghost use Rattle.kc_system.specs.Dependencies.{IsGraph};
 ghost use Rattle.kc_system.specs.Solutions.{FitsUsers};
@@ -10,7 +10,7 @@ ghost use Rattle.std.proofs.Common.{rules};
 use kc_system::{Graph, System};
 use std::alloc::{AllocError, Global};
 
-/// The largest value.
+/// The largest value of a unit.
 const LARGEST: u32 = 1_000;
 
 /// Units whose value is their user's number, else the smaller of 1,000 and 1 plus the sum of their dependencies.
@@ -116,7 +116,7 @@ impl System for Sums {
 }
 
 impl Tally {
-    /// None counted.
+    /// A count of no evaluations.
     pub(crate) fn new() -> Tally
         ensures { result.count ≡ 0 }
     {

@@ -4,7 +4,7 @@ ghost use Rattle.kc_system.specs.Dependencies.{IsOrder};
 ghost use Rattle.kc_system.specs.Solutions.{FitsUsers};
 ghost use Rattle.kc_tests.specs.Sums.{IsSmall, row_at};
 
-use super::printing::is_printed;
+use super::printed_texts::is_printed;
 use super::sums::{Sums, Tally, fit_users};
 use kc_rules::SettleFault;
 use kc_system::{Order, OrderFault, kept_units, order, solve};
@@ -18,7 +18,7 @@ pub(crate) fn sums_of(alloc: Global, rows: &[&[u32]]) -> Result<Sums, Fail> {
     )?)
 }
 
-/// These rows, each in a list of its own.
+/// Copies rows, each into a list of its own.
 fn copied_rows(alloc: Global, rows: &[&[u32]]) -> Result<Vec<Vec<u32>>, AllocError> {
     let mut copied = Vec::with_capacity(alloc, rows.len())?;
     for row in rows {

@@ -1,5 +1,5 @@
 //! Configuration files that are each replaced by their minimal file, over a disk in memory.
-use super::settling::settled;
+use super::test_trees::settled;
 use kc_dotconfig::Format;
 use kc_rules::Profile;
 use kc_value::Bounded;

@@ -4,7 +4,7 @@ ghost use Rattle.kc_rules.specs.between.SettledViews.{tree_of_settled};
 ghost use Rattle.kc_rules_model.specs.Shapes.{user_fits};
 ghost use Rattle.kc_system.specs.Changes.{FitsChanges};
 
-use super::settling::settled;
+use super::test_trees::settled;
 use kc_rules::{Profile, Settled, Steps, UserValue};
 use kc_system::{Report, Session};
 use kc_value::Tri;

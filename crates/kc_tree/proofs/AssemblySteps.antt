@@ -18,7 +18,7 @@ use Rattle.kc_tree_model.specs.TreeLookup.{IsConsistent}
 use Rattle.kc_tree_model.proofs.Consistency.NameLimits.{few_symbols as few_defined}
 use Rattle.kc_tree_model.proofs.Consistency.Places.{is_read}
 use Rattle.kc_tree_model.specs.declared.fault.TreeFault.{TreeFault}
-use Rattle.kc_tree_model.specs.Reading.{reading}
+use Rattle.kc_tree_model.specs.TreeReading.{reading}
 use Rattle.kc_tree_model.specs.TreeFaults.{first_tree_fault, tree_faults}
 use Rattle.kc_tree_model.proofs.Consistency.Lists.{get_below, place-get, number-get, map-get}
 use Rattle.kc_tree_model.proofs.Consistency.Units.{number_is}
@@ -42,11 +42,11 @@ use Rattle.kc_tree.specs.checker.Summaries.{IsSummary, enclosing_choice, member_
 use Rattle.kc_tree.specs.checker.UnitList.{unit_read, units_read}
 use Rattle.kc_tree.specs.declared.builder.ChoiceParts.{ChoiceParts}
 use Rattle.kc_tree.specs.declared.builder.SymbolParts.{SymbolParts}
-use Rattle.kc_tree.specs.declared.gathered.Gathered.{Gathered}
+use Rattle.kc_tree.specs.declared.tree_lists.Gathered.{Gathered}
 use Rattle.kc_tree.specs.declared.summary.Summary.{Summary}
 use Rattle.kc_tree.specs.declared.parts.ChoiceRow.{ChoiceRow}
 use Rattle.kc_tree.specs.declared.parts.SymbolRow.{SymbolRow}
-use Rattle.kc_tree.proofs.Aligned.{placed_count, count_is}
+use Rattle.kc_tree.proofs.GroupPlaces.{placed_count, count_is}
 use Rattle.kc_tree.proofs.MemberLaw.{members_are}
 
 -- symbols

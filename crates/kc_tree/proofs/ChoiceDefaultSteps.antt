@@ -37,12 +37,12 @@ use Rattle.kc_tree.specs.checker.FaultSearch.{HasNoFaults}
 use Rattle.kc_tree.specs.between.Views.{member_default_view, MemberDefaultFits}
 use Rattle.kc_tree.specs.checker.ChoiceDefaults.{default_value_view, symbol_bare, member_default_row, member_default_rows, group_default_rows, choice_defaults_of, AreDefaultsOf, IsWalkOf}
 use Rattle.kc_tree.specs.checker.ChoiceRows.{opens}
-use Rattle.kc_tree.specs.checker.Conditioned.{own_conditions}
+use Rattle.kc_tree.specs.checker.GroupConditions.{own_conditions}
 use Rattle.kc_tree.specs.checker.Entries.{choices_after}
 use Rattle.kc_tree.specs.checker.Summaries.{read_before, group_at, own_lines, is_choice_code}
-use Rattle.kc_tree.specs.declared.keyed.Keyed.{Keyed}
+use Rattle.kc_tree.specs.declared.items_with_keys.Keyed.{Keyed}
 use Rattle.kc_tree.specs.declared.group_walk.GroupConditions.{GroupConditions}
-use Rattle.kc_tree.proofs.Aligned.{none_before, all_before, count_is, place_numbered}
+use Rattle.kc_tree.proofs.GroupPlaces.{none_before, all_before, count_is, place_numbered}
 use Rattle.kc_tree.proofs.ChoiceRowSteps.{as_many_conditions, as_long, both_at, places_more}
 use Rattle.kc_tree.proofs.Rounds.{numbers_of_choices, all_counted}
 use Rattle.kc_tree.specs.checker.GatheredAttributes.{AreKeys}

@@ -16,7 +16,7 @@ use Rattle.kc_tree_model.specs.Blocks.{Group, GroupHead, opening, closing, side_
 use Rattle.kc_tree_model.specs.Conditions.{GroupInContext, group_in_context, groups_in_context, dependency_of, conjunction_of, attribute_values}
 use Rattle.kc_tree_model.specs.Contents.{Contents, contents_of, choice_number, index_of_number, entry_of_head, menu_end_of, tree_of_groups}
 use Rattle.kc_tree_model.specs.Limits.{names_defined}
-use Rattle.kc_tree_model.proofs.Consistency.Lists.{Differ, Differ-once, at_most_once, get_below, has-at, has-place, place-get}
+use Rattle.kc_tree_model.proofs.Consistency.Lists.{Differ, Differ-once, at_most_once, get_below, has-at, has-place, number_of_more, place-get}
 use Rattle.kc_tree_model.specs.Blocks.{defined_name}
 use Rattle.kc_listing.specs.declared.listing.Group.{Group as CodeGroup}
 use Rattle.kc_listing.specs.declared.listing.Line.{Line as CodeLine}
@@ -129,8 +129,10 @@ place_first n rest true o e = refl
 place_first n rest false o e = cc
 
 place_there : (k : ℕ) (ks rest : List ℕ) → AreBelow k ks → index_of_number k ((ks ++ k ∷ []) ++ rest) ≡ Some (length ks)
-place_there k [] rest h = place_first k rest (k == k) (index_of_number k rest) (eq-eqb k k refl)
-place_there k (j ∷ ks) rest h = place_by j k (length ks) (j == k) (index_of_number k ((ks ++ k ∷ []) ++ rest)) refl h.0 (place_there k ks rest h.1)
+place_there k [] rest h = number_of_more k k rest ∙ place_first k rest (k == k) (index_of_number k rest) (eq-eqb k k refl)
+place_there k (j ∷ ks) rest h =
+    number_of_more k j ((ks ++ k ∷ []) ++ rest)
+    ∙ place_by j k (length ks) (j == k) (index_of_number k ((ks ++ k ∷ []) ++ rest)) refl h.0 (place_there k ks rest h.1)
 
 -- the place of a name that is defined
 place_is : (names : List (List ℕ)) (name : List ℕ) (s : ℕ) → Differ names → slice_get names s ≡ Some name → index_of_name name names ≡ Some s

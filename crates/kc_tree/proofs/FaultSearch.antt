@@ -33,7 +33,7 @@ use Rattle.kc_tree.specs.checker.Summaries.{IsSummaryOf, summary_in, attributes_
 use Rattle.kc_tree.specs.declared.summary.SymbolSummary.{SymbolSummary}
 use Rattle.kc_tree.specs.declared.summary.Summary.{Summary}
 use Rattle.kc_tree.proofs.SymbolSummaries.{first_of_both}
-use Rattle.kc_tree.proofs.Aligned.{all_before, are_numbers, count_is, none_before, numbers_before, place_numbered, placed_before, placed_count, shown_at}
+use Rattle.kc_tree.proofs.GroupPlaces.{all_before, are_numbers, count_is, none_before, numbers_before, place_numbered, placed_before, placed_count, shown_at}
 use Rattle.kc_tree.proofs.FaultKinds.{definition_is, fault_of, first_mapped}
 use Rattle.kc_tree.proofs.Rounds.{begins_is, number_counts, enclosing_numbered}
 use Rattle.kc_tree.proofs.MemberMarks.{are_marked, keys_small, member_defined}

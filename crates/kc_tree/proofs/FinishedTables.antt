@@ -27,11 +27,11 @@ use Rattle.kc_tree.specs.declared.parts.SymbolRow.{SymbolRow}
 use Rattle.kc_tree.specs.declared.parts.ChoiceRow.{ChoiceRow}
 use Rattle.kc_tree.specs.declared.parts.Parts.{Parts}
 use Rattle.kc_tree.specs.declared.symbol.MemberDefault.{MemberDefault}
-use Rattle.kc_tree.specs.declared.keyed.Keyed.{Keyed}
-use Rattle.kc_tree.specs.declared.gathered.Attributes.{Attributes}
-use Rattle.kc_tree.specs.declared.gathered.GroupedAttributes.{GroupedAttributes}
-use Rattle.kc_tree.specs.declared.gathered.Gathered.{Gathered}
-use Rattle.kc_tree.proofs.Gathering.{got, all_got, symbol_at, symbols_count, choices_count, symbols_there, choices_there}
+use Rattle.kc_tree.specs.declared.items_with_keys.Keyed.{Keyed}
+use Rattle.kc_tree.specs.declared.tree_lists.Attributes.{Attributes}
+use Rattle.kc_tree.specs.declared.tree_lists.GroupedAttributes.{GroupedAttributes}
+use Rattle.kc_tree.specs.declared.tree_lists.Gathered.{Gathered}
+use Rattle.kc_tree.proofs.UnitLists.{got, all_got, symbol_at, symbols_count, choices_count, symbols_there, choices_there}
 use Rattle.kc_tree_model.proofs.Lookups.{found_by_name}
 use Rattle.kc_tree.proofs.SymbolNames.{named_there}
 

@@ -4,7 +4,7 @@ use Rattle.std.specs.Prelude.{option_to_list}
 use Rattle.std.specs.List.{cons_option}
 use Rattle.std.proofs.Math.Seq.{drop-cons, drop-length}
 use Rattle.kc_listing.specs.declared.listing.Line.{Line as CodeLine}
-use Rattle.kc_tree.specs.declared.keyed.Keyed.{Keyed}
+use Rattle.kc_tree.specs.declared.items_with_keys.Keyed.{Keyed}
 use Rattle.kc_tree.specs.checker.GatheredItems.{gathered_items, HasAppended}
 
 -- the rest of attributes is left

@@ -9,8 +9,8 @@ use Rattle.kc_expr.proofs.StoreLemmas.{represents_on}
 use Rattle.kc_statements.specs.between.StatementViews.{AttributeNodesExist, IfNodeExists}
 use Rattle.kc_statements.specs.declared.statement.Attribute.{Attribute as CodeAttribute}
 use Rattle.kc_statements.specs.declared.statement.Attribute.TheVariants as attributes
-use Rattle.kc_statements.proofs.Growing.{grows_on}
-use Rattle.kc_statements.proofs.Later.{node_held, node_same}
+use Rattle.kc_statements.proofs.ArenaGrowth.{grows_on}
+use Rattle.kc_statements.proofs.GrownArenas.{node_held, node_same}
 use Rattle.kc_listing.specs.declared.listing.Line.{Line as CodeLine}
 use Rattle.kc_listing.specs.between.ListingView.{LineNodesExist}
 use Rattle.kc_tree_model.specs.Conditions.{conjunction_of, visible_conjunct}

@@ -1,12 +1,12 @@
 pub mod SymbolSummaries
-pub mod Aligned
+pub mod GroupPlaces
 pub mod ChoiceDefaultSteps
-pub mod Conditioned
+pub mod GroupConditionLemmas
 pub mod ConjunctionLemmas
 pub mod FaultKinds
-pub mod Gathering
+pub mod UnitLists
 pub mod GroupedLemmas
-pub mod Grouping
+pub mod PlacesByKey
 pub mod GroupingLaw
 pub mod Growth
 pub mod FinishedTables

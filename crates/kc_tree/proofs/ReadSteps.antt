@@ -6,7 +6,7 @@ use Rattle.kc_tree_model.specs.declared.fault.TreeFault.{TreeFault}
 use Rattle.kc_tree_model.specs.TreeFiles.{Files}
 use Rattle.kc_tree_model.specs.Blocks.{Group, sourced_path}
 use Rattle.kc_tree_model.specs.Limits.{without_repeats}
-use Rattle.kc_tree_model.specs.Reading.{Outcome, reading, lenient_reading, wanted_by, paths_or_fault, files_wanted}
+use Rattle.kc_tree_model.specs.TreeReading.{Outcome, reading, lenient_reading, wanted_by, paths_or_fault, files_wanted}
 use Rattle.kc_tree_model.specs.TreeFaults.{tree_faults, first_tree_fault, first_fault_after}
 use Rattle.kc_tree_model.specs.TreesOfFiles.{IsReportedFault, AreWanted}
 use Rattle.kc_tree_model.proofs.ReadingLaws.TreesRelated.{reported_related, wanted_related}

@@ -10,7 +10,7 @@ use Rattle.kc_tree_model.specs.Blocks.{Group, GroupHead, of_head, side_of, openi
 use Rattle.kc_tree_model.specs.Conditions.{Context, context, inner_context_of_group_head, GroupInContext, group_in_context, groups_in_context}
 use Rattle.kc_tree_model.specs.Contents.{Contents, contents_of, choice_number, index_of_number}
 use Rattle.kc_tree_model.proofs.NestedTrees.OpenBlocks.{open_inside, popped, pushed}
-use Rattle.kc_tree_model.proofs.Consistency.Lists.{Has, filter-has, has-number, has-filter}
+use Rattle.kc_tree_model.proofs.Consistency.Lists.{Has, filter-has, has-number, has-filter, number_of_more}
 use Rattle.kc_tree_model.proofs.Consistency.Places.{choice_read, group-placed}
 use Rattle.kc_tree_model.proofs.Consistency.Units.{has_mapped, mapped_has}
 use Rattle.kc_listing.specs.declared.listing.GroupHead.{GroupHead as CodeWhat}
@@ -19,7 +19,7 @@ use Rattle.kc_listing.specs.declared.listing.Group.{Group as CodeGroup}
 use Rattle.kc_listing.specs.declared.listing.Line.{Line as CodeLine}
 use Rattle.kc_listing.specs.between.ListingView.{RepresentsHead, RepresentsGroups}
 use Rattle.kc_tree.specs.checker.Summaries.{read_before, group_at, innermost_choice, choices_opened_after, is_choice_code, enclosing_choice, open_choices}
-use Rattle.kc_tree.proofs.Aligned.{AreNumbers, all_before, are_numbers, numbers_before, none_before, placed_before, placed_more, shown_at}
+use Rattle.kc_tree.proofs.GroupPlaces.{AreNumbers, all_before, are_numbers, numbers_before, none_before, placed_before, placed_more, shown_at}
 
 -- the numbers of the groups of choices, in reading order
 abbrev pub numbers_of_choices : List Group → List ℕ
@@ -90,8 +90,10 @@ place_first n rest true o e = refl
 place_first n rest false o e = cc
 
 place_there : (n : ℕ) (ks rest : List ℕ) → (Has n ks → ⊥) → index_of_number n ((ks ++ n ∷ []) ++ rest) ≡ Some (length ks)
-place_there n [] rest _ = place_first n rest (n == n) (index_of_number n rest) (eq-eqb n n refl)
-place_there n (k ∷ ks) rest away = place_after n k ks rest (k == n) refl (λ e. away (inl (eqb-true k n e))) (place_there n ks rest (λ h. away (inr h)))
+place_there n [] rest _ = number_of_more n n rest ∙ place_first n rest (n == n) (index_of_number n rest) (eq-eqb n n refl)
+place_there n (k ∷ ks) rest away =
+    number_of_more n k ((ks ++ n ∷ []) ++ rest)
+    ∙ place_after n k ks rest (k == n) refl (λ e. away (inl (eqb-true k n e))) (place_there n ks rest (λ h. away (inr h)))
 
 -- the number of a choice counts those before it
 pub number_counts : (read : List Group) (i : ℕ) (m : Group) → AreNumbers read → AreNumbers (read_before (i + 1) read)

@@ -16,7 +16,7 @@ use Rattle.kc_listing.specs.between.SymbolTable.{text_of_name}
 use Rattle.kc_listing.specs.between.ListingView.{RepresentsGroups, RepresentsLists, RepresentsListing}
 use Rattle.kc_listing.specs.declared.listing.Listing.{Listing}
 use Rattle.kc_listing.proofs.NameLemmas.{as_many_names}
-use Rattle.kc_listing.proofs.Growing.{get_more, get_last}
+use Rattle.kc_listing.proofs.ListingGrowth.{get_more, get_last}
 use Rattle.kc_tree.specs.checker.Rows.{place_of_group, place_of_group_number, row_of_symbol, rows_of_symbols, IsRowOf, AreRowsOf}
 use Rattle.kc_tree.specs.checker.Summaries.{summary_in, symbol_summaries, number_at, AreSymbolSummaries, IsRepresented}
 use Rattle.kc_tree.specs.declared.parts.SymbolRow.{SymbolRow}

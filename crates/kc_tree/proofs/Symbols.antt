@@ -29,7 +29,7 @@ use Rattle.kc_tree.specs.checker.Attributes.{aim_of}
 use Rattle.kc_tree.specs.checker.Summaries.{summary_in, first_summary, symbol_summaries, attributes_end, enclosing_choice, choices_at, group_at, member_in, member_key, member_keys_at, members_at, read_before, type_in}
 use Rattle.kc_tree.specs.declared.summary.SymbolSummary.{SymbolSummary}
 use Rattle.kc_tree.proofs.SymbolSummaries.{about_at, abouts_more, abouts_same, types_of_lines}
-use Rattle.kc_tree.proofs.Aligned.{all_before, count_is, none_before, place_numbered, placed_more, shown_at}
+use Rattle.kc_tree.proofs.GroupPlaces.{all_before, count_is, none_before, place_numbered, placed_more, shown_at}
 use Rattle.kc_tree.proofs.Rounds.{enclosing_numbered}
 
 -- a name that a place defines is among those that are defined

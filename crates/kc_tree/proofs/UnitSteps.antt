@@ -20,7 +20,7 @@ use Rattle.kc_listing.specs.between.ListingView.{RepresentsHead, RepresentsGroup
 use Rattle.kc_tree.specs.checker.Summaries.{read_before, group_at, is_choice_code, summary_in, symbol_summaries, number_at}
 use Rattle.kc_tree.specs.checker.UnitList.{is_number, is_unit_at, first_unit, unit_of_group, unit_read, units_read}
 use Rattle.kc_tree.specs.declared.summary.SymbolSummary.{SymbolSummary}
-use Rattle.kc_tree.proofs.Aligned.{all_before, are_numbers, none_before, numbers_before, placed_more, shown_at}
+use Rattle.kc_tree.proofs.GroupPlaces.{all_before, are_numbers, none_before, numbers_before, placed_more, shown_at}
 use Rattle.kc_tree.proofs.Rounds.{numbers_of_choices, begins_is, number_counts, choices_same, count_more}
 use Rattle.kc_tree.proofs.Symbols.{choice_is}
 

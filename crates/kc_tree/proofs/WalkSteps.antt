@@ -12,8 +12,8 @@ use Rattle.kc_listing.specs.declared.listing.Line.{Line as CodeLine}
 use Rattle.kc_listing.specs.declared.listing.GroupHead.{GroupHead as CodeWhat}
 use Rattle.kc_listing.specs.declared.listing.GroupHead.TheVariants as codes
 use Rattle.kc_listing.specs.between.ListingView.{LineNodesExist, RepresentsHead, line_in}
-use Rattle.kc_listing.proofs.Growing.{lines_held}
-use Rattle.kc_statements.proofs.Later.{attribute_same, node_held, node_same}
+use Rattle.kc_listing.proofs.ListingGrowth.{lines_held}
+use Rattle.kc_statements.proofs.GrownArenas.{attribute_same, node_held, node_same}
 use Rattle.kc_listing.proofs.AppendSteps.{grows_same}
 use Rattle.kc_tree_model.specs.Trees as tree
 use Rattle.kc_tree_model.specs.Statements.{Attribute, condition, menu, source, depends_of, visible_of, prompt_of}
@@ -30,7 +30,7 @@ use Rattle.kc_tree.specs.declared.conditions.EnclosingConditions.{EnclosingCondi
 use Rattle.kc_tree.specs.declared.conditions.EntryConditions.{EntryConditions}
 use Rattle.kc_tree.specs.declared.group_walk.GroupConditions.{GroupConditions}
 use Rattle.kc_tree.specs.declared.group_walk.GroupWalk.{GroupWalk}
-use Rattle.kc_statements.proofs.Growing.{grows_on}
+use Rattle.kc_statements.proofs.ArenaGrowth.{grows_on}
 use Rattle.kc_tree.proofs.Growth.{conjoins_on, joined_on, represent_on, held_on, represents_all, condition_on}
 
 -- the next attribute

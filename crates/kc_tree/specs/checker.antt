@@ -2,7 +2,7 @@ pub mod Assembly
 pub mod Attributes
 pub mod ChoiceRows
 pub mod ChoiceDefaults
-pub mod Conditioned
+pub mod GroupConditions
 pub mod Conjunctions
 pub mod Conjuncts
 pub mod Entries
@@ -18,7 +18,7 @@ pub mod StoredParts
 pub mod Kinds
 pub mod Marks
 pub mod NameTable
-pub mod Numbered
+pub mod UnitNumbers
 pub mod PartsView
 pub mod Places
 pub mod FaultSearch

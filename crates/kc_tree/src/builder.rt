@@ -1,16 +1,12 @@
 //! From what was read to the tree.
-ghost use Rattle.std.specs.Prelude.{◌≡◌, ◌<◌, ◌^◌, ℕ, List, None, IfOk, length};
-ghost use Rattle.kc_expr.specs.Lookup.{AreDistinct};
+ghost use Rattle.std.specs.Prelude.{◌≡◌, ◌<◌, ℕ, List, None, IfOk};
 ghost use Rattle.kc_tree_model.specs.TreeFiles.{Files};
 ghost use Rattle.kc_tree_model.specs.Blocks.{Group as Read};
-ghost use Rattle.kc_tree_model.specs.Contents.{tree_of_groups, tree_of_files};
-ghost use Rattle.kc_tree_model.specs.Reading.{reading};
+ghost use Rattle.kc_tree_model.specs.Contents.{tree_of_files};
+ghost use Rattle.kc_tree_model.specs.TreeReading.{reading};
 ghost use Rattle.kc_tree_model.specs.TreeFaults.{first_tree_fault};
-ghost use Rattle.kc_tree_model.specs.TreeLookup.{IsConsistent};
 ghost use Rattle.kc_listing.specs.between.ListingView.{RepresentsListing};
 ghost use Rattle.kc_tree.specs.checker.Assembly.{IsWalk, AreFew, AreSymbolParts, AreChoiceParts, AreAllParts, IsGathering};
-ghost use Rattle.kc_tree.specs.checker.GatheredFits.{GatheredFit};
-ghost use Rattle.kc_tree.specs.checker.GatheredView.{gathered_tree};
 ghost use Rattle.kc_tree.specs.checker.Summaries.{IsSummary};
 ghost use Rattle.kc_tree.specs.checker.Surface.{IsOfTree};
 
@@ -18,17 +14,19 @@ use super::choice_defaults::member_defaults;
 use super::choice_rows::choice_rows;
 use super::definitions::gather_attributes;
 use super::entries::entries_of;
-use super::gathered::{Attributes, Gathered};
-use super::keyed::Keyed;
+use super::items_with_keys::Keyed;
 use super::listing_walk::{WalkedListing, walk_all};
 use super::parts::{ChoiceRow, EntryRow, SymbolRow};
 use super::rows::symbol_rows;
 use super::summary::Summary;
 use super::symbol::MemberDefault;
 use super::tree::Tree;
+use super::tree_lists::{Attributes, Gathered};
 use super::unit_list::units_of;
+use kc_expr::Arena;
 use kc_listing::{Listing, SymbolTable};
 use kc_tree_model::Unit;
+use kc_value::Text;
 use std::alloc::{AllocError, Global};
 
 /// The symbols of a tree and their attributes, and its units.
@@ -104,17 +102,10 @@ fn all_parts(alloc: Global, walked: &WalkedListing) -> Result<AllParts, AllocErr
     })
 }
 
-/// All parts together.
-fn gathered(walked: WalkedListing, parts: AllParts) -> Gathered
-    ensures arena { result.arena ≡ walked.listing.names.arena }
-    ensures symbols { result.symbols ≡ parts.symbols.rows }
-    ensures attributes { result.attributes ≡ parts.symbols.attributes }
-    ensures choices { result.choices ≡ parts.choices.rows }
-    ensures members { result.members ≡ parts.summary.members }
-    ensures member_defaults { result.member_defaults ≡ parts.choices.defaults }
-    ensures entries { result.entries ≡ parts.choices.entries }
-    ensures titles { result.titles ≡ walked.listing.texts }
-    ensures units { result.units ≡ parts.symbols.units }
+/// The expressions and the titles of what was read.
+fn arena_and_titles(walked: WalkedListing) -> (Arena, Vec<Text>)
+    ensures arena { result.0 ≡ walked.listing.names.arena }
+    ensures titles { result.1 ≡ walked.listing.texts }
 {
     let WalkedListing {
         listing,
@@ -132,15 +123,31 @@ fn gathered(walked: WalkedListing, parts: AllParts) -> Gathered
         symbols: _names,
         numbers: _numbers,
     } = names;
+    (arena, texts)
+}
+
+/// All parts together.
+fn gathered(walked: WalkedListing, parts: AllParts) -> Gathered
+    ensures arena { result.arena ≡ walked.listing.names.arena }
+    ensures symbols { result.symbols ≡ parts.symbols.rows }
+    ensures attributes { result.attributes ≡ parts.symbols.attributes }
+    ensures choices { result.choices ≡ parts.choices.rows }
+    ensures members { result.members ≡ parts.summary.members }
+    ensures member_defaults { result.member_defaults ≡ parts.choices.defaults }
+    ensures entries { result.entries ≡ parts.choices.entries }
+    ensures titles { result.titles ≡ walked.listing.texts }
+    ensures units { result.units ≡ parts.symbols.units }
+{
+    let (arena, titles) = arena_and_titles(walked);
     let AllParts {
         summary,
         symbols,
         choices,
     } = parts;
     let Summary {
-        symbols: _abouts,
-        enclosing: _around,
-        choices: _count,
+        symbols: _symbol_summaries,
+        enclosing: _enclosing_choices,
+        choices: _choice_count,
         members,
     } = summary;
     Gathered {
@@ -151,7 +158,7 @@ fn gathered(walked: WalkedListing, parts: AllParts) -> Gathered
         members,
         member_defaults: choices.defaults,
         entries: choices.entries,
-        titles: texts,
+        titles,
         units: symbols.units,
     }
 }

@@ -1,5 +1,5 @@
 //! The defaults of choices.
-ghost use Rattle.std.specs.Prelude.{◌≡◌, ◌<◌, ◌++◌, ◌^◌, [], All, IfOk, List, OnOk, length, map, option_to_list};
+ghost use Rattle.std.specs.Prelude.{◌≡◌, ◌<◌, ◌++◌, ◌^◌, All, IfOk, List, OnOk, length, map, option_to_list};
 ghost use Rattle.kc_listing.specs.between.ListingView.{LineNodesExist};
 ghost use Rattle.kc_tree_model.specs.Blocks.{Group as Read};
 ghost use Rattle.kc_tree_model.specs.Conditions.{groups_in_context};
@@ -12,7 +12,7 @@ use super::entries::count_choices;
 use super::group_conditions::conditions_of;
 use super::group_lines::lines_of;
 use super::group_walk::GroupConditions;
-use super::keyed::Keyed;
+use super::items_with_keys::Keyed;
 use super::symbol::MemberDefault;
 use kc_expr::ExprId;
 use kc_listing::{GroupHead, Line, Listing, SymbolTable};

@@ -6,7 +6,7 @@ ghost use Rattle.kc_tree_model.specs.Blocks.{Group as Read};
 ghost use Rattle.kc_tree_model.specs.Conditions.{groups_in_context};
 ghost use Rattle.kc_listing.specs.between.ListingView.{RepresentsListing};
 ghost use Rattle.kc_tree.specs.checker.ChoiceRows.{opens, is_optional_line, choice_row, AreChoiceRows, IsGoneThrough};
-ghost use Rattle.kc_tree.specs.checker.Conditioned.{own_conditions};
+ghost use Rattle.kc_tree.specs.checker.GroupConditions.{own_conditions};
 ghost use Rattle.kc_tree.specs.checker.Summaries.{group_at, own_lines};
 ghost use Rattle.kc_tree.specs.checker.Walks.{RepresentsAllConditions};
 

@@ -5,7 +5,7 @@ ghost use Rattle.kc_expr.specs.Expr.{Expr};
 ghost use Rattle.kc_expr.specs.declared.fault.ExprKind.TheVariants.{OutOfMemory};
 ghost use Rattle.kc_statements.specs.between.StatementViews.{AttributeNodesExist};
 ghost use Rattle.kc_listing.specs.between.ListingView.{LineNodesExist};
-ghost use Rattle.kc_tree_model.specs.Conditions.{conjunction_of, visible_conjunct};
+ghost use Rattle.kc_tree_model.specs.Conditions.{conjunction_of};
 ghost use Rattle.kc_tree.specs.checker.Conjunctions.{Conjoins, conjunct};
 ghost use Rattle.kc_tree.specs.checker.Conjuncts.{if_view, is_prompt, conjunct_view, conjunct_views, condition_view, AreJoined, AreAppended};
 ghost use Rattle.kc_tree.specs.declared.conditions.Conjuncts.TheVariants.{Dependencies, Visibles};

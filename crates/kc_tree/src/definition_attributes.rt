@@ -1,11 +1,10 @@
 //! The prompts, defaults, ranges and reverse dependencies that a definition's attributes give.
 ghost use Rattle.std.specs.Prelude.{◌≡◌, ◌<◌, All, OnOk, length};
 ghost use Rattle.kc_listing.specs.between.ListingView.{LineNodesExist};
-ghost use Rattle.kc_statements.specs.between.StatementViews.{AttributeNodesExist};
 ghost use Rattle.kc_tree.specs.checker.GatheredItems.{gathered_target_name, aimed_at, gathered_prompt, gathered_default, gathered_range, own_key, gathered_target, gathered_reverse_dependency, HasAppended};
 
 use super::conditions::is_prompt_attribute;
-use super::keyed::Keyed;
+use super::items_with_keys::Keyed;
 use super::symbol::{Default, Range, ReverseDependency};
 use kc_expr::{ExprId, NameId};
 use kc_listing::{Line, SymbolTable};
@@ -30,7 +29,7 @@ fn prompt_of(line: &Line, condition: ExprId) -> Option<ExprId>
     None
 }
 
-/// A default.
+/// The default that a line is, with its condition, if it is one.
 fn default_of(line: &Line, condition: ExprId) -> Option<Default>
     ensures { result ≡ gathered_default line.now condition }
 {
@@ -47,7 +46,7 @@ fn default_of(line: &Line, condition: ExprId) -> Option<Default>
     }
 }
 
-/// A range.
+/// The range that a line is, with its condition, if it is one.
 fn range_of(line: &Line, condition: ExprId) -> Option<Range>
     ensures { result ≡ gathered_range line.now condition }
 {

@@ -4,17 +4,17 @@ ghost use Rattle.kc_tree_model.specs.Blocks.{Group as Read};
 ghost use Rattle.kc_tree_model.specs.Contents.{contents_of};
 ghost use Rattle.kc_listing.specs.between.ListingView.{LineNodesExist};
 ghost use Rattle.kc_tree.specs.checker.ChoiceDefaults.{IsWalkOf};
-ghost use Rattle.kc_tree.specs.checker.Conditioned.{conditions_at};
+ghost use Rattle.kc_tree.specs.checker.GroupConditions.{conditions_at};
 ghost use Rattle.kc_tree.specs.checker.Definitions.{HasDefinition, AreAttributes};
 
 use super::definition_attributes::{
     ReverseKind, push_defaults, push_prompts, push_ranges, push_reverse_dependencies,
 };
-use super::gathered::Attributes;
 use super::group_conditions::conditions_of;
 use super::group_lines::lines_of;
 use super::group_walk::GroupConditions;
-use super::keyed::Keyed;
+use super::items_with_keys::Keyed;
+use super::tree_lists::Attributes;
 use kc_expr::ExprId;
 use kc_listing::{GroupHead, Line, Listing, SymbolTable};
 use std::alloc::{AllocError, Global};

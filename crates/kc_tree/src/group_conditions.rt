@@ -1,6 +1,6 @@
 //! The conditions of each group's attributes.
 ghost use Rattle.std.specs.Prelude.{◌≡◌, ◌≤◌, ◌<◌, length, slice_range};
-ghost use Rattle.kc_tree.specs.checker.Conditioned.{conditions_end, own_conditions, IsConditioned};
+ghost use Rattle.kc_tree.specs.checker.GroupConditions.{conditions_end, own_conditions, IsConditioned};
 
 use super::group_walk::GroupConditions;
 use kc_expr::ExprId;

@@ -1,7 +1,7 @@
 //! The attributes of each group.
 ghost use Rattle.std.specs.Prelude.{◌≡◌, ◌≤◌, ◌<◌, All, length, slice_range};
 ghost use Rattle.kc_listing.specs.between.ListingView.{LineNodesExist};
-ghost use Rattle.kc_tree.specs.checker.Summaries.{attributes_end, group_at, own_lines, IsRepresented};
+ghost use Rattle.kc_tree.specs.checker.Summaries.{attributes_end, own_lines, IsRepresented};
 
 use kc_listing::{Group, Line, Listing};
 

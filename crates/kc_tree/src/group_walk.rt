@@ -1,5 +1,5 @@
 //! The walk that joins each group's conditions with the enclosing ones.
-ghost use Rattle.std.specs.Prelude.{◌≡◌, ◌⊎◌, ◌∷◌, ◌<◌, ◌++◌, ◌+◌, ℕ, [], List, All, Some, None, IfOk, IfSome, OnOk, Option, drop, length, map, option_map, option_to_list, reverse, slice_get, unwrap_or};
+ghost use Rattle.std.specs.Prelude.{◌≡◌, ◌∷◌, ◌<◌, ◌++◌, ◌+◌, ℕ, [], List, All, Some, None, IfOk, IfSome, OnOk, Option, drop, length, map, option_map, option_to_list, reverse, slice_get, unwrap_or};
 ghost use Rattle.kc_value.specs.declared.tri.Tri.TheVariants.{N};
 ghost use Rattle.kc_expr.specs.between.Arena.{Grows, Represents, node_expr};
 ghost use Rattle.kc_expr.specs.Expr.{Expr, alone, constant, shown};

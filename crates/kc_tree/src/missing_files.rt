@@ -3,7 +3,7 @@ ghost use Rattle.std.specs.Prelude.{◌≡◌, ◌≢◌, ◌⊎◌, ◌∷◌, 
 ghost use Rattle.kc_tree_model.specs.declared.fault.TreeKind.TheVariants.{OutOfMemory};
 ghost use Rattle.kc_tree_model.specs.Blocks.{Group, sourced_path};
 ghost use Rattle.kc_tree_model.specs.Limits.{without_repeats};
-ghost use Rattle.kc_tree_model.specs.Reading.{lenient_reading, paths_or_fault, files_wanted};
+ghost use Rattle.kc_tree_model.specs.TreeReading.{lenient_reading, paths_or_fault, files_wanted};
 ghost use Rattle.kc_tree_model.specs.TreesOfFiles.{AreWanted};
 ghost use Rattle.kc_listing.specs.between.ListingView.{RepresentsListing};
 ghost use Rattle.kc_listing.specs.between.MemoryFaults.{no_memory};

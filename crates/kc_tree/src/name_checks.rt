@@ -1,5 +1,5 @@
 //! Names in `select`, `imply` and the defaults of choices.
-ghost use Rattle.std.specs.Prelude.{◌≡◌, ◌<◌, ℕ, List, is_some, length, slice_get};
+ghost use Rattle.std.specs.Prelude.{◌≡◌, ◌<◌, ℕ, List, is_some, length};
 ghost use Rattle.kc_tree_model.specs.Blocks.{Group as Read};
 ghost use Rattle.kc_tree_model.specs.Contents.{contents_of, member_named};
 ghost use Rattle.kc_tree_model.specs.Limits.{names_defined};

@@ -6,7 +6,7 @@ ghost use Rattle.kc_tree_model.specs.declared.ids.Unit.TheVariants.{Choice as of
 ghost use Rattle.kc_tree_model.specs.declared.ids.Unit.TheVariants.{Symbol as SymbolUnit, Choice as ChoiceUnit};
 
 use super::entry::Entry;
-use super::grouped::Grouped;
+use super::items_by_number::Grouped;
 use super::symbol::{Choice, Default, MemberDefault, Range, ReverseDependency, Symbol};
 use kc_expr::{Arena, ExprId, NameId};
 use kc_tree_model::{Sym, Unit};

@@ -20,7 +20,7 @@ use super::attribute_checks::{fault_at, first_choice_fault, first_symbol_fault};
 use super::enclosing_choices::begins_choice;
 use super::fault_kinds::definition_fault;
 use super::group_lines::lines_of;
-use super::grouped::Grouped;
+use super::items_by_number::Grouped;
 use super::marks::mark_members;
 use super::summary::Summary;
 use kc_expr::Language;

@@ -1,5 +1,5 @@
 //! Summaries of symbols and choices, before conditions are joined.
-ghost use Rattle.std.specs.Prelude.{◌≡◌, ◌≤◌, ◌<◌, ◌^◌, List, IfOk, is_some, length, map, filter_map, flat_map, slice_get};
+ghost use Rattle.std.specs.Prelude.{◌≡◌, ◌<◌, ◌^◌, List, IfOk, is_some, length, map, filter_map, flat_map, slice_get};
 ghost use Rattle.kc_expr.specs.between.Arena.{Exprs};
 ghost use Rattle.kc_tree_model.specs.Blocks.{Group as Read};
 ghost use Rattle.kc_tree_model.specs.Conditions.{groups_in_context};
@@ -11,7 +11,7 @@ ghost use Rattle.kc_tree.specs.checker.Summaries.{first_summary, symbol_summarie
 use super::attribute::type_given;
 use super::enclosing_choices::{choice_count, choices_enclosing};
 use super::group_lines::lines_of;
-use super::keyed::Keyed;
+use super::items_with_keys::Keyed;
 use kc_listing::{GroupHead, Line, Listing};
 use kc_tree_model::Sym;
 use kc_value::Kind;

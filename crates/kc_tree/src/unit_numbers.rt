@@ -2,7 +2,7 @@
 ghost use Rattle.std.specs.Prelude.{◌≡◌, ◌<◌, ◌^◌, ℕ, IfOk, Some, length, slice_get, slice_index};
 ghost use Rattle.kc_tree_model.specs.declared.ids.Unit.{Unit as ToldUnit};
 ghost use Rattle.kc_tree_model.specs.declared.ids.Unit.TheVariants.{Symbol as SymbolUnit, Choice as ChoiceUnit};
-ghost use Rattle.kc_tree.specs.checker.Numbered.{AreNumbered, own_or_choice};
+ghost use Rattle.kc_tree.specs.checker.UnitNumbers.{AreNumbered, own_or_choice};
 ghost use Rattle.kc_tree.specs.declared.parts.SymbolRow.{SymbolRow as Row};
 
 use super::parts::SymbolRow;

@@ -4,7 +4,7 @@ pub mod OneLine
 pub mod TokenBytes
 pub mod OwnTexts
 pub mod PlainTexts
-pub mod Kept
+pub mod KeptProperties
 pub mod Places
 pub mod Definitions
 pub mod Units

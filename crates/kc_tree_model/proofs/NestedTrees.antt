@@ -2,7 +2,7 @@
 pub mod OpenBlocks
 pub mod Walks
 pub mod OneListing
-pub mod Building
+pub mod OpenTrees
 pub mod LineFits
 pub mod ReadingNests
 pub mod EachFileRead

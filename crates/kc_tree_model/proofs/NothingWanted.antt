@@ -10,9 +10,9 @@ use Rattle.kc_tree_model.specs.Statements.{Statement, head, attribute, path_of_h
 use Rattle.kc_tree_model.specs.Blocks.{Group, Position, sourced_path, file_end}
 use Rattle.kc_tree_model.specs.Limits.{FileSource, without_repeats, source_fault}
 use Rattle.kc_value.specs.declared.limits.TheConstants.{MAX_TREE_BYTES, MAX_OPEN_FILES}
-use Rattle.kc_tree_model.specs.Reading.{statement_on_line, with_statement, with_group, path_to_read, Outcome, continue_after_file, continue_after_source, continue_after_statement, continue_after_line, read_lines, read_file, read_root, reading, lenient_reading, bytes_or_none, wanted_by, paths_or_fault, files_wanted}
+use Rattle.kc_tree_model.specs.TreeReading.{statement_on_line, with_statement, with_group, path_to_read, Outcome, continue_after_file, continue_after_source, continue_after_statement, continue_after_line, read_lines, read_file, read_root, reading, lenient_reading, bytes_or_none, wanted_by, paths_or_fault, files_wanted}
 use Rattle.kc_tree_model.proofs.Consistency.Lists.{Has, filter-has, once-has, append-has_left, append-has_right}
-use Rattle.kc_tree_model.proofs.Consistency.Kept.{IsKept, Keeps, lines_kept, whole_file_kept}
+use Rattle.kc_tree_model.proofs.Consistency.KeptProperties.{IsKept, Keeps, lines_kept, whole_file_kept}
 use Rattle.kc_tree_model.proofs.Consistency.OneLine.{AreOneLine, lines_are_one}
 
 -- the paths that were sourced stay

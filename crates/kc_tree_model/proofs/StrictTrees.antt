@@ -19,17 +19,17 @@ use Rattle.std.specs.Map.{lookup}
 use Rattle.kc_tree_model.specs.TreeFiles.{Files, file_at, index_of_file}
 use Rattle.kc_tree_model.specs.LogicalLines.{LogicalLine, lines_of}
 use Rattle.kc_tree_model.specs.Keywords.{keyword_of}
-use Rattle.kc_tree_model.specs.Statements.{Head, config, choice, menu, condition, comment, source, mainmenu, ends, Statement}
+use Rattle.kc_tree_model.specs.Statements.{config, choice, menu, condition, comment, source, mainmenu, ends, Statement}
 use Rattle.kc_tree_model.specs.Forms.{statement_of, ◌>>=◌}
-use Rattle.kc_tree_model.specs.Blocks.{Group, GroupHead, Position, of_head, file_end, innermost}
+use Rattle.kc_tree_model.specs.Blocks.{Group, GroupHead, Position, of_head, file_end}
 use Rattle.kc_tree_model.specs.Placement.{is_allowed, is_left_out, is_stray_end}
 use Rattle.kc_tree_model.specs.Limits.{FileSource, is_too_deep, is_too_many, source_fault}
-use Rattle.kc_tree_model.specs.Reading.{Outcome, unless, statement_by_keyword, statement_by_word, statement_of_tokens, statement_or_fault, statement_on_line, with_statement, with_group, path_to_read, continue_after_file, continue_after_source, continue_after_statement, continue_after_line, read_lines, read_file, read_root, reading}
+use Rattle.kc_tree_model.specs.TreeReading.{Outcome, unless, statement_by_keyword, statement_by_word, statement_of_tokens, statement_or_fault, statement_on_line, with_statement, with_group, path_to_read, continue_after_file, continue_after_source, continue_after_statement, continue_after_line, read_lines, read_file, read_root, reading}
 use Rattle.kc_tree_model.specs.Conditions.{GroupInContext}
 use Rattle.kc_tree_model.specs.Contents.{Contents, contents_of, choice_of_symbol, is_first_definition, type_given, tree_of_groups, tree_of_files}
 use Rattle.kc_tree_model.specs.TreeFaults.{when, is_other_kind, kind_of, may_follow_member, definition_faults, attribute_faults, faults_at, faults_of_lines, faults_of_head, faults_of_group, tree_faults, first_tree_fault}
 use Rattle.kc_tree_model.proofs.NestedTrees.LineFits.{unless_ok}
-use Rattle.kc_tree_model.proofs.Consistency.Definitions.{nothing_left, no_first, nothing_mapped, not_when, neither}
+use Rattle.kc_tree_model.proofs.Consistency.Definitions.{nothing_left, no_first, nothing_mapped, not_when}
 
 -- a line that isn't left out of the strict language
 kept : (read : List Group) (k : Keyword) (ts : List Lexeme) → is_left_out Strict read k ts ≡ false → is_left_out Linux read k ts ≡ false

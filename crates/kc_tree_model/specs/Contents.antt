@@ -1,5 +1,5 @@
 -- The tree that a list of statements defines.
-use Rattle.std.specs.Prelude.{ℕ, suc, Bool, false, ◌&&◌, ◌==◌, List, [], ◌∷◌, ◌++◌, map, filter, filter_map, flat_map, take, slice_get, Option, Some, None, is_none, option_map, option_and_then, unwrap_or, bytes_eq, if◌then◌else◌}
+use Rattle.std.specs.Prelude.{ℕ, Bool, false, ◌&&◌, ◌==◌, List, [], ◌∷◌, ◌++◌, map, filter, filter_map, flat_map, take, slice_get, Option, Some, None, is_none, option_map, option_and_then, unwrap_or, position, bytes_eq, if◌then◌else◌}
 use Rattle.std.specs.List.{list_any}
 use Rattle.kc_value.specs.declared.value.Kind.{Kind}
 use Rattle.kc_value.specs.declared.value.Kind.TheVariants.{Bool as Boolean}
@@ -14,7 +14,7 @@ use Rattle.kc_tree_model.specs.declared.keyword.Block.TheVariants as blocks
 use Rattle.kc_tree_model.specs.Blocks.{Group, Line, from_head, defined_name, opens_choice}
 use Rattle.kc_tree_model.specs.TreeFiles.{Files}
 use Rattle.kc_tree_model.specs.Limits.{names_defined}
-use Rattle.kc_tree_model.specs.Reading.{reading}
+use Rattle.kc_tree_model.specs.TreeReading.{reading}
 use Rattle.kc_tree_model.specs.Conditions.{Context, context, attribute_values, dependency_of, attribute_condition, prompts_of, conjunction_of, GroupInContext, groups_in_context}
 
 -- all that was read, the names of the symbols, and the groups of the choices by their numbers
@@ -34,9 +34,8 @@ contents_of read =
     }
 
 -- the place of a number in a list
-abbrev pub index_of_number : ℕ → List ℕ → Option ℕ
-index_of_number n [] = None
-index_of_number n (k ∷ ks) = if k == n then Some 0 else option_map suc (index_of_number n ks)
+unfoldable pub index_of_number : ℕ → List ℕ → Option ℕ
+index_of_number n numbers = position (λ k. k == n) numbers
 
 -- the number of a choice, by that of its group
 abbrev pub choice_number : Contents → ℕ → Option ℕ
@@ -110,7 +109,7 @@ is_member_of group p = elim p.enclosing.choice [ None ↦ false | Some k ↦ k =
 abbrev pub member_names : Contents → ℕ → List (List ℕ)
 member_names c group = filter_map (λ (p : GroupInContext). defined_name p.group) (filter (is_member_of group) c.places)
 
--- a bare name
+-- the name that an expression is, if it is one without quotes
 abbrev pub bare_name : Expr → Option (List ℕ)
 bare_name (alone (named x)) = Some x
 bare_name e = None

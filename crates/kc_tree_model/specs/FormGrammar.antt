@@ -5,7 +5,7 @@ use Rattle.kc_value.specs.declared.limits.TheConstants.{MAX_EXPR_DEPTH}
 use Rattle.kc_expr.specs.Token.{Lexeme}
 use Rattle.kc_expr.specs.Expr.{Expr, Operand, conditional}
 use Rattle.kc_expr.specs.declared.fault.ExprKind.TheVariants.{TooDeep}
-use Rattle.kc_expr.specs.ExprFaults.{IsFirstFault}
+use Rattle.kc_expr.specs.ExprFaults.{IsFirstExprFault}
 use Rattle.kc_expr.specs.Grammar.{IsExpr, ors, extent, quoted_text, operand_of_lexeme}
 use Rattle.kc_tree_model.specs.Statements.{config, choice, menu, condition, comment, source, mainmenu, ends, DefaultAttribute, typed, typed_prompt, typed_default, prompt, default, depends, select, imply, range, visible, help, modules, optional, Statement, head, attribute}
 use Rattle.kc_tree_model.specs.Keywords.{is_quoted_kind, is_the_word, is_name}
@@ -18,7 +18,7 @@ use Rattle.kc_tree_model.specs.Forms.{path_of}
 abbrev pub IsCondition : List Lexeme → Expr → Type 0
 IsCondition ts c = (e : Expr) × IsExpr ors MAX_EXPR_DEPTH ts e × (c ≡ conditional e)
 
--- `[if E]`
+-- a condition that may be left out: `[if E]`
 pub data IsOptionalIf : List Lexeme → Option Expr → Type 0 where
   no_if : IsOptionalIf [] None
   with_if : {t : Lexeme} {ts : List Lexeme} {c : Expr} → is_the_word (codes "if") t ≡ true → IsCondition ts c → IsOptionalIf (t ∷ ts) (Some c)
@@ -79,4 +79,4 @@ pub data ComesToExpr : Keyword → List Lexeme → List Lexeme → Type 0 where
 
 -- a line with this keyword and these tokens after it comes to an expression of which an operand is too deep
 abbrev pub HasDeepExpr : Keyword → List Lexeme → Type 0
-HasDeepExpr k ts = (us rest : List Lexeme) × ComesToExpr k ts us × IsFirstFault (extent us) (TooDeep, rest)
+HasDeepExpr k ts = (us rest : List Lexeme) × ComesToExpr k ts us × IsFirstExprFault (extent us) (TooDeep, rest)

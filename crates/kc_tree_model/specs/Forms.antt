@@ -49,21 +49,21 @@ no_more x (t ∷ ts) = Err Malformed
 abbrev pub last_condition : List Lexeme → Result Expr TreeKind
 last_condition ts = leading_expr ts >>= λ r. no_more (conditional r.expr) r.rest
 
--- `[if E]`
+-- a condition that may be left out: `[if E]`
 abbrev pub optional_if : List Lexeme → Result (Option Expr) TreeKind
 optional_if [] = Ok None
 optional_if (t ∷ ts) = if is_the_word (codes "if") t then (last_condition ts >>= λ e. Ok (Some e)) else Err Malformed
 
--- `NAME`
+-- what follows `config`: `NAME`
 abbrev pub config_line : List Lexeme → Result Statement TreeKind
 config_line [] = Err Malformed
 config_line (t ∷ ts) = if is_name t then no_more (head (config t.text)) ts else Err Malformed
 
--- nothing
+-- what follows `choice`: nothing
 abbrev pub choice_line : List Lexeme → Result Statement TreeKind
 choice_line ts = no_more (head choice) ts
 
--- `Q`
+-- what follows a word with a title: `Q`
 abbrev pub titled_line : (List ℕ → Head) → List Lexeme → Result Statement TreeKind
 titled_line f [] = Err Malformed
 titled_line f (t ∷ ts) = if is_quoted_kind t.kind then no_more (head (f (quoted_text t.text))) ts else Err Malformed
@@ -81,12 +81,12 @@ abbrev pub source_line : List Lexeme → Result Statement TreeKind
 source_line [] = Err Malformed
 source_line (t ∷ ts) = elim (path_of t) [ None ↦ Err Malformed | Some path ↦ no_more (head (source path)) ts ]
 
--- `Q [if E]`
+-- what follows `prompt`: `Q [if E]`
 abbrev pub prompt_line : (Option Expr → Attribute) → List Lexeme → Result Statement TreeKind
 prompt_line f [] = Err Malformed
 prompt_line f (t ∷ ts) = if is_quoted_kind t.kind then (optional_if ts >>= λ c. Ok (attribute (f c))) else Err Malformed
 
--- `[Q [if E]]`
+-- what follows a type: `[Q [if E]]`
 abbrev pub type_line : Kind → List Lexeme → Result Statement TreeKind
 type_line k [] = Ok (attribute (typed k))
 type_line k (t ∷ ts) = prompt_line (typed_prompt k) (t ∷ ts)
@@ -98,7 +98,7 @@ default_line f ts = do
   c ← optional_if e.rest
   Ok (attribute (f (record { value = e.expr; single = e.single; condition = c })))
 
--- `NAME [if E]`
+-- what follows `select` or `imply`: `NAME [if E]`
 abbrev pub target_line : (TargetAttribute → Attribute) → List Lexeme → Result Statement TreeKind
 target_line f [] = Err Malformed
 target_line f (t ∷ ts) = if is_name t then (optional_if ts >>= λ c. Ok (attribute (f (record { name = t.text; condition = c })))) else Err Malformed
@@ -108,7 +108,7 @@ abbrev pub range_of_operands : Option Operand → Option Operand → List Lexeme
 range_of_operands (Some a) (Some b) ts = optional_if ts >>= λ c. Ok (attribute (range (record { low = a; high = b; condition = c })))
 range_of_operands a b ts = Err Malformed
 
--- `OP OP [if E]`
+-- what follows `range`: `OP OP [if E]`
 abbrev pub range_line : List Lexeme → Result Statement TreeKind
 range_line (t ∷ u ∷ ts) = range_of_operands (operand_of_lexeme t) (operand_of_lexeme u) ts
 range_line ts = Err Malformed
@@ -122,7 +122,7 @@ condition_line word f (t ∷ ts) = if is_the_word word t then (last_condition ts
 abbrev pub is_left_out_option : Lexeme → Bool
 is_left_out_option t = is_the_word (codes "env") t || is_the_word (codes "defconfig_list") t || is_the_word (codes "allnoconfig_y") t
 
--- `modules`
+-- what follows `option`: `modules`
 abbrev pub option_line : List Lexeme → Result Statement TreeKind
 option_line [] = Err Malformed
 option_line (t ∷ ts) = if is_the_word (codes "modules") t then no_more (attribute modules) ts else Err Malformed

@@ -33,12 +33,12 @@ keywords =
 abbrev pub keyword_in_table : {A : Type 0} → List (List ℕ × A) → List ℕ → Option A
 keyword_in_table table word = lookup (λ key. bytes_eq key word) table
 
--- bare words
+-- whether a token is a bare word
 abbrev pub is_word_kind : TokenKind → Bool
 is_word_kind Word = true
 is_word_kind k = false
 
--- quoted texts
+-- whether a token is a quoted text
 abbrev pub is_quoted_kind : TokenKind → Bool
 is_quoted_kind Quoted = true
 is_quoted_kind k = false

@@ -10,7 +10,7 @@ pub mod FormGrammar
 pub mod Blocks
 pub mod Placement
 pub mod Limits
-pub mod Reading
+pub mod TreeReading
 pub mod ReadingFaults
 pub mod ReadingRelation
 pub mod MoreFiles

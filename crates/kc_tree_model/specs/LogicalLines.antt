@@ -64,7 +64,7 @@ abbrev pub column_from : ℕ → List ℕ → ℕ
 column_from n [] = n
 column_from n (b ∷ bs) = elim (column_after n b) [ None ↦ n | Some m ↦ column_from m bs ]
 
--- a line's indentation
+-- the column at which the text of a line begins
 abbrev pub indentation : PhysicalLine → ℕ
 indentation l = column_from 0 l.text
 
@@ -98,7 +98,7 @@ is_help [] = false
 is_help (p ∷ []) = is_help_word (keyword_of p)
 is_help (p ∷ q ∷ rest) = false
 
--- the same, of the tokens of a line, which may have a fault
+-- whether the tokens of a line, which may have a fault instead, are one whose keyword begins a help text
 abbrev pub is_help_or_fault : Result (List Lexeme) ExprFault → Bool
 is_help_or_fault (Err e) = false
 is_help_or_fault (Ok ps) = is_help ps

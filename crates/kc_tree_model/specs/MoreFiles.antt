@@ -4,7 +4,7 @@ use Rattle.kc_expr.specs.declared.language.Language.{Language}
 use Rattle.kc_tree_model.specs.declared.fault.TreeKind.TheVariants.{MissingFile}
 use Rattle.kc_tree_model.specs.declared.fault.TreeFault.{TreeFault}
 use Rattle.kc_tree_model.specs.Limits.{FileSource}
-use Rattle.kc_tree_model.specs.Reading.{Outcome, read_root}
+use Rattle.kc_tree_model.specs.TreeReading.{Outcome, read_root}
 
 -- the reading of a tree from its first file on
 abbrev pub reading_from : FileSource → Outcome

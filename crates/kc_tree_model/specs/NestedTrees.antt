@@ -4,7 +4,7 @@ use Rattle.kc_tree_model.specs.Statements.{Head, source, ends, block_of_head}
 use Rattle.kc_tree_model.specs.declared.keyword.Block.{Block}
 use Rattle.kc_tree_model.specs.Blocks.{Group, GroupHead, of_head, file_end, side_of, inside, is_some_block}
 use Rattle.kc_tree_model.specs.TreeFiles.{Files}
-use Rattle.kc_tree_model.specs.Reading.{reading}
+use Rattle.kc_tree_model.specs.TreeReading.{reading}
 use Rattle.kc_tree_model.specs.Conditions.{GroupInContext, group_in_context, groups_in_context}
 
 -- A list of entries and blocks ("Menu structure"). A block has the group that opens it, the items inside it and the group

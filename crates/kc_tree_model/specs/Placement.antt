@@ -23,7 +23,7 @@ opened_by (menu title) = Some entries.Menu
 opened_by (comment title) = Some entries.Comment
 opened_by h = None
 
--- the open entry
+-- the entry that is open after some groups, if one is
 abbrev pub open_entry : List Group → Option OpenEntry
 open_entry [] = None
 open_entry (g ∷ before) = from_head opened_by g.head
@@ -82,7 +82,7 @@ first_is test (t ∷ ts) = test t
 abbrev pub is_glob_path : Lexeme → Bool
 is_glob_path t = elim (path_of t) [ None ↦ false | Some path ↦ is_glob path ]
 
--- the strict language
+-- whether a language is the strict one
 abbrev pub is_strict : Language → Bool
 is_strict Strict = true
 is_strict Linux = false

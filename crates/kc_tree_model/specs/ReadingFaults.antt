@@ -7,7 +7,7 @@ use Rattle.kc_expr.specs.declared.fault.ExprKind.{ExprKind}
 use Rattle.kc_expr.specs.declared.fault.ExprKind.TheVariants as expr_kinds
 use Rattle.kc_expr.specs.declared.language.Language.{Language}
 use Rattle.kc_expr.specs.Token.{Lexeme}
-use Rattle.kc_expr.specs.TokenGrammar.{IsCut, IsFirstFault}
+use Rattle.kc_expr.specs.TokenGrammar.{IsCut, IsFirstTokenFault}
 use Rattle.kc_tree_model.specs.declared.fault.TreeKind.{TreeKind}
 use Rattle.kc_tree_model.specs.declared.fault.TreeKind.TheVariants.{LineTooLong, NotUtf8, BadToken, UnclosedQuote, UnknownStatement, LeftOut, Misplaced, StrayEnd, Malformed, SourceLoop, MissingFile, TooDeep, TooMany}
 use Rattle.kc_tree_model.specs.LogicalLines.{LogicalLine}
@@ -26,7 +26,7 @@ pub data HasTokens (language : Language) (l : LogicalLine) (ts : List Lexeme) : 
 
 -- the first fault of a line's tokens is of this kind
 abbrev pub HasTokenFault : Language → LogicalLine → ExprKind → Type 0
-HasTokenFault language l kind = (offset : ℕ) × (l.help ≡ false) × IsFirstFault language 0 l.text (record { offset = offset; kind = kind })
+HasTokenFault language l kind = (offset : ℕ) × (l.help ≡ false) × IsFirstTokenFault language 0 l.text (record { offset = offset; kind = kind })
 
 -- a line begins with a keyword, and these tokens come after it
 abbrev pub BeginsWith : Language → LogicalLine → Keyword → List Lexeme → Type 0

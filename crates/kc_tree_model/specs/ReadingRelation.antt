@@ -9,7 +9,7 @@ use Rattle.kc_tree_model.specs.Statements.{source, Statement, head}
 use Rattle.kc_tree_model.specs.declared.keyword.Block.{Block}
 use Rattle.kc_tree_model.specs.Blocks.{Group, Position, of_head, file_end, innermost}
 use Rattle.kc_tree_model.specs.Limits.{FileSource}
-use Rattle.kc_tree_model.specs.Reading.{with_group, with_statement, path_to_read, Outcome, ended_by_fault}
+use Rattle.kc_tree_model.specs.TreeReading.{with_group, with_statement, path_to_read, Outcome, ended_by_fault}
 use Rattle.kc_tree_model.specs.ReadingFaults.{HasTokens, HasForm, IsLineFault, line_order, IsSourceFault, source_order, HoldsNever, IsFirstOf}
 
 -- the lines of the file at a path
@@ -26,13 +26,13 @@ pub record SourcesPath (r : FileSource) (read : List Group) (l : LogicalLine) (p
   pub faultless : HoldsNever (IsLineFault r.language read l)
   pub form : HasForm r.language l (head (source path))
 
--- the same, and the `source` has no fault either, and its file has these lines
+-- a line without a fault sources a path, the `source` has no fault either, and its file has these lines
 pub record SourcesLines (r : FileSource) (read : List Group) (l : LogicalLine) (path : List ℕ) (lines : List LogicalLine) : Type 0 where
   pub sources : SourcesPath r read l path
   pub faultless : HoldsNever (IsSourceFault r read path)
   pub has_lines : HasLines r path lines
 
--- a line's place
+-- the place of a line of a file
 abbrev pub place : ℕ → LogicalLine → Position
 place file l = record { file = file; line = l.number }
 

@@ -64,7 +64,7 @@ abbrev pub path_of_head : Head → Option (List ℕ)
 path_of_head (source path) = Some path
 path_of_head h = None
 
--- a menu's title
+-- the title of a menu, if a statement opens one
 abbrev pub title_of_head : Head → Option (List ℕ)
 title_of_head (menu title) = Some title
 title_of_head h = None
@@ -96,33 +96,33 @@ prompt_of (prompt c) = Some c
 prompt_of (typed_prompt k c) = Some c
 prompt_of a = None
 
--- a default
+-- the default that an attribute is, if it is one
 abbrev pub default_of : Attribute → Option DefaultAttribute
 default_of (default d) = Some d
 default_of (typed_default k d) = Some d
 default_of a = None
 
--- a dependency
+-- the dependency that an attribute is, if it is one
 abbrev pub depends_of : Attribute → Option Expr
 depends_of (depends e) = Some e
 depends_of a = None
 
--- a `visible if`
+-- the expression of a `visible if`, if an attribute is one
 abbrev pub visible_of : Attribute → Option Expr
 visible_of (visible e) = Some e
 visible_of a = None
 
--- a range
+-- the range that an attribute is, if it is one
 abbrev pub range_of : Attribute → Option RangeAttribute
 range_of (range r) = Some r
 range_of a = None
 
--- a `select`
+-- the `select` that an attribute is, if it is one
 abbrev pub select_of : Attribute → Option TargetAttribute
 select_of (select s) = Some s
 select_of a = None
 
--- an `imply`
+-- the `imply` that an attribute is, if it is one
 abbrev pub imply_of : Attribute → Option TargetAttribute
 imply_of (imply s) = Some s
 imply_of a = None

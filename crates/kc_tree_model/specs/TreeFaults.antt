@@ -15,7 +15,7 @@ use Rattle.kc_tree_model.specs.Statements.{Head, config, choice, Attribute, depe
 use Rattle.kc_tree_model.specs.Blocks.{Group, Line, of_head, file_end}
 use Rattle.kc_tree_model.specs.Conditions.{GroupInContext}
 use Rattle.kc_tree_model.specs.Contents.{Contents, contents_of, is_first_definition, type_given, choice_of_symbol, member_names, member_named}
-use Rattle.kc_tree_model.specs.Reading.{Outcome, reading}
+use Rattle.kc_tree_model.specs.TreeReading.{Outcome, reading}
 
 -- a kind, where a test holds
 abbrev pub when : Bool → TreeKind → List TreeKind

@@ -5,7 +5,7 @@ use Rattle.kc_tree_model.specs.TreeFiles.{Files, file_at, index_of_file}
 use Rattle.kc_tree_model.specs.Trees.{Tree}
 use Rattle.kc_tree_model.specs.Blocks.{Group, sourced_path}
 use Rattle.kc_tree_model.specs.Limits.{FileSource, without_repeats}
-use Rattle.kc_tree_model.specs.Reading.{Outcome, bytes_or_none, paths_or_fault}
+use Rattle.kc_tree_model.specs.TreeReading.{Outcome, bytes_or_none, paths_or_fault}
 use Rattle.kc_tree_model.specs.ReadingRelation.{IsWholeReading, IsCutReading, IsOutcome}
 use Rattle.kc_tree_model.specs.Contents.{tree_of_groups}
 use Rattle.kc_tree_model.specs.TreeFaults.{tree_faults}
@@ -14,7 +14,7 @@ use Rattle.kc_tree_model.specs.TreeFaults.{tree_faults}
 abbrev pub origin_of : Files → List ℕ → FileSource
 origin_of files root = record { language = files.language; bytes = file_at files; number = index_of_file files; root = root }
 
--- the same, where an absent path is an empty file
+-- files, from a first path on, where an absent path is an empty file
 abbrev pub lenient_origin : Files → List ℕ → FileSource
 lenient_origin files root = record { language = files.language; bytes = λ path. Some (bytes_or_none files path); number = index_of_file files; root = root }
 

@@ -6,7 +6,7 @@ ghost use Rattle.kc_tree_model.specs.LogicalLines.{LogicalLine, lines_of, begins
 ghost use Rattle.kc_tree_model.specs.LineGrammar.{IsInLines};
 ghost use Rattle.kc_tree_model.specs.Limits.{FileSource};
 ghost use Rattle.kc_value.specs.declared.limits.TheConstants.{MAX_OPEN_FILES};
-ghost use Rattle.kc_tree_model.specs.Reading.{Outcome, read_file, reading, files_wanted};
+ghost use Rattle.kc_tree_model.specs.TreeReading.{Outcome, read_file, reading, files_wanted};
 ghost use Rattle.kc_tree_model.specs.declared.fault.TreeFault.{TreeFault};
 ghost use Rattle.kc_tree_model.specs.Contents.{tree_of_files};
 ghost use Rattle.kc_tree_model.specs.TreeFaults.{first_tree_fault};

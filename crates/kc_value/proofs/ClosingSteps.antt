@@ -1,7 +1,7 @@
 -- Steps of looking for a closing quote.
 use Rattle.std.proofs.Common.{◌≡◌, ℕ, suc, ◌+◌, true, false, List, ◌∷◌, Option, Some, None, refl, ap, arith}
 use Rattle.std.specs.Prelude.{option_map, ◌==◌}
-use Rattle.kc_value.specs.Quoted.{closing}
+use Rattle.kc_value.specs.QuotedTexts.{closing}
 
 -- a place counted from further left
 abbrev pub further : ℕ → Option ℕ → Option ℕ

@@ -7,7 +7,7 @@ use Rattle.std.proofs.Math.ListN.{drop_of_length-le}
 use Rattle.std.proofs.lemmas.Str.{encode_ascii, chars-encodes}
 use Rattle.std.specs.Prelude.{IsUtf8}
 use Rattle.std.specs.Str.{chars}
-use Rattle.kc_value.specs.Quoted.{unescaped}
+use Rattle.kc_value.specs.QuotedTexts.{unescaped}
 
 -- all bytes are 128 or more
 abbrev AreHigh : List ℕ → Type 0

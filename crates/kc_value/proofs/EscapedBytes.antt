@@ -5,7 +5,7 @@ use Rattle.std.specs.List.{flat_map}
 use Rattle.std.proofs.lemmas.Bool.{ne_eqb}
 use Rattle.std.proofs.lemmas.List.{flat_map_more, take_all, take_more}
 use Rattle.std.proofs.Math.Seq.{take-append_seam}
-use Rattle.kc_value.specs.Quoted.{escaped_byte, quoted}
+use Rattle.kc_value.specs.QuotedTexts.{escaped_byte, quoted}
 
 -- bytes in front stay as they were
 pub still_there : (base more now : List ℕ) → now ≡ base ++ more → take (length base) now ≡ base

@@ -7,7 +7,7 @@ use Rattle.std.proofs.lemmas.List.{append_cancel_right}
 use Rattle.std.proofs.lemmas.Str.{IsCharBoundary-after_ascii, IsCharBoundary-before_ascii}
 use Rattle.std.proofs.Math.Seq.{take-append_seam, take-length}
 use Rattle.std.specs.Prelude.{IsUtf8, IsCharBoundary}
-use Rattle.kc_value.specs.Quoted.{escaped_byte, quoted, IsBody, none, plain, pair, IsQuoted, closing, unescaped}
+use Rattle.kc_value.specs.QuotedTexts.{escaped_byte, quoted, IsBody, none, plain, pair, IsQuoted, closing, unescaped}
 use Rattle.kc_value.specs.checker.Bodies.{HasBody}
 
 body_at : (b : Bool) (c : ℕ) (bs cs : List ℕ) → (eqb c 34 || eqb c 92) ≡ b → IsBody 34 bs cs → IsBody 34 (cond b (92 ∷ c ∷ []) (c ∷ []) ++ bs) (c ∷ cs)

@@ -2,8 +2,8 @@ pub mod Kinds
 pub mod Number
 pub mod NumberGrammar
 pub mod Streams
-pub mod Reading
-pub mod Quoted
-pub mod Testing
+pub mod BytesRead
+pub mod QuotedTexts
+pub mod TestScripts
 pub mod Tri
 pub mod checker

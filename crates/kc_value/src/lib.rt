@@ -1,26 +1,28 @@
 //! Values of symbols, number and quoted texts, and the readers and writers of every crate above.
 #![tactic(auto)]
 
+mod bytes_read;
 mod limits;
 mod number;
-mod quoted;
-mod reading;
+mod quoted_texts;
 mod seed;
 mod streams;
-mod testing;
+mod test_streams;
 mod tri;
 mod value;
 
+pub use bytes_read::{ReadBytes, ReadEnd, read_up_to};
 pub use limits::{
     MAX_BUNDLE_BYTES, MAX_CHOICES, MAX_CONFIG_BYTES, MAX_CONFIG_LINES, MAX_EXPR_DEPTH, MAX_FILES,
     MAX_LINE_BYTES, MAX_NAME_BYTES, MAX_NUMBER_BYTES, MAX_OPEN_BLOCKS, MAX_OPEN_FILES,
     MAX_PREFIX_BYTES, MAX_SYMBOLS, MAX_TREE_BYTES,
 };
 pub use number::{hex_of, int_of, loose_number_of, number_text, number_texts_are_the_grammars};
-pub use quoted::{closing_quote, push_escaped, quoted_texts_read_back, read_quoted, unescape};
-pub use reading::{ReadBytes, ReadEnd, read_up_to};
+pub use quoted_texts::{
+    closing_quote, push_escaped, quoted_texts_read_back, read_quoted, unescape,
+};
 pub use seed::Seed;
 pub use streams::{Failed, FromRead, Sink, Source, ToWrite};
-pub use testing::{Bounded, Script, Then};
+pub use test_streams::{Bounded, Script, Then};
 pub use tri::Tri;
 pub use value::{Kind, Text, Value, ValueRef};

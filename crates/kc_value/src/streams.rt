@@ -10,7 +10,7 @@ use std::io::{Read, Write};
 #[derive(Clone, Copy, Debug, PartialEq, Eq)]
 pub struct Failed;
 
-/// A reader.
+/// A reader of bytes.
 pub trait Source {
     /// The bytes that it has left, if they are known.
     ghost left: { Self → Option (List ℕ) };
@@ -25,7 +25,7 @@ pub trait Source {
         ensures failures { failures self.new ≡ failures_after_read (failures self.old) result };
 }
 
-/// A writer.
+/// A writer of bytes.
 pub trait Sink {
     /// The bytes that it took, if they are known.
     ghost taken: { Self → Option (List ℕ) };

@@ -1,5 +1,5 @@
 //! The traits of a disk: reading its files, and replacing them.
-ghost use Rattle.std.specs.Prelude.{◌≡◌, List, ℕ, true, take, option_map, IfOk, OnOk, OnErr, IfErr, IsErrOf};
+ghost use Rattle.std.specs.Prelude.{◌≡◌, ℕ, true, take, option_map, IfOk, OnOk, OnErr, IfErr, IsErrOf};
 ghost use Rattle.std.specs.Io.{WritesAtMost};
 ghost use Rattle.kc_value.specs.Streams.{failures_after_read, failures_after_write};
 ghost use Rattle.kmin_disk.specs.Contents.{IsOfKind, OpensAs, readable};

@@ -1,5 +1,5 @@
 //! A disk in memory, for tests: its history is known, and chosen calls fail.
-ghost use Rattle.std.specs.Prelude.{◌≡◌, ◌∷◌, ◌++◌, [], List, ℕ, Some, ◌≢◌, OnOk, OnErr, IfOk, IfSome, OnSome, string_bytes};
+ghost use Rattle.std.specs.Prelude.{◌≡◌, [], Some, ◌≢◌, OnOk, OnErr, IfOk, IfSome, OnSome, string_bytes};
 ghost use Rattle.kc_value.specs.Streams.{one_failure_more};
 ghost use Rattle.kmin_disk.specs.Disks.{History, newest};
 ghost use Rattle.kmin_disk.specs.MemoryDisks.{memory_state, memory_draft, content_view, history_after, AppendsHolds, AppendsRename};

@@ -6,7 +6,8 @@ use Rattle.kc_macros_model.specs.declared.fault.AnswersKind.TheVariants.{Malform
 use Rattle.kc_macros_model.specs.declared.fault.AnswersFault.{AnswersFault}
 use Rattle.kc_macros_model.specs.AnswerFiles.{Recorded, complete, cut_by, answers_read}
 use Rattle.kc_macros.specs.ReadAnswers.{AreRecorded, IsRefused, ReadsToEnd, end_of_file}
-use Rattle.kmin_jobs.specs.FileContents.{FileContent, MatchContent}
+use Rattle.kmin_jobs.specs.FileContents.{FileContent}
+use Rattle.kmin_tidy.specs.MinimalFiles.{AreKnownBytes}
 use Rattle.kmin_disk.specs.Contents.{OpensAs}
 use Rattle.kmin_tidy.specs.StandardError.{TakesLines}
 use Rattle.kmin_jobs.specs.MacroReports.{answers_line}
@@ -37,7 +38,7 @@ module _ (content : FileContent) (path : List ℕ) (before after : Option (List 
       → ReadsToEnd after failed failed_after bytes cut → answers_read (end_of_file cut) bytes earlier ≡ Err fault
       → StopsAtAnswers content earlier path (answers_status fault.kind) (answers_line path fault.line fault.kind)
   refused_by failed failed_after bytes fault None h e r =
-      refused bytes [] complete fault (subst (λ text. MatchContent content text) (sym (append-nil bytes))
+      refused bytes [] complete fault (subst (λ text. AreKnownBytes content text) (sym (append-nil bytes))
       (whole_content content before after bytes opens h e.0)) refl r refl refl
   refused_by failed failed_after bytes fault (Some Read) h e r =
       let w = rest_of content before after bytes opens h in refused bytes w.0 (cut_by Read) fault w.1 tt r refl refl

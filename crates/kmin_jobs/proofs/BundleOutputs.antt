@@ -11,7 +11,7 @@ use Rattle.kc_dotconfig_model.specs.Formats.{FileFormat, plain_format}
 use Rattle.kc_dotconfig_model.specs.ConfigLines.{LineMeaning}
 use Rattle.kc_dotconfig_model.specs.ConfigFiles.{overlay, empty_assignment}
 use Rattle.kc_dotconfig.specs.declared.fragment.Fragment.{Fragment}
-use Rattle.kc_dotconfig.specs.Configured.{Configured, IsSolved, tree_in}
+use Rattle.kc_dotconfig.specs.ConfigStates.{Configured, IsSolved, tree_in}
 use Rattle.kc_dotconfig.specs.Fragments.{users_of}
 use Rattle.kc_dotconfig.specs.ReadResults.{IsReadAs}
 use Rattle.kc_minimal_model.specs.FullFile.{full_file}

@@ -13,7 +13,7 @@ use Rattle.kc_dotconfig_model.specs.Formats.{FileFormat}
 use Rattle.kc_dotconfig_model.specs.ConfigLines.{LineMeaning}
 use Rattle.kc_dotconfig_model.specs.ConfigFiles.{empty_assignment}
 use Rattle.kc_rules_model.specs.declared.values.UnitValue.{UnitValue}
-use Rattle.kc_dotconfig.specs.Configured.{Configured, IsSolved, tree_in}
+use Rattle.kc_dotconfig.specs.ConfigStates.{Configured, IsSolved, tree_in}
 use Rattle.kc_minimal_model.specs.Differences.{differences}
 use Rattle.kmin_words.specs.Jobs.{Settings, Task, over, compare, paths_of}
 use Rattle.kmin_words.specs.declared.job.Verb.{Verb}

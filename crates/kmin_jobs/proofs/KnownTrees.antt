@@ -3,7 +3,7 @@ use Rattle.std.proofs.Common.{◌≡◌, ◌≢◌, ℕ, List, Option, Some, Non
 use Rattle.kc_expr.specs.declared.language.Language.{Language}
 use Rattle.kc_tree_model.specs.TreeFiles.{Files, file_at, index_of_file}
 use Rattle.kc_tree_model.specs.declared.fault.TreeFault.{TreeFault}
-use Rattle.kc_tree_model.specs.Reading.{Outcome, reading}
+use Rattle.kc_tree_model.specs.TreeReading.{Outcome, reading}
 use Rattle.kc_tree_model.specs.MoreFiles.{reading_from, LacksNoFile, AreAmong}
 use Rattle.kc_tree_model.specs.Contents.{tree_of_groups, tree_of_files}
 use Rattle.kc_tree_model.specs.TreeFaults.{first_fault_after, first_tree_fault}

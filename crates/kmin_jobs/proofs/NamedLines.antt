@@ -8,7 +8,7 @@ use Rattle.kc_rules_model.specs.declared.values.UnitValue.{UnitValue}
 use Rattle.kc_rules_model.specs.SymbolValues.{value_of_symbol}
 use Rattle.kc_rules_model.specs.Reports.{symbol_numbers}
 use Rattle.kc_minimal.specs.between.DifferenceViews.{difference_view}
-use Rattle.kc_minimal.specs.declared.differing.Difference.{Difference as ToldDifference}
+use Rattle.kc_minimal.specs.declared.difference.Difference.{Difference as ToldDifference}
 use Rattle.kc_minimal_model.specs.Differences.{Difference, is_same_value, difference_at, differences}
 use Rattle.kmin_jobs.specs.Answers.{difference_line}
 use Rattle.kc_dotconfig_model.specs.declared.format.Strings.{Strings}

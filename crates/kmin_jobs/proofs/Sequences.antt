@@ -14,12 +14,13 @@ use Rattle.kc_dotconfig_model.specs.ConfigLines.{LineMeaning}
 use Rattle.kc_dotconfig_model.specs.ConfigFiles.{file_assignment, overlay, notices_from}
 use Rattle.kc_dotconfig_model.specs.LoadFaults.{IsFirstFault, complete}
 use Rattle.kc_dotconfig.specs.declared.fragment.Fragment.{Fragment}
-use Rattle.kc_dotconfig.specs.Configured.{Configured}
+use Rattle.kc_dotconfig.specs.ConfigStates.{Configured}
 use Rattle.kc_dotconfig.specs.Fragments.{users_of, notice_pair}
 use Rattle.kc_dotconfig.specs.ReadResults.{IsReadAs, IsRefused, ReportsFault}
 use Rattle.kmin_jobs.specs.declared.run_error.RunError.{RunError}
 use Rattle.kmin_jobs.specs.declared.run_error.RunError.TheVariants.{Memory}
-use Rattle.kmin_jobs.specs.FileContents.{FileContent, MatchContent}
+use Rattle.kmin_jobs.specs.FileContents.{FileContent}
+use Rattle.kmin_tidy.specs.MinimalFiles.{AreKnownBytes}
 use Rattle.kmin_disk.specs.Contents.{OpensAs}
 use Rattle.kmin_jobs.specs.Reports.{file_notices, notice_lines}
 use Rattle.kmin_tidy.specs.Reports.{notice_line, fault_line}
@@ -36,7 +37,7 @@ use Rattle.kmin_tidy.proofs.WriterLemmas.{lines_append}
 
 -- the bytes that were read of an opened file begin what is known of it; at its end they are all of it
 pub rest_of : (content : FileContent) (before after : Option (List ℕ)) (bytes : List ℕ) → OpensAs content (Some before) → Consumes before after bytes
-    → (rest : List ℕ) × MatchContent content (bytes ++ rest)
+    → (rest : List ℕ) × AreKnownBytes content (bytes ++ rest)
 rest_of None before after bytes o h = ([], tt)
 rest_of (Some None) before after bytes o h = let f : Some before ≡ None = o in cc
 rest_of (Some (Some known)) before None bytes o h =
@@ -49,7 +50,7 @@ whole_memory text None bytes h e = absurd h
 whole_memory text (Some rest) bytes h e = h ∙ ap (λ z. bytes ++ z) e ∙ append-nil bytes
 
 pub whole_content : (content : FileContent) (before after : Option (List ℕ)) (bytes : List ℕ) → OpensAs content (Some before)
-    → Consumes before after bytes → IsAtEnd after → MatchContent content bytes
+    → Consumes before after bytes → IsAtEnd after → AreKnownBytes content bytes
 whole_content None before after bytes o h e = tt
 whole_content (Some None) before after bytes o h e = let f : Some before ≡ None = o in cc
 whole_content (Some (Some known)) before after bytes o h e =
@@ -148,7 +149,7 @@ pub mean_again : (content_of others : List ℕ → FileContent) (format : FileFo
     → FilesMean content_of format strict tree paths meanings
 mean_again content_of others format strict tree paths meanings same none = none
 mean_again content_of others format strict tree paths meanings same (file path bytes more own rest matches accepted means allowed h) =
-    file path bytes more own rest (subst (λ content. MatchContent content bytes) (same path) matches) accepted means allowed
+    file path bytes more own rest (subst (λ content. AreKnownBytes content bytes) (same path) matches) accepted means allowed
     (mean_again content_of others format strict tree more rest same h)
 
 -- files after files
@@ -181,7 +182,7 @@ pub loaded_one : (content_of others : List ℕ → FileContent) (format : FileFo
     → AreLoaded content_of format strict tree (path ∷ []) before after taken failed taken_after failed_after
 loaded_one content_of others format strict tree path before after fragment taken taken_after failed failed_after same l a e = record {
   meanings = l.meanings ∷ [];
-  mean = file path l.bytes [] l.meanings [] (subst (λ content. MatchContent content l.bytes) same l.matches) l.accepted l.means (λ s. sym l.noted ∙ a s) none;
+  mean = file path l.bytes [] l.meanings [] (subst (λ content. AreKnownBytes content l.bytes) same l.matches) l.accepted l.means (λ s. sym l.noted ∙ a s) none;
   users_are = e ∙ ap (λ users. overlay users before) l.users;
   reported = subst (λ lines. TakesLines taken failed lines taken_after failed_after) (sym (append-nil (file_notices path l.meanings))) l.reported;
 }

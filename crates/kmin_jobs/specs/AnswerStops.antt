@@ -5,7 +5,8 @@ use Rattle.kc_macros_model.specs.declared.fault.AnswersKind.TheVariants.{TooLarg
 use Rattle.kc_macros_model.specs.declared.fault.AnswersFault.{AnswersFault}
 use Rattle.kc_macros_model.specs.Limits.{max_answer_bytes}
 use Rattle.kc_macros_model.specs.AnswerFiles.{Recorded, FileEnd, complete, cut_by, answers_read}
-use Rattle.kmin_jobs.specs.FileContents.{FileContent, MatchContent}
+use Rattle.kmin_jobs.specs.FileContents.{FileContent}
+use Rattle.kmin_tidy.specs.MinimalFiles.{AreKnownBytes}
 use Rattle.kmin_disk.specs.Contents.{OpensAs}
 use Rattle.kmin_jobs.specs.JobAnswers.{FilesRecord}
 use Rattle.kmin_jobs.specs.MacroReports.{answers_line}
@@ -25,7 +26,7 @@ IsReadUntil (cut_by kind) bytes rest = ⊥
 
 -- An answer file, after earlier ones, ends a job with this status and this line: by its first fault, or since it can't be opened.
 pub data StopsAtAnswers (content : FileContent) (earlier : Recorded) (path : List ℕ) (status : ℕ) (line : List ℕ) : Type 0 where
-  refused : (bytes rest : List ℕ) (end : FileEnd) (fault : AnswersFault) → MatchContent content (bytes ++ rest) → IsReadUntil end bytes rest
+  refused : (bytes rest : List ℕ) (end : FileEnd) (fault : AnswersFault) → AreKnownBytes content (bytes ++ rest) → IsReadUntil end bytes rest
       → answers_read end bytes earlier ≡ Err fault → status ≡ answers_status fault.kind → line ≡ answers_line path fault.line fault.kind
       → StopsAtAnswers content earlier path status line
   unopened : OpensAs content None → status ≡ 5 → line ≡ answers_line path 0 Read → StopsAtAnswers content earlier path status line

@@ -15,16 +15,17 @@ use Rattle.kc_dotconfig_model.specs.Formats.{FileFormat}
 use Rattle.kc_dotconfig_model.specs.ConfigFiles.{FileMeans, notices_from, file_assignment, overlay, empty_assignment}
 use Rattle.kc_dotconfig_model.specs.ConfigLines.{LineMeaning}
 use Rattle.kc_dotconfig_model.specs.LoadFaults.{IsAccepted}
-use Rattle.kc_dotconfig_model.specs.Missed.{missed}
+use Rattle.kc_dotconfig_model.specs.MissedAssignments.{missed}
 use Rattle.kc_minimal_model.specs.CanonicalText.{IsCanonicalText}
 use Rattle.kc_minimal_model.specs.FullFile.{full_file}
 use Rattle.kc_minimal_model.specs.Differences.{Difference, differences}
 use Rattle.kc_dotconfig_model.specs.declared.format.Strings.{Strings}
-use Rattle.kc_minimal_model.specs.Spelling.{spelled}
+use Rattle.kc_minimal_model.specs.SymbolLine.{spelled}
 use Rattle.kmin_words.specs.Jobs.{Settings, Task, over, compare}
 use Rattle.kmin_words.specs.declared.job.Verb.{Verb}
 use Rattle.kmin_words.specs.declared.job.Verb.TheVariants.{Min, Full, Missed, Check}
-use Rattle.kmin_jobs.specs.FileContents.{FileContent, MatchContent}
+use Rattle.kmin_jobs.specs.FileContents.{FileContent}
+use Rattle.kmin_tidy.specs.MinimalFiles.{AreKnownBytes}
 use Rattle.kmin_jobs.specs.Reports.{name_at, notice_lines}
 use Rattle.kmin_jobs.specs.Strictness.{AllowsNotices}
 use Rattle.kmin_jobs.specs.Statuses.{status_of_list, listed}
@@ -39,7 +40,7 @@ pub record AreAccepted (texts : Files) (first : List ℕ) (tree : Tree) : Type 0
 pub data FilesMean (content_of : List ℕ → FileContent) (format : FileFormat) (strict : Bool) (tree : Tree) : List (List ℕ) → List (List LineMeaning) → Type 0 where
   none : FilesMean content_of format strict tree [] []
   file : (path bytes : List ℕ) (paths : List (List ℕ)) (meanings : List LineMeaning) (others : List (List LineMeaning))
-      → MatchContent (content_of path) bytes → IsAccepted format tree bytes → FileMeans format tree bytes meanings
+      → AreKnownBytes (content_of path) bytes → IsAccepted format tree bytes → FileMeans format tree bytes meanings
       → AllowsNotices strict (notices_from 1 meanings)
       → FilesMean content_of format strict tree paths others → FilesMean content_of format strict tree (path ∷ paths) (meanings ∷ others)
 

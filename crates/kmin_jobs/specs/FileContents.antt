@@ -9,12 +9,6 @@ use Rattle.kc_expansion.specs.TreeContents.{FolderContent}
 abbrev pub FileContent : Type 0
 FileContent = Option (Option (List ℕ))
 
--- bytes agree with a content, if it is known
-abbrev pub MatchContent : FileContent → List ℕ → Type 0
-MatchContent None bytes = Unit {0}
-MatchContent (Some None) bytes = ⊥
-MatchContent (Some (Some content)) bytes = bytes ≡ content
-
 -- bytes agree with a content, if it is known; of a file of more than `MAX_TREE_BYTES` bytes they are the first `MAX_TREE_BYTES` and one more
 abbrev pub MatchContentStart : FileContent → List ℕ → Type 0
 MatchContentStart None bytes = Unit {0}

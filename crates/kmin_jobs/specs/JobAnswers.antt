@@ -7,12 +7,13 @@ use Rattle.kc_macros_model.specs.Limits.{max_text_bytes}
 use Rattle.kc_macros_model.specs.Programs.{Answer}
 use Rattle.kc_macros_model.specs.AnswerFiles.{Recorded, complete, answers_read}
 use Rattle.kmin_words.specs.Jobs.{Definition, Expansion}
-use Rattle.kmin_jobs.specs.FileContents.{FileContent, MatchContent, VariableContent, MatchVariable}
+use Rattle.kmin_jobs.specs.FileContents.{FileContent, VariableContent, MatchVariable}
+use Rattle.kmin_tidy.specs.MinimalFiles.{AreKnownBytes}
 
 -- Answer files, whose bytes match their known content, are accepted, and add to what earlier ones recorded.
 pub data FilesRecord (content_of : List ℕ → FileContent) : List (List ℕ) → (earlier recorded : Recorded) → Type 0 where
   none : (recorded : Recorded) → FilesRecord content_of [] recorded recorded
-  file : (path bytes : List ℕ) (paths : List (List ℕ)) (earlier middle recorded : Recorded) → MatchContent (content_of path) bytes
+  file : (path bytes : List ℕ) (paths : List (List ℕ)) (earlier middle recorded : Recorded) → AreKnownBytes (content_of path) bytes
       → answers_read complete bytes earlier ≡ Ok middle → FilesRecord content_of paths middle recorded → FilesRecord content_of (path ∷ paths) earlier recorded
 
 -- the first answer, or if there is none the other one

@@ -17,7 +17,8 @@ use Rattle.kc_macros_model.specs.Programs.{Fault, Notice}
 use Rattle.kc_macros_model.specs.AnswerFiles.{Recorded}
 use Rattle.kc_expansion.specs.Expansions.{IsExpansion}
 use Rattle.kmin_words.specs.Jobs.{Expansion, Settings, Task, paths_of}
-use Rattle.kmin_jobs.specs.FileContents.{FileContent, MatchContent, Known}
+use Rattle.kmin_jobs.specs.FileContents.{FileContent, Known}
+use Rattle.kmin_tidy.specs.MinimalFiles.{AreKnownBytes}
 use Rattle.kmin_disk.specs.Contents.{OpensAs}
 use Rattle.kmin_jobs.specs.JobAnswers.{AreJobAnswers}
 use Rattle.kmin_jobs.specs.JobTexts.{TreeTexts, AreTextsOfJob}
@@ -39,15 +40,15 @@ pub data RefusesTexts (texts names : Files) (first line : List ℕ) : Type 0 whe
 
 -- A configuration file ends a command: by its first fault, by a read that fails before one, since it can't be opened, or by its notices, each with its line.
 pub data StopsAtFile (content : FileContent) (format : FileFormat) (strict : Bool) (tree : Tree) (path : List ℕ) (status : ℕ) (lines : List (List ℕ)) : Type 0 where
-  refused : (bytes : List ℕ) (kind : LoadKind) (number : ℕ) → MatchContent content bytes
+  refused : (bytes : List ℕ) (kind : LoadKind) (number : ℕ) → AreKnownBytes content bytes
       → IsFirstFault format tree complete bytes kind number → status ≡ 4 → lines ≡ fault_line path number kind ∷ []
       → StopsAtFile content format strict tree path status lines
-  unread : (front rest : List ℕ) (number : ℕ) → MatchContent content (front ++ rest)
+  unread : (front rest : List ℕ) (number : ℕ) → AreKnownBytes content (front ++ rest)
       → IsFirstFault format tree cut_short front Read number → status ≡ 5 → lines ≡ fault_line path number Read ∷ []
       → StopsAtFile content format strict tree path status lines
   unopened : OpensAs content None → status ≡ 5 → lines ≡ fault_line path 0 Read ∷ []
       → StopsAtFile content format strict tree path status lines
-  noticed : (bytes : List ℕ) (meanings : List LineMeaning) → MatchContent content bytes → IsAccepted format tree bytes
+  noticed : (bytes : List ℕ) (meanings : List LineMeaning) → AreKnownBytes content bytes → IsAccepted format tree bytes
       → FileMeans format tree bytes meanings → RefusesNotices strict (notices_from 1 meanings) → status ≡ 4
       → lines ≡ file_notices path meanings → StopsAtFile content format strict tree path status lines
 

@@ -14,7 +14,8 @@ use Rattle.kmin_tidy.specs.Promises.{Became, AreTidy}
 use Rattle.kmin_words.specs.declared.job.TidyFlags.{TidyFlags}
 use Rattle.kmin_words.specs.Jobs.{Settings, PathList, Tidying}
 use Rattle.kmin_jobs.specs.declared.tidy_command.TheConstants.{MAX_LIST_BYTES}
-use Rattle.kmin_jobs.specs.FileContents.{FileContent, MatchContent, Known}
+use Rattle.kmin_jobs.specs.FileContents.{FileContent, Known}
+use Rattle.kmin_tidy.specs.MinimalFiles.{AreKnownBytes}
 use Rattle.kmin_jobs.specs.JobTexts.{TreeTexts, AreTextsOfJob}
 use Rattle.kmin_jobs.specs.Answers.{AreAccepted}
 use Rattle.kmin_jobs.specs.Reports.{last_lines}
@@ -28,7 +29,7 @@ list_content content_of left path = if bytes_eq path (codes "-") then option_map
 -- bytes agree with the content of the list, if that is known; without a list there are none
 abbrev pub MatchList : (content_of : List ℕ → FileContent) → (left : Option (List ℕ)) → Option PathList → (bytes : List ℕ) → Type 0
 MatchList content_of left None bytes = bytes ≡ []
-MatchList content_of left (Some list) bytes = MatchContent (list_content content_of left list.path) bytes
+MatchList content_of left (Some list) bytes = AreKnownBytes (list_content content_of left list.path) bytes
 
 -- bytes are those of the list, and no more than a list may have
 pub record AreListBytes (content_of : List ℕ → FileContent) (left : Option (List ℕ)) (list : Option PathList) (bytes : List ℕ) : Type 0 where
@@ -59,7 +60,7 @@ malformed_line = codes "from: Malformed\n"
 
 -- A list can't be read, with this status and these lines: it has too many bytes, it can't be opened or read, or memory ran out.
 pub data StopsReadingList (content : FileContent) (path : List ℕ) (status : ℕ) (lines : List (List ℕ)) : Type 0 where
-  too_large : (front rest : List ℕ) → MatchContent content (front ++ rest) → MAX_LIST_BYTES < length front → status ≡ 4
+  too_large : (front rest : List ℕ) → AreKnownBytes content (front ++ rest) → MAX_LIST_BYTES < length front → status ≡ 4
       → lines ≡ fault_line path 0 TooLarge ∷ [] → StopsReadingList content path status lines
   unread : status ≡ 5 → lines ≡ fault_line path 0 Read ∷ [] → StopsReadingList content path status lines
   for_memory : status ≡ 6 → lines ≡ [] → StopsReadingList content path status lines

@@ -4,7 +4,7 @@ ghost use Rattle.std.specs.Borrow.{Bor};
 ghost use Rattle.kc_rules.specs.between.SettledViews.{tree_of_settled};
 ghost use Rattle.kc_dotconfig_model.specs.ConfigFiles.{empty_assignment};
 ghost use Rattle.kc_dotconfig_model.specs.between.Formats.{file_format};
-ghost use Rattle.kc_dotconfig.specs.Configured.{IsSolved};
+ghost use Rattle.kc_dotconfig.specs.ConfigStates.{IsSolved};
 ghost use Rattle.kc_dotconfig.specs.Fragments.{FitsTree, notice_pair};
 ghost use Rattle.kc_dotconfig.specs.ReadResults.{IsReadAs};
 ghost use Rattle.kmin_tidy.specs.Reports.{notice_line};

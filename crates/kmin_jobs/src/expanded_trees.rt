@@ -1,5 +1,5 @@
 //! The expansion of a tree: its expanded files, and the questions of its macros that are open.
-ghost use Rattle.std.specs.Prelude.{◌≡◌, ◌∷◌, ◌++◌, [], ℕ, List, Ok, IfOk, IfErr, OnOk, map, slice_get, if◌then◌else◌};
+ghost use Rattle.std.specs.Prelude.{◌≡◌, ℕ, List, Ok, IfOk, IfErr, OnOk, map, slice_get, if◌then◌else◌};
 ghost use Rattle.std.specs.Str.{is_utf8};
 ghost use Rattle.kc_macros_model.specs.Programs.{Notice};
 ghost use Rattle.kc_macros.specs.Runs.{notice_of};

@@ -1,17 +1,14 @@
 //! The answers to the questions of a job's tree, from definitions, answer files and the environment.
-ghost use Rattle.std.specs.Prelude.{◌≡◌, ◌∷◌, [], ℕ, List, Some, None, IfOk, IfErr, OnOk, map, bytes_eq, option_map, string_bytes, if◌then◌else◌};
+ghost use Rattle.std.specs.Prelude.{◌≡◌, ◌∷◌, [], ℕ, List, Some, None, IfOk, IfErr, OnOk, map, option_map, string_bytes};
 ghost use Rattle.std.specs.Borrow.{Bor};
 ghost use Rattle.kc_tree_model.specs.Keywords.{keyword_in_table};
 ghost use Rattle.kc_tree_model.specs.TreeLookup.{has_newline};
-ghost use Rattle.kc_macros_model.specs.AnswerFiles.{Recorded};
-ghost use Rattle.kmin_words.specs.Jobs.{Expansion as ExpansionView, definition_view, expansion_view};
-ghost use Rattle.kmin_jobs.specs.FileContents.{known_by, FileContent};
-ghost use Rattle.kmin_disk.specs.Contents.{OpensAs};
-ghost use Rattle.kmin_jobs.specs.JobAnswers.{FilesRecord, AreJobAnswers, defined_answer, or_else, lent_answer, answer_of_variable};
+ghost use Rattle.kmin_words.specs.Jobs.{definition_view, expansion_view};
+ghost use Rattle.kmin_jobs.specs.FileContents.{known_by};
+ghost use Rattle.kmin_jobs.specs.JobAnswers.{FilesRecord, AreJobAnswers, defined_answer, or_else, answer_of_variable};
 ghost use Rattle.kc_macros.specs.ReadAnswers.{AreRecorded};
 ghost use Rattle.kmin_jobs.specs.AnswerStops.{StopsAmongAnswers, answers_status};
-ghost use Rattle.kmin_jobs.specs.MacroReports.{answers_line};
-ghost use Rattle.kmin_tidy.specs.StandardError.{TakesLine, TakesLines};
+ghost use Rattle.kmin_tidy.specs.StandardError.{TakesLines};
 ghost use Rattle.kmin_jobs.specs.between.AnswerSteps.{StopsReading, StopsAtAnswersPath, AreLent, answers_lines};
 ghost use Rattle.kmin_jobs.specs.between.RunErrors.{status_of};
 

@@ -1,11 +1,11 @@
 //! The tree of a job, read with or without the expansion of macros.
-ghost use Rattle.std.specs.Prelude.{◌≡◌, ◌++◌, [], ℕ, List, IfOk, IfErr};
+ghost use Rattle.std.specs.Prelude.{◌≡◌, [], ℕ, List, IfOk, IfErr};
 ghost use Rattle.kc_tree_model.specs.TreeFiles as trees;
 ghost use Rattle.kc_rules.specs.between.SettledViews.{tree_of_settled, profile_of};
 ghost use Rattle.kmin_words.specs.Jobs.{expansion_view, settings_view};
 ghost use Rattle.kmin_jobs.specs.Answers.{AreAccepted};
 ghost use Rattle.kmin_jobs.specs.FileContents.{AreTextsBelow, known_by};
-ghost use Rattle.kmin_jobs.specs.JobTexts.{TreeTexts, AreExpandedTexts, AreTextsOfJob, expanded_texts, named_texts};
+ghost use Rattle.kmin_jobs.specs.JobTexts.{TreeTexts, AreExpandedTexts, AreTextsOfJob, named_texts};
 ghost use Rattle.kmin_tidy.specs.StandardError.{TakesLines};
 ghost use Rattle.kmin_jobs.specs.Stops.{StopsAtTree, StopsInExpansion};
 ghost use Rattle.kmin_jobs.specs.between.ExpandedStops.{StopsAtExpanded};

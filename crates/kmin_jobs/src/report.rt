@@ -1,13 +1,12 @@
 //! The lines of standard error: each is a report, which is written at once.
-ghost use Rattle.std.specs.Prelude.{◌≡◌, ◌++◌, ◌∷◌, [], ℕ, List, Option, codes, map, slice_get, length, ◌<◌, OnOk, OnErr};
+ghost use Rattle.std.specs.Prelude.{◌≡◌, ◌++◌, ℕ, List, codes, slice_get, length, ◌<◌, OnOk, OnErr};
 ghost use Rattle.std.specs.List.{flat_map};
 ghost use Rattle.std.specs.Borrow.{Bor};
-ghost use Rattle.std.specs.Fmt.{decimal};
 ghost use Rattle.kc_macros.specs.Runs.{fault_of, notice_of};
 ghost use Rattle.kmin_jobs.specs.MacroReports.{macro_fault_line, macro_notice_line, message_line};
 ghost use Rattle.kmin_jobs.specs.Reports.{first_member_name, unit_text, units_text};
 ghost use Rattle.kmin_tidy.specs.Reports.{place_line};
-ghost use Rattle.kmin_tidy.specs.StandardError.{TakesWhole, TakesPart, TakesLine, TakesLines};
+ghost use Rattle.kmin_tidy.specs.StandardError.{TakesWhole, TakesPart, TakesLine};
 ghost use Rattle.kmin_jobs.specs.between.ReportLines.{report_line};
 
 use crate::macro_names::{answers_kind_name, macro_kind_name, macro_notice_name};
@@ -15,9 +14,10 @@ use crate::symbol_lines::name_of;
 use itoa::Buffer;
 use kc_dotconfig::{LoadKind, NoticeKind};
 use kc_macros::{AnswersKind, MacroFault, MacroNotice};
-use kc_minimal::{WriteFault, write_out};
+use kc_minimal::WriteFault;
 use kc_tree::{Tree, TreeKind, Unit};
 use kc_value::Sink;
+use kmin_tidy::write_pieces;
 
 /// An event with a line on standard error; it borrows what it names.
 #[derive(Drop)]
@@ -229,15 +229,4 @@ fn member_name(tree: &Tree, choice: u32) -> &str
         Some(symbol) => name_of(tree, *symbol),
         None => "",
     }
-}
-
-/// Writes the pieces of a line, up to the first write that fails.
-fn write_pieces<W: Sink>(pieces: &[&[u8]], sink: &mut W) -> Result<(), WriteFault>
-    ensures whole { OnOk result (TakesWhole (W.taken sink.old) (W.failures sink.old) (flat_map (λ (piece : Bor (List ℕ)). piece.now) pieces.now) (W.taken sink.new) (W.failures sink.new)) }
-    ensures part { OnErr result (TakesPart (W.taken sink.old) (W.failures sink.old) (flat_map (λ (piece : Bor (List ℕ)). piece.now) pieces.now) (W.taken sink.new) (W.failures sink.new)) }
-{
-    for piece in pieces {
-        write_out(sink, piece)?;
-    }
-    Ok(())
 }

@@ -1,11 +1,11 @@
 //! Lines with the names of symbols and their values.
-ghost use Rattle.std.specs.Prelude.{◌≡◌, ◌++◌, ◌∷◌, [], IfOk, OnOk, map};
+ghost use Rattle.std.specs.Prelude.{◌≡◌, ◌++◌, IfOk, OnOk};
 ghost use Rattle.std.specs.List.{flat_map};
 ghost use Rattle.kc_rules.specs.between.SettledViews.{tree_of_settled};
 ghost use Rattle.kmin_jobs.specs.Answers.{name_line};
 ghost use Rattle.kmin_jobs.specs.Reports.{name_at};
 ghost use Rattle.kmin_jobs.specs.between.Lines.{line_between};
-ghost use Rattle.kc_minimal.specs.declared.differing.Difference.{Difference as ToldDifference};
+ghost use Rattle.kc_minimal.specs.declared.difference.Difference.{Difference as ToldDifference};
 
 use kc_dotconfig::Strings;
 use kc_minimal::{Difference, push_spelled};

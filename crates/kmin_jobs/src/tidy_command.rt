@@ -1,12 +1,13 @@
 //! The command `tidy`, which compares each configuration file with its minimal file, or replaces it.
-ghost use Rattle.std.specs.Prelude.{◌≡◌, ◌≢◌, ◌≤◌, ◌∷◌, ◌++◌, [], List, ℕ, Option, Some, false, length, map, option_map, IfOk, IfErr, IsErrOf};
+ghost use Rattle.std.specs.Prelude.{◌≡◌, ◌≢◌, ◌≤◌, ◌++◌, [], List, ℕ, Option, Some, false, length, map, option_map, IfOk, IfErr, IsErrOf};
 ghost use Rattle.std.specs.List.{list_all};
 ghost use Rattle.std.specs.Str.{is_utf8};
 ghost use Rattle.std.specs.Borrow.{Bor};
 ghost use Rattle.kmin_lines.specs.Lists.{paths_in, is_one_line};
 ghost use Rattle.kmin_tidy.specs.Steps.{disk_of};
 ghost use Rattle.kmin_words.specs.Jobs.{list_view, settings_view, tidying_view};
-ghost use Rattle.kmin_jobs.specs.FileContents.{FileContent, MatchContent, known_by};
+ghost use Rattle.kmin_jobs.specs.FileContents.{FileContent, known_by};
+ghost use Rattle.kmin_tidy.specs.MinimalFiles.{AreKnownBytes};
 ghost use Rattle.kmin_disk.specs.Contents.{OpensAs};
 ghost use Rattle.kmin_tidy.specs.Reports.{fault_line};
 ghost use Rattle.kmin_tidy.specs.StandardError.{TakesLine, TakesLines};
@@ -211,7 +212,7 @@ fn named_list<F: Files, I: Source, E: Sink>(
 ) -> Result<Vec<u8>, RunError>
     ensures same { known_by (F.content_of files.new) (F.regular_content_of files.new) (F.names_of files.new) (F.variable_of files.new) ≡ known_by (F.content_of files.old) (F.regular_content_of files.old) (F.names_of files.old) (F.variable_of files.old) }
     ensures within { IfOk result (λ bytes. length bytes.items ≤ MAX_LIST_BYTES) }
-    ensures bytes { IfOk result (λ bytes. MatchContent (list_content (F.content_of files.old) (I.left input.old) path.now) bytes.items) }
+    ensures bytes { IfOk result (λ bytes. AreKnownBytes (list_content (F.content_of files.old) (I.left input.old) path.now) bytes.items) }
     ensures unreported { IfOk result (λ bytes. TakesLines (E.taken err.old) (E.failures err.old) [] (E.taken err.new) (E.failures err.new)) }
     ensures stopped { IfErr result (λ stop. (lines : List (List ℕ)) × StopsReadingList (list_content (F.content_of files.old) (I.left input.old) path.now) path.now (status_of stop) lines × TakesLines (E.taken err.old) (E.failures err.old) lines (E.taken err.new) (E.failures err.new)) }
 {
@@ -235,7 +236,7 @@ fn read_list<S: Source, E: Sink>(
     err: &mut E,
 ) -> Result<Vec<u8>, RunError>
     ensures within { IfOk result (λ bytes. length bytes.items ≤ MAX_LIST_BYTES) }
-    ensures bytes { IfOk result (λ bytes. (content : FileContent) → OpensAs content (Some (S.left source.old)) → MatchContent content bytes.items) }
+    ensures bytes { IfOk result (λ bytes. (content : FileContent) → OpensAs content (Some (S.left source.old)) → AreKnownBytes content bytes.items) }
     ensures unreported { IfOk result (λ bytes. TakesLines (E.taken err.old) (E.failures err.old) [] (E.taken err.new) (E.failures err.new)) }
     ensures stopped { IfErr result (λ stop. (lines : List (List ℕ)) × ((content : FileContent) → OpensAs content (Some (S.left source.old)) → StopsReadingList content path.now (status_of stop) lines) × TakesLines (E.taken err.old) (E.failures err.old) lines (E.taken err.new) (E.failures err.new)) }
 {

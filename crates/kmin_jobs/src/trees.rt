@@ -1,9 +1,9 @@
 //! Reading and settling a tree, with a report if it is refused.
-ghost use Rattle.std.specs.Prelude.{◌≡◌, ◌∷◌, [], ℕ, List, IfOk, IfErr, OnOk, unwrap_or, slice_get};
+ghost use Rattle.std.specs.Prelude.{◌≡◌, [], ℕ, List, IfOk, IfErr, OnOk, unwrap_or, slice_get};
 ghost use Rattle.kc_tree_model.specs.TreeFiles.{path_at};
 ghost use Rattle.kc_rules.specs.between.SettledViews.{tree_of_settled, profile_of};
 ghost use Rattle.kmin_jobs.specs.Answers.{AreAccepted};
-ghost use Rattle.kmin_jobs.specs.Reports.{path_or_first, tree_fault_line, cycle_line, cycle_place, unit_place};
+ghost use Rattle.kmin_jobs.specs.Reports.{tree_fault_line, cycle_line, cycle_place, unit_place};
 ghost use Rattle.kmin_tidy.specs.StandardError.{TakesLine, TakesLines};
 ghost use Rattle.kmin_jobs.specs.between.FileNames.{names_of};
 ghost use Rattle.kmin_jobs.specs.between.Readings.{IsRead};

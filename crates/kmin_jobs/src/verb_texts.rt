@@ -1,11 +1,11 @@
 //! The outputs of the verbs `min`, `full`, `missed` and `check`, and of `compare`.
 ghost use Rattle.std.specs.Prelude.{◌≡◌, [], Ok, true, codes, IfOk};
 ghost use Rattle.kc_rules_model.specs.Reports.{unmet};
-ghost use Rattle.kc_dotconfig_model.specs.Missed.{missed};
+ghost use Rattle.kc_dotconfig_model.specs.MissedAssignments.{missed};
 ghost use Rattle.std.specs.List.{flat_map};
 ghost use Rattle.kc_minimal_model.specs.Differences.{differences};
 ghost use Rattle.kc_rules.specs.between.SettledViews.{profile_of};
-ghost use Rattle.kc_dotconfig.specs.Configured.{tree_in};
+ghost use Rattle.kc_dotconfig.specs.ConfigStates.{tree_in};
 ghost use Rattle.kc_dotconfig_model.specs.between.Formats as formats;
 ghost use Rattle.kmin_jobs.specs.Answers.{name_line, IsTextOfVerb, difference_line};
 ghost use Rattle.kmin_jobs.specs.Statuses.{status_of_list, listed};

@@ -2,7 +2,7 @@
 ghost use Rattle.std.specs.Prelude.{◌≡◌, true, false, map, IfOk, IsErrOf};
 ghost use Rattle.std.specs.List.{list_all};
 ghost use Rattle.std.specs.Str.{is_utf8};
-ghost use Rattle.kmin_lines.specs.Lists.{paths_in, is_one_line, ender_of, has_bytes};
+ghost use Rattle.kmin_lines.specs.Lists.{paths_in, is_one_line, ender_of};
 ghost use Rattle.kmin_lines.specs.declared.list.ListFault.TheVariants.{OutOfMemory};
 
 use crate::pieces::first_piece;

@@ -5,7 +5,7 @@ use Rattle.kc_dotconfig_model.specs.ConfigLines.{LineMeaning}
 use Rattle.kc_dotconfig_model.specs.ConfigFiles.{FileMeans, notices_from}
 use Rattle.kc_dotconfig_model.specs.LoadFaults.{IsAccepted}
 use Rattle.kc_minimal_model.specs.CanonicalText.{IsCanonicalText}
-use Rattle.kc_minimal_model.specs.Loading.{Loads}
+use Rattle.kc_minimal_model.specs.FileValues.{Loads}
 use Rattle.kmin_disk.specs.Contents.{Content, special, readable}
 use Rattle.kmin_disk.specs.Disks.{DiskState, content_at}
 use Rattle.kmin_tidy.specs.Options.{Settings, Notices, Allows}

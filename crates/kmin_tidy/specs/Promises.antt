@@ -1,7 +1,7 @@
 -- Promises that hold however a run ends.
 use Rattle.std.specs.Prelude.{◌≡◌, ◌≢◌, ◌↔◌, ◌⊎◌, ℕ, true, List, [], Option, Some}
 use Rattle.std.specs.List.{AllByRecursion}
-use Rattle.kc_minimal_model.specs.Loading.{HaveSameValues}
+use Rattle.kc_minimal_model.specs.FileValues.{HaveSameValues}
 use Rattle.kmin_disk.specs.Contents.{Content, nothing, file, unfinished}
 use Rattle.kmin_disk.specs.Disks.{DiskState, History, Stays, newest, with_newest}
 use Rattle.kmin_tidy.specs.Options.{Settings, Notices, refuses_notices}

@@ -18,7 +18,7 @@ abbrev pub difference_line : (path bytes least : List ℕ) → List ℕ
 difference_line path bytes least =
     path ++ (codes ": " ++ (difference (count_lines_not_in bytes least) (count_lines_not_in least bytes) ++ codes "\n"))
 
--- `FILE:LINE: KIND`
+-- the line of a fault at a place: `FILE:LINE: KIND`
 abbrev pub place_line : (path : List ℕ) (number : ℕ) (kind : List ℕ) → List ℕ
 place_line path number kind = path ++ (codes ":" ++ (decimal number ++ (codes ": " ++ (kind ++ codes "\n"))))
 

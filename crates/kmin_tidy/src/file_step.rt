@@ -1,7 +1,7 @@
 //! One file of a run: it is read, compared with its minimal file, and replaced where that is asked for.
-ghost use Rattle.std.specs.Prelude.{◌≡◌, ◌≢◌, ◌++◌, [], ℕ, List, map, true, false, Some, None, IfOk, IfErr, OnOk};
+ghost use Rattle.std.specs.Prelude.{◌≡◌, ◌≢◌, ◌++◌, [], ℕ, List, map, true, false, Some, None, IfOk, IfErr};
 ghost use Rattle.kc_dotconfig_model.specs.between.Formats.{file_format};
-ghost use Rattle.kc_dotconfig.specs.Configured.{tree_in};
+ghost use Rattle.kc_dotconfig.specs.ConfigStates.{tree_in};
 ghost use Rattle.kc_dotconfig.specs.Fragments.{FitsTree, notice_pair};
 ghost use Rattle.kmin_disk.specs.Contents.{IsOfKind, readable, special};
 ghost use Rattle.kmin_disk.specs.Disks.{content_at};
@@ -9,7 +9,7 @@ ghost use Rattle.kmin_disk.specs.declared.kind.FileKind.TheVariants.{NotRegular}
 ghost use Rattle.kmin_tidy.specs.Options.{settings_of, refuses_notices, Allows};
 ghost use Rattle.kmin_tidy.specs.MinimalFiles.{HasMinimalFile, IsReadAt, MayBeRead, Minimises};
 ghost use Rattle.kmin_tidy.specs.Steps.{Step, disk_of};
-ghost use Rattle.kmin_tidy.specs.checker.Readings.{IsAcceptedAs, IsFragmentOf, IsFaulty};
+ghost use Rattle.kmin_tidy.specs.checker.Readings.{IsAcceptedAs, IsFragmentOf};
 ghost use Rattle.kmin_tidy.specs.checker.ReportLines.{report_lines};
 ghost use Rattle.kmin_tidy.specs.checker.FileResults.{IsRewritten, IsWritten, StopsWrite, StopsRewrite, StopsFile};
 ghost use Rattle.kmin_tidy.specs.checker.FileReports.{IsRefusedAs, IsFailedBy, IsStoppedBy};

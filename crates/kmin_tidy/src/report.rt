@@ -1,9 +1,9 @@
 //! The lines of standard error.
-ghost use Rattle.std.specs.Prelude.{◌≡◌, ◌∷◌, [], ◌++◌, ℕ, List, map, OnOk, OnErr};
+ghost use Rattle.std.specs.Prelude.{ℕ, List, map, OnOk, OnErr};
 ghost use Rattle.std.specs.Borrow.{Bor};
 ghost use Rattle.std.specs.List.{flat_map};
 ghost use Rattle.kc_dotconfig.specs.Fragments.{notice_pair};
-ghost use Rattle.kmin_tidy.specs.Reports.{place_line, notice_line, notice_lines, left_line, output_line, memory_line};
+ghost use Rattle.kmin_tidy.specs.Reports.{place_line, notice_line, output_line};
 ghost use Rattle.kmin_tidy.specs.StandardError.{TakesWhole, TakesPart, TakesLine, TakesLines};
 ghost use Rattle.kmin_tidy.specs.checker.ReportLines.{problem_line, problem_lines, report_lines, stop_line};
 
@@ -68,7 +68,7 @@ fn write_problem<E: Sink>(path: &str, problem: Problem, err: &mut E)
     match problem {
         Problem::Fault(fault) => write_place(path, fault.line, fault.kind.name(), err),
         Problem::NotRegular => write_place(path, 0, "NotRegular", err),
-        Problem::Write => write_line(&[path, ": Write\n"], err),
+        Problem::Write => write_line(&[path.as_bytes(), b": Write\n"], err),
     }
 }
 
@@ -77,8 +77,8 @@ pub(crate) fn report_stop<E: Sink>(stop: &Stop, err: &mut E)
     ensures { TakesLine (E.taken err.old) (E.failures err.old) (stop_line stop.now) (E.taken err.new) (E.failures err.new) }
 {
     match stop {
-        Stop::Memory => write_line(&["out of memory\n"], err),
-        Stop::Left(new_path) => write_line(&[new_path.as_str(), ": Left\n"], err),
+        Stop::Memory => write_line(&[b"out of memory\n"], err),
+        Stop::Left(new_path) => write_line(&[new_path.as_bytes(), b": Left\n"], err),
     }
 }
 
@@ -86,7 +86,7 @@ pub(crate) fn report_stop<E: Sink>(stop: &Stop, err: &mut E)
 pub(crate) fn report_output<E: Sink>(err: &mut E)
     ensures { TakesLine (E.taken err.old) (E.failures err.old) output_line (E.taken err.new) (E.failures err.new) }
 {
-    write_line(&["output: Write\n"], err);
+    write_line(&[b"output: Write\n"], err);
 }
 
 /// Writes `FILE:LINE: KIND`.
@@ -95,26 +95,36 @@ fn write_place<E: Sink>(path: &str, line: u32, kind: &str, err: &mut E)
 {
     let mut digits = Buffer::new();
     let number = digits.format(line);
-    write_line(&[path, ":", number, ": ", kind, "\n"], err);
+    write_line(
+        &[
+            path.as_bytes(),
+            b":",
+            number.as_bytes(),
+            b": ",
+            kind.as_bytes(),
+            b"\n",
+        ],
+        err,
+    );
 }
 
 /// Writes a line of these pieces, up to the first write that fails.
-fn write_line<E: Sink>(pieces: &[&str], err: &mut E)
+fn write_line<E: Sink>(pieces: &[&[u8]], err: &mut E)
     ensures { TakesLine (E.taken err.old) (E.failures err.old) (flat_map (λ (piece : Bor (List ℕ)). piece.now) pieces.now) (E.taken err.new)
         (E.failures err.new) }
 {
     let _ = write_pieces(pieces, err);
 }
 
-/// Writes texts, one after another, up to the first write that fails.
-fn write_pieces<W: Sink>(pieces: &[&str], sink: &mut W) -> Result<(), WriteFault>
+/// Writes the pieces of a line, one after another, up to the first write that fails.
+pub fn write_pieces<W: Sink>(pieces: &[&[u8]], sink: &mut W) -> Result<(), WriteFault>
     ensures whole { OnOk result (TakesWhole (W.taken sink.old) (W.failures sink.old) (flat_map (λ (piece : Bor (List ℕ)). piece.now) pieces.now)
         (W.taken sink.new) (W.failures sink.new)) }
     ensures part { OnErr result (TakesPart (W.taken sink.old) (W.failures sink.old) (flat_map (λ (piece : Bor (List ℕ)). piece.now) pieces.now)
         (W.taken sink.new) (W.failures sink.new)) }
 {
     for piece in pieces {
-        write_out(sink, piece.as_bytes())?;
+        write_out(sink, piece)?;
     }
     Ok(())
 }

@@ -1,5 +1,5 @@
 //! A run over files, one after another.
-ghost use Rattle.std.specs.Prelude.{◌≡◌, ℕ, List, IfOk, IfErr};
+ghost use Rattle.std.specs.Prelude.{ℕ, List, IfOk, IfErr};
 ghost use Rattle.kmin_tidy.specs.Options.{settings_of};
 ghost use Rattle.kmin_tidy.specs.Steps.{disk_of};
 ghost use Rattle.kmin_tidy.specs.Runs.{Tidies, paths_of};

@@ -240,7 +240,7 @@ fn listing<'a>(alloc: Global, help: &CommandHelp) -> Result<Command<'a>, AllocEr
     over_files(alloc, help)?.arg(flag(alloc, "exit-code", help_texts::EXIT_CODE))
 }
 
-/// A repeatable word.
+/// An argument of any number of words.
 fn any_number<'a>(alloc: Global, name: &'a str, help: &'a str) -> Arg<'a> {
     Arg::new(alloc, name)
         .action(ArgAction::Append)
@@ -273,7 +273,7 @@ fn with_tidy_flags<'a>(alloc: Global, command: Command<'a>) -> Result<Command<'a
     command.arg(drop.conflicts_with("strict")?)
 }
 
-/// A required word.
+/// An argument of one word that can't be left out.
 fn required<'a>(alloc: Global, name: &'a str, help: &'a str) -> Arg<'a> {
     Arg::new(alloc, name).required(true).help(help)
 }
@@ -335,7 +335,7 @@ fn output<'a>(alloc: Global) -> Arg<'a> {
         .long_help(help_texts::OUTPUT_LONG)
 }
 
-/// A repeatable option.
+/// An option that may be given again.
 fn repeated<'a>(alloc: Global, list: &ListHelp) -> Arg<'a> {
     Arg::new(alloc, list.name)
         .long(list.name)

@@ -8,11 +8,11 @@ use Rattle.kc_dotconfig_model.specs.ConfigLines.{LineMeaning}
 use Rattle.kc_dotconfig_model.specs.ConfigFiles.{FileMeans, file_assignment, notices_from}
 use Rattle.kc_value.specs.declared.limits.TheConstants.{MAX_CONFIG_BYTES}
 use Rattle.kc_dotconfig_model.specs.LoadFaults.{complete, IsFirstFault, IsAccepted}
-use Rattle.kc_dotconfig_model.specs.between.Cutting.{IsCut}
+use Rattle.kc_dotconfig_model.specs.between.PartialFiles.{IsCut}
 use Rattle.kc_dotconfig.specs.declared.accumulator.Accumulator.{Accumulator}
 use Rattle.kc_dotconfig.specs.declared.fragment.Fragment.{Fragment}
 use Rattle.kc_dotconfig.specs.Fragments.{users_of, notice_pair}
-use Rattle.kc_dotconfig.specs.checker.Ascending.{Rises, Below}
+use Rattle.kc_dotconfig.specs.checker.UserValueOrder.{Rises, Below}
 
 -- the assignment, the notices and the number of the lines so far
 pub record IsGathered (tree : Tree) (meanings : List LineMeaning) (g : Accumulator) : Type 0 where

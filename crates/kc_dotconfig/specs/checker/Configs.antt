@@ -3,7 +3,7 @@ use Rattle.std.specs.Prelude.{◌≡◌, ℕ, zero, suc, ◌+◌, ◌<◌, slice
 use Rattle.kc_system.specs.Solutions.{user_of}
 use Rattle.kc_rules_model.specs.declared.values.UserValue.{UserValue}
 use Rattle.kc_rules.specs.declared.rules.Settled.{Settled}
-use Rattle.kc_dotconfig.specs.Configured.{Configured, tree_in, IsSolved}
+use Rattle.kc_dotconfig.specs.ConfigStates.{Configured, tree_in, IsSolved}
 
 -- the units of some user values
 abbrev pub units_of : List (ℕ × UserValue) → List ℕ

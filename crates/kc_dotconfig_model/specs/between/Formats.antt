@@ -3,6 +3,6 @@ use Rattle.kc_dotconfig_model.specs.declared.format.Format.{Format}
 use Rattle.kc_dotconfig_model.specs.Formats.{FileFormat}
 use Rattle.kc_dotconfig_model.specs.between.Prefixes.{prefix_bytes}
 
--- its prefix and its form of strings
+-- the prefix and the form of strings of a format
 abbrev pub file_format : Format → FileFormat
 file_format format = record { prefix = prefix_bytes format.prefix; strings = format.strings }

@@ -86,7 +86,7 @@ meaning_of_kind strings Hex u s choice text = number_meaning u Hex text
 abbrev pub value_meaning : Strings → Tree → ℕ → Symbol → List ℕ → LineMeaning
 value_meaning strings tree s symbol text = meaning_of_kind strings symbol.kind (unit_of tree s) s symbol.choice text
 
--- the rest of a text after its front
+-- what follows a front in a text that has it
 abbrev pub after_front : List ℕ → List ℕ → Option (List ℕ)
 after_front [] text = Some text
 after_front (a ∷ front) [] = None

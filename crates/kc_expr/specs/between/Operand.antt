@@ -19,7 +19,7 @@ operand_of_ref names (Name i) = named (slice_index_or names i [])
 operand_of_ref names (Quoted text) = quoted text.now
 operand_of_ref names (Tri t) = constant t
 
--- its name is held
+-- the name of an operand, if it has one, is held
 abbrev pub HasKnownName : List (List ℕ) → Shown → Type 0
 HasKnownName names (Name i) = i < length names
 HasKnownName names (Quoted text) = Unit {0}

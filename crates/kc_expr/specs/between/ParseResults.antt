@@ -1,11 +1,11 @@
 -- The result of a call of the parser.
-use Rattle.std.specs.Prelude.{◌≡◌, ℕ, ◌+◌, Bool, List, length, take, drop, Ok, Err, if◌then◌else◌}
+use Rattle.std.specs.Prelude.{◌≡◌, ℕ, ◌+◌, Bool, List, length, take, drop, if◌then◌else◌}
 use Rattle.kc_value.specs.declared.limits.TheConstants.{MAX_EXPR_DEPTH}
 use Rattle.kc_expr.specs.declared.fault.ExprFault.{ExprFault}
 use Rattle.kc_expr.specs.declared.fault.ExprKind.{ExprKind}
 use Rattle.kc_expr.specs.between.Arena.{Exprs, Represents}
 use Rattle.kc_expr.specs.Expr.{Expr, conditional}
-use Rattle.kc_expr.specs.ExprFaults.{IsFirstFault}
+use Rattle.kc_expr.specs.ExprFaults.{IsFirstExprFault}
 use Rattle.kc_expr.specs.Grammar.{IsExpr, ors, extent, fault_of}
 use Rattle.kc_expr.specs.Token.{Lexeme}
 
@@ -27,5 +27,5 @@ pub record ReadsExpr (a : Exprs) (id : ℕ) (condition : Bool) (ts : List Lexeme
 pub record RefusesExpr (all : List Lexeme) (at : ℕ) (e : ExprFault) : Type 0 where
   pub not_in_grammar : (x : Expr) → IsExpr ors MAX_EXPR_DEPTH (expr_tokens all at) x → ⊥
   pub fault : ExprKind × List Lexeme
-  pub first : IsFirstFault (expr_tokens all at) fault
+  pub first : IsFirstExprFault (expr_tokens all at) fault
   pub placed : e ≡ fault_of (take (expr_end all at) all) fault

@@ -3,7 +3,7 @@ use Rattle.std.specs.Prelude.{◌≡◌, ◌⊎◌, [], Option, Some}
 use Rattle.kc_tree_model.specs.declared.fault.TreeFault.{TreeFault}
 use Rattle.kc_tree_model.specs.Limits.{FileSource}
 use Rattle.kc_value.specs.declared.limits.TheConstants.{MAX_OPEN_FILES}
-use Rattle.kc_tree_model.specs.Reading.{Outcome, read_file}
+use Rattle.kc_tree_model.specs.TreeReading.{Outcome, read_file}
 use Rattle.kc_listing.specs.declared.listing.Listing.{Listing}
 use Rattle.kc_listing.specs.between.ListingView.{RepresentsListing}
 use Rattle.kc_listing.specs.between.MemoryFaults.{no_memory}

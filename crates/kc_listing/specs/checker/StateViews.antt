@@ -3,7 +3,7 @@ use Rattle.std.specs.Prelude.{◌≡◌, ℕ, List, [], ◌∷◌, length, rever
 use Rattle.kc_tree_model.specs.TreeFiles.{file_at, index_of_file}
 use Rattle.kc_tree_model.specs.Blocks.{Group, GroupHead, Position, open_blocks, opened_block, sourced_path, opens_choice}
 use Rattle.kc_tree_model.specs.Limits.{FileSource, names_defined, files_read, size_in}
-use Rattle.kc_tree_model.specs.Reading.{bytes_or_none}
+use Rattle.kc_tree_model.specs.TreeReading.{bytes_or_none}
 use Rattle.std.specs.Prelude.{if◌then◌else◌}
 use Rattle.kc_listing.specs.declared.state.OpenBlock.{OpenBlock}
 use Rattle.kc_listing.specs.declared.state.OpenBlock.TheVariants as opens
@@ -24,7 +24,7 @@ RepresentsOpenBlocks texts [] [] = Unit {0}
 RepresentsOpenBlocks texts (o ∷ os) (g ∷ gs) = RepresentsOpenBlock texts o g × RepresentsOpenBlocks texts os gs
 RepresentsOpenBlocks texts os gs = ⊥
 
--- where bytes come from
+-- the source of the files that a reader is given
 unfoldable pub file_source_of : SourceFiles → FileSource
 file_source_of f = record { language = f.texts.now.language; bytes = λ path. if f.absent_is_empty then Some (bytes_or_none f.texts.now path) else file_at f.texts.now path; number = index_of_file f.texts.now; root = f.root.now }
 

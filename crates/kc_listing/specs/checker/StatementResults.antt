@@ -8,7 +8,7 @@ use Rattle.kc_tree_model.specs.LogicalLines.{is_help_word}
 use Rattle.kc_tree_model.specs.Statements.{Statement, head, source}
 use Rattle.kc_tree_model.specs.Blocks.{Group}
 use Rattle.kc_tree_model.specs.Limits.{FileSource}
-use Rattle.kc_tree_model.specs.Reading.{with_statement, path_to_read}
+use Rattle.kc_tree_model.specs.TreeReading.{with_statement, path_to_read}
 use Rattle.kc_listing.specs.between.ListingView.{RepresentsListing}
 use Rattle.kc_listing.specs.checker.StateViews.{Describes, at_line}
 use Rattle.kc_listing.specs.checker.Steps.{limits}
@@ -40,7 +40,7 @@ pub record IsGiven (r : FileSource) (file line : ℕ) (given : Result (Option St
   pub follows : begins ≡ help
   pub describes : Describes r new (with_statement (at_line file line) statement before)
 
--- it is a `source`, which isn't appended yet
+-- a statement is a `source`, which isn't appended yet
 pub record IsSourceGiven (r : FileSource) (given : Result (Option Statement) TreeKind) (begins : Bool) (path : List ℕ) (before : List Group) (new : ReaderState) : Type 0 where
   pub says : given ≡ Ok (Some (head (source path)))
   pub follows : begins ≡ false

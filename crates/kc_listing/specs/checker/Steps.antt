@@ -11,7 +11,7 @@ use Rattle.kc_tree_model.specs.LogicalLines.{LogicalLine, logical_lines_from, ph
 use Rattle.kc_tree_model.specs.Statements.{Statement, Head, Attribute, head, attribute, source}
 use Rattle.kc_tree_model.specs.Blocks.{Group, of_head, file_end, innermost}
 use Rattle.kc_tree_model.specs.Limits.{FileSource, source_fault, bytes_in, is_too_deep, is_too_many}
-use Rattle.kc_tree_model.specs.Reading.{Outcome, read_lines, read_file, statement_on_line, with_statement, with_group, with_attribute, path_to_read, at_file_end, continue_after_statement}
+use Rattle.kc_tree_model.specs.TreeReading.{Outcome, read_lines, read_file, statement_on_line, with_statement, with_group, with_attribute, path_to_read, at_file_end, continue_after_statement}
 use Rattle.kc_listing.specs.between.ListingView.{RepresentsListing}
 use Rattle.kc_lines.specs.between.LinePlaces.{is_of_help}
 use Rattle.kc_listing.specs.checker.Faults.{IsMemory}

@@ -1,7 +1,7 @@
 -- Differences as contracts see them.
 use Rattle.kc_rules.specs.between.SettledViews.{value_view}
 use Rattle.kc_minimal_model.specs.Differences.{Difference}
-use Rattle.kc_minimal.specs.declared.differing.Difference.{Difference as DifferenceOfCode}
+use Rattle.kc_minimal.specs.declared.difference.Difference.{Difference as DifferenceOfCode}
 
 -- a symbol with its two values: of a bool or tristate a tristate, else a text
 abbrev pub difference_view : Difference → DifferenceOfCode

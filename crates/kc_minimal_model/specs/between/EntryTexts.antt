@@ -5,7 +5,7 @@ use Rattle.kc_tree_model.specs.Trees.{Tree, Entry, definition, choice_begins, me
 use Rattle.kc_rules_model.specs.declared.values.UnitValue.{UnitValue}
 use Rattle.kc_rules_model.specs.Reports.{is_written}
 use Rattle.kc_dotconfig_model.specs.Formats.{FileFormat}
-use Rattle.kc_minimal_model.specs.Spelling.{ended_line}
+use Rattle.kc_minimal_model.specs.SymbolLine.{ended_line}
 use Rattle.kc_minimal_model.specs.FullFile.{heading, end_line, applies}
 
 -- The text of the entries. `seen` are the symbols that were defined before; with `gap` an end line came last, and no

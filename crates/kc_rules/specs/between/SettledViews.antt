@@ -19,7 +19,7 @@ tree_model_of settled = settled.rules.tree
 abbrev pub tree_of_settled : Settled → Tree
 tree_of_settled settled = settled.rules.tree.tree
 
--- the imply profile
+-- the imply profile of a settled tree
 abbrev pub profile_of : Settled → Profile
 profile_of settled = settled.rules.profile
 

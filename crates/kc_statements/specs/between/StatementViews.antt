@@ -34,7 +34,7 @@ operand_of_expr e = unwrap_or (operand_alone e) (constant N)
 abbrev pub operand_or_n : Exprs → ℕ → Operand
 operand_or_n e id = operand_of_expr (node_expr e id)
 
--- a default
+-- a default of the code, as the definitions have it
 abbrev pub default_in : Exprs → CodeValued → DefaultAttribute
 default_in e d = record { value = node_expr e d.value; single = d.single; condition = if_in e d.condition }
 
@@ -42,11 +42,11 @@ default_in e d = record { value = node_expr e d.value; single = d.single; condit
 abbrev pub target_in : Exprs → CodeAimed → TargetAttribute
 target_in e s = record { name = slice_index_or e.names s.name []; condition = if_in e s.condition }
 
--- a range
+-- a range of the code, as the definitions have it
 abbrev pub range_in : Exprs → CodeBounded → RangeAttribute
 range_in e r = record { low = operand_or_n e r.low; high = operand_or_n e r.high; condition = if_in e r.condition }
 
--- an attribute
+-- an attribute of the code, as the definitions have it
 abbrev pub attribute_in : Exprs → CodeAttribute → Attribute
 attribute_in e (attributes.Typed k) = typed k
 attribute_in e (attributes.TypedPrompt k c) = typed_prompt k (if_in e c)
@@ -73,7 +73,7 @@ head_in e (heads.Source path) = source path
 head_in e heads.Mainmenu = mainmenu
 head_in e (heads.Ends b) = ends b
 
--- a line's statement
+-- a line's statement of the code, as the definitions have it
 abbrev pub statement_in : Exprs → CodeStatement → Statement
 statement_in e (statements.Head h) = head (head_in e h)
 statement_in e (statements.Attribute a) = attribute (attribute_in e a)

@@ -20,11 +20,11 @@ use Rattle.kc_tree.specs.declared.entry.Entry.TheVariants.{Definition, ChoiceBeg
 abbrev pub operand_or_empty : Expr → Operand
 operand_or_empty e = elim (operand_alone e) [ None ↦ quoted [] | Some a ↦ a ]
 
--- a default
+-- a default of the code, as the definitions have it
 abbrev pub default_view : Exprs → Default → tree.Default
 default_view exprs d = record { value = node_expr exprs d.value; condition = node_expr exprs d.condition }
 
--- a range
+-- a range of the code, as the definitions have it
 abbrev pub range_view : Exprs → Range → tree.Range
 range_view exprs r = record { low = operand_or_empty (node_expr exprs r.low); high = operand_or_empty (node_expr exprs r.high); condition = node_expr exprs r.condition }
 
@@ -32,7 +32,7 @@ range_view exprs r = record { low = operand_or_empty (node_expr exprs r.low); hi
 abbrev pub reverse_dependency_view : Exprs → ReverseDependency → tree.ReverseDependency
 reverse_dependency_view exprs f = record { by = f.by; condition = node_expr exprs f.condition }
 
--- a symbol
+-- a symbol of the code, as the definitions have it
 abbrev pub symbol_view : Exprs → Symbol → tree.Symbol
 symbol_view exprs k = record {
   name = slice_index_or exprs.names k.name [];
@@ -48,11 +48,11 @@ symbol_view exprs k = record {
   choice = k.choice;
 }
 
--- a choice's default
+-- a choice's default of the code, as the definitions have it
 abbrev pub member_default_view : Exprs → MemberDefault → tree.MemberDefault
 member_default_view exprs d = record { member = d.member; condition = node_expr exprs d.condition }
 
--- a choice
+-- a choice of the code, as the definitions have it
 abbrev pub choice_view : Exprs → Choice → tree.Choice
 choice_view exprs k = record {
   file = k.file;
@@ -63,7 +63,7 @@ choice_view exprs k = record {
   optional = k.optional;
 }
 
--- an entry
+-- an entry of the code, as the definitions have it
 abbrev pub entry_view : Exprs → Entry → tree.Entry
 entry_view exprs (Definition s) = tree.definition s
 entry_view exprs (ChoiceBegins c) = tree.choice_begins c

@@ -6,7 +6,7 @@ use Rattle.kc_tree_model.specs.Conditions.{groups_in_context}
 use Rattle.kc_tree_model.specs.Contents.{contents_of, tree_of_groups}
 use Rattle.kc_tree_model.specs.Limits.{names_defined}
 use Rattle.kc_tree_model.specs.TreeFiles.{Files}
-use Rattle.kc_tree_model.specs.Reading.{reading}
+use Rattle.kc_tree_model.specs.TreeReading.{reading}
 use Rattle.kc_tree_model.specs.TreeFaults.{first_tree_fault}
 use Rattle.kc_listing.specs.declared.listing.Listing.{Listing}
 use Rattle.kc_tree.specs.checker.ChoiceDefaults.{IsWalkOf, AreDefaultsOf}
@@ -22,7 +22,7 @@ use Rattle.kc_tree.specs.checker.UnitList.{units_read}
 use Rattle.kc_tree.specs.declared.builder.AllParts.{AllParts}
 use Rattle.kc_tree.specs.declared.builder.ChoiceParts.{ChoiceParts}
 use Rattle.kc_tree.specs.declared.builder.SymbolParts.{SymbolParts}
-use Rattle.kc_tree.specs.declared.gathered.Gathered.{Gathered}
+use Rattle.kc_tree.specs.declared.tree_lists.Gathered.{Gathered}
 use Rattle.kc_tree.specs.declared.listing_walk.WalkedListing.{WalkedListing}
 
 -- a walk through the groups of files without a fault

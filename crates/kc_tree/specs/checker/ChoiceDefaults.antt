@@ -21,7 +21,7 @@ use Rattle.kc_tree.specs.checker.GatheredAttributes.{AreKeys}
 use Rattle.kc_tree.specs.checker.GroupedItems.{items_of}
 use Rattle.kc_tree.specs.checker.Summaries.{is_choice_code}
 use Rattle.kc_tree.specs.checker.Walks.{RepresentsAllConditions}
-use Rattle.kc_tree.specs.declared.keyed.Keyed.{Keyed}
+use Rattle.kc_tree.specs.declared.items_with_keys.Keyed.{Keyed}
 use Rattle.kc_tree.specs.declared.symbol.MemberDefault.{MemberDefault}
 use Rattle.kc_tree.specs.declared.group_walk.GroupConditions.{GroupConditions}
 

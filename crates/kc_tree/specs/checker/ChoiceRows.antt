@@ -23,7 +23,7 @@ pub record IsGoneThrough (l : Listing) (groups : List GroupConditions) (conditio
   pub shows : RepresentsListing l read
   pub walked : RepresentsAllConditions exprs l.texts.items conditions (length conditions) (reverse groups) read
 
--- the attribute `optional`
+-- whether an attribute is `optional`
 abbrev pub is_optional_code : CodeAttribute → Bool
 is_optional_code attributes.Optional = true
 is_optional_code a = false

@@ -10,7 +10,7 @@ use Rattle.kc_tree.specs.checker.GatheredAttributes.{HaveKeys}
 use Rattle.kc_tree.specs.checker.GatheredItems.{gathered_prompt, gathered_default, gathered_range, own_key, aimed_at, gathered_reverse_dependency, HasAppended}
 use Rattle.kc_tree.specs.checker.GroupedItems.{items_of}
 use Rattle.kc_tree.specs.declared.definition_attributes.ReverseKind.TheVariants.{Select, Imply}
-use Rattle.kc_tree.specs.declared.gathered.Attributes.{Attributes}
+use Rattle.kc_tree.specs.declared.tree_lists.Attributes.{Attributes}
 
 -- what a definition gives is appended to what was there
 pub record HasDefinition (names : SymbolTable) (s : ℕ) (old new : Attributes) (lines : List CodeLine) (conditions : List ℕ) (dependency : ℕ) : Type 0 where

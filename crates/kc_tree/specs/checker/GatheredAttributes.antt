@@ -1,8 +1,8 @@
 -- The attributes of symbols, by the numbers of their symbols.
 use Rattle.std.specs.Prelude.{ℕ, ◌<◌, List, length, slice_index}
 use Rattle.kc_tree.specs.checker.GroupedItems.{IsGrouped}
-use Rattle.kc_tree.specs.declared.gathered.Attributes.{Attributes}
-use Rattle.kc_tree.specs.declared.gathered.GroupedAttributes.{GroupedAttributes}
+use Rattle.kc_tree.specs.declared.tree_lists.Attributes.{Attributes}
+use Rattle.kc_tree.specs.declared.tree_lists.GroupedAttributes.{GroupedAttributes}
 
 -- each key is below a count
 abbrev pub AreKeys : ℕ → List ℕ → Type 0

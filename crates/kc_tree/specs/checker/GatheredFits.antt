@@ -5,7 +5,7 @@ use Rattle.kc_tree.specs.checker.GatheredAttributes.{AreKeys, HaveKeys}
 use Rattle.kc_tree.specs.checker.StoredParts.{EntryRowFits}
 use Rattle.kc_tree.specs.declared.parts.SymbolRow.{SymbolRow}
 use Rattle.kc_tree.specs.declared.parts.ChoiceRow.{ChoiceRow}
-use Rattle.kc_tree.specs.declared.gathered.Gathered.{Gathered}
+use Rattle.kc_tree.specs.declared.tree_lists.Gathered.{Gathered}
 
 -- the numbers in the lists are there, and the bounds of ranges are operands
 pub record GatheredFit (g : Gathered) : Type 0 where

@@ -9,7 +9,7 @@ use Rattle.kc_listing.specs.between.SymbolTable.{number_in, text_of_name}
 use Rattle.kc_tree.specs.checker.Conjuncts.{is_prompt}
 use Rattle.kc_tree.specs.declared.definition_attributes.ReverseKind.{ReverseKind}
 use Rattle.kc_tree.specs.declared.definition_attributes.ReverseKind.TheVariants.{Select, Imply}
-use Rattle.kc_tree.specs.declared.keyed.Keyed.{Keyed}
+use Rattle.kc_tree.specs.declared.items_with_keys.Keyed.{Keyed}
 use Rattle.kc_tree.specs.declared.symbol.Default.{Default}
 use Rattle.kc_tree.specs.declared.symbol.Range.{Range}
 use Rattle.kc_tree.specs.declared.symbol.ReverseDependency.{ReverseDependency}

@@ -6,9 +6,9 @@ use Rattle.kc_tree.specs.checker.GroupedItems.{IsGrouped}
 use Rattle.kc_tree.specs.checker.NameTable.{IsTable}
 use Rattle.kc_tree.specs.checker.Units.{HasUnits}
 use Rattle.kc_tree.specs.declared.parts.Parts.{Parts}
-use Rattle.kc_tree.specs.declared.gathered.Gathered.{Gathered}
-use Rattle.kc_tree.specs.declared.gathered.Lists.{Lists}
-use Rattle.kc_tree.specs.declared.gathered.Tables.{Tables}
+use Rattle.kc_tree.specs.declared.tree_lists.Gathered.{Gathered}
+use Rattle.kc_tree.specs.declared.tree_lists.Lists.{Lists}
+use Rattle.kc_tree.specs.declared.tree_lists.Tables.{Tables}
 
 -- the items of one symbol or choice are one row
 pub record AreLists (g : Gathered) (l : Lists) : Type 0 where

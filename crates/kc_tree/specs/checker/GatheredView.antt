@@ -9,7 +9,7 @@ use Rattle.kc_tree.specs.checker.GroupedItems.{items_of}
 use Rattle.kc_tree.specs.checker.PartsView.{from_rows, entry_from_row}
 use Rattle.kc_tree.specs.declared.parts.SymbolRow.{SymbolRow}
 use Rattle.kc_tree.specs.declared.parts.ChoiceRow.{ChoiceRow}
-use Rattle.kc_tree.specs.declared.gathered.Gathered.{Gathered}
+use Rattle.kc_tree.specs.declared.tree_lists.Gathered.{Gathered}
 
 -- a symbol, by its number and its row: its attributes are those under its number
 abbrev pub symbol_gathered : Gathered → ℕ → SymbolRow → tree.Symbol

@@ -14,7 +14,7 @@ use Rattle.kc_tree_model.specs.TreeLookup.{IsConsistent, is_name_byte, has_newli
 use Rattle.kc_tree_model.specs.TreeFiles.{Files}
 use Rattle.kc_tree_model.specs.Blocks.{defined_name, Line}
 use Rattle.kc_tree_model.specs.Conditions.{GroupInContext, attribute_condition, attribute_values}
-use Rattle.kc_tree_model.specs.Reading.{reading}
+use Rattle.kc_tree_model.specs.TreeReading.{reading}
 use Rattle.kc_tree_model.specs.Contents.{Contents, contents_of, choice_number, symbol_of, is_member_of, member_names, choice_of, tree_of_groups, tree_of_files, defaults_at, bare_name, name_among, member_named, member_default, definitions_of, defines}
 use Rattle.kc_tree_model.specs.TreeFaults.{faults_of_group, tree_faults, first_tree_fault}
 use Rattle.kc_tree_model.proofs.Consistency.Lists.{Has, has-at, has-filter, filter-has, has-filter_map, filter_map-has, has-any, any-has, place-get, number-get, at_most_once, all_pass, has_flat_map}

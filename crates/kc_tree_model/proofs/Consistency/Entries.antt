@@ -5,7 +5,7 @@ use Rattle.kc_tree_model.specs.Trees.{Symbol, definition}
 use Rattle.kc_tree_model.specs.TreeFiles.{Files}
 use Rattle.kc_tree_model.specs.Blocks.{from_head}
 use Rattle.kc_tree_model.specs.Conditions.{GroupInContext}
-use Rattle.kc_tree_model.specs.Reading.{reading}
+use Rattle.kc_tree_model.specs.TreeReading.{reading}
 use Rattle.kc_tree_model.specs.Contents.{Contents, contents_of, entry_of_head, tree_of_groups, tree_of_files}
 use Rattle.kc_tree_model.proofs.Consistency.Lists.{has-at, at-has, filter_map-has}
 use Rattle.kc_tree_model.proofs.Consistency.Places.{is_read, what_of_name}

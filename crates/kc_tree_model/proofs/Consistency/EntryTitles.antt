@@ -9,7 +9,7 @@ use Rattle.kc_tree_model.specs.Statements.{config, choice, menu, condition, comm
 use Rattle.kc_tree_model.specs.declared.keyword.Block.TheVariants as blocks
 use Rattle.kc_tree_model.specs.Blocks.{Group, GroupHead, of_head, file_end, from_head, open_blocks}
 use Rattle.kc_tree_model.specs.Conditions.{GroupInContext, group_in_context, groups_in_context}
-use Rattle.kc_tree_model.specs.Reading.{reading}
+use Rattle.kc_tree_model.specs.TreeReading.{reading}
 use Rattle.kc_tree_model.specs.Contents.{Contents, contents_of, entry_of_head, menu_end_of, tree_of_groups, tree_of_files}
 use Rattle.kc_tree_model.proofs.Consistency.TitledLines.{title_in}
 use Rattle.kc_tree_model.proofs.Consistency.Lists.{Has, has-at, has-append, has-filter_map}

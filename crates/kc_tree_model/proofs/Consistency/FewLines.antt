@@ -15,7 +15,7 @@ use Rattle.kc_tree_model.specs.Blocks.{Group}
 use Rattle.kc_tree_model.specs.Placement.{is_allowed, is_left_out, is_stray_end}
 use Rattle.kc_tree_model.specs.Limits.{is_too_deep, is_too_many}
 use Rattle.kc_value.specs.declared.limits.TheConstants.{MAX_LINE_BYTES}
-use Rattle.kc_tree_model.specs.Reading.{statement_by_keyword, statement_of_tokens, statement_by_word, statement_or_fault, statement_on_line}
+use Rattle.kc_tree_model.specs.TreeReading.{statement_by_keyword, statement_of_tokens, statement_by_word, statement_or_fault, statement_on_line}
 use Rattle.kc_tree_model.proofs.NestedTrees.LineFits.{bind_ok, unless_ok, past_test}
 
 -- the statement of a line that is accepted passes no limit of names and symbols

@@ -1,9 +1,10 @@
 -- Elements of lists, by their places and through what lists are made of.
 use Rattle.std.proofs.Common.{◌≡◌, inl, inr, ◌⊎◌, ℕ, zero, suc, Bool, true, false, cond, List, [], ◌∷◌, ◌++◌, Option, Some, None, refl, ap, sym, ◌∙◌, subst, map, filter, length, ◌<◌, arith}
 use Rattle.std.specs.Prelude.{slice_get, filter_map, flat_map, option_map, bytes_eq, ◌==◌, ◌||◌, ◌&&◌}
-use Rattle.std.specs.List.{list_any, list_all, cons_option}
+use Rattle.std.specs.List.{list_any, list_all, cons_option, position_or_len}
 use Rattle.std.proofs.lemmas.Slice.Eq.{bytes_eq-Decides}
 use Rattle.std.proofs.lemmas.Bool.{eqb-true, eq-eqb}
+use Rattle.kc_expr.proofs.Places.{place_by as place_after_one, place_of_more, place_of_none}
 use Rattle.kc_expr.specs.Lookup.{index_of_name}
 use Rattle.kc_tree_model.specs.Limits.{is_in_list, without_repeats}
 use Rattle.kc_tree_model.specs.Contents.{index_of_number}
@@ -164,8 +165,9 @@ place_by x y ys false (Some j) (suc i) e ih h = ih i (one_less j i h)
 
 -- the place of a text has it
 pub place-get : (x : List ℕ) (ys : List (List ℕ)) (i : ℕ) → index_of_name x ys ≡ Some i → slice_get ys i ≡ Some x
-place-get x [] i h = cc
-place-get x (y ∷ ys) i h = place_by x y ys (bytes_eq x y) (index_of_name x ys) i refl (λ j k. place-get x ys j k) h
+place-get x [] i h = let n = place_of_none x in cc
+place-get x (y ∷ ys) i h = place_by x y ys (bytes_eq x y) (index_of_name x ys) i refl (λ j k. place-get x ys j k)
+    (sym (place_of_more x y ys) ∙ h)
 
 has_place_by : (b : Bool) (o : Option ℕ) (i : ℕ) → o ≡ Some i → (j : ℕ) × (cond b (Some 0) (option_map suc o) ≡ Some j)
 has_place_by true o i e = (0, refl)
@@ -178,8 +180,10 @@ first_place false o e = cc
 -- a text that is there has a place
 pub has-place : (x : List ℕ) (ys : List (List ℕ)) → Has x ys → (i : ℕ) × (index_of_name x ys ≡ Some i)
 has-place x [] h = absurd h
-has-place x (y ∷ ys) (inl e) = (0, first_place (bytes_eq x y) (index_of_name x ys) (text_same x y (sym e)))
-has-place x (y ∷ ys) (inr h) = let r = has-place x ys h in has_place_by (bytes_eq x y) (index_of_name x ys) r.0 r.1
+has-place x (y ∷ ys) (inl e) = (0, place_of_more x y ys ∙ first_place (bytes_eq x y) (index_of_name x ys) (text_same x y (sym e)))
+has-place x (y ∷ ys) (inr h) = let r = has-place x ys h in
+    let s = has_place_by (bytes_eq x y) (index_of_name x ys) r.0 r.1 in
+    (s.0, place_of_more x y ys ∙ s.1)
 
 -- no element occurs twice
 abbrev pub Differ : {A : Type 0} → List A → Type 0
@@ -253,11 +257,22 @@ number_by n k ks false None i e ih h = cc
 number_by n k ks false (Some j) zero e ih h = absurd (first_is_not_later j (sym h))
 number_by n k ks false (Some j) (suc i) e ih h = ih i (one_less j i h)
 
+pub number_of_none : (n : ℕ) → index_of_number n [] ≡ None
+unfolding index_of_number
+number_of_none n = refl
+
+pub number_of_more : (n k : ℕ) (ks : List ℕ) → index_of_number n (k ∷ ks) ≡ cond (k == n) (Some 0) (option_map suc (index_of_number n ks))
+unfolding index_of_number
+number_of_more n k ks = sym (place_after_one (k == n) (position_or_len (λ j. j == n) ks) (length ks) (index_of_number n ks) refl)
+
 pub number-get : (n : ℕ) (ks : List ℕ) (i : ℕ) → index_of_number n ks ≡ Some i → slice_get ks i ≡ Some n
-number-get n [] i h = cc
-number-get n (k ∷ ks) i h = number_by n k ks (k == n) (index_of_number n ks) i refl (λ j e. number-get n ks j e) h
+number-get n [] i h = let e = number_of_none n in cc
+number-get n (k ∷ ks) i h = number_by n k ks (k == n) (index_of_number n ks) i refl (λ j e. number-get n ks j e) (sym (number_of_more n k ks) ∙ h)
 
 pub has-number : (n : ℕ) (ks : List ℕ) → Has n ks → (i : ℕ) × (index_of_number n ks ≡ Some i)
 has-number n [] h = absurd h
-has-number n (k ∷ ks) (inl e) = (0, first_place (k == n) (index_of_number n ks) (eq-eqb k n e))
-has-number n (k ∷ ks) (inr h) = let r = has-number n ks h in has_place_by (k == n) (index_of_number n ks) r.0 r.1
+has-number n (k ∷ ks) (inl e) = (0, number_of_more n k ks ∙ first_place (k == n) (index_of_number n ks) (eq-eqb k n e))
+has-number n (k ∷ ks) (inr h) =
+    let r = has-number n ks h in
+    let s = has_place_by (k == n) (index_of_number n ks) r.0 r.1 in
+    (s.0, number_of_more n k ks ∙ s.1)

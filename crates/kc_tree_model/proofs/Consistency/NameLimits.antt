@@ -11,11 +11,11 @@ use Rattle.kc_tree_model.specs.Limits.{is_in_list, is_long_name, names_defined, 
 use Rattle.kc_value.specs.declared.limits.TheConstants.{MAX_SYMBOLS, MAX_NAME_BYTES}
 use Rattle.kc_tree_model.specs.Statements.{Head, config, choice, menu, condition, comment, source, mainmenu, ends, Statement, head, attribute, Attribute}
 use Rattle.kc_tree_model.specs.Blocks.{Group, Position, defined_name}
-use Rattle.kc_tree_model.specs.Reading.{statement_on_line, with_statement, with_attribute, reading}
+use Rattle.kc_tree_model.specs.TreeReading.{statement_on_line, with_statement, with_attribute, reading}
 use Rattle.kc_tree_model.specs.Contents.{contents_of, symbol_of, tree_of_groups, tree_of_files}
 use Rattle.kc_tree_model.proofs.Consistency.FewLines.{line_few}
 use Rattle.kc_tree_model.proofs.Consistency.Lists.{Has, has-at}
-use Rattle.kc_tree_model.proofs.Consistency.Kept.{reading_keeps}
+use Rattle.kc_tree_model.proofs.Consistency.KeptProperties.{reading_keeps}
 use Rattle.kc_tree_model.proofs.Consistency.Places.{is_read, group-placed}
 use Rattle.kc_tree_model.proofs.Consistency.Definitions.{sound_contents, symbols_of}
 use Rattle.kc_tree_model.proofs.Consistency.Units.{symbol_at}

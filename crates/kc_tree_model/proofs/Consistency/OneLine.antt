@@ -1,6 +1,6 @@
 -- A logical line has no newline, nor have its tokens.
 use Rattle.std.proofs.Common.{◌≡◌, ℕ, zero, suc, ◌+◌, ◌-◌, Bool, true, false, cond, ◌||◌, ◌==◌, List, [], ◌∷◌, ◌++◌, Ok, refl, length, map, take, drop}
-use Rattle.kc_value.specs.Quoted.{unescaped}
+use Rattle.kc_value.specs.QuotedTexts.{unescaped}
 use Rattle.kc_expr.specs.Token.{Lexeme, lexemes_from}
 use Rattle.kc_expr.specs.Grammar.{between_quotes, quoted_text}
 use Rattle.kc_expr.proofs.TokenTexts.{AllTexts, texts_of_line}

@@ -11,12 +11,12 @@ use Rattle.kc_tree_model.specs.Statements.{Head, config, choice, menu, condition
 use Rattle.kc_tree_model.specs.declared.keyword.Block.TheVariants as blocks
 use Rattle.kc_tree_model.specs.Keywords.{is_name}
 use Rattle.kc_tree_model.specs.Blocks.{Group, Line, Position, GroupHead, of_head, file_end, Side, side_of, opening, closing, inside, from_head, open_blocks, opens_choice, is_some_block}
-use Rattle.kc_tree_model.specs.Reading.{statement_on_line, with_statement, with_attribute, reading}
+use Rattle.kc_tree_model.specs.TreeReading.{statement_on_line, with_statement, with_attribute, reading}
 use Rattle.kc_tree_model.specs.Conditions.{Context, context, inner_context_of_group_head, GroupInContext, group_in_context, groups_in_context}
 use Rattle.kc_tree_model.proofs.NestedTrees.LineFits.{line_names, line_values, line_utf8}
 use Rattle.kc_tree_model.proofs.Consistency.Lists.{Has, has-append, append-has_left, append-has_right}
 use Rattle.kc_tree_model.proofs.Consistency.PlainTexts.{IsPlainText, value_is_plain}
-use Rattle.kc_tree_model.proofs.Consistency.Kept.{reading_keeps}
+use Rattle.kc_tree_model.proofs.Consistency.KeptProperties.{reading_keeps}
 
 -- one or more bytes of names
 abbrev pub IsWord : List ℕ → Type 0

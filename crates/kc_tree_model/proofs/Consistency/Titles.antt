@@ -6,12 +6,12 @@ use Rattle.kc_tree_model.specs.TreeFiles.{Files}
 use Rattle.kc_tree_model.specs.LogicalLines.{LogicalLine}
 use Rattle.kc_tree_model.specs.Statements.{Head, Statement, head, attribute, Attribute}
 use Rattle.kc_tree_model.specs.Blocks.{Group, Position, GroupHead, of_head, file_end, from_head}
-use Rattle.kc_tree_model.specs.Reading.{statement_on_line, with_statement, with_attribute, reading}
+use Rattle.kc_tree_model.specs.TreeReading.{statement_on_line, with_statement, with_attribute, reading}
 use Rattle.kc_tree_model.proofs.NestedTrees.LineFits.{line_utf8}
 use Rattle.kc_tree_model.proofs.Consistency.TitledLines.{title_in, line_titles}
 use Rattle.kc_tree_model.proofs.Consistency.Lists.{Has}
 use Rattle.kc_tree_model.proofs.Consistency.PlainTexts.{IsPlainText, title_is_plain}
-use Rattle.kc_tree_model.proofs.Consistency.Kept.{reading_keeps}
+use Rattle.kc_tree_model.proofs.Consistency.KeptProperties.{reading_keeps}
 
 -- a group's title is one line of UTF-8
 abbrev pub IsPlain : GroupHead → Type 0

@@ -9,7 +9,7 @@ use Rattle.std.proofs.lemmas.Str.{IsUtf8-append, IsUtf8-nil, IsUtf8-encode, IsUt
 use Rattle.std.proofs.Math.Seq.{get_or-append_seam}
 use lib.Utf8.{scalar, scalars, encode, encodes}
 use Rattle.kc_expr.specs.declared.language.Language.{Language}
-use Rattle.kc_value.specs.Quoted.{unescaped}
+use Rattle.kc_value.specs.QuotedTexts.{unescaped}
 use Rattle.kc_value.proofs.EscapeSteps.{escaped_char, plain_char, backslash}
 use Rattle.kc_expr.specs.declared.token.Relop.TheVariants.{Equal, NotEqual, Less, Greater, LessEqual, GreaterEqual}
 use Rattle.kc_expr.specs.declared.token.TokenKind.{TokenKind}

@@ -23,7 +23,7 @@ use Rattle.kc_tree_model.specs.Placement.{open_entry, allows_attribute, open_ent
 use Rattle.kc_tree_model.specs.declared.keyword.OpenEntry.{OpenEntry}
 use Rattle.kc_tree_model.specs.Limits.{is_too_deep, is_too_many}
 use Rattle.kc_value.specs.declared.limits.TheConstants.{MAX_LINE_BYTES}
-use Rattle.kc_tree_model.specs.Reading.{unless, statement_by_keyword, statement_of_tokens, statement_by_word, statement_or_fault, statement_on_line}
+use Rattle.kc_tree_model.specs.TreeReading.{unless, statement_by_keyword, statement_of_tokens, statement_by_word, statement_or_fault, statement_on_line}
 
 -- sorts of statements: definitions, ends, defaults, other attributes, and all others
 pub data Sort : Type 0 where

@@ -13,12 +13,12 @@ use Rattle.kc_tree_model.specs.declared.keyword.OpenEntry.{OpenEntry}
 use Rattle.kc_tree_model.specs.Limits.{FileSource, bytes_in, source_fault}
 use Rattle.kc_value.specs.declared.limits.TheConstants.{MAX_TREE_BYTES, MAX_OPEN_FILES}
 use Rattle.kc_tree_model.specs.Conditions.{groups_in_context}
-use Rattle.kc_tree_model.specs.Reading.{statement_on_line, with_statement, with_group, with_attribute, path_to_read, Outcome, at_file_end, continue_after_file, continue_after_source, continue_after_statement, continue_after_line, read_lines, read_file, read_root, reading}
+use Rattle.kc_tree_model.specs.TreeReading.{statement_on_line, with_statement, with_group, with_attribute, path_to_read, Outcome, at_file_end, continue_after_file, continue_after_source, continue_after_statement, continue_after_line, read_lines, read_file, read_root, reading}
 use Rattle.kc_tree_model.specs.NestedTrees.{Items, listing, IsTreeOf, is_ended_by}
 use Rattle.kc_tree_model.proofs.NestedTrees.OpenBlocks.{open_inside, pushed, popped}
 use Rattle.kc_tree_model.proofs.NestedTrees.Walks.{listed_of, placed-listing}
 use Rattle.kc_tree_model.proofs.NestedTrees.OneListing.{only_tree}
-use Rattle.kc_tree_model.proofs.NestedTrees.Building.{EndsMatch, ends_first, nested_tree}
+use Rattle.kc_tree_model.proofs.NestedTrees.OpenTrees.{EndsMatch, ends_first, nested_tree}
 use Rattle.kc_tree_model.proofs.NestedTrees.LineFits.{Fits, line_fits}
 
 -- groups that open blocks

@@ -5,7 +5,7 @@ use Rattle.kc_value.specs.declared.value.Kind.{Kind}
 use Rattle.kc_value.specs.declared.limits.TheConstants.{MAX_EXPR_DEPTH}
 use Rattle.kc_expr.specs.declared.fault.ExprKind.{ExprKind}
 use Rattle.kc_expr.specs.declared.fault.ExprKind.TheVariants as expr_kinds
-use Rattle.kc_expr.specs.ExprFaults.{IsFirstFault}
+use Rattle.kc_expr.specs.ExprFaults.{IsFirstExprFault}
 use Rattle.kc_expr.specs.Token.{Lexeme}
 use Rattle.kc_expr.specs.Expr.{Expr, Operand, conditional}
 use Rattle.kc_expr.specs.Grammar.{IsExpr, ors, read_expr, extent, operand_of_lexeme}
@@ -46,7 +46,7 @@ deep_last P x (t ∷ ts) = tt
 
 -- the expression at the front is too deep
 abbrev IsDeep : List Lexeme → Type 0
-IsDeep ts = (rest : List Lexeme) × IsFirstFault (extent ts) (expr_kinds.TooDeep, rest)
+IsDeep ts = (rest : List Lexeme) × IsFirstExprFault (extent ts) (expr_kinds.TooDeep, rest)
 
 deep_by : (ts rest : List Lexeme) (kind : ExprKind) → read_expr (extent ts) ≡ Err (kind, rest) → OfDeep {A = ParsedExpr} (IsDeep ts) (Err (kind_of_fault kind))
 deep_by ts rest expr_kinds.TooDeep h = (rest, first_fault (extent ts) (expr_kinds.TooDeep, rest) h)

@@ -9,7 +9,7 @@ use Rattle.kc_expr.specs.declared.fault.ExprKind.{ExprKind}
 use Rattle.kc_expr.specs.declared.fault.ExprKind.TheVariants as expr_kinds
 use Rattle.kc_expr.specs.declared.language.Language.{Language}
 use Rattle.kc_expr.specs.Token.{Lexeme, lexemes_from}
-use Rattle.kc_expr.specs.TokenGrammar.{IsFirstFault as IsFirstTokenFault}
+use Rattle.kc_expr.specs.TokenGrammar.{IsFirstTokenFault}
 use Rattle.kc_expr.proofs.TokenLaws.{cut_read}
 use Rattle.kc_expr.proofs.CutLaws.{read_cut, read_fault}
 use Rattle.kc_expr.proofs.FaultLaws.{fault_read}
@@ -23,7 +23,7 @@ use Rattle.kc_tree_model.specs.Forms.{statement_of, kind_of_fault, ◌>>=◌}
 use Rattle.kc_tree_model.specs.Blocks.{Group}
 use Rattle.kc_tree_model.specs.Placement.{is_allowed, is_left_out, is_stray_end}
 use Rattle.kc_tree_model.specs.Limits.{is_too_deep, is_too_many}
-use Rattle.kc_tree_model.specs.Reading.{unless, statement_by_keyword, statement_by_word, statement_or_fault, statement_on_line}
+use Rattle.kc_tree_model.specs.TreeReading.{unless, statement_by_keyword, statement_by_word, statement_or_fault, statement_on_line}
 use Rattle.kc_tree_model.specs.ReadingFaults.{HasTokens, help_line, cut_line, HasTokenFault, BeginsWith, HasForm, IsLineFault, line_order, HoldsNever, IsFirstOf}
 use Rattle.kc_tree_model.proofs.ReadingLaws.TokenFaults.{is_token_kind, token_kind_known, one_tokens}
 use Rattle.kc_tree_model.proofs.ReadingLaws.FormFaults.{is_form_kind, known_fault}

@@ -11,12 +11,12 @@ use Rattle.kc_tree_model.specs.Statements.{source, Statement, head, attribute}
 use Rattle.kc_tree_model.specs.declared.keyword.Block.{Block}
 use Rattle.kc_tree_model.specs.Blocks.{Group, of_head, file_end, innermost, open_blocks}
 use Rattle.kc_tree_model.specs.Limits.{FileSource, bytes_in, open_files, source_fault}
-use Rattle.kc_tree_model.specs.Reading.{statement_on_line, with_statement, with_group, path_to_read, Outcome, ended_by_fault, at_file_end, continue_after_file, continue_after_source, continue_after_statement, continue_after_line, read_lines, read_file, read_root}
+use Rattle.kc_tree_model.specs.TreeReading.{statement_on_line, with_statement, with_group, path_to_read, Outcome, ended_by_fault, at_file_end, continue_after_file, continue_after_source, continue_after_statement, continue_after_line, read_lines, read_file, read_root}
 use Rattle.kc_tree_model.specs.MoreFiles.{reading_from}
 use Rattle.kc_tree_model.specs.ReadingFaults.{HasForm}
 use Rattle.kc_tree_model.specs.ReadingRelation.{HasLines, Appends, nothing, statement, SourcesPath, SourcesLines, place, IsRead, at_end, line, sourced, ComesTo, here, past_line, past_file, into_file, FaultAt, of_line, of_source, of_end, HasFirstFile, IsWholeReading, IsCutReading, no_file, large_file, comes_to_fault}
 use Rattle.kc_tree_model.proofs.LineLaws.LogicalLines.{lines_are_so}
-use Rattle.kc_tree_model.proofs.NestedTrees.Building.{EndsMatch, ends_first}
+use Rattle.kc_tree_model.proofs.NestedTrees.OpenTrees.{EndsMatch, ends_first}
 use Rattle.kc_tree_model.proofs.NestedTrees.LineFits.{Fits, line_fits}
 use Rattle.kc_tree_model.proofs.NestedTrees.OpenBlocks.{popped}
 use Rattle.kc_tree_model.proofs.NestedTrees.ReadingNests.{Since, Closes, Reads, after_given, source_group, file_closes}

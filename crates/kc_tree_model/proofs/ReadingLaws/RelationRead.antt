@@ -9,7 +9,7 @@ use Rattle.kc_tree_model.specs.LogicalLines.{LogicalLine, lines_of}
 use Rattle.kc_tree_model.specs.Statements.{source, head}
 use Rattle.kc_tree_model.specs.Blocks.{Group, Position, of_head}
 use Rattle.kc_tree_model.specs.Limits.{FileSource, bytes_in, source_fault}
-use Rattle.kc_tree_model.specs.Reading.{statement_on_line, with_group, Outcome, ended_by_fault, at_file_end, continue_after_file, continue_after_source, continue_after_statement, continue_after_line, read_lines, read_file, read_root}
+use Rattle.kc_tree_model.specs.TreeReading.{statement_on_line, with_group, Outcome, ended_by_fault, at_file_end, continue_after_file, continue_after_source, continue_after_statement, continue_after_line, read_lines, read_file, read_root}
 use Rattle.kc_tree_model.specs.MoreFiles.{reading_from}
 use Rattle.kc_tree_model.specs.ReadingRelation.{HasLines, Appends, nothing, statement, SourcesPath, SourcesLines, place, IsRead, at_end, line, sourced, ComesTo, here, past_line, past_file, into_file, FaultAt, of_line, of_source, of_end, HasFirstFile, IsWholeReading, IsCutReading, no_file, large_file, comes_to_fault}
 use Rattle.kc_tree_model.proofs.LineLaws.LogicalLines.{lines_are_so}

@@ -5,7 +5,7 @@ use Rattle.kc_expr.specs.declared.fault.ExprKind.{ExprKind}
 use Rattle.kc_expr.specs.declared.fault.ExprKind.TheVariants.{BadToken, UnclosedQuote, LeftOut}
 use Rattle.kc_expr.specs.declared.language.Language.{Language}
 use Rattle.kc_expr.specs.Token.{Lexeme}
-use Rattle.kc_expr.specs.TokenGrammar.{IsFaultAt, dollar, unclosed, dollar_between, other_byte, IsFirstFault, here, after_white, after_token}
+use Rattle.kc_expr.specs.TokenGrammar.{IsFaultAt, dollar, unclosed, dollar_between, other_byte, IsFirstTokenFault, here, after_white, after_token}
 use Rattle.kc_expr.proofs.TokenLaws.{cut_read}
 use Rattle.kc_tree_model.specs.LogicalLines.{LogicalLine}
 use Rattle.kc_tree_model.specs.ReadingFaults.{HasTokens, help_line, cut_line}
@@ -23,7 +23,7 @@ byte_kind (unclosed h none) = refl
 byte_kind (dollar_between front back means rest h body dollars) = refl
 byte_kind (other_byte h k) = refl
 
-pub token_kind_known : {language : Language} {at : ℕ} {bytes : List ℕ} {fault : ExprFault} → IsFirstFault language at bytes fault
+pub token_kind_known : {language : Language} {at : ℕ} {bytes : List ℕ} {fault : ExprFault} → IsFirstTokenFault language at bytes fault
     → is_token_kind fault.kind ≡ true
 token_kind_known (here none is) = byte_kind is
 token_kind_known (after_white h more) = token_kind_known more

@@ -6,7 +6,7 @@ use Rattle.kc_tree_model.specs.declared.fault.TreeFault.{TreeFault}
 use Rattle.kc_tree_model.specs.TreeFiles.{Files}
 use Rattle.kc_tree_model.specs.Trees.{Tree}
 use Rattle.kc_tree_model.specs.Limits.{FileSource}
-use Rattle.kc_tree_model.specs.Reading.{Outcome, reading, lenient_reading, wanted_by, paths_or_fault, files_wanted}
+use Rattle.kc_tree_model.specs.TreeReading.{Outcome, reading, lenient_reading, wanted_by, paths_or_fault, files_wanted}
 use Rattle.kc_tree_model.specs.MoreFiles.{reading_from}
 use Rattle.kc_tree_model.specs.ReadingRelation.{IsCutReading, IsOutcome}
 use Rattle.kc_tree_model.specs.Contents.{tree_of_groups, tree_of_files}

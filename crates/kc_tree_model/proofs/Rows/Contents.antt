@@ -2,6 +2,7 @@
 use Rattle.std.proofs.Common.{false, ◌≡◌, ℕ, List, [], ◌∷◌, Some, refl, map}
 use Rattle.std.specs.Prelude.{codes}
 use Rattle.std.specs.Str.{is_utf8, chars}
+use Rattle.kc_expr.specs.Lookup.{index_of_name}
 use Rattle.kc_value.specs.declared.tri.Tri.TheVariants.{M}
 use Rattle.kc_expr.specs.Token.{next_token}
 use Rattle.kc_expr.specs.Grammar.{read_expr}
@@ -9,9 +10,9 @@ use Rattle.kc_expr.specs.Expr.{Expr, alone, both, shown, constant}
 use Rattle.kc_tree_model.specs.declared.ids.Unit.TheVariants.{Symbol as of_symbol, Choice as of_choice}
 use Rattle.kc_tree_model.specs.LogicalLines.{lines_of}
 use Rattle.kc_tree_model.specs.Limits.{source_fault}
-use Rattle.kc_tree_model.specs.Reading.{statement_on_line, reading}
+use Rattle.kc_tree_model.specs.TreeReading.{statement_on_line, reading}
 use Rattle.kc_tree_model.specs.Trees.{Symbol, ReverseDependency, definition, menu_begins, menu_ends}
-use Rattle.kc_tree_model.specs.Contents.{tree_of_groups}
+use Rattle.kc_tree_model.specs.Contents.{tree_of_groups, index_of_number}
 use Rattle.kc_tree_model.proofs.Rows.Trees.{whole, prompts_and_dependencies, word, yes}
 
 -- the conditions of the prompts of each symbol
@@ -38,7 +39,7 @@ choice_stands_for_what_is_outside : map prompts_and_dependencies
       both (shown (both (both (word (codes "X")) (word (codes "D"))) (word (codes "P")))) (word (codes "Q")) ∷ [],
       shown (both (both (word (codes "X")) (word (codes "D"))) (word (codes "P"))) ∷ [],
     ) ∷ []
-unfolding next_token is_utf8 chars read_expr lines_of source_fault statement_on_line reading lib.Utf8.encode tree_of_groups
+unfolding next_token is_utf8 chars read_expr lines_of source_fault statement_on_line reading lib.Utf8.encode tree_of_groups index_of_name index_of_number
 choice_stands_for_what_is_outside = refl
 
 m_in_a_condition : prompts (codes "config A\n\ttristate \"a\" if m\n") ≡ (both (alone (constant M)) (word (codes "MODULES")) ∷ []) ∷ []
@@ -49,7 +50,7 @@ selector_with_its_condition : map selectors_and_impliers
     (whole (codes "config S\n\tbool \"s\"\n\tselect T if C\n\timply T\n\tdepends on D\nconfig T\n\ttristate\n\tdepends on NO\n")).symbols
     ≡ ([], [])
     ∷ (record { by = 0; condition = both (word (codes "D")) (word (codes "C")) } ∷ [], record { by = 0; condition = word (codes "D") } ∷ []) ∷ []
-unfolding next_token is_utf8 chars read_expr lines_of source_fault statement_on_line reading lib.Utf8.encode tree_of_groups
+unfolding next_token is_utf8 chars read_expr lines_of source_fault statement_on_line reading lib.Utf8.encode tree_of_groups index_of_name index_of_number
 selector_with_its_condition = refl
 
 dependency_of_each_definition : map (λ (s : Symbol). s.direct) (whole (codes "config A\n\tbool \"a\"\n\tdepends on B\nconfig A\n\tdepends on C\n")).symbols
@@ -59,7 +60,7 @@ dependency_of_each_definition = refl
 
 each_definition_is_an_entry : (whole (codes "config A\n\tbool \"a\"\nconfig B\n\tbool\nconfig A\n\tprompt \"x\"\n")).entries
     ≡ definition 0 ∷ definition 1 ∷ definition 0 ∷ []
-unfolding next_token is_utf8 chars read_expr lines_of source_fault statement_on_line reading lib.Utf8.encode tree_of_groups
+unfolding next_token is_utf8 chars read_expr lines_of source_fault statement_on_line reading lib.Utf8.encode tree_of_groups index_of_name index_of_number
 each_definition_is_an_entry = refl
 
 menu_with_its_conditions : (whole (codes "menu \"m\"\n\tdepends on D\n\tvisible if V\nmenu \"n\"\n\tvisible if W\nendmenu\nendmenu\n")).entries
@@ -78,11 +79,11 @@ choice_with_its_members : (whole
       defaults = record { member = 1; condition = both (word (codes "D")) (word (codes "C")) } ∷ [];
       optional = false;
     } ∷ []
-unfolding next_token is_utf8 chars read_expr lines_of source_fault statement_on_line reading lib.Utf8.encode tree_of_groups
+unfolding next_token is_utf8 chars read_expr lines_of source_fault statement_on_line reading lib.Utf8.encode tree_of_groups index_of_name index_of_number
 choice_with_its_members = refl
 
 units_in_order_of_their_first_place : (whole
     (codes "config Z\n\tbool\nchoice\n\tprompt \"p\"\nconfig A\nconfig B\nendchoice\nconfig Y\n\tbool\nconfig Z\n\tprompt \"z\"\nchoice\nendchoice\n")).units
     ≡ of_symbol 0 ∷ of_choice 0 ∷ of_symbol 3 ∷ of_choice 1 ∷ []
-unfolding next_token is_utf8 chars read_expr lines_of source_fault statement_on_line reading lib.Utf8.encode tree_of_groups
+unfolding next_token is_utf8 chars read_expr lines_of source_fault statement_on_line reading lib.Utf8.encode tree_of_groups index_of_name index_of_number
 units_in_order_of_their_first_place = refl

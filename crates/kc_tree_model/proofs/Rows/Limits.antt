@@ -12,7 +12,7 @@ use Rattle.kc_tree_model.specs.LogicalLines.{lines_of}
 use Rattle.kc_tree_model.specs.Statements.{config, source, choice, head}
 use Rattle.kc_tree_model.specs.Blocks.{Group, GroupHead, of_head, file_end, defined_name}
 use Rattle.kc_tree_model.specs.Limits.{FileSource, source_fault, is_too_many, is_in_list, names_defined}
-use Rattle.kc_tree_model.specs.Reading.{statement_on_line, reading, ended_by_fault, read_file}
+use Rattle.kc_tree_model.specs.TreeReading.{statement_on_line, reading, ended_by_fault, read_file}
 use Rattle.kc_tree_model.specs.TreeFaults.{tree_faults, first_tree_fault}
 use Rattle.kc_tree_model.specs.TreeFiles.{strict_files, Files, file_at, index_of_file}
 use Rattle.kc_tree_model.proofs.Rows.Trees.{one_file}

@@ -2,6 +2,7 @@
 use Rattle.std.proofs.Common.{◌≡◌, ℕ, true, false, List, [], ◌∷◌, ◌++◌, Option, Some, None, refl, map}
 use Rattle.std.specs.Prelude.{codes, option_map}
 use Rattle.std.specs.Str.{is_utf8, chars}
+use Rattle.kc_expr.specs.Lookup.{index_of_name}
 use Rattle.kc_value.specs.declared.value.Kind.{Kind}
 use Rattle.kc_value.specs.declared.value.Kind.TheVariants.{Text, Int, Hex}
 use Rattle.kc_expr.specs.Token.{next_token}
@@ -11,9 +12,9 @@ use Rattle.kc_tree_model.specs.declared.fault.TreeKind.{TreeKind}
 use Rattle.kc_tree_model.specs.declared.fault.TreeKind.TheVariants.{ChoiceMember, LeftOut}
 use Rattle.kc_tree_model.specs.LogicalLines.{lines_of}
 use Rattle.kc_tree_model.specs.Limits.{source_fault}
-use Rattle.kc_tree_model.specs.Reading.{statement_on_line, reading}
+use Rattle.kc_tree_model.specs.TreeReading.{statement_on_line, reading}
 use Rattle.kc_tree_model.specs.TreeFiles.{Files, linux_files}
-use Rattle.kc_tree_model.specs.Contents.{tree_of_groups}
+use Rattle.kc_tree_model.specs.Contents.{tree_of_groups, index_of_number}
 use Rattle.kc_tree_model.specs.TreeFaults.{tree_faults, first_tree_fault}
 use Rattle.kc_tree_model.specs.Trees.{Tree, Symbol, Choice, Default}
 use Rattle.kc_tree_model.proofs.Rows.Trees.{fault, line_and_kind, prompts_and_dependencies, yes, word}
@@ -67,29 +68,29 @@ abbrev member_again : List ℕ → List ℕ
 member_again lines = codes "choice\n\tprompt \"c\"\nconfig A\n\tbool \"a\"\nconfig B\n\tbool \"b\"\nendchoice\nconfig S\n\tbool\nconfig A\n" ++ lines
 
 member_again_strict : fault (member_again (codes "\tselect S\n")) ≡ Some (10, ChoiceMember)
-unfolding next_token is_utf8 chars read_expr lines_of source_fault statement_on_line reading tree_faults first_tree_fault lib.Utf8.encode
+unfolding next_token is_utf8 chars read_expr lines_of source_fault statement_on_line reading tree_faults first_tree_fault lib.Utf8.encode index_of_name index_of_number
 member_again_strict = refl
 
 member_selects_again : linux_fault (member_again (codes "\tdepends on B || X\n\tselect S if Y\n\timply S\n\thelp\n\t  text\n")) ≡ None
-unfolding next_token is_utf8 chars read_expr lines_of source_fault statement_on_line reading tree_faults first_tree_fault lib.Utf8.encode
+unfolding next_token is_utf8 chars read_expr lines_of source_fault statement_on_line reading tree_faults first_tree_fault lib.Utf8.encode index_of_name index_of_number
 member_selects_again = refl
 
 selects_under_its_own_dependency : map (λ (x : Symbol). x.selectors) (linux_tree (member_again (codes "\tdepends on X\n\tselect S if Y\n"))).symbols
     ≡ [] ∷ [] ∷ (record { by = 0; condition = both (word (codes "X")) (word (codes "Y")) } ∷ []) ∷ []
-unfolding next_token is_utf8 chars read_expr lines_of source_fault statement_on_line reading lib.Utf8.encode tree_of_groups
+unfolding next_token is_utf8 chars read_expr lines_of source_fault statement_on_line reading lib.Utf8.encode tree_of_groups index_of_name index_of_number
 selects_under_its_own_dependency = refl
 
 prompts_and_dependency_stay : map prompts_and_dependencies (linux_tree (member_again (codes "\tdepends on X\n"))).symbols
     ≡ (shown yes ∷ [], shown yes ∷ []) ∷ (shown yes ∷ [], shown yes ∷ []) ∷ ([], yes ∷ []) ∷ []
-unfolding next_token is_utf8 chars read_expr lines_of source_fault statement_on_line reading lib.Utf8.encode tree_of_groups
+unfolding next_token is_utf8 chars read_expr lines_of source_fault statement_on_line reading lib.Utf8.encode tree_of_groups index_of_name index_of_number
 prompts_and_dependency_stay = refl
 
 member_with_another_prompt : linux_fault (member_again (codes "\tselect S\n\tprompt \"x\"\n")) ≡ Some (10, ChoiceMember)
-unfolding next_token is_utf8 chars read_expr lines_of source_fault statement_on_line reading tree_faults first_tree_fault lib.Utf8.encode
+unfolding next_token is_utf8 chars read_expr lines_of source_fault statement_on_line reading tree_faults first_tree_fault lib.Utf8.encode index_of_name index_of_number
 member_with_another_prompt = refl
 
 member_in_a_second_choice : linux_fault
     (codes "choice\n\tprompt \"c\"\nconfig A\n\tbool \"a\"\nendchoice\nchoice\n\tprompt \"d\"\nconfig A\n\thelp\nendchoice\n")
     ≡ Some (8, ChoiceMember)
-unfolding next_token is_utf8 chars read_expr lines_of source_fault statement_on_line reading tree_faults first_tree_fault lib.Utf8.encode
+unfolding next_token is_utf8 chars read_expr lines_of source_fault statement_on_line reading tree_faults first_tree_fault lib.Utf8.encode index_of_name index_of_number
 member_in_a_second_choice = refl

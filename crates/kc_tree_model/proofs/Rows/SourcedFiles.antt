@@ -9,7 +9,7 @@ use Rattle.kc_tree_model.specs.declared.fault.TreeFault.{TreeFault}
 use Rattle.kc_tree_model.specs.TreeFiles.{strict_files, Files}
 use Rattle.kc_tree_model.specs.LogicalLines.{lines_of}
 use Rattle.kc_tree_model.specs.Limits.{source_fault}
-use Rattle.kc_tree_model.specs.Reading.{statement_on_line, reading, lenient_reading, wanted_by, files_wanted}
+use Rattle.kc_tree_model.specs.TreeReading.{statement_on_line, reading, lenient_reading, wanted_by, files_wanted}
 use Rattle.kc_tree_model.specs.Trees.{Symbol}
 use Rattle.kc_tree_model.specs.Contents.{tree_of_groups}
 use Rattle.kc_tree_model.proofs.Rows.Trees.{yes}

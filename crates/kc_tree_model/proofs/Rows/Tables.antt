@@ -2,6 +2,8 @@
 use Rattle.std.proofs.Common.{◌≡◌, ℕ, List, [], ◌∷◌, ◌++◌, Option, Some, None, refl, map}
 use Rattle.std.specs.Prelude.{codes, option_map}
 use Rattle.std.specs.Str.{is_utf8, chars}
+use Rattle.kc_tree_model.specs.Contents.{index_of_number}
+use Rattle.kc_expr.specs.Lookup.{index_of_name}
 use Rattle.kc_expr.specs.Token.{next_token}
 use Rattle.kc_expr.specs.Grammar.{read_expr}
 use Rattle.kc_tree_model.specs.TreeFiles.{strict_files}
@@ -10,7 +12,7 @@ use Rattle.kc_tree_model.specs.declared.fault.TreeFault.{TreeFault}
 use Rattle.kc_tree_model.specs.declared.fault.TreeKind.TheVariants.{LeftOut, Malformed, Misplaced, ModulesType, NoType, RangeType, StrayEnd, TypeConflict, Unclosed, UnknownStatement}
 use Rattle.kc_tree_model.specs.LogicalLines.{lines_of}
 use Rattle.kc_tree_model.specs.Limits.{source_fault}
-use Rattle.kc_tree_model.specs.Reading.{statement_on_line, reading}
+use Rattle.kc_tree_model.specs.TreeReading.{statement_on_line, reading}
 use Rattle.kc_tree_model.specs.TreeFaults.{tree_faults, first_tree_fault}
 
 abbrev lines : List (List ℕ)
@@ -212,7 +214,7 @@ in_a_member : map (kind_of (codes "choice\nconfig X\n")) lines
     ∷ Some Misplaced ∷ Some Malformed ∷ Some Malformed ∷ Some Malformed ∷ Some Malformed ∷ Some Malformed ∷ Some Malformed ∷ Some Malformed ∷ Some Malformed
     ∷ Some Malformed ∷ Some Malformed ∷ Some Malformed ∷ Some Malformed ∷ Some Malformed ∷ Some Malformed ∷ Some Malformed ∷ Some Malformed ∷ Some Malformed
     ∷ Some Malformed ∷ Some Malformed ∷ Some Malformed ∷ Some Malformed ∷ Some Malformed ∷ Some Malformed ∷ Some Malformed ∷ Some Misplaced ∷ []
-unfolding next_token is_utf8 chars read_expr lines_of source_fault statement_on_line reading tree_faults first_tree_fault lib.Utf8.encode
+unfolding next_token is_utf8 chars read_expr lines_of source_fault statement_on_line reading tree_faults first_tree_fault lib.Utf8.encode index_of_name index_of_number
 in_a_member = refl
 
 in_an_if_of_a_choice : map (kind_of (codes "choice\nif X\n")) lines

@@ -1,6 +1,6 @@
 -- The text between quotes.
 use Rattle.std.specs.Prelude.{◌≡◌, ℕ, List, [], ◌∷◌, ◌++◌, false}
-use Rattle.kc_value.specs.Quoted.{IsBody, unescaped}
+use Rattle.kc_value.specs.QuotedTexts.{IsBody, unescaped}
 
 -- a text in quotes, and its body between them
 pub record HasBody (text body : List ℕ) : Type 0 where

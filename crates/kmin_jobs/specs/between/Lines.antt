@@ -5,7 +5,7 @@ use Rattle.kc_tree_model.specs.Trees.{Tree}
 use Rattle.kc_rules_model.specs.declared.values.UnitValue.{UnitValue}
 use Rattle.kc_rules_model.specs.SymbolValues.{value_of_symbol}
 use Rattle.kc_dotconfig_model.specs.declared.format.Strings.{Strings}
-use Rattle.kc_minimal_model.specs.Spelling.{spelled}
+use Rattle.kc_minimal_model.specs.SymbolLine.{spelled}
 use Rattle.kmin_jobs.specs.Reports.{name_at}
 
 -- the line `NAME: LEFT -> RIGHT` of two values; empty if one is missing

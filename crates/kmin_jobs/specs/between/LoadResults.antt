@@ -8,7 +8,8 @@ use Rattle.kc_dotconfig_model.specs.ConfigFiles.{FileMeans, notices_from, file_a
 use Rattle.kc_dotconfig_model.specs.LoadFaults.{IsAccepted}
 use Rattle.kc_dotconfig.specs.declared.fragment.Fragment.{Fragment}
 use Rattle.kc_dotconfig.specs.Fragments.{users_of, notice_pair}
-use Rattle.kmin_jobs.specs.FileContents.{FileContent, MatchContent}
+use Rattle.kmin_jobs.specs.FileContents.{FileContent}
+use Rattle.kmin_tidy.specs.MinimalFiles.{AreKnownBytes}
 use Rattle.kmin_jobs.specs.Reports.{file_notices, notice_lines}
 use Rattle.kmin_tidy.specs.StandardError.{TakesLines}
 use Rattle.kmin_jobs.specs.Answers.{FilesMean, overlaid_by}
@@ -17,7 +18,7 @@ use Rattle.kmin_jobs.specs.Answers.{FilesMean, overlaid_by}
 pub record IsLoaded (content : FileContent) (format : FileFormat) (tree : Tree) (path : List ℕ) (fragment : Fragment) (taken : Option (List ℕ)) (failed : ℕ) (taken_after : Option (List ℕ)) (failed_after : ℕ) : Type 0 where
   pub bytes : List ℕ
   pub meanings : List LineMeaning
-  pub matches : MatchContent content bytes
+  pub matches : AreKnownBytes content bytes
   pub accepted : IsAccepted format tree bytes
   pub means : FileMeans format tree bytes meanings
   pub users : users_of tree fragment.assigns.items ≡ file_assignment tree meanings

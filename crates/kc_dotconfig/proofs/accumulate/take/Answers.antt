@@ -1,5 +1,5 @@
 use Rattle.std.proofs.Common.{◌+◌, refl}
-use Rattle.kc_dotconfig.proofs.Accumulating.{takes_user, takes_notice, takes_nothing}
+use Rattle.kc_dotconfig.proofs.LineAccumulation.{takes_user, takes_notice, takes_nothing}
 use Rattle.kc_dotconfig.proofs.accumulate.take.Goals as goal
 
 pub returns-in-Assigns-clause-ok : goal.returns-in-Assigns-clause-ok

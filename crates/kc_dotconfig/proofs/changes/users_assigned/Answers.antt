@@ -4,7 +4,7 @@ use Rattle.std.proofs.lemmas.List.{take_more, length-set}
 use Rattle.kc_system.specs.Changes.{changed_users}
 use Rattle.kc_rules_model.specs.declared.values.UserValue.{UserValue}
 use Rattle.kc_dotconfig.specs.Fragments.{changes_of}
-use Rattle.kc_dotconfig.proofs.Holding.{assigned_push}
+use Rattle.kc_dotconfig.proofs.UserValueUnits.{assigned_push}
 use Rattle.kc_dotconfig.proofs.changes.users_assigned.Goals as goal
 
 pub loop-unit-preserved : goal.loop-unit-preserved

@@ -1,5 +1,5 @@
 use Rattle.std.proofs.Common.{ap, sym, ◌∙◌}
-use Rattle.kc_expr.specs.checker.Parsing.{relation_of}
+use Rattle.kc_expr.specs.checker.ParserResults.{relation_of}
 use Rattle.kc_expr.proofs.TokenPlaces.{relation_at, no_relation}
 use Rattle.kc_expr.proofs.parse.relation_at.Goals as goal
 

@@ -5,7 +5,7 @@ use Rattle.kc_expr.specs.Token.{with_front}
 use Rattle.std.proofs.lemmas.Str.{IsCharBoundary-start}
 use Rattle.kc_expr.specs.Token.{lexemes_from, lexemes_of}
 use Rattle.kc_expr.proofs.KeptLists.{kept_after}
-use Rattle.kc_expr.proofs.Lexing.{step_white, step_token_of, cut_after_token, rest_is, lexemes_more, text_is}
+use Rattle.kc_expr.proofs.TokenSteps.{step_white, step_token_of, cut_after_token, rest_is, lexemes_more, text_is}
 use Rattle.kc_expr.proofs.token.scan_line.Goals as goal
 
 pub loop-at-init : goal.loop-at-init

@@ -2,7 +2,7 @@ use Rattle.std.proofs.Common.{◌≡◌, ℕ, ◌-◌, ◌<◌, length, get_or, 
 use Rattle.std.proofs.lemmas.Grind.{common_steps}
 use Rattle.std.specs.Prelude.{take_while}
 use Rattle.kc_expr.specs.Token.{is_word_byte}
-use Rattle.kc_expr.proofs.Lexing.{word_ends, run_stops, run_ends}
+use Rattle.kc_expr.proofs.TokenSteps.{word_ends, run_stops, run_ends}
 use Rattle.kc_expr.proofs.token.word_len.Goals as goal
 
 pub returns-then-not-is_word-clause-ends : goal.returns-then-not-is_word-clause-ends

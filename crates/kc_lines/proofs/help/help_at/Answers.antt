@@ -1,6 +1,6 @@
 use Rattle.std.proofs.Common.{arith}
 use Rattle.std.proofs.lemmas.Bool.Decides.{nat_tests}
-use Rattle.kc_lines.proofs.Indented.{no_help, some_help}
+use Rattle.kc_lines.proofs.HelpTextLines.{no_help, some_help}
 use Rattle.kc_lines.proofs.help.help_at.Goals as goal
 
 pub returns-then-columns-eq0 : goal.returns-then-columns-eq0

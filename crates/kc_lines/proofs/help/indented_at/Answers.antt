@@ -1,5 +1,5 @@
 use Rattle.std.proofs.Common.{arith, sym, ◌∙◌}
-use Rattle.kc_lines.proofs.Indented.{indented_more, indented_stops, indented_end}
+use Rattle.kc_lines.proofs.HelpTextLines.{indented_more, indented_stops, indented_end}
 use Rattle.kc_lines.proofs.help.indented_at.Goals as goal
 
 pub returns-then-not-is_of_help : goal.returns-then-not-is_of_help

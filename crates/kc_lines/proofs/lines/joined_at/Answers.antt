@@ -1,6 +1,6 @@
 use Rattle.std.proofs.Common.{sym, ◌∙◌, arith}
 use Rattle.std.proofs.lemmas.Grind.{common_steps}
-use Rattle.kc_lines.proofs.Joining.{joined_stops, joined_goes_on}
+use Rattle.kc_lines.proofs.ContinuedLines.{joined_stops, joined_goes_on}
 use Rattle.kc_lines.proofs.lines.joined_at.Goals as goal
 
 pub returns-then-not-is_joined : goal.returns-then-not-is_joined

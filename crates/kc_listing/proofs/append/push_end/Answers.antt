@@ -1,6 +1,6 @@
 use Rattle.std.proofs.Common.{rules, length, ◌<◌, ◌↔◌}
 use Rattle.std.specs.Prelude.{IsSome}
-use Rattle.kc_tree_model.specs.Reading.{with_group}
+use Rattle.kc_tree_model.specs.TreeReading.{with_group}
 use Rattle.kc_listing.specs.between.ListingView.{RepresentsListing}
 use Rattle.kc_listing.specs.checker.StateViews.{Describes, at_line}
 use Rattle.kc_listing.proofs.AppendSteps.{counted_end, closing_name, on_ok}

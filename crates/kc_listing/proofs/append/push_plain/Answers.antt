@@ -1,4 +1,4 @@
-use Rattle.kc_tree_model.specs.Reading.{with_group}
+use Rattle.kc_tree_model.specs.TreeReading.{with_group}
 use Rattle.kc_listing.specs.between.ListingView.{RepresentsListing}
 use Rattle.kc_listing.specs.checker.StateViews.{Describes, at_line}
 use Rattle.kc_listing.proofs.AppendSteps.{counted_inside, on_ok}

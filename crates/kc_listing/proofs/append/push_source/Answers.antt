@@ -1,5 +1,5 @@
 use Rattle.std.proofs.Common.{refl, ap, ◌+◌, arith}
-use Rattle.kc_tree_model.specs.Reading.{with_group}
+use Rattle.kc_tree_model.specs.TreeReading.{with_group}
 use Rattle.kc_tree_model.specs.Blocks.{of_head}
 use Rattle.kc_tree_model.specs.Statements.{source}
 use Rattle.kc_listing.specs.between.ListingView.{RepresentsListing}

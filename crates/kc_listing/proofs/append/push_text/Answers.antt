@@ -1,7 +1,7 @@
 use Rattle.std.proofs.Common.{rules, [], ◌∷◌, length, ◌≡◌}
 use Rattle.kc_listing.specs.between.ListingView.{RepresentsListing}
 use Rattle.kc_listing.specs.checker.StateViews.{Describes}
-use Rattle.kc_listing.proofs.Growing.{get_last}
+use Rattle.kc_listing.proofs.ListingGrowth.{get_last}
 use Rattle.kc_listing.proofs.AppendSteps.{lists_grown, counted_grown, grows_same}
 use Rattle.kc_listing.proofs.append.push_text.Goals as goal
 

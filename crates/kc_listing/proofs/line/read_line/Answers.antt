@@ -1,4 +1,4 @@
-use Rattle.std.proofs.Common.{◌≡◌, false, sym, ◌∙◌, inr}
+use Rattle.std.proofs.Common.{false, sym, ◌∙◌, inr}
 use Rattle.kc_expr.specs.Token.{lexemes_from, lexemes_of}
 use Rattle.kc_listing.specs.checker.StateViews.{file_source_of}
 use Rattle.kc_listing.proofs.ReaderSteps.{shown_of}

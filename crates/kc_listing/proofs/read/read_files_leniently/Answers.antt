@@ -1,4 +1,4 @@
-use Rattle.kc_tree_model.specs.Reading.{lenient_reading}
+use Rattle.kc_tree_model.specs.TreeReading.{lenient_reading}
 use Rattle.kc_listing.specs.checker.StateViews.{file_source_of}
 use Rattle.kc_listing.proofs.RootSteps.{fault_of, read_of}
 use Rattle.kc_listing.proofs.read.read_files_leniently.Goals as goal

@@ -2,7 +2,7 @@ use Rattle.std.proofs.Common.{arith, refl, sym, ◌-◌, ◌∙◌}
 use Rattle.std.proofs.lemmas.Grind.{common_steps, elements}
 use Rattle.std.proofs.lemmas.Result.{err_from_is_err_and}
 use Rattle.kc_listing.specs.checker.StateViews.{file_source_of}
-use Rattle.kc_tree_model.specs.Reading.{read_file}
+use Rattle.kc_tree_model.specs.TreeReading.{read_file}
 use Rattle.kc_listing.proofs.ReaderSteps.{one_faulty, one_next, one_help, one_help_faulty, one_source, one_source_faulty, all_left, file_ended, file_lines, not_sourced}
 use Rattle.kc_listing.proofs.reader.+files.Goals as goal
 

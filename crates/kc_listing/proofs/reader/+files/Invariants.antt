@@ -1,6 +1,6 @@
 use Rattle.std.proofs.Common.{length, ◌-◌, ◌≤◌, ◌+◌, ◌*◌, List}
 use Rattle.kc_tree_model.specs.Blocks.{Group}
-use Rattle.kc_tree_model.specs.Reading.{read_file}
+use Rattle.kc_tree_model.specs.TreeReading.{read_file}
 use Rattle.kc_listing.specs.checker.StateViews.{Describes, file_source_of}
 use Rattle.kc_listing.specs.checker.Steps.{IsLeft}
 use Rattle.kc_listing.proofs.reader.+files.Given as goal

@@ -1,4 +1,4 @@
-use Rattle.std.proofs.Common.{◌∙◌, length, rules}
+use Rattle.std.proofs.Common.{length, rules}
 use Rattle.kc_macros.proofs.FrontLemmas.{none_of}
 use Rattle.kc_macros.proofs.QuietLemmas.{quiet_nothing, quiet_comment, quiet_word}
 use Rattle.kc_macros.proofs.copied_lines.is_quiet.Goals as goal

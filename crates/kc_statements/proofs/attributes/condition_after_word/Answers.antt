@@ -5,7 +5,7 @@ use Rattle.kc_expr.specs.between.Arena.{node_expr}
 use Rattle.kc_tree_model.specs.Forms.{condition_line, last_condition}
 use Rattle.kc_tree_model.specs.Statements.{attribute}
 use Rattle.kc_statements.proofs.FormLemmas.{along, given_on, none_there, there, stepped}
-use Rattle.kc_statements.proofs.Growing.{grows_none}
+use Rattle.kc_statements.proofs.ArenaGrowth.{grows_none}
 use Rattle.kc_statements.proofs.LineLemmas.{worded_is, worded_other}
 use Rattle.kc_statements.proofs.attributes.condition_after_word.Goals as goal
 

@@ -3,8 +3,8 @@ use Rattle.std.proofs.lemmas.List.{length-map}
 use Rattle.kc_expr.specs.Token.{lexemes_of, lexeme_of}
 use Rattle.kc_expr.proofs.GrammarComplete.{expr_complete}
 use Rattle.kc_statements.proofs.AttributeLemmas.{extent_within, default_unread}
-use Rattle.kc_statements.proofs.Growing.{grows_on}
-use Rattle.kc_statements.proofs.Later.{node_held}
+use Rattle.kc_statements.proofs.ArenaGrowth.{grows_on}
+use Rattle.kc_statements.proofs.GrownArenas.{node_held}
 use Rattle.kc_statements.proofs.ValueLemmas.{valued_reported, valued_refused}
 use Rattle.kc_statements.proofs.FormLemmas.{unread}
 use Rattle.kc_tree_model.specs.Forms.{default_line}

@@ -5,7 +5,7 @@ use Rattle.kc_tree_model.specs.Forms.{prompt_line, optional_if}
 use Rattle.kc_tree_model.specs.Statements.{attribute}
 use Rattle.kc_statements.specs.between.StatementViews.{if_in}
 use Rattle.kc_statements.proofs.FormLemmas.{along, given_on, there, stepped}
-use Rattle.kc_statements.proofs.Growing.{grows_none}
+use Rattle.kc_statements.proofs.ArenaGrowth.{grows_none}
 use Rattle.kc_statements.proofs.LineLemmas.{prompt_is, prompt_other}
 use Rattle.kc_statements.proofs.attributes.prompt.Goals as goal
 

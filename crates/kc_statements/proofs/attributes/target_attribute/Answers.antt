@@ -1,8 +1,8 @@
-use Rattle.kc_statements.proofs.Growing.{grows_on, grows_none}
+use Rattle.kc_statements.proofs.ArenaGrowth.{grows_on, grows_none}
 use Rattle.std.proofs.Common.{inl, inr, refl, sym, ◌∙◌, length, arith}
 use Rattle.std.proofs.lemmas.Grind.{common_steps, elements}
 use Rattle.kc_statements.proofs.FormLemmas.{there}
-use Rattle.kc_statements.proofs.Later.{if_held}
+use Rattle.kc_statements.proofs.GrownArenas.{if_held}
 use Rattle.kc_statements.proofs.LineLemmas.{target_told, target_refused, target_other}
 use Rattle.kc_statements.proofs.attributes.target_attribute.Goals as goal
 

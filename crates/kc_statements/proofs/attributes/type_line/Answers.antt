@@ -5,7 +5,7 @@ use Rattle.kc_statements.proofs.FormLemmas.{there, none_there}
 use Rattle.kc_statements.proofs.AttributeLemmas.{type_is}
 use Rattle.kc_expr.specs.Token.{lexemes_of}
 use Rattle.kc_tree_model.specs.Forms.{type_line}
-use Rattle.kc_statements.proofs.Growing.{grows_none}
+use Rattle.kc_statements.proofs.ArenaGrowth.{grows_none}
 use Rattle.kc_statements.proofs.attributes.type_line.Goals as goal
 
 pub returns-in-Ok-clause-gives : goal.returns-in-Ok-clause-gives

@@ -3,7 +3,7 @@ use Rattle.std.proofs.lemmas.Grind.{common_steps}
 use Rattle.kc_expr.specs.Token.{lexemes_of, lexeme_of}
 use Rattle.std.specs.Prelude.{slice_index_or}
 use Rattle.kc_statements.proofs.FormLemmas.{front_piece, no_if, if_given, if_refused, some_token}
-use Rattle.kc_statements.proofs.Growing.{grows_none}
+use Rattle.kc_statements.proofs.ArenaGrowth.{grows_none}
 use Rattle.kc_statements.proofs.condition.optional_if.Goals as goal
 
 pub returns-then-not-is_the_word-clause-gives : goal.returns-then-not-is_the_word-clause-gives

@@ -2,7 +2,7 @@ use Rattle.std.proofs.Common.{rules, arith}
 use Rattle.std.proofs.lemmas.Grind.{common_steps}
 use Rattle.kc_expr.specs.Token.{lexemes_of}
 use Rattle.kc_statements.proofs.FormLemmas.{by_keyword}
-use Rattle.kc_statements.proofs.Growing.{grows_none}
+use Rattle.kc_statements.proofs.ArenaGrowth.{grows_none}
 use Rattle.kc_statements.proofs.forms.statement_of.Goals as goal
 
 pub returns-in-Config-clause-gives : goal.returns-in-Config-clause-gives

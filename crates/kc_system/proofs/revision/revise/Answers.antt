@@ -2,7 +2,7 @@ use Rattle.std.proofs.Common.{refl, ◌∙◌, ap, arith}
 use Rattle.std.proofs.lemmas.Grind.{common_steps, elements}
 use Rattle.std.proofs.lemmas.Option.{slice_get-get_or}
 use Rattle.kc_system.specs.checker.Logs.{logged_units}
-use Rattle.kc_system.specs.checker.Pending.{is_pending}
+use Rattle.kc_system.specs.checker.PendingPlaces.{is_pending}
 use Rattle.kc_system.proofs.Lists.{decided}
 use Rattle.kc_system.proofs.Sets.{emptied}
 use Rattle.kc_system.proofs.Undo.{undoes_none}

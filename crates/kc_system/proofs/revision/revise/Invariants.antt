@@ -1,6 +1,6 @@
 use Rattle.std.proofs.Common.{◌≡◌, ◌+◌, ◌-◌, ◌^◌, min}
 use Rattle.kc_system.specs.checker.Logs.{Undoes, logged_units}
-use Rattle.kc_system.specs.checker.Pending.{is_pending}
+use Rattle.kc_system.specs.checker.PendingPlaces.{is_pending}
 use Rattle.kc_system.specs.checker.Revision.{Revising}
 use Rattle.kc_system.specs.Solutions.{FitsValues}
 use Rattle.kc_system.proofs.revision.revise.Given as goal

@@ -3,7 +3,7 @@ use Rattle.std.proofs.lemmas.Grind.{common_steps}
 use Rattle.std.proofs.lemmas.Bool.{false≢true}
 use Rattle.std.proofs.lemmas.Option.{slice_get-get_or}
 use Rattle.std.proofs.lemmas.List.Elements.{Contains-get_or}
-use Rattle.kc_system.specs.checker.Pending.{is_pending}
+use Rattle.kc_system.specs.checker.PendingPlaces.{is_pending}
 use Rattle.kc_system.specs.checker.Rows.{AreDependents}
 use Rattle.kc_system.specs.Solutions.{user_of}
 use Rattle.kc_system.proofs.Lists.{each_set}

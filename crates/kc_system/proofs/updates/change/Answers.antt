@@ -1,6 +1,6 @@
 use Rattle.std.proofs.Common.{refl, sym, ◌∙◌, arith}
 use Rattle.kc_system.specs.Changes.{IsTouched}
-use Rattle.kc_system.specs.checker.Pending.{is_pending, IsDue}
+use Rattle.kc_system.specs.checker.PendingPlaces.{is_pending, IsDue}
 use Rattle.kc_system.proofs.Lists.{decided}
 use Rattle.kc_system.proofs.UserChanges.{place_inside, changed_fits, count_same, one_place, within, due_touched, still_holds}
 use Rattle.kc_system.proofs.updates.change.Goals as goal

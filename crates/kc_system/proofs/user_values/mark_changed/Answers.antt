@@ -4,7 +4,7 @@ use Rattle.std.proofs.Math.Seq.{drop-cons, drop-length}
 use Rattle.std.proofs.lemmas.List.{get_or_read}
 use Rattle.std.proofs.lemmas.Option.{slice_get_read, slice_get-get_or}
 use Rattle.kc_system.specs.checker.Logs.{undone}
-use Rattle.kc_system.specs.checker.Pending.{is_pending}
+use Rattle.kc_system.specs.checker.PendingPlaces.{is_pending}
 use Rattle.kc_system.specs.Solutions.{user_of}
 use Rattle.kc_system.proofs.UserChanges.{lists_back, lists_none, length-undone}
 use Rattle.kc_system.proofs.user_values.mark_changed.Goals as goal

@@ -1,6 +1,6 @@
 use Rattle.std.proofs.Common.{◌≡◌, ◌≤◌, length, drop}
 use Rattle.kc_system.specs.checker.Logs.{undone}
-use Rattle.kc_system.specs.checker.Pending.{ListsChanged, is_pending}
+use Rattle.kc_system.specs.checker.PendingPlaces.{ListsChanged, is_pending}
 use Rattle.kc_system.proofs.user_values.mark_changed.Given as goal
 
 abbrev pub invariant-loop-i : goal.invariant-loop-i

@@ -1,4 +1,4 @@
-use Rattle.kc_tree_model.specs.Reading.{reading}
+use Rattle.kc_tree_model.specs.TreeReading.{reading}
 use Rattle.kc_tree.proofs.builder.all_parts.Goals as goal
 
 pub returns : goal.returns

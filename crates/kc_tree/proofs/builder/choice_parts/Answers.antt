@@ -1,6 +1,6 @@
 use Rattle.std.proofs.Common.{length, ap, ◌∙◌, arith}
 use Rattle.std.proofs.lemmas.Grind.{common_steps}
-use Rattle.kc_tree_model.specs.Reading.{reading}
+use Rattle.kc_tree_model.specs.TreeReading.{reading}
 use Rattle.kc_tree.proofs.AssemblySteps.{faultless_of}
 use Rattle.kc_tree.proofs.ChoiceRowSteps.{as_many_conditions}
 use Rattle.kc_tree.proofs.builder.choice_parts.Goals as goal

@@ -2,7 +2,7 @@ use Rattle.std.proofs.Common.{◌≡◌, arith}
 use Rattle.std.proofs.lemmas.Grind.{elements}
 use Rattle.std.proofs.lemmas.Result.{IfOk-weaker}
 use Rattle.kc_tree_model.specs.Contents.{tree_of_files}
-use Rattle.kc_tree_model.specs.Reading.{reading}
+use Rattle.kc_tree_model.specs.TreeReading.{reading}
 use Rattle.kc_tree.specs.TreeModel.{TreeModel}
 use Rattle.kc_tree.specs.checker.GatheredView.{gathered_tree}
 use Rattle.kc_tree.proofs.AssemblySteps.{consistent_of, whole_is}

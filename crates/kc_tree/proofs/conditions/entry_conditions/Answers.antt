@@ -1,6 +1,6 @@
 use Rattle.std.proofs.Common.{arith}
 use Rattle.std.proofs.lemmas.Grind.{common_steps, elements}
-use Rattle.kc_statements.proofs.Growing.{grows_on}
+use Rattle.kc_statements.proofs.ArenaGrowth.{grows_on}
 use Rattle.kc_tree.proofs.Growth.{entry_joined}
 use Rattle.kc_tree.proofs.conditions.entry_conditions.Goals as goal
 

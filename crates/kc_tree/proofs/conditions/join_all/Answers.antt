@@ -1,7 +1,7 @@
 use Rattle.std.proofs.Common.{arith}
 use Rattle.std.proofs.lemmas.Grind.{common_steps}
 use Rattle.kc_tree.specs.checker.Conjunctions.{conjunct}
-use Rattle.kc_statements.proofs.Growing.{grows_on}
+use Rattle.kc_statements.proofs.ArenaGrowth.{grows_on}
 use Rattle.kc_tree.proofs.Growth.{conjoins_there, conjoins_own, with_more}
 use Rattle.kc_tree.proofs.conditions.join_all.Goals as goal
 

@@ -2,14 +2,14 @@ use Rattle.std.proofs.Common.{◌≡◌, ◌<◌, ℕ, List, All, get_or, subst,
 use Rattle.std.proofs.lemmas.Grind.{common_steps}
 use Rattle.std.proofs.lemmas.List.{take_all}
 use Rattle.kc_tree.specs.checker.Conjuncts.{AreAppended}
-use Rattle.kc_statements.proofs.Growing.{grows_on}
+use Rattle.kc_statements.proofs.ArenaGrowth.{grows_on}
 use Rattle.kc_tree.proofs.Growth.{joined_on, after_more, none_after, there_on}
 use Rattle.kc_expr.specs.between.Arena.{Exprs, Grows}
 use Rattle.kc_listing.proofs.AppendSteps.{grows_same}
 use Rattle.kc_listing.specs.between.ListingView.{LineNodesExist}
 use Rattle.kc_listing.specs.declared.listing.Line.{Line as CodeLine}
 use Rattle.kc_statements.specs.between.StatementViews.{AttributeNodesExist}
-use Rattle.kc_statements.proofs.Later.{attribute_held}
+use Rattle.kc_statements.proofs.GrownArenas.{attribute_held}
 use Rattle.kc_expr.proofs.StoreLemmas.{represents_on}
 use Rattle.kc_tree.proofs.conditions.push_conditions.Goals as goal
 

@@ -3,7 +3,7 @@ use Rattle.std.proofs.lemmas.List.{get_or_read}
 use Rattle.kc_tree_model.specs.Limits.{names_defined}
 use Rattle.kc_listing.specs.between.ListingView.{RepresentsListing}
 use Rattle.kc_tree.specs.checker.Summaries.{is_choice_code, no_group}
-use Rattle.kc_tree.proofs.Aligned.{count_is}
+use Rattle.kc_tree.proofs.GroupPlaces.{count_is}
 use Rattle.kc_tree.proofs.Rounds.{all_counted, none_counted, one_counted}
 use Rattle.kc_tree.proofs.enclosing_choices.choice_count.Goals as goal
 use Rattle.kc_tree.proofs.enclosing_choices.choice_count.Goals.{then-begins_choice, else-begins_choice}

@@ -3,7 +3,7 @@ use Rattle.std.proofs.lemmas.Grind.{common_steps}
 use Rattle.std.proofs.lemmas.List.{get_or_read}
 use Rattle.kc_listing.specs.between.ListingView.{RepresentsListing}
 use Rattle.kc_tree.specs.checker.Summaries.{is_choice_code, no_group}
-use Rattle.kc_tree.proofs.Aligned.{count_is}
+use Rattle.kc_tree.proofs.GroupPlaces.{count_is}
 use Rattle.kc_tree.proofs.Rounds.{all_round, enclosing_more}
 use Rattle.kc_tree.proofs.enclosing_choices.choices_enclosing.Goals as goal
 use Rattle.kc_tree.proofs.enclosing_choices.choices_enclosing.Goals.{then-begins_choice, else-begins_choice}

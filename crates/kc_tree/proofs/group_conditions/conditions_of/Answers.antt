@@ -1,9 +1,9 @@
 use Rattle.std.proofs.Common.{◌≡◌, ◌≤◌, get_or, length, sym, subst, ap, ◌∙◌}
 use Rattle.std.specs.Prelude.{slice_range}
 use Rattle.std.proofs.lemmas.List.{get_or_read}
-use Rattle.kc_tree.specs.checker.Conditioned.{no_conditions, conditions_at}
+use Rattle.kc_tree.specs.checker.GroupConditions.{no_conditions, conditions_at}
 use Rattle.kc_tree.specs.declared.group_walk.GroupConditions.{GroupConditions}
-use Rattle.kc_tree.proofs.Conditioned.{conditioned_at}
+use Rattle.kc_tree.proofs.GroupConditionLemmas.{conditioned_at}
 use Rattle.kc_tree.proofs.group_conditions.conditions_of.Goals as goal
 
 pub part-requires : goal.part-requires

@@ -5,7 +5,7 @@ use Rattle.std.proofs.lemmas.List.Elements.{All-take, All-drop}
 use Rattle.kc_tree_model.specs.Limits.{names_defined}
 use Rattle.kc_listing.specs.between.ListingView.{RepresentsListing, LineNodesExist}
 use Rattle.kc_tree.specs.checker.Summaries.{no_group, attributes_end, group_at, own_lines}
-use Rattle.kc_tree.proofs.Aligned.{shown_at}
+use Rattle.kc_tree.proofs.GroupPlaces.{shown_at}
 use Rattle.kc_tree.proofs.group_lines.lines_of.Goals as goal
 
 pub part-requires : goal.part-requires

@@ -1,5 +1,5 @@
 use Rattle.kc_expr.proofs.StoreLemmas.{represents_on}
-use Rattle.kc_statements.proofs.Growing.{grows_on}
+use Rattle.kc_statements.proofs.ArenaGrowth.{grows_on}
 use Rattle.kc_tree.proofs.group_walk.yes_and_no.Goals as goal
 
 pub returns-in_err-no-clause-grows : goal.returns-in_err-no-clause-grows

@@ -5,12 +5,12 @@ use Rattle.std.proofs.lemmas.List.{get_or_read}
 use Rattle.std.proofs.lemmas.List.Elements.{All-take, All-drop}
 use Rattle.kc_listing.specs.declared.listing.Group.{Group as CodeGroup}
 use Rattle.kc_listing.specs.between.ListingView.{LineNodesExist, RepresentsHead, line_in}
-use Rattle.kc_listing.proofs.Growing.{lines_held}
+use Rattle.kc_listing.proofs.ListingGrowth.{lines_held}
 use Rattle.kc_tree.specs.checker.Firsts.{GroupHeadNodesExist}
 use Rattle.kc_tree.specs.checker.Summaries.{no_group, group_at, attributes_end, read_before}
 use Rattle.kc_tree.specs.checker.Walks.{HasWalked}
-use Rattle.kc_tree.proofs.Aligned.{shown_at, count_is, none_before, all_before}
-use Rattle.kc_statements.proofs.Growing.{grows_on}
+use Rattle.kc_tree.proofs.GroupPlaces.{shown_at, count_is, none_before, all_before}
+use Rattle.kc_statements.proofs.ArenaGrowth.{grows_on}
 use Rattle.kc_tree.proofs.WalkSteps.{what_on, what_held, lines_kept}
 use Rattle.kc_tree.proofs.listing_walk.walk_through.Goals as goal
 

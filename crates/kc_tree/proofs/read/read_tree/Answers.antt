@@ -1,7 +1,7 @@
-use Rattle.std.proofs.Common.{inl, inr, Some, None, arith}
+use Rattle.std.proofs.Common.{inr, Some, None, arith}
 use Rattle.std.proofs.lemmas.Grind.{common_steps}
 use Rattle.kc_tree.proofs.ReadSteps.{reported_or_memory, reported_of_reading, shown_of_reading, of_reading, reported_behind, of_tree}
-use Rattle.kc_tree_model.specs.Reading.{reading}
+use Rattle.kc_tree_model.specs.TreeReading.{reading}
 use Rattle.kc_tree_model.proofs.ReadingLaws.TreesRelated.{tree_related}
 use Rattle.kc_tree.proofs.read.read_tree.Goals as goal
 

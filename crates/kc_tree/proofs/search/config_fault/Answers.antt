@@ -11,7 +11,7 @@ use Rattle.kc_tree_model.specs.TreeFaults.{attribute_faults, faults_of_lines, ki
 use Rattle.kc_listing.specs.between.ListingView.{RepresentsListing, line_in}
 use Rattle.kc_listing.proofs.NameLemmas.{as_many_names}
 use Rattle.kc_tree.specs.checker.Summaries.{IsSummary, enclosing_choice, group_at, no_group}
-use Rattle.kc_tree.proofs.Aligned.{count_is, placed_count}
+use Rattle.kc_tree.proofs.GroupPlaces.{count_is, placed_count}
 use Rattle.kc_tree.proofs.FaultKinds.{fault_of, follow_is}
 use Rattle.kc_tree.proofs.FaultSearch.{config_first, config_there, definition_reported, enclosing_some, place_at, enclosing_got}
 use Rattle.kc_tree.proofs.Symbols.{about_is, as_many_abouts, kind_is, symbol_there}

@@ -6,7 +6,7 @@ use Rattle.kc_tree_model.specs.TreeFaults.{tree_faults}
 use Rattle.kc_listing.specs.between.ListingView.{RepresentsListing}
 use Rattle.kc_tree.specs.checker.FaultSearch.{AreSmall}
 use Rattle.kc_tree.specs.checker.Summaries.{IsSummary, is_choice_code, no_group}
-use Rattle.kc_tree.proofs.Aligned.{count_is}
+use Rattle.kc_tree.proofs.GroupPlaces.{count_is}
 use Rattle.kc_tree.proofs.Rounds.{one_counted}
 use Rattle.kc_tree.proofs.FaultSearch.{fault_all, fault_here, fault_none, few_choices, keys_fit, reported_none, reported_some}
 use Rattle.kc_tree.proofs.search.first_fault.Goals as goal

@@ -6,7 +6,7 @@ use Rattle.kc_tree_model.specs.Contents.{contents_of}
 use Rattle.kc_tree_model.specs.Limits.{names_defined}
 use Rattle.kc_listing.specs.between.ListingView.{RepresentsListing}
 use Rattle.kc_tree.specs.checker.Summaries.{enclosing_choice, no_group}
-use Rattle.kc_tree.proofs.Aligned.{count_is, placed_count}
+use Rattle.kc_tree.proofs.GroupPlaces.{count_is, placed_count}
 use Rattle.kc_tree.proofs.Symbols.{all_members, member_more, members_same, nameless_more, outside_more}
 use Rattle.kc_tree.proofs.summary.members_of.Goals as goal
 use Rattle.kc_tree.proofs.summary.members_of.Goals.{in-Config+in-Some+in_ok-push, in-Config+in_default-choice, in_default}

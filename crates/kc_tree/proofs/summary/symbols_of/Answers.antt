@@ -10,7 +10,7 @@ use Rattle.kc_listing.specs.between.ListingView.{RepresentsListing}
 use Rattle.kc_listing.specs.declared.listing.GroupHead.TheVariants as codes
 use Rattle.kc_tree.specs.checker.Summaries.{enclosing_choice, group_at, no_group, own_lines, read_before, type_in}
 use Rattle.kc_tree.specs.declared.summary.SymbolSummary.{SymbolSummary}
-use Rattle.kc_tree.proofs.Aligned.{count_is, placed_count}
+use Rattle.kc_tree.proofs.GroupPlaces.{count_is, placed_count}
 use Rattle.kc_tree.proofs.Symbols.{all_abouts, as_many_abouts, no_abouts, none_known, symbol_there, symbols_kept, symbols_more}
 use Rattle.kc_tree.proofs.summary.symbols_of.Goals as goal
 use Rattle.kc_tree.proofs.summary.symbols_of.Goals.{in-Config, in_default}

@@ -5,7 +5,7 @@ use Rattle.std.proofs.lemmas.List.{get_or_read}
 use Rattle.kc_listing.specs.between.ListingView.{RepresentsListing}
 use Rattle.kc_tree.specs.checker.Summaries.{is_choice_code, no_group}
 use Rattle.kc_tree.specs.checker.UnitList.{unit_of_group}
-use Rattle.kc_tree.proofs.Aligned.{count_is}
+use Rattle.kc_tree.proofs.GroupPlaces.{count_is}
 use Rattle.kc_tree.proofs.UnitSteps.{all_units, units_more}
 use Rattle.kc_tree.proofs.unit_list.units_of.Goals as goal
 use Rattle.kc_tree.proofs.unit_list.units_of.Goals.{then-begins_choice, else-begins_choice, in-Some+in_ok-push, in_default}

@@ -1,5 +1,5 @@
 use Rattle.std.specs.Prelude.{◌≡◌, ◌<◌, ◌≤◌, ℕ, Some, length, slice_get, slice_index}
-use Rattle.kc_tree.specs.checker.Numbered.{own_or_choice}
+use Rattle.kc_tree.specs.checker.UnitNumbers.{own_or_choice}
 use Rattle.kc_tree.specs.declared.parts.SymbolRow.{SymbolRow}
 use Rattle.kc_tree.proofs.unit_numbers.number_members.Given as goal
 

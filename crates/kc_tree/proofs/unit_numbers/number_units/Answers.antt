@@ -7,7 +7,7 @@ use Rattle.std.proofs.lemmas.List.{get_or-set_other, length-set}
 use Rattle.std.proofs.lemmas.Option.{slice_get-get_or}
 use Rattle.kc_tree_model.specs.declared.ids.Unit.{Unit as TreeUnit}
 use Rattle.kc_tree_model.specs.declared.ids.Unit.TheVariants.{Symbol as SymbolUnit, Choice as ChoiceUnit}
-use Rattle.kc_tree.specs.checker.Numbered.{AreNumbered}
+use Rattle.kc_tree.specs.checker.UnitNumbers.{AreNumbered}
 use Rattle.kc_tree.proofs.unit_numbers.number_units.Goals as goal
 use Rattle.kc_tree.proofs.unit_numbers.number_units.Goals.{in-Symbol, in-Choice}
 

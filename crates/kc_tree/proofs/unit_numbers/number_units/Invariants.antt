@@ -1,4 +1,4 @@
-use Rattle.kc_tree.specs.checker.Numbered.{AreNumbered}
+use Rattle.kc_tree.specs.checker.UnitNumbers.{AreNumbered}
 use Rattle.kc_tree.proofs.unit_numbers.number_units.Given as goal
 
 abbrev pub invariant-loop-u : goal.invariant-loop-u

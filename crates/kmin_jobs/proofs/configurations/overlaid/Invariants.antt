@@ -1,7 +1,7 @@
 use Rattle.std.proofs.Common.{◌≡◌, ℕ, List, map, take}
 use Rattle.std.specs.Borrow.{Bor}
 use Rattle.kc_rules.specs.between.SettledViews.{tree_of_settled}
-use Rattle.kc_dotconfig.specs.Configured.{IsSolved}
+use Rattle.kc_dotconfig.specs.ConfigStates.{IsSolved}
 use Rattle.kc_dotconfig_model.specs.between.Formats.{file_format}
 use Rattle.kmin_jobs.specs.between.LoadResults.{AreLoaded}
 use Rattle.kmin_jobs.proofs.configurations.overlaid.Given as goal

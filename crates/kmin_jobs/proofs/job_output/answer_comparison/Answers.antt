@@ -1,5 +1,5 @@
 use Rattle.std.proofs.Common.{◌≤◌, true, ◌∷◌, [], refl, subst, sym, rules}
-use Rattle.kc_dotconfig.specs.Configured.{tree_in}
+use Rattle.kc_dotconfig.specs.ConfigStates.{tree_in}
 use Rattle.kc_minimal_model.specs.Differences.{differences}
 use Rattle.kmin_words.specs.Jobs.{settings_view}
 use Rattle.kmin_jobs.proofs.Sequences.{stopped_more, stopped_later, stopped_for_memory, if_err, memory_err}

@@ -1,7 +1,7 @@
 use Rattle.std.proofs.Common.{◌≡◌, take}
 use Rattle.std.specs.List.{flat_map}
 use Rattle.kc_rules.specs.between.SettledViews.{tree_of_settled}
-use Rattle.kc_minimal.specs.declared.differing.Difference.{Difference as ToldDifference}
+use Rattle.kc_minimal.specs.declared.difference.Difference.{Difference as ToldDifference}
 use Rattle.kmin_jobs.specs.between.Lines.{line_between}
 use Rattle.kmin_jobs.proofs.symbol_lines.difference_lines.Given as goal
 

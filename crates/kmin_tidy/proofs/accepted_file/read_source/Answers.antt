@@ -1,5 +1,5 @@
 use Rattle.std.proofs.Common.{◌≡◌, ℕ, List, sym, subst, refl}
-use Rattle.kc_value.specs.declared.reading.ReadEnd.TheVariants.{AtEnd}
+use Rattle.kc_value.specs.declared.bytes_read.ReadEnd.TheVariants.{AtEnd}
 use Rattle.kc_rules.specs.between.SettledViews.{tree_of_settled}
 use Rattle.kc_dotconfig_model.specs.between.Formats.{file_format}
 use Rattle.kmin_tidy.specs.MinimalFiles.{AreKnownBytes}

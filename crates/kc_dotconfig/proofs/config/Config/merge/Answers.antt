@@ -7,11 +7,11 @@ use Rattle.kc_rules_model.specs.Dependencies.{dependencies}
 use Rattle.kc_rules_model.specs.Shapes.{user_fits}
 use Rattle.kc_rules_model.specs.declared.values.UserValue.{UserValue}
 use Rattle.kc_dotconfig_model.specs.ConfigFiles.{overlay}
-use Rattle.kc_dotconfig.specs.Configured.{Configured, tree_in}
+use Rattle.kc_dotconfig.specs.ConfigStates.{Configured, tree_in}
 use Rattle.kc_dotconfig.specs.Fragments.{FitsTree, changes_of, users_of}
 use Rattle.kc_dotconfig.specs.checker.Configs.{units_of}
-use Rattle.kc_dotconfig.proofs.Holding.{fits_changes}
-use Rattle.kc_dotconfig.proofs.Solving.{solved_by, merged_kept, merged_users}
+use Rattle.kc_dotconfig.proofs.UserValueUnits.{fits_changes}
+use Rattle.kc_dotconfig.proofs.ConfigSolutions.{solved_by, merged_kept, merged_users}
 use Rattle.kc_dotconfig.proofs.config.Config.merge.Goals as goal
 
 pub apply-requires : goal.apply-requires

@@ -1,6 +1,6 @@
 use Rattle.std.proofs.Common.{arith}
 use Rattle.std.proofs.lemmas.Grind.{common_steps}
-use Rattle.kc_dotconfig.proofs.Solving.{solved_as, none_kept}
+use Rattle.kc_dotconfig.proofs.ConfigSolutions.{solved_as, none_kept}
 use Rattle.kc_dotconfig.proofs.config.Config.new.Goals as goal
 
 pub invariant_of-result : goal.invariant_of-result

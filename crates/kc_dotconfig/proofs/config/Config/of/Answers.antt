@@ -8,8 +8,8 @@ use Rattle.kc_rules_model.specs.declared.values.UserValue.{UserValue}
 use Rattle.kc_rules.specs.between.SettledViews.{tree_of_settled}
 use Rattle.kc_dotconfig.specs.Fragments.{changes_of, users_of}
 use Rattle.kc_dotconfig.specs.checker.Configs.{units_of}
-use Rattle.kc_dotconfig.proofs.Holding.{users_fit}
-use Rattle.kc_dotconfig.proofs.Solving.{solved_as, held_kept}
+use Rattle.kc_dotconfig.proofs.UserValueUnits.{users_fit}
+use Rattle.kc_dotconfig.proofs.ConfigSolutions.{solved_as, held_kept}
 use Rattle.kc_dotconfig.proofs.config.Config.of.Goals as goal
 
 -- user values over a number of units, as the assignment of a tree

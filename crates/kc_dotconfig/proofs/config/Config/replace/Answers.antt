@@ -4,12 +4,12 @@ use Rattle.kc_system.specs.Changes.{changed_users, FitsChanges, IsListOf, IsChan
 use Rattle.kc_rules_model.specs.Dependencies.{dependencies}
 use Rattle.kc_rules_model.specs.Shapes.{user_fits}
 use Rattle.kc_rules_model.specs.declared.values.UserValue.{UserValue}
-use Rattle.kc_dotconfig.specs.Configured.{Configured, tree_in}
+use Rattle.kc_dotconfig.specs.ConfigStates.{Configured, tree_in}
 use Rattle.kc_dotconfig.specs.Fragments.{FitsTree, changes_of, users_of}
 use Rattle.kc_dotconfig.specs.checker.Configs.{units_of, clears_of}
-use Rattle.kc_dotconfig.proofs.Holding.{fits_changes, fits_both}
+use Rattle.kc_dotconfig.proofs.UserValueUnits.{fits_changes, fits_both}
 use Rattle.kc_dotconfig.proofs.WholeReads.{if_any_err}
-use Rattle.kc_dotconfig.proofs.Solving.{solved_by, replaced_kept, replaced_users}
+use Rattle.kc_dotconfig.proofs.ConfigSolutions.{solved_by, replaced_kept, replaced_users}
 use Rattle.kc_dotconfig.proofs.config.Config.replace.Goals as goal
 
 pub apply-requires : goal.apply-requires

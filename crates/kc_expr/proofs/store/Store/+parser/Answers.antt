@@ -7,7 +7,7 @@ use Rattle.kc_expr.specs.declared.token.Token.{Token}
 use Rattle.kc_expr.specs.declared.token.TokenKind.{TokenKind}
 use Rattle.kc_expr.specs.declared.token.TokenKind.TheVariants.{And, Or}
 use Rattle.kc_expr.specs.Expr.{both, either}
-use Rattle.kc_expr.specs.checker.Parsing.{first_kind, factor_read, ands_read, ors_read}
+use Rattle.kc_expr.specs.checker.ParserResults.{first_kind, factor_read, ands_read, ors_read}
 use Rattle.kc_expr.specs.Token.{lexeme_of, lexemes_of}
 use Rattle.kc_expr.proofs.NamesRead.{read_negated, read_joined}
 use Rattle.kc_expr.proofs.ParseSteps.{as_both, as_either, factor_is_operand, factor_beyond, not_fails, not_parsed, open_fails, open_unclosed, open_parsed, parses_by, kind_within, chain_first_fails, chain_begins, chain_fails, chain_goes_on, chain_ends}

@@ -1,5 +1,5 @@
 use Rattle.std.proofs.Common.{◌+◌, ◌*◌, ◌-◌, length}
-use Rattle.kc_expr.specs.checker.Parsing.{ands_read, ors_read}
+use Rattle.kc_expr.specs.checker.ParserResults.{ands_read, ors_read}
 use Rattle.kc_expr.specs.checker.Store.{IsSound, Extends, HasNamesOf}
 use Rattle.kc_expr.specs.Token.{lexemes_of}
 use Rattle.kc_expr.proofs.ParseSteps.{IsChained}

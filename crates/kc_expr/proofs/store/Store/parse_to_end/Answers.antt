@@ -4,7 +4,7 @@ use Rattle.std.proofs.lemmas.Result.{err_from_is_err_and, IfOk-weaker}
 use Rattle.std.proofs.lemmas.List.{length-map}
 use Rattle.kc_expr.specs.Expr.{alone, named}
 use Rattle.kc_expr.specs.Grammar.{constant_or}
-use Rattle.kc_expr.specs.checker.Parsing.{read_all_tokens}
+use Rattle.kc_expr.specs.checker.ParserResults.{read_all_tokens}
 use Rattle.kc_expr.specs.Token.{lexemes_of, lexeme_of}
 use Rattle.kc_expr.proofs.ParseSteps.{whole_refused, whole_too_long, whole_parsed}
 use Rattle.kc_expr.proofs.ReaderSteps.{drop_one}

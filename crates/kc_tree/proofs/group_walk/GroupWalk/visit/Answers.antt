@@ -4,14 +4,14 @@ use Rattle.std.specs.Prelude.{slice_get}
 use Rattle.kc_expr.specs.between.Arena.{Grows}
 use Rattle.kc_expr.proofs.StoreLemmas.{represents_on}
 use Rattle.kc_listing.proofs.AppendSteps.{grows_same, on_ok}
-use Rattle.kc_statements.proofs.Later.{attribute_held}
+use Rattle.kc_statements.proofs.GrownArenas.{attribute_held}
 use Rattle.kc_tree_model.specs.Blocks.{Group, open_blocks}
 use Rattle.kc_tree_model.specs.Conditions.{conjunction_of, context, dependencies_of, prompts_of}
 use Rattle.kc_tree.specs.checker.Conjuncts.{AreAppended}
 use Rattle.kc_tree.specs.checker.Firsts.{RepresentsPrompt}
 use Rattle.kc_tree.specs.checker.Walks.{RepresentsEnclosing, or_yes}
 use Rattle.kc_tree.specs.declared.conditions.EnclosingConditions.{EnclosingConditions}
-use Rattle.kc_statements.proofs.Growing.{grows_on}
+use Rattle.kc_statements.proofs.ArenaGrowth.{grows_on}
 use Rattle.kc_tree.proofs.Growth.{there_on, conjoins_there, joined_on}
 use Rattle.kc_tree.proofs.WalkSteps.{top_shown, entry_is, ended, entered, end_side, other_side, prompt_there, prompt_represents, inside_on, around_on, what_on}
 use Rattle.kc_tree.proofs.group_walk.GroupWalk.visit.Goals as goal

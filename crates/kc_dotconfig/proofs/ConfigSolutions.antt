@@ -1,0 +1,120 @@
+-- The state of a configuration after a change.
+use Rattle.std.proofs.Common.{◌≡◌, inl, inr, ℕ, ◌<◌, IsTrue, List, [], ◌++◌, length, Option, Some, None, refl, sym, ◌∙◌, ap, subst, arith}
+use Rattle.std.specs.Prelude.{Contains, filter, is_none, replicate}
+use Rattle.kc_system.specs.Changes.{changed_users}
+use Rattle.kc_system.specs.Solutions.{user_of, UniquelySolves, FitsUsers, FitsValues}
+use Rattle.kc_rules_model.specs.declared.values.UserValue.{UserValue}
+use Rattle.kc_rules_model.specs.Rule.{rule}
+use Rattle.kc_rules_model.specs.Shapes.{user_fits, value_fits}
+use Rattle.kc_rules_model.specs.SettledTrees.{IsSettledTree}
+use Rattle.kc_rules_model.proofs.SolutionsFit.{all_solutions_fit}
+use Rattle.kc_rules.specs.declared.rules.Settled.{Settled}
+use Rattle.kc_rules.specs.between.SettledViews.{tree_of_settled, profile_of}
+use Rattle.kc_dotconfig_model.specs.ConfigFiles.{empty_assignment, overlay}
+use Rattle.kc_dotconfig.specs.ConfigStates.{Configured, tree_in, IsSolved}
+use Rattle.kc_dotconfig.specs.Fragments.{FitsTree, changes_of, users_of}
+use Rattle.kc_dotconfig.specs.checker.Configs.{units_of, clears_of, IsSoundConfig}
+use Rattle.kc_dotconfig.proofs.UserValueUnits.{changed_both, cleared, lies_over, given_or_had, none_held, units_within, in_front, in_back, in_either, in_filter, of_filter}
+
+pub solved_by : (old new : Configured) → IsSolved old → new.system ≡ old.system
+    → FitsUsers (length (tree_in new).units) (λ u x. IsTrue (user_fits (tree_in new) u x)) new.users
+    → UniquelySolves (length (tree_in new).units) (rule (profile_of new.system) (tree_in new)) new.users new.values → IsSolved new
+solved_by old new before same fits gives =
+    let settled : IsSettledTree (tree_in new) = subst (λ s. IsSettledTree (tree_of_settled s)) (sym same) before.settled in
+    record {
+      settled = settled;
+      fits = fits;
+      fits_values = all_solutions_fit (profile_of new.system) (tree_in new) new.users new.values settled fits gives.solves;
+      gives = gives;
+    }
+
+-- the one solution that a session of a settled tree has
+pub solved_as : (settled : Settled) (new : Configured) → new.system ≡ settled → IsSettledTree (tree_of_settled settled)
+    → FitsUsers (length (tree_in new).units) (λ u x. IsTrue (user_fits (tree_in new) u x)) new.users
+    → FitsValues (length (tree_in new).units) (λ u v. IsTrue (value_fits (tree_in new) u v)) new.values
+    → UniquelySolves (length (tree_in new).units) (rule (profile_of new.system) (tree_in new)) new.users new.values → IsSolved new
+solved_as settled new same tree fits fits_values gives = record {
+  settled = subst (λ s. IsSettledTree (tree_of_settled s)) (sym same) tree;
+  fits = fits;
+  fits_values = fits_values;
+  gives = gives;
+}
+
+-- no units are kept where no user value is held
+pub none_kept : (settled : Settled) (new : Configured) (held : List ℕ) → IsSolved new → new.system ≡ settled
+    → new.users ≡ empty_assignment (tree_of_settled settled) → held ≡ [] → IsSoundConfig settled new held
+none_kept settled new held solved same users none = record {
+  same = same;
+  solved = solved;
+  covers = λ u x e. absurd (none_held (length (tree_of_settled settled).units) u x (ap (λ l. user_of l u) (sym users) ∙ e));
+  within = λ u c. absurd (none_in u (subst (λ l. Contains l u) none c));
+} where
+  none_in : (u : ℕ) → Contains {X = ℕ} [] u → ⊥
+  none_in u (k, h, is) = omega (arith, h)
+
+-- the units kept after user values were laid over those held
+pub merged_kept : (settled : Settled) (old new : Configured) (held more : List ℕ) (es : List (ℕ × UserValue)) → IsSoundConfig settled old held
+    → FitsTree (tree_in old) es → IsSolved new → new.system ≡ old.system
+    → new.users ≡ changed_users (changes_of es) old.users → more ≡ held ++ filter (λ u. is_none (user_of old.users u)) (units_of es)
+    → IsSoundConfig settled new more
+merged_kept settled old new held more es kept fits solved same users is = record {
+  same = same ∙ kept.same;
+  solved = solved;
+  covers = λ u x e. subst (λ l. Contains l u) (sym is) (covers u x (ap (λ l. user_of l u) (sym users) ∙ e));
+  within = λ u c. subst (λ s. u < length (tree_of_settled s).units) (sym same) (below u (subst (λ l. Contains l u) is c));
+} where
+  covers : (u : ℕ) (x : UserValue) → user_of (changed_users (changes_of es) old.users) u ≡ Some x
+      → Contains (held ++ filter (λ u. is_none (user_of old.users u)) (units_of es)) u
+  covers u x e = elim (given_or_had es old.users u x e) [
+    | inl given ↦ by (user_of old.users u) refl given
+    | inr had ↦ in_front held (filter (λ u. is_none (user_of old.users u)) (units_of es)) u (kept.covers u had.0 had.1)
+  ] where
+    by : (o : Option UserValue) → user_of old.users u ≡ o → Contains (units_of es) u
+        → Contains (held ++ filter (λ u. is_none (user_of old.users u)) (units_of es)) u
+    by None f given =
+        in_back held (filter (λ u. is_none (user_of old.users u)) (units_of es)) u
+        (in_filter (λ u. is_none (user_of old.users u)) (units_of es) u (ap is_none f) given)
+    by (Some y) f given = in_front held (filter (λ u. is_none (user_of old.users u)) (units_of es)) u (kept.covers u y f)
+
+  below : (u : ℕ) → Contains (held ++ filter (λ u. is_none (user_of old.users u)) (units_of es)) u → u < length (tree_in old).units
+  below u c = elim (in_either held (filter (λ u. is_none (user_of old.users u)) (units_of es)) u c) [
+    | inl before ↦ kept.within u before
+    | inr fresh ↦ units_within (tree_in old) es fits u (of_filter (λ u. is_none (user_of old.users u)) (units_of es) u fresh)
+  ]
+
+-- the units kept where just these user values are held
+pub held_kept : (settled : Settled) (new : Configured) (more : List ℕ) (es : List (ℕ × UserValue)) → FitsTree (tree_of_settled settled) es → IsSolved new
+    → new.system ≡ settled
+    → new.users ≡ users_of (tree_of_settled settled) es → more ≡ units_of es → IsSoundConfig settled new more
+held_kept settled new more es fits solved same users is = record {
+  same = same;
+  solved = solved;
+  covers = λ u x e. subst (λ l. Contains l u) (sym is) (covers u x (ap (λ l. user_of l u) (sym users) ∙ e));
+  within = λ u c. subst (λ s. u < length (tree_of_settled s).units) (sym same)
+      (units_within (tree_of_settled settled) es fits u (subst (λ l. Contains l u) is c));
+} where
+  covers : (u : ℕ) (x : UserValue) → user_of (users_of (tree_of_settled settled) es) u ≡ Some x → Contains (units_of es) u
+  covers u x e = elim (given_or_had es (replicate (length (tree_of_settled settled).units) None) u x e) [
+    | inl given ↦ given
+    | inr had ↦ absurd (none_held (length (tree_of_settled settled).units) u had.0 had.1)
+  ]
+
+-- and after they took the place of those held
+pub replaced_kept : (settled : Settled) (old new : Configured) (held more : List ℕ) (es : List (ℕ × UserValue)) → IsSoundConfig settled old held
+    → FitsTree (tree_in old) es → IsSolved new → new.system ≡ old.system
+    → new.users ≡ users_of (tree_in old) es → more ≡ units_of es → IsSoundConfig settled new more
+replaced_kept settled old new held more es kept fits solved same users is =
+    held_kept settled new more es (subst (λ s. FitsTree (tree_of_settled s) es) kept.same fits) solved (same ∙ kept.same)
+    (users ∙ ap (λ s. users_of (tree_of_settled s) es) kept.same) is
+
+pub replaced_users : (settled : Settled) (old : Configured) (held : List ℕ) (es : List (ℕ × UserValue)) (users : List (Option UserValue))
+    → IsSoundConfig settled old held
+    → users ≡ changed_users (clears_of held ++ changes_of es) old.users → users ≡ users_of (tree_in old) es
+replaced_users settled old held es users kept is =
+    is ∙ changed_both (clears_of held) (changes_of es) old.users
+    ∙ ap (changed_users (changes_of es)) (cleared held old.users kept.covers ∙ ap (λ n. replicate n None) kept.solved.fits.0)
+
+pub merged_users : (settled : Settled) (old : Configured) (held : List ℕ) (es : List (ℕ × UserValue)) (users : List (Option UserValue))
+    → IsSoundConfig settled old held
+    → users ≡ changed_users (changes_of es) old.users → users ≡ overlay (users_of (tree_in old) es) old.users
+merged_users settled old held es users kept is = is ∙ lies_over (tree_in old) es old.users kept.solved.fits.0

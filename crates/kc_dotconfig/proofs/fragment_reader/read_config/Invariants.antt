@@ -1,0 +1,18 @@
+use Rattle.std.proofs.Common.{◌≡◌, ◌-◌, ◌≤◌}
+use Rattle.kc_rules.specs.between.SettledViews.{tree_of_settled}
+use Rattle.kc_value.specs.declared.limits.TheConstants.{MAX_CONFIG_BYTES, MAX_CONFIG_LINES}
+use Rattle.kc_dotconfig_model.specs.between.Formats.{file_format}
+use Rattle.kc_dotconfig.proofs.WholeReads.{HasRead}
+use Rattle.kc_dotconfig.proofs.fragment_reader.read_config.Given as goal
+
+-- what was read so far, with no fault
+abbrev pub invariant-loop-size : goal.invariant-loop-size
+invariant-loop-size g l = record {
+  small : l.size ≤ MAX_CONFIG_BYTES;
+  few : l.gathered.lines ≤ MAX_CONFIG_LINES;
+  read : HasRead (file_format l.fn.format) (tree_of_settled l.fn.settled) (g.R.Source.left l.fn.source) (g.R.Source.left l.source) l.cutter l.gathered l.size;
+  unfailed : g.R.Source.failures l.source ≡ g.R.Source.failures l.fn.source;
+}
+
+abbrev pub decreases-loop-size : goal.decreases-loop-size
+decreases-loop-size g l = 67108865 - l.size

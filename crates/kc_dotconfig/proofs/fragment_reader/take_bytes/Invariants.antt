@@ -1,0 +1,17 @@
+use Rattle.std.proofs.Common.{◌≡◌, ◌≤◌, List, ℕ, ◌++◌, length}
+use Rattle.kc_rules.specs.between.SettledViews.{tree_of_settled}
+use Rattle.kc_value.specs.declared.limits.TheConstants.{MAX_CONFIG_LINES}
+use Rattle.kc_dotconfig_model.specs.between.Formats.{file_format}
+use Rattle.kc_dotconfig.specs.checker.Accumulation.{AcceptsBytes}
+use Rattle.kc_dotconfig.proofs.fragment_reader.take_bytes.Given as goal
+
+-- what was taken of the bytes
+abbrev pub invariant-loop-at : goal.invariant-loop-at
+invariant-loop-at l = record {
+  few : l.gathered.lines ≤ MAX_CONFIG_LINES;
+  taken : (front : List ℕ) × (l.fn.bytes ≡ front ++ l.rest) × AcceptsBytes (file_format l.fn.format)
+      (tree_of_settled l.fn.settled) l.fn.cutter l.fn.gathered front l.cutter l.gathered;
+}
+
+abbrev pub decreases-loop-at : goal.decreases-loop-at
+decreases-loop-at l = length l.rest

@@ -1,5 +1,0 @@
-use Rattle.std.proofs.lemmas.Result.{IfOk-weaker}
-use Rattle.kc_expr.proofs.quoted.quoted_text.Goals as goal
-
-pub returns : goal.returns
-returns c = IfOk-weaker c.unescape.result _ _ (λ t e. cc) c.unescape.ensures

@@ -1,0 +1,153 @@
+//! The line of a symbol's value.
+ghost use Rattle.std.specs.Prelude.{◌≡◌, ◌<◌, ◌++◌, ◌∷◌, ◌&&◌, [], length, OnOk};
+ghost use Rattle.kc_expr.specs.Lookup.{symbol_value_of};
+ghost use Rattle.kc_rules_model.specs.Kinds.{is_n};
+ghost use Rattle.kc_value.specs.Kinds.{is_tri_kind};
+ghost use Rattle.kc_rules.specs.between.SettledViews.{tree_of_settled};
+ghost use Rattle.kc_dotconfig_model.specs.Formats.{between_quotes, string_spelling};
+ghost use Rattle.kc_dotconfig_model.specs.between.Formats.{file_format};
+ghost use Rattle.kc_dotconfig_model.specs.between.Prefixes.{prefix_bytes};
+ghost use Rattle.kc_minimal_model.specs.SymbolLine.{spelled, value_line, unset_line, line_with, ended_line};
+
+use kc_dotconfig_model::{Format, Prefix, Strings};
+use kc_expr::Looked;
+use kc_rules::{Settled, UnitValue};
+use kc_tree::Sym;
+use kc_value::{Kind, Tri, push_escaped};
+use std::alloc::AllocError;
+
+/// Whether it is `n`.
+pub(crate) fn is_n(value: Tri) -> bool
+    ensures { result ≡ is_n value }
+{
+    match value {
+        Tri::N => true,
+        Tri::M | Tri::Y => false,
+    }
+}
+
+/// Whether values of the type are tristates.
+fn is_tri_kind(kind: Kind) -> bool
+    ensures { result ≡ is_tri_kind kind }
+{
+    match kind {
+        Kind::Bool | Kind::Tristate => true,
+        Kind::Text | Kind::Int | Kind::Hex => false,
+    }
+}
+
+/// Appends a prefix and a name.
+fn push_name(out: &mut Vec<u8>, prefix: &Prefix, name: &str) -> Result<(), AllocError>
+    ensures { OnOk result (out.new.items ≡ out.old.items ++ (prefix_bytes prefix.now ++ name.now)) }
+{
+    out.extend_from_slice(prefix.as_bytes())?;
+    out.extend_from_slice(name.as_bytes())?;
+    Ok(())
+}
+
+/// Appends an unset line.
+fn push_unset(out: &mut Vec<u8>, prefix: &Prefix, name: &str) -> Result<(), AllocError>
+    ensures { OnOk result (out.new.items ≡ out.old.items ++ (unset_line (prefix_bytes prefix.now) name.now ++ 10 ∷ [])) }
+{
+    out.extend_from_slice(b"# ")?;
+    push_name(out, prefix, name)?;
+    out.extend_from_slice(b" is not set\n")?;
+    Ok(())
+}
+
+/// Appends a text, which is one letter most often.
+fn push_plain(out: &mut Vec<u8>, text: &str) -> Result<(), AllocError>
+    ensures { OnOk result (out.new.items ≡ out.old.items ++ text.now) }
+{
+    match text.as_bytes() {
+        [letter] => {
+            out.push(*letter)?;
+            Ok(())
+        }
+        bytes => out.extend_from_slice(bytes),
+    }
+}
+
+/// Appends a text as it is between two `"`.
+fn push_raw(out: &mut Vec<u8>, text: &str) -> Result<(), AllocError>
+    ensures { OnOk result (out.new.items ≡ out.old.items ++ between_quotes text.now) }
+{
+    out.push(b'"')?;
+    out.extend_from_slice(text.as_bytes())?;
+    out.push(b'"')?;
+    Ok(())
+}
+
+/// Appends a string by the form of strings.
+fn push_string(out: &mut Vec<u8>, strings: Strings, text: &str) -> Result<(), AllocError>
+    ensures { OnOk result (out.new.items ≡ out.old.items ++ string_spelling strings text.now) }
+{
+    match strings {
+        Strings::Escaped => push_escaped(out, text),
+        Strings::Raw => push_raw(out, text),
+    }
+}
+
+/// Appends a value as it stands after `=` in a configuration file: a string in quotes, by the form of strings, and any
+/// other value as it is. An `Err` means out of memory, and may leave a part of it.
+pub fn push_spelled(
+    out: &mut Vec<u8>,
+    strings: Strings,
+    kind: Kind,
+    text: &str,
+) -> Result<(), AllocError>
+    ensures { OnOk result (out.new.items ≡ out.old.items ++ spelled strings kind text.now) }
+{
+    match kind {
+        Kind::Text => push_string(out, strings, text),
+        Kind::Bool | Kind::Tristate | Kind::Int | Kind::Hex => push_plain(out, text),
+    }
+}
+
+/// Appends a line that assigns a value.
+fn push_set(
+    out: &mut Vec<u8>,
+    format: &Format,
+    name: &str,
+    kind: Kind,
+    text: &str,
+) -> Result<(), AllocError>
+    ensures { OnOk result (out.new.items ≡ out.old.items ++ (value_line (file_format format.now).prefix name.now (spelled format.now.strings kind text.now) ++ 10 ∷ [])) }
+{
+    push_name(out, &format.prefix, name)?;
+    out.push(b'=')?;
+    push_spelled(out, format.strings, kind, text)?;
+    out.push(b'\n')?;
+    Ok(())
+}
+
+/// Appends the line of a name with a value: a bool or tristate of value `n` isn't set.
+fn push_line(
+    out: &mut Vec<u8>,
+    format: &Format,
+    name: &str,
+    seen: &Looked<'_>,
+) -> Result<(), AllocError>
+    ensures { OnOk result (out.new.items ≡ out.old.items ++ (line_with (file_format format.now) name.now (symbol_value_of seen.now) ++ 10 ∷ [])) }
+{
+    if is_tri_kind(seen.kind) && is_n(seen.tri) {
+        push_unset(out, &format.prefix, name)
+    } else {
+        push_set(out, format, name, seen.kind, seen.text)
+    }
+}
+
+/// Appends the line of a symbol's value.
+pub(crate) fn push_symbol(
+    out: &mut Vec<u8>,
+    settled: &Settled,
+    format: &Format,
+    values: &[UnitValue],
+    s: Sym,
+) -> Result<(), AllocError>
+    requires there { s < length (tree_of_settled settled.now).symbols }
+    ensures ok { OnOk result (out.new.items ≡ out.old.items ++ ended_line (file_format format.now) (tree_of_settled settled.now) values.now s) }
+{
+    let seen = settled.value_of_symbol(s, values);
+    push_line(out, format, settled.tree().name(s), &seen)
+}

@@ -1,0 +1,51 @@
+//! Items as they come, each under its key.
+ghost use Rattle.std.specs.Prelude.{◌≡◌, ◌<◌, ◌^◌, ℕ, [], ◌∷◌, ◌++◌, IfOk, OnOk, OnErr, length, slice_index};
+ghost use Rattle.kc_tree.specs.checker.GroupedItems.{IsGrouped};
+
+use super::items_by_number::Grouped;
+use std::alloc::{AllocError, Global};
+
+/// Items and their keys, in the order in which they came.
+#[derive(Drop)]
+pub(crate) struct Keyed<T> {
+    pub keys: Vec<u32>,
+    pub items: Vec<T>,
+    ghost even: { length items.items ≡ length keys.items },
+}
+
+impl<T: Copy> Keyed<T> {
+    /// No items. Takes no memory.
+    pub(crate) fn new(alloc: Global) -> Keyed<T>
+        ensures keys { result.keys.items ≡ [] }
+        ensures items { result.items.items ≡ [] }
+    {
+        Keyed {
+            keys: Vec::new(alloc),
+            items: Vec::new(alloc),
+        }
+    }
+
+    /// Appends an item.
+    pub(crate) fn push(&mut self, key: u32, item: T) -> Result<(), AllocError>
+        ensures keys { OnOk result (self.new.keys.items ≡ self.old.keys.items ++ key ∷ []) }
+        ensures items { OnOk result (self.new.items.items ≡ self.old.items.items ++ item ∷ []) }
+        ensures same_keys { OnErr result (self.new.keys.items ≡ self.old.keys.items) }
+        ensures same_items { OnErr result (self.new.items.items ≡ self.old.items.items) }
+    {
+        self.keys.push(key)?;
+        if self.items.push(item).is_err() {
+            let _ = self.keys.pop();
+            return Err(AllocError);
+        }
+        Ok(())
+    }
+
+    /// Groups the items by keys below `count`. An `Err` means out of memory.
+    pub(crate) fn grouped(&self, alloc: Global, count: usize) -> Result<Grouped<T>, AllocError>
+        requires keys { (i : ℕ) → i < length self.now.keys.items → slice_index self.now.keys.items i < count }
+        requires few { count < 2 ^ 32 }
+        ensures ok { IfOk result (λ g. IsGrouped count self.now.keys.items self.now.items.items g.starts.items g.items.items) }
+    {
+        Grouped::new(alloc, count, &self.keys, &self.items)
+    }
+}

@@ -1,0 +1,192 @@
+//! The lists from which a tree is built.
+ghost use Rattle.std.specs.Prelude.{◌≡◌, ◌<◌, ◌^◌, IfOk, length};
+ghost use Rattle.kc_expr.specs.Lookup.{AreDistinct};
+ghost use Rattle.kc_tree_model.specs.TreeLookup.{IsConsistent};
+
+use super::items_by_number::Grouped;
+use super::items_with_keys::Keyed;
+use super::names::symbols_of_names;
+use super::parts::{ChoiceRow, EntryRow, Parts, SymbolRow};
+use super::symbol::{Default, MemberDefault, Range, ReverseDependency};
+use super::tree::Tree;
+use super::unit_numbers::{UnitNumbers, number_members, number_units};
+use kc_expr::{Arena, ExprId};
+use kc_tree_model::{Sym, Unit};
+use kc_value::Text;
+use std::alloc::{AllocError, Global};
+
+/// The attributes of symbols, in reading order, each under the number of its symbol.
+#[derive(Drop)]
+pub(crate) struct Attributes {
+    pub prompts: Keyed<ExprId>,
+    pub defaults: Keyed<Default>,
+    pub ranges: Keyed<Range>,
+    pub selectors: Keyed<ReverseDependency>,
+    pub impliers: Keyed<ReverseDependency>,
+    pub direct: Keyed<ExprId>,
+}
+
+/// The attributes of each symbol together.
+#[derive(Drop)]
+pub(crate) struct GroupedAttributes {
+    pub prompts: Grouped<ExprId>,
+    pub defaults: Grouped<Default>,
+    pub ranges: Grouped<Range>,
+    pub selectors: Grouped<ReverseDependency>,
+    pub impliers: Grouped<ReverseDependency>,
+    pub direct: Grouped<ExprId>,
+}
+
+impl Attributes {
+    ghost use Rattle.kc_tree.specs.checker.GatheredAttributes.{HaveKeys, AreGrouped};
+
+    /// Groups the attributes by symbol. An `Err` means out of memory.
+    fn grouped(&self, alloc: Global, count: usize) -> Result<GroupedAttributes, AllocError>
+        requires keys { HaveKeys count self.now }
+        requires few { count < 2 ^ 32 }
+        ensures ok { IfOk result (AreGrouped count self.now) }
+    {
+        Ok(GroupedAttributes {
+            prompts: self.prompts.grouped(alloc, count)?,
+            defaults: self.defaults.grouped(alloc, count)?,
+            ranges: self.ranges.grouped(alloc, count)?,
+            selectors: self.selectors.grouped(alloc, count)?,
+            impliers: self.impliers.grouped(alloc, count)?,
+            direct: self.direct.grouped(alloc, count)?,
+        })
+    }
+}
+
+/// The attributes of each symbol together, and the members and defaults of each choice.
+#[derive(Drop)]
+pub(crate) struct Lists {
+    pub attributes: GroupedAttributes,
+    pub members: Grouped<Sym>,
+    pub member_defaults: Grouped<MemberDefault>,
+}
+
+/// The unit of each symbol and of each choice, and for each name of the arena the symbol of that name.
+#[derive(Drop)]
+pub(crate) struct Tables {
+    pub units: UnitNumbers,
+    pub symbol_of_name: Vec<Option<Sym>>,
+}
+
+/// The tables of a tree, made from the collected lists.
+#[derive(Drop)]
+pub(crate) struct FinishedTables {
+    pub tables: Tables,
+    pub lists: Lists,
+}
+
+/// The lists collected from all groups.
+#[derive(Drop)]
+pub(crate) struct Gathered {
+    pub arena: Arena,
+    pub symbols: Vec<SymbolRow>,
+    pub attributes: Attributes,
+    pub choices: Vec<ChoiceRow>,
+    pub members: Keyed<Sym>,
+    pub member_defaults: Keyed<MemberDefault>,
+    pub entries: Vec<EntryRow>,
+    pub titles: Vec<Text>,
+    pub units: Vec<Unit>,
+}
+
+impl Gathered {
+    ghost use Rattle.kc_tree.specs.TreeModel.{TreeModel};
+    ghost use Rattle.kc_tree.specs.checker.GatheredView.{gathered_tree};
+    ghost use Rattle.kc_tree.specs.checker.GatheredFits.{GatheredFit};
+    ghost use Rattle.kc_tree.specs.checker.GatheredLists.{AreLists, AreTables, parts_made};
+    ghost use Rattle.kc_tree.specs.checker.Units.{HasUnits};
+
+    /// The unit of each symbol and of each choice. An `Err` means out of memory.
+    fn unit_numbers(&self, alloc: Global) -> Result<UnitNumbers, AllocError>
+        requires few { length self.now.units.items < 2 ^ 32 }
+        requires consistent { IsConsistent (gathered_tree self.now) }
+        ensures ok { IfOk result (λ n. HasUnits (gathered_tree self.now) n.symbols.items n.choices.items) }
+    {
+        let mut numbers = number_units(alloc, self.symbols.len(), self.choices.len(), &self.units)?;
+        number_members(&self.symbols, &mut numbers);
+        Ok(numbers)
+    }
+
+    /// The attributes of each symbol together, and the members and defaults of each choice. An `Err` means out of
+    /// memory.
+    fn lists(&self, alloc: Global) -> Result<Lists, AllocError>
+        requires fits { GatheredFit self.now }
+        ensures ok { IfOk result (AreLists self.now) }
+    {
+        let choices = self.choices.len();
+        Ok(Lists {
+            members: self.members.grouped(alloc, choices)?,
+            member_defaults: self.member_defaults.grouped(alloc, choices)?,
+            attributes: self.attributes.grouped(alloc, self.symbols.len())?,
+        })
+    }
+
+    /// The unit of each symbol and of each choice, and the symbol of each name. An `Err` means out of memory.
+    fn tables(&self, alloc: Global) -> Result<Tables, AllocError>
+        requires fits { GatheredFit self.now }
+        requires distinct { AreDistinct self.now.arena.names }
+        requires consistent { IsConsistent (gathered_tree self.now) }
+        ensures ok { IfOk result (AreTables self.now) }
+    {
+        let names = self.arena.name_count();
+        Ok(Tables {
+            units: self.unit_numbers(alloc)?,
+            symbol_of_name: symbols_of_names(alloc, names, &self.symbols)?,
+        })
+    }
+
+    /// The finished tables of the collected lists. An `Err` means out of memory.
+    fn made(&self, alloc: Global) -> Result<FinishedTables, AllocError>
+        requires fits { GatheredFit self.now }
+        requires distinct { AreDistinct self.now.arena.names }
+        requires consistent { IsConsistent (gathered_tree self.now) }
+        ensures tables { IfOk result (λ m. AreTables self.now m.tables) }
+        ensures lists { IfOk result (λ m. AreLists self.now m.lists) }
+    {
+        Ok(FinishedTables {
+            tables: self.tables(alloc)?,
+            lists: self.lists(alloc)?,
+        })
+    }
+
+    /// The lists of the tree that the collected lists make.
+    fn into_parts(self, made: FinishedTables) -> Parts
+        ensures { result ≡ parts_made self made.lists made.tables }
+    {
+        let FinishedTables { tables, lists } = made;
+        Parts {
+            arena: self.arena,
+            symbols: self.symbols,
+            prompts: lists.attributes.prompts,
+            defaults: lists.attributes.defaults,
+            ranges: lists.attributes.ranges,
+            selectors: lists.attributes.selectors,
+            impliers: lists.attributes.impliers,
+            direct: lists.attributes.direct,
+            choices: self.choices,
+            members: lists.members,
+            member_defaults: lists.member_defaults,
+            entries: self.entries,
+            titles: self.titles,
+            units: self.units,
+            unit_of_symbol: tables.units.symbols,
+            unit_of_choice: tables.units.choices,
+            symbol_of_name: tables.symbol_of_name,
+        }
+    }
+
+    /// The tree that the collected lists make. An `Err` means out of memory.
+    pub(crate) fn into_tree(self, alloc: Global) -> Result<Tree, AllocError>
+        requires fits { GatheredFit self }
+        requires distinct { AreDistinct self.arena.names }
+        requires consistent { IsConsistent (gathered_tree self) }
+        ensures ok { IfOk result (λ t. t ≡ record { exprs = self.arena; tree = gathered_tree self }) }
+    {
+        let made = self.made(alloc)?;
+        Ok(Tree::of(self.into_parts(made)))
+    }
+}

@@ -1,9 +1,0 @@
-use Rattle.std.proofs.Common.{◌≡◌, ◌++◌, drop, length, false}
-use Rattle.std.specs.Prelude.{string_bytes, encode_utf8_all}
-use Rattle.std.specs.Str.{chars}
-use Rattle.kc_value.specs.Quoted.{unescaped}
-use Rattle.kc_value.proofs.quoted.unescape.Given as goal
-
-abbrev pub invariant-loop-c : goal.invariant-loop-c
-invariant-loop-c l =
-    string_bytes l.read ++ unescaped l.escaped (encode_utf8_all (drop (length l.yielded) (chars l.text))) ≡ unescaped false l.fn.text
