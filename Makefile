@@ -23,7 +23,7 @@ build/kmin: $(SOURCES) # proves and builds the program
 	cp crates/kmin/out/kmin build/kmin
 
 check:           # proves the crates that changed since the last commit and those above them, and runs the rows
-	tests/check_changed
+	tests/check_changed_crates
 
 test:            # the gate: proves all, tries the wrong bodies, runs every test; leaves the program in build/kmin
 	rt ci

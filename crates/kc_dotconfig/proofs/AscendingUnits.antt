@@ -1,4 +1,4 @@
--- Lists of user values by units that ascend.
+-- Lists of user values in ascending order of units.
 use Rattle.std.proofs.Common.{◌≡◌, ℕ, zero, suc, ◌-◌, ◌<◌, IsTrue, List, [], ◌∷◌, ◌++◌, length, take, get_or, Some, ◌⊎◌, inl, inr, refl, sym, ◌∙◌, ap, arith}
 use Rattle.std.specs.Prelude.{slice_get, nat_lt}
 use Rattle.std.specs.Cmp.{nat_cmp_is}
@@ -29,14 +29,14 @@ above_last (e ∷ es) p v r at h =
     let n : length (e ∷ es) - 1 ≡ length es = omega arith in
     last_below (e ∷ es) (length es) p v r (at ∙ ap (slice_get (e ∷ es)) n) refl (ltb-true p.0 v h)
 
-insert_behind : (e : ℕ × UserValue) (es : List (ℕ × UserValue)) (u : ℕ) (x : UserValue) → e.0 < u
+insert_after : (e : ℕ × UserValue) (es : List (ℕ × UserValue)) (u : ℕ) (x : UserValue) → e.0 < u
     → insert_entry nat_cmp (e ∷ es) u x ≡ e ∷ insert_entry nat_cmp es u x
-insert_behind e es u x h = ap (λ o. match_ordering o ((u, x) ∷ e ∷ es) ((e.0, x) ∷ es) (e ∷ insert_entry nat_cmp es u x)) (sym (nat_cmp_is u e.0 Greater h))
+insert_after e es u x h = ap (λ o. match_ordering o ((u, x) ∷ e ∷ es) ((e.0, x) ∷ es) (e ∷ insert_entry nat_cmp es u x)) (sym (nat_cmp_is u e.0 Greater h))
 
--- a unit above all comes last
+-- a unit greater than all units of a list is inserted at its end
 pub insert_last : (es : List (ℕ × UserValue)) (u : ℕ) (x : UserValue) → Below u es → insert_entry nat_cmp es u x ≡ es ++ (u, x) ∷ []
 insert_last [] u x b = refl
-insert_last (e ∷ es) u x b = insert_behind e es u x b.0 ∙ ap (λ l. e ∷ l) (insert_last es u x b.1)
+insert_last (e ∷ es) u x b = insert_after e es u x b.0 ∙ ap (λ l. e ∷ l) (insert_last es u x b.1)
 
 above_more : (k : ℕ) (es : List (ℕ × UserValue)) (u : ℕ) (x : UserValue) → k < u → Above k es → Above k (es ++ (u, x) ∷ [])
 above_more k [] u x h a = (h, tt)
@@ -50,14 +50,14 @@ pub none_of : (es : List (ℕ × UserValue)) → length es ≡ 0 → es ≡ []
 none_of [] h = refl
 none_of (e ∷ es) h = absurd (omega (arith, h))
 
-nothing_behind : {A : Type 0} (es : List A) → es ++ [] ≡ es
-nothing_behind [] = refl
-nothing_behind (e ∷ es) = ap (λ l. e ∷ l) (nothing_behind es)
+append_empty : {A : Type 0} (es : List A) → es ++ [] ≡ es
+append_empty [] = refl
+append_empty (e ∷ es) = ap (λ l. e ∷ l) (append_empty es)
 
 pub pushed : (es ms : List (ℕ × UserValue)) (u : ℕ) (x : UserValue) → ms ≡ [] → Below u es → (es ++ (u, x) ∷ []) ++ ms ≡ insert_entry nat_cmp (es ++ ms) u x
 pushed es ms u x none b =
-    ap (λ m. (es ++ (u, x) ∷ []) ++ m) none ∙ nothing_behind (es ++ (u, x) ∷ []) ∙ sym (insert_last es u x b)
-    ∙ sym (ap (λ l. insert_entry nat_cmp l u x) (ap (λ m. es ++ m) none ∙ nothing_behind es))
+    ap (λ m. (es ++ (u, x) ∷ []) ++ m) none ∙ append_empty (es ++ (u, x) ∷ []) ∙ sym (insert_last es u x b)
+    ∙ sym (ap (λ l. insert_entry nat_cmp l u x) (ap (λ m. es ++ m) none ∙ append_empty es))
 
 pub put_mapped : (es ms : List (ℕ × UserValue)) (u : ℕ) (x : UserValue) → (es ≡ []) ⊎ (ms ≡ []) → (ms ≡ [] → ⊥)
     → es ++ insert_entry nat_cmp ms u x ≡ insert_entry nat_cmp (es ++ ms) u x
@@ -77,7 +77,7 @@ pub insert_next : (es : List (ℕ × UserValue)) (i : ℕ) (p : ℕ × UserValue
 insert_next [] i p r h is = absurd (omega (arith, h))
 insert_next (e ∷ es) zero p r h is = ap (λ q. q ∷ []) is
 insert_next (e ∷ es) (suc i) p r h is =
-    insert_behind e (take i es) p.0 p.1 (above_at e.0 es i p r.0 (omega (arith, h)) is) ∙ ap (λ l. e ∷ l) (insert_next es i p r.1 (omega (arith, h)) is)
+    insert_after e (take i es) p.0 p.1 (above_at e.0 es i p r.0 (omega (arith, h)) is) ∙ ap (λ l. e ∷ l) (insert_next es i p r.1 (omega (arith, h)) is)
 
 pub mapped_next : (es ys : List (ℕ × UserValue)) (p : ℕ × UserValue) (ms ns : List (ℕ × UserValue)) → Rises es → ms ≡ take (length ys) es
     → ns ≡ insert_entry nat_cmp ms p.0 p.1

@@ -28,7 +28,7 @@ solved_by old new before same fits gives =
       gives = gives;
     }
 
--- the one solution that a session of a settled tree has
+-- a configuration of a settled tree is solved if its assignment and values fit the tree and the values are the one solution
 pub solved_as : (settled : Settled) (new : Configured) → new.system ≡ settled → IsSettledTree (tree_of_settled settled)
     → FitsUsers (length (tree_in new).units) (λ u x. IsTrue (user_fits (tree_in new) u x)) new.users
     → FitsValues (length (tree_in new).units) (λ u v. IsTrue (value_fits (tree_in new) u v)) new.values
@@ -40,7 +40,7 @@ solved_as settled new same tree fits fits_values gives = record {
   gives = gives;
 }
 
--- no units are kept where no user value is held
+-- a configuration without user values, and with no unit in its list of held units, is sound
 pub none_kept : (settled : Settled) (new : Configured) (held : List ℕ) → IsSolved new → new.system ≡ settled
     → new.users ≡ empty_assignment (tree_of_settled settled) → held ≡ [] → IsSoundConfig settled new held
 none_kept settled new held solved same users none = record {
@@ -52,7 +52,7 @@ none_kept settled new held solved same users none = record {
   none_in : (u : ℕ) → Contains {X = ℕ} [] u → ⊥
   none_in u (k, h, is) = omega (arith, h)
 
--- the units kept after user values were laid over those held
+-- a configuration stays sound if user values are added and their units, where they had none, are added to the held ones
 pub merged_kept : (settled : Settled) (old new : Configured) (held more : List ℕ) (es : List (ℕ × UserValue)) → IsSoundConfig settled old held
     → FitsTree (tree_in old) es → IsSolved new → new.system ≡ old.system
     → new.users ≡ changed_users (changes_of es) old.users → more ≡ held ++ filter (λ u. is_none (user_of old.users u)) (units_of es)
@@ -82,7 +82,7 @@ merged_kept settled old new held more es kept fits solved same users is = record
     | inr fresh ↦ units_within (tree_in old) es fits u (of_filter (λ u. is_none (user_of old.users u)) (units_of es) u fresh)
   ]
 
--- the units kept where just these user values are held
+-- a configuration with the user values of a list and no others, and with their units as the held ones, is sound
 pub held_kept : (settled : Settled) (new : Configured) (more : List ℕ) (es : List (ℕ × UserValue)) → FitsTree (tree_of_settled settled) es → IsSolved new
     → new.system ≡ settled
     → new.users ≡ users_of (tree_of_settled settled) es → more ≡ units_of es → IsSoundConfig settled new more
@@ -99,7 +99,7 @@ held_kept settled new more es fits solved same users is = record {
     | inr had ↦ absurd (none_held (length (tree_of_settled settled).units) u had.0 had.1)
   ]
 
--- and after they took the place of those held
+-- a configuration stays sound if the user values of a list, with their units as the held ones, replace all earlier ones
 pub replaced_kept : (settled : Settled) (old new : Configured) (held more : List ℕ) (es : List (ℕ × UserValue)) → IsSoundConfig settled old held
     → FitsTree (tree_in old) es → IsSolved new → new.system ≡ old.system
     → new.users ≡ users_of (tree_in old) es → more ≡ units_of es → IsSoundConfig settled new more

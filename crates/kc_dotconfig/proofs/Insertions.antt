@@ -30,7 +30,7 @@ set_again [] u a b = refl
 set_again (x ∷ xs) zero a b = refl
 set_again (x ∷ xs) (suc u) a b = ap (λ l. x ∷ l) (set_again xs u a b)
 
--- a change of another unit may come first
+-- setting a unit below all units of a list of changes gives the same before and after these changes
 pub later_set : (es : List (ℕ × UserValue)) (u : ℕ) (x : Option UserValue) (base : List (Option UserValue)) → Above u es
     → changed_users (changes_of es) (slice_set base u x) ≡ slice_set (changed_users (changes_of es) base) u x
 later_set [] u x base a = refl
@@ -105,7 +105,7 @@ notices_more n (notice kind ∷ a) b =
 notices_more n (silent ∷ a) b =
     notices_more (n + 1) a b ∙ ap (λ m. notices_from (n + 1) a ++ notices_from m b) (let e : (n + 1) + length a ≡ n + suc (length a) = omega arith in e)
 
--- one line more
+-- a line that assigns a user value is added to an accumulator by inserting the value and counting the line
 pub gathers_user : (tree : Tree) (meanings : List LineMeaning) (g h : Accumulator) (u : ℕ) (x : UserValue) → u < length tree.units → IsGathered tree meanings g
     → h.assigns ≡ insert_entry nat_cmp g.assigns u x → h.notices.items ≡ g.notices.items → h.lines ≡ g.lines + 1
     → IsGathered tree (meanings ++ assigns u x ∷ []) h

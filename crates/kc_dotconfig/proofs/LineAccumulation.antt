@@ -1,4 +1,4 @@
--- The meaning of a line is accumulated.
+-- The meaning of a line of a configuration file is added to the accumulator.
 use Rattle.std.proofs.Common.{◌≡◌, ℕ, ◌+◌, true, List, [], ◌∷◌, ◌++◌, length, Option, Some, None, sym, ◌∙◌, ap, subst}
 use Rattle.std.specs.Prelude.{Result, Ok, Err, OnOk, IfSome, option_map}
 use Rattle.std.specs.BTreeMap.{insert_entry}
@@ -44,19 +44,19 @@ pub takes_nothing : (g h : Accumulator) (meaning : Meaning) → meaning ≡ Noth
 takes_nothing g h meaning is entries notices lines tree meanings within before =
     subst (λ s. IsGathered tree (meanings ++ meaning_view s ∷ []) h) (sym is) (gathers_nothing tree meanings g h before entries notices lines)
 
-pub says_of : (format : FileFormat) (tree : Tree) (line text : List ℕ) (o : Option Meaning) (meaning : Meaning) → is_prefix format.prefix ≡ true → text ≡ line
+pub means_of_view : (format : FileFormat) (tree : Tree) (line text : List ℕ) (o : Option Meaning) (meaning : Meaning) → is_prefix format.prefix ≡ true → text ≡ line
     → option_map meaning_view o ≡ line_meaning format tree (without_white_end text) → o ≡ Some meaning
     → Means format tree (without_white_end line) (meaning_view meaning)
-says_of format tree line text o meaning valid same read is =
+means_of_view format tree line text o meaning valid same read is =
     (line_read format tree (without_white_end line) (meaning_view meaning) valid).0
     (ap (λ t. line_meaning format tree (without_white_end t)) (sym same) ∙ sym read ∙ ap (option_map meaning_view) is)
 
 pub malformed_of : (format : FileFormat) (tree : Tree) (line text : List ℕ) (o : Option Meaning) → is_prefix format.prefix ≡ true → text ≡ line
     → option_map meaning_view o ≡ line_meaning format tree (without_white_end text) → o ≡ None → IsMalformed format tree line
-malformed_of format tree line text o valid same read is meaning says =
+malformed_of format tree line text o valid same read is meaning has_meaning =
     let none : line_meaning format tree (without_white_end line) ≡ None = ap (λ t. line_meaning format tree (without_white_end t)) (sym same) ∙ sym read
     ∙ ap (option_map meaning_view) is in
-    let some = (line_read format tree (without_white_end line) meaning valid).1 says in
+    let some = (line_read format tree (without_white_end line) meaning valid).1 has_meaning in
     cc (none, some)
 
 pub within_of : (n : ℕ) (o : Option Meaning) (meaning : Meaning) → IfSome o (λ s. IsWithin n (meaning_view s)) → o ≡ Some meaning

@@ -1,4 +1,4 @@
--- The meanings of string texts.
+-- The meanings of the lines of a configuration file.
 use Rattle.std.proofs.Common.{◌≡◌, ◌<◌, ℕ, Bool, true, false, not, ◌==◌, cond, List, [], ◌∷◌, length, find, Option, Some, None, refl, sym, ◌∙◌, ap, subst, zero, suc, arith}
 use Rattle.std.specs.Prelude.{IfSome, IfNone, IfOk, Result, Ok, Err, slice_get, is_some, option_map, bytes_eq}
 use Rattle.std.proofs.lemmas.Bool.{eqb-true}
@@ -22,21 +22,21 @@ use Rattle.kc_dotconfig_model.specs.ConfigLines.{LineMeaning, assigns, notice, s
 use Rattle.kc_dotconfig_model.specs.between.LineMeanings.{tri_meaning, string_meaning, number_meaning, without_number, meaning_of_kind, value_meaning, string_text, value_parts, unset_name, of_symbol_at, of_named, is_hash, of_other, of_unset, of_value, line_meaning}
 use Rattle.kc_dotconfig_model.proofs.ValueLaws.{string_is, string_read}
 
--- a fact of what is there, and of what is not
+-- a property that an optional value has if it is present holds for the value that it is
 pub some_is : {X : Type 0} (o : Option X) (P : X → Type 0) (x : X) → IfSome o P → o ≡ Some x → P x
 some_is o P x held is = subst (λ p. IfSome p P) is held
 
 pub none_is : {X : Type 0} (o : Option X) (P : Type 0) → IfNone o P → o ≡ None → P
 none_is o P held is = subst (λ p. IfNone p P) is held
 
-pub string_said : (strings : Strings) (unit : ℕ) (text means result : List ℕ) → result ≡ means → IsStringSpelling strings text means
+pub string_assigned : (strings : Strings) (unit : ℕ) (text means result : List ℕ) → result ≡ means → IsStringSpelling strings text means
     → assigns unit (TextUser result) ≡ string_meaning unit (string_text strings text)
-string_said strings unit text means result same is =
+string_assigned strings unit text means result same is =
     ap (λ t. assigns unit (TextUser t)) same ∙ sym (ap (string_meaning unit) (string_read strings text means is))
 
-pub no_string_said : (strings : Strings) (unit : ℕ) (text : List ℕ) → ((means : List ℕ) → IsStringSpelling strings text means → ⊥)
+pub no_string_noticed : (strings : Strings) (unit : ℕ) (text : List ℕ) → ((means : List ℕ) → IsStringSpelling strings text means → ⊥)
     → notice NotOfType ≡ string_meaning unit (string_text strings text)
-no_string_said strings unit text none = go (string_text strings text) refl where
+no_string_noticed strings unit text none = go (string_text strings text) refl where
   go : (o : Option (List ℕ)) → string_text strings text ≡ o → notice NotOfType ≡ string_meaning unit (string_text strings text)
   go None e = sym (ap (string_meaning unit) e)
   go (Some means) e = absurd (none means (string_is strings text means e))
@@ -79,7 +79,7 @@ slice_there [] k h = absurd (omega (arith, h))
 slice_there (x ∷ xs) zero h = (x, refl)
 slice_there (x ∷ xs) (suc k) h = slice_there xs k (omega (arith, h))
 
--- the meaning of a line of a symbol that is there
+-- the meaning of a line that names the symbol with number `s` is what the function says of this symbol
 pub named_at : (tree : Tree) (say : ℕ → Symbol → LineMeaning) (s : ℕ) (x : LineMeaning) → s < length tree.symbols
     → ((symbol : Symbol) → slice_get tree.symbols s ≡ Some symbol → x ≡ say s symbol) → x ≡ of_named tree say (Some s)
 named_at tree say s x h is = go (slice_get tree.symbols s) refl (slice_there tree.symbols s h) where
@@ -93,43 +93,43 @@ pub found_at_name : {E : Type 0} (r : Result Meaning E) (tree : Tree) (say : ℕ
 found_at_name (Ok meaning) tree say s o e h is = named_at tree say s (meaning_view meaning) h is ∙ sym (ap (of_named tree say) e)
 found_at_name (Err x) tree say s o e h is = tt
 
--- lines by their forms
-pub value_line_says : (format : FileFormat) (tree whole : Tree) (line text name rest : List ℕ) (x : LineMeaning) → whole ≡ tree → text ≡ line
+-- the meaning of a line `CONFIG_X=value` is that of the value for the symbol of its name
+pub value_line_means : (format : FileFormat) (tree whole : Tree) (line text name rest : List ℕ) (x : LineMeaning) → whole ≡ tree → text ≡ line
     → value_parts format.prefix text ≡ Some (name, rest)
     → x ≡ of_named whole (λ s symbol. value_meaning format.strings whole s symbol rest) (symbol_named whole name) → Some x ≡ line_meaning format tree line
 unfolding line_meaning
-value_line_says format tree whole line text name rest x same is parts says =
-    ap Some says ∙ sym (ap (of_value format whole text) parts) ∙ ap (λ l. line_meaning format whole l) is ∙ ap (λ t. line_meaning format t line) same
+value_line_means format tree whole line text name rest x same is parts meaning_is =
+    ap Some meaning_is ∙ sym (ap (of_value format whole text) parts) ∙ ap (λ l. line_meaning format whole l) is ∙ ap (λ t. line_meaning format t line) same
 
-pub unset_line_says : (format : FileFormat) (tree whole : Tree) (line text name : List ℕ) (x : LineMeaning) → whole ≡ tree → text ≡ line
+pub unset_line_means : (format : FileFormat) (tree whole : Tree) (line text name : List ℕ) (x : LineMeaning) → whole ≡ tree → text ≡ line
     → value_parts format.prefix text ≡ None → unset_name format.prefix text ≡ Some name
     → x ≡ of_named whole (λ s symbol. unset_meaning whole s symbol symbol.choice) (symbol_named whole name) → Some x ≡ line_meaning format tree line
 unfolding line_meaning
-unset_line_says format tree whole line text name x same is parts unset says =
-    ap Some says ∙ sym (ap (of_value format whole text) parts ∙ ap (of_unset whole text) unset) ∙ ap (λ l. line_meaning format whole l) is
+unset_line_means format tree whole line text name x same is parts unset meaning_is =
+    ap Some meaning_is ∙ sym (ap (of_value format whole text) parts ∙ ap (of_unset whole text) unset) ∙ ap (λ l. line_meaning format whole l) is
     ∙ ap (λ t. line_meaning format t line) same
 
-pub other_line_says : (format : FileFormat) (tree whole : Tree) (line text : List ℕ) (o : Option LineMeaning) → whole ≡ tree → text ≡ line
+pub other_line_means : (format : FileFormat) (tree whole : Tree) (line text : List ℕ) (o : Option LineMeaning) → whole ≡ tree → text ≡ line
     → value_parts format.prefix text ≡ None → unset_name format.prefix text ≡ None
     → o ≡ of_other text → o ≡ line_meaning format tree line
 unfolding line_meaning
-other_line_says format tree whole line text o same is parts unset says =
-    says ∙ sym (ap (of_value format whole text) parts ∙ ap (of_unset whole text) unset) ∙ ap (λ l. line_meaning format whole l) is
+other_line_means format tree whole line text o same is parts unset meaning_is =
+    meaning_is ∙ sym (ap (of_value format whole text) parts ∙ ap (of_unset whole text) unset) ∙ ap (λ l. line_meaning format whole l) is
     ∙ ap (λ t. line_meaning format t line) same
 
-pub hash_says : (line : List ℕ) → is_hash (find (λ b. not (is_white_byte b)) line) ≡ true → Some silent ≡ of_other line
-hash_says [] h = refl
-hash_says (b ∷ line) h = sym (ap (λ t. cond {A = Option LineMeaning} t (Some silent) None) h)
+pub hash_is_silent : (line : List ℕ) → is_hash (find (λ b. not (is_white_byte b)) line) ≡ true → Some silent ≡ of_other line
+hash_is_silent [] h = refl
+hash_is_silent (b ∷ line) h = sym (ap (λ t. cond {A = Option LineMeaning} t (Some silent) None) h)
 
-pub empty_says : (line : List ℕ) → (length line == 0) ≡ true → Some silent ≡ of_other line
-empty_says [] h = refl
-empty_says (b ∷ line) h = let n = eqb-true (length (b ∷ line)) 0 h in absurd (omega arith)
+pub empty_is_silent : (line : List ℕ) → (length line == 0) ≡ true → Some silent ≡ of_other line
+empty_is_silent [] h = refl
+empty_is_silent (b ∷ line) h = let n = eqb-true (length (b ∷ line)) 0 h in absurd (omega arith)
 
-pub no_hash_says : (line : List ℕ) → (length line == 0) ≡ false → is_hash (find (λ b. not (is_white_byte b)) line) ≡ false → None ≡ of_other line
-no_hash_says [] some h = cc
-no_hash_says (b ∷ line) some h = sym (ap (λ t. cond {A = Option LineMeaning} t (Some silent) None) h)
+pub no_hash_means_none : (line : List ℕ) → (length line == 0) ≡ false → is_hash (find (λ b. not (is_white_byte b)) line) ≡ false → None ≡ of_other line
+no_hash_means_none [] some h = cc
+no_hash_means_none (b ∷ line) some h = sym (ap (λ t. cond {A = Option LineMeaning} t (Some silent) None) h)
 
--- a symbol that has the name is the symbol of the name
+-- in a consistent tree, a symbol that has a name is the one found by the name
 pub named_there : (tree : Tree) → IsConsistent tree → (s : ℕ) (found name : List ℕ) → option_map (λ (t : Symbol). t.name) (slice_get tree.symbols s)
     ≡ Some found
     → true ≡ bytes_eq found name → symbol_named tree name ≡ Some s

@@ -1,4 +1,4 @@
--- The parts of a line.
+-- The parts of a line of a configuration file.
 use Rattle.std.proofs.Common.{◌≡◌, ◌≢◌, ℕ, suc, ◌+◌, ◌<◌, Bool, true, false, not, ◌==◌, cond, List, [], ◌∷◌, ◌++◌, Option, Some, None, length, take, drop, get_or, length-append, ◌-◌, refl, sym, ◌∙◌, ap, subst, arith}
 use Rattle.std.specs.Prelude.{option_map, IfSome, IfNone}
 use Rattle.std.specs.Borrow.{Bor}
@@ -11,23 +11,23 @@ use Rattle.std.proofs.lemmas.Bool.{eqb-true, eq-eqb, lt-ltb}
 use Rattle.kc_dotconfig_model.specs.Formats.{between_quotes}
 use Rattle.kc_dotconfig_model.specs.between.LineMeanings.{after_front, split_at_byte, if_named, named_before}
 
-behind_front : (front rest : List ℕ) → after_front front (front ++ rest) ≡ Some rest
-behind_front [] rest = refl
-behind_front (a ∷ front) rest = ap (λ t. cond t (after_front front (front ++ rest)) None) (eq-eqb a a refl) ∙ behind_front front rest
+after_front_append : (front rest : List ℕ) → after_front front (front ++ rest) ≡ Some rest
+after_front_append [] rest = refl
+after_front_append (a ∷ front) rest = ap (λ t. cond t (after_front front (front ++ rest)) None) (eq-eqb a a refl) ∙ after_front_append front rest
 
-behind_is : (front text rest : List ℕ) → after_front front text ≡ Some rest → text ≡ front ++ rest
-behind_is [] text rest e = cc
-behind_is (a ∷ front) [] rest e = cc
-behind_is (a ∷ front) (b ∷ text) rest e = go (a == b) refl e (behind_is front text rest) where
+after_front_is : (front text rest : List ℕ) → after_front front text ≡ Some rest → text ≡ front ++ rest
+after_front_is [] text rest e = cc
+after_front_is (a ∷ front) [] rest e = cc
+after_front_is (a ∷ front) (b ∷ text) rest e = go (a == b) refl e (after_front_is front text rest) where
   go : (t : Bool) → (a == b) ≡ t → cond t (after_front front text) None ≡ Some rest → (after_front front text ≡ Some rest → text ≡ front ++ rest)
       → b ∷ text ≡ a ∷ (front ++ rest)
   go true same e next = ap (λ c. c ∷ text) (sym (eqb-true a b same)) ∙ ap (λ l. a ∷ l) (next e)
   go false same e next = cc
 
-pub behind_some : (front text rest : List ℕ) → text ≡ front ++ rest → after_front front text ≡ Some rest
-behind_some front text rest is = ap (after_front front) is ∙ behind_front front rest
+pub after_front_some : (front text rest : List ℕ) → text ≡ front ++ rest → after_front front text ≡ Some rest
+after_front_some front text rest is = ap (after_front front) is ∙ after_front_append front rest
 
--- a text may be cut after a front of ASCII
+-- the end of an ASCII prefix is a character boundary of a UTF-8 text
 pub front_boundary : (front text : List ℕ) → IsAscii front → IsUtf8 text → text ≡ front ++ drop (length front) text → 0 < length front
     → IsCharBoundary text (length front)
 front_boundary front text low utf8 is some =
@@ -43,17 +43,17 @@ pub if_none : {T : Type 0} (r : Option T) (P : Type 0) → P → IfNone r P
 if_none None P p = p
 if_none (Some x) P p = tt
 
-pub behind_none : (front text : List ℕ) → ((rest : List ℕ) → text ≡ front ++ rest → ⊥) → after_front front text ≡ None
-behind_none front text other = go (after_front front text) refl where
+pub after_front_none : (front text : List ℕ) → ((rest : List ℕ) → text ≡ front ++ rest → ⊥) → after_front front text ≡ None
+after_front_none front text other = go (after_front front text) refl where
   go : (o : Option (List ℕ)) → after_front front text ≡ o → after_front front text ≡ None
   go None e = e
-  go (Some rest) e = absurd (other rest (behind_is front text rest e))
+  go (Some rest) e = absurd (other rest (after_front_is front text rest e))
 
--- one front after another
-pub behind_both : (a b text : List ℕ) → after_front (a ++ b) text ≡ option_and_then (after_front b) (after_front a text)
-behind_both [] b text = refl
-behind_both (x ∷ a) b [] = refl
-behind_both (x ∷ a) b (y ∷ text) = go (x == y) (behind_both a b text) where
+-- removing two joined prefixes from a text is removing the first and then the second
+pub after_two_fronts : (a b text : List ℕ) → after_front (a ++ b) text ≡ option_and_then (after_front b) (after_front a text)
+after_two_fronts [] b text = refl
+after_two_fronts (x ∷ a) b [] = refl
+after_two_fronts (x ∷ a) b (y ∷ text) = go (x == y) (after_two_fronts a b text) where
   go : (t : Bool) → after_front (a ++ b) text ≡ option_and_then (after_front b) (after_front a text)
       → cond t (after_front (a ++ b) text) None ≡ option_and_then (after_front b) (cond t (after_front a text) None)
   go true e = e
@@ -92,13 +92,13 @@ cut_none b (c ∷ text) e = go (c == b) e (cut_none b text) where
   go true e next = absurd (omega (arith, e))
   go false e next = ap (option_map (λ (q : Parts). (c ∷ q.0, q.1))) (next (omega (arith, e)))
 
--- the parts before and after the first such byte
+-- a text split at the first byte `b` gives the parts before and after this byte
 pub cut_parts : (b : ℕ) (text name rest : List ℕ) → name ≡ before_first (λ c. c == b) text → rest ≡ after_first (λ c. c == b) text
     → position_or_len (λ c. c == b) text < length text → split_at_byte b text ≡ Some (name, rest)
 cut_parts b text name rest front back h =
     cut_is b text h ∙ ap {B = Option Parts} (λ x. Some (x, after_first (λ c. c == b) text)) (sym front) ∙ ap {B = Option Parts} (λ x. Some (name, x)) (sym back)
 
--- a name is there if it isn't empty
+-- if the part of a text before the first byte `b` isn't empty, it is the name that `named_before` gives
 pub named_is : (b : ℕ) (text name rest : List ℕ) → split_at_byte b text ≡ Some (name, rest) → (length name == 0) ≡ false
     → named_before b text ≡ Some (name, rest)
 named_is b text [] rest e some = cc
@@ -109,7 +109,7 @@ pub not_named : (b : ℕ) (text name rest : List ℕ) → split_at_byte b text �
 not_named b text [] rest e none = ap (option_and_then if_named) e
 not_named b text (c ∷ name) rest e none = let n = eqb-true (length (c ∷ name)) 0 none in absurd (omega arith)
 
--- what is between two quotes, where the first of them is there
+-- for a text that begins with `"`, the result of removing a `"` at its end is the text between both quotes
 pub inner_is : (text rest : List ℕ) (r : Option (Bor (List ℕ))) → text ≡ 34 ∷ rest
     → MatchOption r ((front : List ℕ) → rest ≢ front ++ (34 ∷ [])) (λ (x : Bor (List ℕ)). rest ≡ x.now ++ (34 ∷ []))
     → IfSome r (λ (inner : Bor (List ℕ)). text ≡ between_quotes inner.now)
@@ -122,7 +122,7 @@ pub no_inner : (text rest : List ℕ) (r : Option (Bor (List ℕ))) → text ≡
 no_inner text rest None is m = λ inner e. m inner (let same : 34 ∷ rest ≡ 34 ∷ (inner ++ 34 ∷ []) = sym is ∙ e in cc)
 no_inner text rest (Some x) is m = tt
 
--- and where it isn't
+-- a text that doesn't begin with `"` isn't one between two quotes
 pub no_first_quote : (text : List ℕ) (r : Option (Bor (List ℕ))) → ((rest : List ℕ) → text ≢ 34 ∷ rest)
     → IfNone r ((inner : List ℕ) → text ≢ between_quotes inner)
 no_first_quote text None other = λ inner e. other (inner ++ 34 ∷ []) e

@@ -1,4 +1,4 @@
--- The steps of reading, over plain values.
+-- The steps of reading a configuration file, over plain values.
 use Rattle.std.proofs.Common.{◌≡◌, ◌⊎◌, inl, inr, ℕ, zero, suc, ◌+◌, ◌-◌, ◌<◌, ◌≤◌, Bool, true, false, not, ◌==◌, List, [], ◌∷◌, ◌++◌, length, take, drop, refl, sym, ◌∙◌, ap, subst, append_assoc, length-append, arith}
 use Rattle.std.specs.Prelude.{Result, Ok, Err, IfErr, OnOk, OnErr, Some, None, slice_index}
 use Rattle.std.specs.Str.{IsUtf8}
@@ -18,7 +18,7 @@ use Rattle.kc_value.specs.declared.limits.TheConstants.{MAX_CONFIG_BYTES, MAX_CO
 use Rattle.kc_dotconfig_model.specs.LoadFaults.{complete, IsFirstFault}
 use Rattle.kc_dotconfig_model.specs.between.PartialFiles.{IsSound, IsCut}
 use Rattle.kc_dotconfig.specs.checker.Accumulation.{IsGathered, Holds, GoesOn, StopsIn, AcceptsBytes, Refuses, EndsWell, EndsBadly}
-use Rattle.kc_dotconfig_model.proofs.FaultsAtCuts.{too_many, too_long, too_large, not_utf8, malformed, held, line_ended, accepted, file_says}
+use Rattle.kc_dotconfig_model.proofs.FaultsAtCuts.{too_many, too_long, too_large, not_utf8, malformed, held, line_ended, accepted, file_means}
 
 no_bytes : (line : List ℕ) → (0 < length line → ⊥) → line ≡ []
 no_bytes [] h = refl
@@ -45,14 +45,14 @@ cut_piece (suc k) (b ∷ piece) h one =
     let rest = cut_piece k piece (omega arith) parts.1 in
     (rest.0, rest.1, ap (λ l. b ∷ l) rest.2, and_from (not (b == 10)) (lacks 10 (take k piece)) parts.0 rest.3, rest.4, (let e = rest.5 in omega arith))
 
--- lines are at their limit
+-- a piece that isn't empty, after the greatest number of lines, has the fault `TooManyLines`
 pub many_stops : (old piece : List ℕ) (lines : ℕ) → 0 < length piece → lines ≡ MAX_CONFIG_LINES → StopsIn old piece lines TooManyLines
 many_stops old piece lines some full format tree known rest meanings c same room =
     let none : old ≡ [] = no_bytes old (λ h. (let r = c.room h in omega arith)) in
     let here = too_many format tree known old meanings c (piece ++ rest) none (same ∙ full) (omega arith) (let e = length-append piece rest in omega arith) in
     subst (λ n. IsFirstFault format tree complete (known ++ (piece ++ rest)) TooManyLines (n + 1)) same here
 
--- a line passes its limit
+-- a piece that makes its line longer than `MAX_LINE_BYTES` has the fault `LineTooLong`
 pub long_stops : (old piece : List ℕ) (lines : ℕ) → MAX_LINE_BYTES < length old + length piece → lacks 10 piece ≡ true → lines < MAX_CONFIG_LINES
     → StopsIn old piece lines LineTooLong
 long_stops old piece lines long one few format tree known rest meanings c same room =
@@ -85,7 +85,7 @@ push_stops {T} (Err kind) old piece lines long kinds one few = elim kinds [
 seam : (known piece rest : List ℕ) → known ++ ((piece ++ 10 ∷ []) ++ rest) ≡ known ++ (piece ++ (10 ∷ rest))
 seam known piece rest = ap (λ x. known ++ x) (append_assoc piece (10 ∷ []) rest)
 
--- a fault in a piece is one of the line
+-- a fault in a piece is the first fault of the piece with its newline
 pub stops_refuses : (format : FileFormat) (tree : Tree) (old : List ℕ) (g : Accumulator) (piece : List ℕ) (kind : LoadKind) (lines : ℕ) → lines ≡ g.lines
     → StopsIn old piece lines kind → Refuses format tree old g (piece ++ 10 ∷ []) kind g.lines
 stops_refuses format tree old g piece kind lines same stops known rest (meanings, c, gathered) room =
@@ -94,7 +94,7 @@ stops_refuses format tree old g piece kind lines same stops known rest (meanings
     subst (λ m. IsFirstFault format tree complete (known ++ ((piece ++ 10 ∷ []) ++ rest)) kind (m + 1)) same
     (subst (λ b. IsFirstFault format tree complete b kind (lines + 1)) (sym (seam known piece rest)) here)
 
--- and of the bytes after it
+-- a fault in a piece is the first fault of the piece without a newline
 pub stops_last : (format : FileFormat) (tree : Tree) (old : List ℕ) (g : Accumulator) (piece : List ℕ) (kind : LoadKind) → StopsIn old piece g.lines kind
     → Refuses format tree old g piece kind g.lines
 stops_last format tree old g piece kind stops known rest (meanings, c, gathered) room = stops format tree known rest meanings c (sym gathered.counted) room
@@ -105,7 +105,7 @@ many_refuses format tree old g piece full known rest (meanings, c, gathered) roo
     many_stops old (piece ++ 10 ∷ []) g.lines (let e = length-append piece (10 ∷ []) in omega arith) full format tree known rest meanings c
     (sym gathered.counted) room
 
--- a line that is taken
+-- the last piece of a line with its newline is accepted if the line is UTF-8 and its meaning was added to the accumulator
 pub line_taken : (format : FileFormat) (tree : Tree) (old : List ℕ) (g : Accumulator) (piece line : List ℕ) (g_new : Accumulator) → line ≡ old ++ piece
     → length line ≤ MAX_LINE_BYTES → lacks 10 piece ≡ true → g.lines < MAX_CONFIG_LINES
     → IsUtf8 line × ((x : LineMeaning) × Means format tree (without_white_end line) x
@@ -117,7 +117,7 @@ line_taken format tree old g piece line g_new is short one few (text, meaning) k
     let joined : length line ≡ length old + length piece = ap length is ∙ length-append old piece in
     let kept = held format tree known old meanings c piece one (omega arith) (omega arith) (omega arith) in
     let sound : IsSound format tree (old ++ piece) meaning.0 = subst (λ l. IsSound format tree l meaning.0) is
-    (record { text = text; short = short; says = meaning.1 }) in
+    (record { text = text; short = short; has_meaning = meaning.1 }) in
     let e = length-append known piece in
     let done = line_ended format tree (known ++ piece) (old ++ piece) meanings kept meaning.0 sound (omega arith) (omega arith) in (
       meanings ++ meaning.0 ∷ [],
@@ -126,7 +126,7 @@ line_taken format tree old g piece line g_new is short one few (text, meaning) k
           gathered,
     )
 
--- a line that is refused
+-- if a line that ends is not UTF-8 or is malformed, its last piece with the newline has the file's first fault
 pub line_refused : (format : FileFormat) (tree : Tree) (old : List ℕ) (g : Accumulator) (piece line : List ℕ) (kind : LoadKind) (lines : ℕ)
     → line ≡ old ++ piece
     → length line ≤ MAX_LINE_BYTES → lacks 10 piece ≡ true → g.lines < MAX_CONFIG_LINES → lines ≡ g.lines
@@ -164,7 +164,7 @@ line_refused format tree old g piece line kind lines is short one few same odd b
       (subst (λ k. IsFirstFault format tree complete (known ++ ((piece ++ 10 ∷ []) ++ rest)) k (length h.0 + 1)) kinds
       (subst (λ b. IsFirstFault format tree complete b from (length h.0 + 1)) (append_assoc known piece (10 ∷ rest) ∙ sym (seam known piece rest)) fault))
 
--- what is taken in two parts
+-- bytes accepted in two parts, one after the other, are accepted together
 pub both_taken : (format : FileFormat) (tree : Tree) (a : List ℕ) (g : Accumulator) (front : List ℕ) (b : List ℕ) (h : Accumulator) (back c : List ℕ)
     (k : Accumulator)
     → AcceptsBytes format tree a g front b h → AcceptsBytes format tree b h back c k → AcceptsBytes format tree a g (front ++ back) c k
@@ -173,7 +173,7 @@ both_taken format tree a g front b h back c k first second known holds room =
     let e = length-append known front in
     subst (λ t. Holds format tree t c k) (append_assoc known front back) (second (known ++ front) (first known holds (omega arith)) (omega arith))
 
--- a fault after what is taken
+-- if the bytes after accepted ones have the first fault, all of them together have it
 pub later_refused : (format : FileFormat) (tree : Tree) (a : List ℕ) (g : Accumulator) (front b : List ℕ) (h : Accumulator) (back more : List ℕ)
     (kind : LoadKind) (lines : ℕ)
     → AcceptsBytes format tree a g front b h → Refuses format tree b h back kind lines → Refuses format tree a g (front ++ (back ++ more)) kind lines
@@ -187,7 +187,7 @@ later_refused format tree a g front b h back more kind lines first second known 
     subst (λ x. IsFirstFault format tree complete x kind (lines + 1)) bytes
     (second (known ++ front) (more ++ rest) (first known holds (omega arith)) (omega arith))
 
--- a last piece that goes on
+-- a piece that extends an incomplete line is accepted, and leaves the accumulator unchanged
 pub piece_taken : (format : FileFormat) (tree : Tree) (a : List ℕ) (g : Accumulator) (piece b : List ℕ) → GoesOn a b piece g.lines
     → AcceptsBytes format tree a g piece b g
 piece_taken format tree a g piece b goes known (meanings, c, gathered) room =
@@ -196,7 +196,7 @@ piece_taken format tree a g piece b goes known (meanings, c, gathered) room =
 pub nothing_taken : (format : FileFormat) (tree : Tree) (a : List ℕ) (g : Accumulator) → AcceptsBytes format tree a g [] a g
 nothing_taken format tree a g known holds room = subst (λ t. Holds format tree t a g) (sym (append-nil known)) holds
 
--- the file is past its size
+-- bytes after accepted ones that fill the file up to `MAX_CONFIG_BYTES` have the fault `TooLarge`
 pub past_size : (format : FileFormat) (tree : Tree) (a : List ℕ) (g : Accumulator) (front b : List ℕ) (h : Accumulator) (more : List ℕ) (size : ℕ)
     → AcceptsBytes format tree a g front b h → size + length front ≡ MAX_CONFIG_BYTES → 0 < length more
     → (known rest : List ℕ) → Holds format tree known a g → length known ≡ size
@@ -210,13 +210,13 @@ past_size format tree a g front b h more size takes full some known rest holds i
     (subst (λ x. IsFirstFault format tree complete x TooLarge (length now.0 + 1))
     (append_assoc known front (more ++ rest) ∙ ap (λ x. known ++ x) (sym (append_assoc front more rest))) here)
 
--- the end of the file
+-- a file that ends after a newline, or is empty, has the meaning accumulated so far
 pub ends_empty : (format : FileFormat) (tree : Tree) (g : Accumulator) → EndsWell format tree [] g g
 ends_empty format tree g known (meanings, c, gathered) = (
   meanings,
   accepted format tree known [] meanings c [] (inl (refl, refl)),
   subst (FileMeans format tree known) (append-nil meanings)
-      (file_says format tree known [] meanings c [] (inl (refl, refl))),
+      (file_means format tree known [] meanings c [] (inl (refl, refl))),
   gathered,
 )
 
@@ -225,11 +225,11 @@ pub ends_line : (format : FileFormat) (tree : Tree) (line : List ℕ) (g g_new :
     × ((meanings : List LineMeaning) → IsGathered tree meanings g → IsGathered tree (meanings ++ x ∷ []) g_new))
     → EndsWell format tree line g g_new
 ends_line format tree line g g_new some short (text, meaning) known (meanings, c, gathered) =
-    let sound : IsSound format tree line meaning.0 = record { text = text; short = short; says = meaning.1 } in
+    let sound : IsSound format tree line meaning.0 = record { text = text; short = short; has_meaning = meaning.1 } in
     let last = inr (some, (meaning.0, refl, sound)) in (
       meanings ++ meaning.0 ∷ [],
       accepted format tree known line meanings c (meaning.0 ∷ []) last,
-      file_says format tree known line meanings c (meaning.0 ∷ [])
+      file_means format tree known line meanings c (meaning.0 ∷ [])
           last,
       meaning.2 meanings gathered,
     )
@@ -387,7 +387,7 @@ last_refused (Err kind) format tree a g bytes rest b h (front, is, takes) fault 
       (later_refused format tree a g front b h rest [] kind h.lines takes (stops_last format tree b h rest kind stops)))
 ]
 
--- a block's end is past the size
+-- a fault in the part of a block that lies within `MAX_CONFIG_BYTES` is the first fault of the file
 pub block_refused : (format : FileFormat) (tree : Tree) (a : List ℕ) (g : Accumulator) (front : List ℕ) (more : List ℕ) (kind : LoadKind) (size lines : ℕ)
     → size + length front ≤ MAX_CONFIG_BYTES → (kind ≡ OutOfMemory) ⊎ Refuses format tree a g front kind lines
     → (kind ≡ OutOfMemory) ⊎ ((known rest : List ℕ) → Holds format tree known a g → length known ≡ size
@@ -398,7 +398,7 @@ block_refused format tree a g front more kind size lines room fault = elim fault
       (ap (λ x. known ++ x) (sym (append_assoc front more rest))) (refuses known (more ++ rest) holds (omega arith)))
 ]
 
--- a block within the size
+-- a fault in a block that lies within `MAX_CONFIG_BYTES` is the first fault of the file
 pub block_faulty : {T : Type 0} (r : Result T LoadKind) (format : FileFormat) (tree : Tree) (a : List ℕ) (g : Accumulator) (block : List ℕ) (size lines : ℕ)
     → size ≤ MAX_CONFIG_BYTES → length block ≤ MAX_CONFIG_BYTES - size
     → IfErr r (λ kind. (kind ≡ OutOfMemory) ⊎ Refuses format tree a g block kind lines)
@@ -410,7 +410,7 @@ block_faulty (Err kind) format tree a g block size lines small short fault = eli
   | inr refuses ↦ inr (λ known rest holds is. refuses known rest holds (omega (arith, small, short, is)))
 ]
 
--- of a block that reaches past the size, the part within it
+-- for a block that exceeds `MAX_CONFIG_BYTES`, a fault in its part within the limit is the first fault of the file
 pub part_refused : (format : FileFormat) (tree : Tree) (a : List ℕ) (g : Accumulator) (block : List ℕ) (kind : LoadKind) (size lines : ℕ)
     → size ≤ MAX_CONFIG_BYTES
     → MAX_CONFIG_BYTES - size < length block → (kind ≡ OutOfMemory) ⊎ Refuses format tree a g (take (MAX_CONFIG_BYTES - size) block) kind lines

@@ -69,8 +69,8 @@ pub fragment_fits : (format : FileFormat) (tree : Tree) (known : List ℕ) (mean
     → IsConsistent tree
     → IsAccepted format tree known → FileMeans format tree known meanings → users_of tree es ≡ file_assignment tree meanings → Rises es
     → Below (length tree.units) es → FitsTree tree es
-fragment_fits format tree known meanings es valid sound accepted says users r b =
-    let fits = file_fits format tree known meanings sound (accepted_utf8 format tree known valid accepted) says in
+fragment_fits format tree known meanings es valid sound accepted has_meaning users r b =
+    let fits = file_fits format tree known meanings sound (accepted_utf8 format tree known valid accepted) has_meaning in
     record {
       ascending = rises_all es r;
       each = λ k u x at.

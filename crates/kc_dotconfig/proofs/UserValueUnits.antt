@@ -19,20 +19,20 @@ pub changed_both : (a b : List (ℕ × Option UserValue)) (users : List (Option 
 changed_both [] b users = refl
 changed_both (c ∷ a) b users = changed_both a b (slice_set users c.0 c.1)
 
--- one more user value
+-- the changes of a list with one user value appended are those of the list and then this one
 pub assigned_push : (es : List (ℕ × UserValue)) (a : ℕ × UserValue) (users : List (Option UserValue))
     → changed_users (changes_of (es ++ a ∷ [])) users ≡ slice_set (changed_users (changes_of es) users) a.0 (Some a.1)
 assigned_push [] a users = refl
 assigned_push (e ∷ es) a users = assigned_push es a (slice_set users e.0 (Some e.1))
 
--- a list's first element, and those after it
+-- a list contains its first element
 pub first_in : (x : ℕ) (xs : List ℕ) → Contains (x ∷ xs) x
 first_in x xs = (0, omega arith, refl)
 
 pub later_in : (x y : ℕ) (xs : List ℕ) → Contains xs y → Contains (x ∷ xs) y
 later_in x y xs (k, h, is) = (suc k, omega (arith, h), is)
 
--- a unit with a user value was given one, or had one
+-- a unit with a user value after changes is one of the changed units, or had a user value before
 pub given_or_had : (es : List (ℕ × UserValue)) (users : List (Option UserValue)) (u : ℕ) (x : UserValue)
     → user_of (changed_users (changes_of es) users) u ≡ Some x
     → Contains (units_of es) u ⊎ ((y : UserValue) × (user_of users u ≡ Some y))
@@ -65,9 +65,9 @@ cleared [] users covers = all_none users (λ u x e. none_in u (covers u x e)) wh
   none_in : (u : ℕ) → Contains {X = ℕ} [] u → ⊥
   none_in u (k, h, is) = omega (arith, h)
 cleared (w ∷ units) users covers = cleared units (slice_set users w None) rest ∙ ap (λ n. replicate n None) (length-set users w None) where
-  behind_first : (u : ℕ) → u ≢ w → Contains (w ∷ units) u → Contains units u
-  behind_first u other (zero, h, is) = absurd (other (sym is))
-  behind_first u other (suc k, h, is) = (k, omega (arith, h), is)
+  contained_in_tail : (u : ℕ) → u ≢ w → Contains (w ∷ units) u → Contains units u
+  contained_in_tail u other (zero, h, is) = absurd (other (sym is))
+  contained_in_tail u other (suc k, h, is) = (k, omega (arith, h), is)
 
   set_none : (l : List (Option UserValue)) → user_of (slice_set l w None) w ≡ None
   set_none l = go l w where
@@ -80,7 +80,7 @@ cleared (w ∷ units) users covers = cleared units (slice_set users w None) rest
   rest u x e = elim (cases_eq u w) [
     | inl same ↦ (let none = set_none users in let here : user_of (slice_set users w None) w ≡ Some x = subst (λ k. user_of (slice_set users w None) k ≡ Some x)
         same e in cc)
-    | inr other ↦ behind_first u other (covers u x (sym (get_or-set_other users w u None None other) ∙ e))
+    | inr other ↦ contained_in_tail u other (covers u x (sym (get_or-set_other users w u None None other) ∙ e))
   ]
 
 -- changes of user values lie over what was held
@@ -115,7 +115,7 @@ lies_over tree es users same =
     ap (changed_users (changes_of es)) (sym (none_over users) ∙ ap (λ n. overlay (replicate n None) users) same)
     ∙ changes_over es (empty_assignment tree) users (none_length (length tree.units) ∙ sym same)
 
--- the assignment of user values and no others lies over that of none
+-- the assignment of a list's user values alone is its own overlay over the empty assignment
 pub lies_alone : (tree : Tree) (es : List (ℕ × UserValue)) → users_of tree es ≡ overlay (users_of tree es) (empty_assignment tree)
 lies_alone tree es = lies_over tree es (empty_assignment tree) (none_length (length tree.units))
 
@@ -140,14 +140,14 @@ fits_changes tree es f k u x e =
     let each = f.each k u at.0 at.1 in
     (each.0, subst (λ o. IfSome o (λ y. IsTrue (user_fits tree u y))) (sym at.2) each.1)
 
--- an assignment of fitting user values fits
+-- the assignment of user values that fit the tree fits the tree
 pub users_fit : (tree : Tree) (es : List (ℕ × UserValue)) → FitsTree tree es
     → FitsUsers (length tree.units) (λ u x. IsTrue (user_fits tree u x)) (users_of tree es)
 users_fit tree es f =
     changed_fits (length tree.units) (λ u x. IsTrue (user_fits tree u x)) (changes_of es) (empty_assignment tree) (fits_changes tree es f)
     (none_fits (λ u x. IsTrue (user_fits tree u x)) (empty_assignment tree) (length tree.units) (length tree.units) refl refl)
 
--- clearing units of the tree, and then fitting changes
+-- removing the user values of units below `size` and then making fitting changes are together fitting changes
 pub fits_both : (size : ℕ) (fits : ℕ → UserValue → Type 0) (units : List ℕ) (b : List (ℕ × Option UserValue)) → ((u : ℕ) → Contains units u → u < size)
     → FitsChanges size fits b → FitsChanges size fits (clears_of units ++ b)
 fits_both size fits [] b within f k u x e = f k u x e
@@ -168,7 +168,7 @@ unit_at (a ∷ es) (suc k) u h e = unit_at es k u (omega (arith, h)) e
 pub units_within : (tree : Tree) (es : List (ℕ × UserValue)) → FitsTree tree es → (u : ℕ) → Contains (units_of es) u → u < length tree.units
 units_within tree es f u (k, h, is) = let at = unit_at es k u h is in (f.each k u at.0 at.1).0
 
--- what a longer list has
+-- an element of a list is contained in the list with another one appended
 pub in_front : (xs ys : List ℕ) (u : ℕ) → Contains xs u → Contains (xs ++ ys) u
 in_front [] ys u (k, h, is) = absurd (omega (arith, h))
 in_front (x ∷ xs) ys u (zero, h, is) = (0, omega arith, is)

@@ -1,4 +1,4 @@
--- A reader's bytes, a block at a time.
+-- A configuration file read to its end, a block at a time.
 use Rattle.std.proofs.Common.{true, ◌≡◌, ◌⊎◌, inl, inr, ℕ, ◌+◌, ◌-◌, ◌^◌, ◌<◌, ◌≤◌, map, List, [], ◌∷◌, ◌++◌, length, take, refl, sym, ◌∙◌, ap, subst, append_assoc, length-append, arith}
 use Rattle.std.specs.Prelude.{Option, Some, None, Result, Ok, Err, IfOk, IfErr, OnOk}
 use Rattle.kc_dotconfig_model.specs.Formats.{FileFormat}
@@ -21,7 +21,7 @@ use Rattle.kc_dotconfig.specs.ReadResults.{MAX_READ, IsReadAs, IsRefused, IsCutS
 use Rattle.kc_dotconfig.specs.checker.Accumulation.{fault_line, Holds, AcceptsBytes, EndsWell, EndsBadly, IsGathered, IsFragmentOf}
 use Rattle.kc_dotconfig.specs.checker.UserValueOrder.{Rises, Below}
 use Rattle.kc_dotconfig_model.proofs.FirstFaults.{failed_reads}
-use Rattle.kc_dotconfig_model.proofs.FaultsAtCuts.{clean, known_newlines, nothing_told}
+use Rattle.kc_dotconfig_model.proofs.FaultsAtCuts.{clean, known_newlines, empty_cut}
 
 pub consumes_both : (a b c : Option (List ℕ)) (x y : List ℕ) → Consumes a b x → Consumes b c y → Consumes a c (x ++ y)
 consumes_both None b c x y p q = tt
@@ -39,7 +39,8 @@ pub consumes_nothing : (a : Option (List ℕ)) → Consumes a a []
 consumes_nothing None = tt
 consumes_nothing (Some xs) = refl
 
--- what was read so far
+-- a reader supplied `size` bytes without a fault, which end with the incomplete line `line`; `g` has the meanings of the complete
+-- ones
 pub record HasRead (format : FileFormat) (tree : Tree) (before after : Option (List ℕ)) (line : List ℕ) (g : Accumulator) (size : ℕ) : Type 0 where
   pub known : List ℕ
   pub consumed : Consumes before after known
@@ -54,7 +55,7 @@ has_read_none format tree a line g empty gathered =
       consumed = consumes_nothing a;
       counted = refl;
       holds = subst (λ l. Holds format tree [] l g) (sym empty)
-          ([], nothing_told format tree, gathered);
+          ([], empty_cut format tree, gathered);
     }
 
 pub has_read_more : (format : FileFormat) (tree : Tree) (a b c : Option (List ℕ)) (line : List ℕ) (g : Accumulator) (size : ℕ) (block line_new : List ℕ)
@@ -69,15 +70,15 @@ has_read_more format tree a b c line g size block line_new h count r consumed n 
       holds = takes r.known r.holds (omega arith);
     }
 
--- lines are few, or the line is empty
+-- while a file is read, the incomplete line is empty or the complete lines are fewer than `MAX_CONFIG_LINES`
 pub room_of : (format : FileFormat) (tree : Tree) (a b : Option (List ℕ)) (line : List ℕ) (g : Accumulator) (size : ℕ) → HasRead format tree a b line g size
     → (line ≡ []) ⊎ (g.lines < MAX_CONFIG_LINES)
 room_of format tree a b [] g size r = inl refl
 room_of format tree a b (x ∷ line) g size r = let room = r.holds.1.room (omega arith) in let counted = r.holds.2.counted in inr (omega arith)
 
-pub tells_read : (format : FileFormat) (tree : Tree) (a b c : Option (List ℕ)) (line : List ℕ) (g : Accumulator) (size lines : ℕ)
+pub read_cut_short : (format : FileFormat) (tree : Tree) (a b c : Option (List ℕ)) (line : List ℕ) (g : Accumulator) (size lines : ℕ)
     → HasRead format tree a b line g size → Keeps b c → lines ≡ g.lines + 1 → IsCutShort format tree a c lines
-tells_read format tree a b c line g size lines r kept is =
+read_cut_short format tree a b c line g size lines r kept is =
     let cut = r.holds.1 in
     record {
       known = r.known;
@@ -92,11 +93,11 @@ tells_read format tree a b c line g size lines r kept is =
 pub rises : (n m k : ℕ) → m ≡ n → k ≡ one_failure_more m → n < 2 ^ 64 - 1 → n < k
 rises n m k same is less = omega arith
 
--- one read that fails, and no other
+-- if one read failed and none before it, the reader's count of failures rose by at most one
 pub one_read : (n m k : ℕ) → m ≡ n → k ≡ one_failure_more m → k ≤ n + 1
 one_read n m k same is = omega arith
 
--- what holds whatever is answered
+-- what holds for any result holds for an `Ok`
 pub on_any_ok : {T E P : Type 0} (r : Result T E) → P → OnOk r P
 on_any_ok (Ok x) p = p
 on_any_ok (Err e) p = tt
@@ -105,17 +106,17 @@ pub if_any_err : {T E : Type 0} (r : Result T E) (P : E → Type 0) → ((e : E)
 if_any_err (Ok x) P p = tt
 if_any_err (Err e) P p = p e
 
--- a fault of a block, or of the end, is that of the file
-pub tells_refused : (format : FileFormat) (tree : Tree) (a c : Option (List ℕ)) (f f_after : ℕ) (kind : LoadKind) (number : ℕ)
+-- out of memory with the line 0, or a refusal of the bytes read, is what a reported fault implies
+pub reports_refused : (format : FileFormat) (tree : Tree) (a c : Option (List ℕ)) (f f_after : ℕ) (kind : LoadKind) (number : ℕ)
     → ((kind ≡ OutOfMemory) × (number ≡ 0)) ⊎ IsRefused format tree a c kind number → ReportsFault format tree a c f f_after kind number
-tells_refused format tree a c f f_after Malformed number h = elim h [ inl e ↦ (let other = e.0 in cc) | inr r ↦ r ]
-tells_refused format tree a c f f_after NotUtf8 number h = elim h [ inl e ↦ (let other = e.0 in cc) | inr r ↦ r ]
-tells_refused format tree a c f f_after LineTooLong number h = elim h [ inl e ↦ (let other = e.0 in cc) | inr r ↦ r ]
-tells_refused format tree a c f f_after TooManyLines number h = elim h [ inl e ↦ (let other = e.0 in cc) | inr r ↦ r ]
-tells_refused format tree a c f f_after TooLarge number h = elim h [ inl e ↦ (let other = e.0 in cc) | inr r ↦ r ]
-tells_refused format tree a c f f_after Read number h =
+reports_refused format tree a c f f_after Malformed number h = elim h [ inl e ↦ (let other = e.0 in cc) | inr r ↦ r ]
+reports_refused format tree a c f f_after NotUtf8 number h = elim h [ inl e ↦ (let other = e.0 in cc) | inr r ↦ r ]
+reports_refused format tree a c f f_after LineTooLong number h = elim h [ inl e ↦ (let other = e.0 in cc) | inr r ↦ r ]
+reports_refused format tree a c f f_after TooManyLines number h = elim h [ inl e ↦ (let other = e.0 in cc) | inr r ↦ r ]
+reports_refused format tree a c f f_after TooLarge number h = elim h [ inl e ↦ (let other = e.0 in cc) | inr r ↦ r ]
+reports_refused format tree a c f f_after Read number h =
     elim h [ inl e ↦ (let other = e.0 in cc) | inr r ↦ elim r.first [ inl whole ↦ absurd whole.1.comes | inr any ↦ absurd (any []).comes ] ]
-tells_refused format tree a c f f_after OutOfMemory number h = elim h [
+reports_refused format tree a c f f_after OutOfMemory number h = elim h [
   | inl e ↦ e.1
   | inr r ↦ elim r.first [ inl whole ↦ absurd whole.1.comes | inr any ↦ absurd (any []).comes ]
 ]
@@ -165,7 +166,7 @@ read_whole format tree a b c line g size f r consumed end whole =
       ended = end;
       accepted = all.1;
       meanings = all.0;
-      says = all.2;
+      has_meaning = all.2;
       users = all.3;
       noted = all.4;
     }
@@ -225,9 +226,9 @@ block_fault format tree line g block size kind k lines n same is fault = elim fa
   | inr bad ↦ inr (λ known rest holds count. fault_with_line format tree (known ++ (block ++ rest)) kind k lines n same is (bad known rest holds count))
 ]
 
-pub tells_short : (format : FileFormat) (tree : Tree) (a c : Option (List ℕ)) (f f_after : ℕ) (k : LoadKind) (n : ℕ) → k ≡ Read → IsCutShort format tree a c n
+pub reports_cut_short : (format : FileFormat) (tree : Tree) (a c : Option (List ℕ)) (f f_after : ℕ) (k : LoadKind) (n : ℕ) → k ≡ Read → IsCutShort format tree a c n
     → (f < 2 ^ 64 - 1 → f < f_after) → ReportsFault format tree a c f f_after k n
-tells_short format tree a c f f_after k n is cut rise = subst (λ x. ReportsFault format tree a c f f_after x n) (sym is) (cut, rise)
+reports_cut_short format tree a c f f_after k n is cut rise = subst (λ x. ReportsFault format tree a c f f_after x n) (sym is) (cut, rise)
 
 none_taken : (count : ℕ) (block : List ℕ) → count ≡ 0 → take count block ≡ []
 none_taken count block e = ap (λ n. take n block) e
@@ -250,7 +251,7 @@ pub end_fault : (r : Result Fragment LoadFault) (format : FileFormat) (tree : Tr
     → IfErr r (λ fault. ReportsFault format tree a c f f_after fault.kind fault.line)
 end_fault (Ok x) format tree a b c line g size count block f f_after r none some bytes fault = tt
 end_fault (Err e) format tree a b c line g size count block f f_after r none some bytes fault =
-    tells_refused format tree a c f f_after e.kind e.line (refused_at_end format tree a b c line g size e.kind e.line r
+    reports_refused format tree a c f f_after e.kind e.line (refused_at_end format tree a b c line g size e.kind e.line r
     (subst (Consumes b c) (none_taken count block none) bytes.0) (bytes.1 none some) fault)
 
 pub whole_fits : (r : Result Fragment LoadFault) (format : FileFormat) (tree : Tree) (a b : Option (List ℕ)) (line : List ℕ) (g : Accumulator) (size : ℕ)

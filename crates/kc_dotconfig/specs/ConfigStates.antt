@@ -11,15 +11,15 @@ use Rattle.kc_rules_model.specs.SettledTrees.{IsSettledTree}
 use Rattle.kc_rules.specs.declared.rules.Settled.{Settled}
 use Rattle.kc_rules.specs.between.SettledViews.{tree_of_settled, profile_of}
 
--- a settled tree, an assignment and its values
+-- the value of a configuration: a settled tree, an assignment of user values to units, and the values of the units
 abbrev pub Configured : Type 0
 Configured = SessionState Settled UnitValue UserValue
 
--- the tree of a configuration
+-- the tree of a configuration's settled tree
 abbrev pub tree_in : Configured → Tree
 tree_in c = tree_of_settled c.system
 
--- the assignment held fits the tree, and the values held are the only ones that it gives
+-- a configuration's assignment fits its tree, and its values are the only ones that solve the tree's rules for it
 pub record IsSolved (c : Configured) : Type 0 where
   pub settled : IsSettledTree (tree_in c)
   pub fits : FitsUsers (length (tree_in c).units) (λ u x. IsTrue (user_fits (tree_in c) u x)) c.users

@@ -11,23 +11,23 @@ use Rattle.kc_dotconfig_model.specs.LoadFaults.{complete, cut_short, OccursAt, I
 use Rattle.kc_dotconfig.specs.declared.fragment.Fragment.{Fragment}
 use Rattle.kc_dotconfig.specs.Fragments.{users_of, notice_pair}
 
--- the file was read to its end, it has no fault, and this is its assignment with its notices
+-- a configuration file was read to its end and has no fault, and `f` has its assignment and its notices
 pub record IsReadAs (format : FileFormat) (tree : Tree) (before after : Option (List ℕ)) (f : Fragment) : Type 0 where
   pub known : List ℕ
   pub consumed : Consumes before after known
   pub ended : IsAtEnd after
   pub accepted : IsAccepted format tree known
   pub meanings : List LineMeaning
-  pub says : FileMeans format tree known meanings
+  pub has_meaning : FileMeans format tree known meanings
   pub users : users_of tree f.assigns.items ≡ file_assignment tree meanings
   pub noted : map notice_pair f.notices.items ≡ notices_from 1 meanings
 
--- the most bytes that are read at once
+-- the largest number of bytes of a configuration file that are read at once
 abbrev pub MAX_READ : ℕ
 MAX_READ = 4096
 
--- the first fault of the known bytes: they are the whole file, or it is the first whatever follows them; no fault comes
--- before the bytes that were read last
+-- the bytes read have a first fault, of this kind and line: either they are the whole configuration file, or the fault is the
+-- first whatever bytes follow; no fault occurs before the last `MAX_READ` of the bytes read
 pub record IsRefused (format : FileFormat) (tree : Tree) (before after : Option (List ℕ)) (kind : LoadKind) (number : ℕ) : Type 0 where
   pub known : List ℕ
   pub consumed : Consumes before after known
@@ -36,14 +36,14 @@ pub record IsRefused (format : FileFormat) (tree : Tree) (before after : Option 
   pub soon : (rest : List ℕ) (other : LoadKind) (byte n : ℕ) → OccursAt format tree (known ++ rest) other byte n
       → length known ≤ byte + MAX_READ
 
--- a read failed after the supplied bytes, which have no fault before it
+-- a read failed in the line `number`, after the reader supplied bytes of a configuration file that have no fault
 pub record IsCutShort (format : FileFormat) (tree : Tree) (before after : Option (List ℕ)) (number : ℕ) : Type 0 where
   pub known : List ℕ
   pub consumed : Consumes before after known
   pub first : IsFirstFault format tree cut_short known Read number
 
--- what a reported fault implies; for a failed read also that the reader's failures rose from `failed` to `failed_after`;
--- out of memory has the line 0
+-- what a reported fault implies for the bytes read; for a failed read also that the reader's count of failures rose from `failed`
+-- to `failed_after`; out of memory has the line 0
 abbrev pub ReportsFault : FileFormat → Tree → (before after : Option (List ℕ)) → (failed failed_after : ℕ) → LoadKind → ℕ → Type 0
 ReportsFault format tree before after failed failed_after OutOfMemory number = number ≡ 0
 ReportsFault format tree before after failed failed_after Read number = IsCutShort format tree before after number

@@ -1,4 +1,4 @@
-//! Accumulates the meanings of lines.
+//! Accumulates the meanings of the lines of a configuration file.
 ghost use Rattle.std.specs.Prelude.{◌≡◌, ◌⊎◌, ◌+◌, ◌<◌, List, [], ◌∷◌, ◌++◌, length, IfOk, IfErr, OnOk, OnErr};
 ghost use Rattle.std.specs.Str.{IsUtf8};
 ghost use Rattle.kc_value.specs.declared.limits.TheConstants.{MAX_CONFIG_LINES};
@@ -20,7 +20,7 @@ use kc_rules::Settled;
 use kc_rules_model::UserValue;
 use std::alloc::{AllocError, Global};
 
-/// An empty accumulator.
+/// The accumulator before the first line of a configuration file.
 pub(crate) fn empty_accumulator(alloc: Global) -> Accumulator
     ensures { (tree : Tree) → IsGathered tree [] result }
 {
@@ -32,7 +32,7 @@ pub(crate) fn empty_accumulator(alloc: Global) -> Accumulator
     }
 }
 
-/// Takes a user value.
+/// Adds a line that assigns a user value to a unit. An `Err` means out of memory.
 fn take_assignment(gathered: &mut Accumulator, unit: u32, user: UserValue) -> Result<(), AllocError>
     requires few { gathered.old.lines < MAX_CONFIG_LINES }
     ensures entries { OnOk result (gathered.new.assigns ≡ insert_entry nat_cmp gathered.old.assigns unit user) }
@@ -46,7 +46,7 @@ fn take_assignment(gathered: &mut Accumulator, unit: u32, user: UserValue) -> Re
     Ok(())
 }
 
-/// Takes a notice.
+/// Adds a line with a notice. An `Err` means out of memory.
 fn take_notice(gathered: &mut Accumulator, kind: NoticeKind) -> Result<(), AllocError>
     requires few { gathered.old.lines < MAX_CONFIG_LINES }
     ensures entries { OnOk result (gathered.new.assigns ≡ gathered.old.assigns) }
@@ -60,7 +60,7 @@ fn take_notice(gathered: &mut Accumulator, kind: NoticeKind) -> Result<(), Alloc
     Ok(())
 }
 
-/// Adds the meaning of the next line.
+/// Adds the meaning of the next line to the accumulator. An `Err` means out of memory.
 fn take(gathered: &mut Accumulator, meaning: Meaning) -> Result<(), AllocError>
     requires few { gathered.old.lines < MAX_CONFIG_LINES }
     ensures ok { OnOk result ((tree : Tree) (meanings : List LineMeaning) → IsWithin (length tree.units) (meaning_view meaning) → IsGathered tree meanings gathered.old → IsGathered tree (meanings ++ meaning_view meaning ∷ []) gathered.new) }
@@ -77,7 +77,8 @@ fn take(gathered: &mut Accumulator, meaning: Meaning) -> Result<(), AllocError>
     }
 }
 
-/// Takes the next line.
+/// Interprets the next line of a configuration file and adds its meaning to the accumulator. An `Err` leaves the line count
+/// unchanged.
 pub(crate) fn take_line(
     alloc: Global,
     settled: &Settled,
@@ -106,7 +107,7 @@ pub(crate) fn take_line(
     }
 }
 
-/// The assignment and the notices.
+/// The assignment and the notices of the accumulated lines. An `Err` means out of memory.
 pub(crate) fn fragment_of(gathered: Accumulator) -> Result<Fragment, AllocError>
     ensures { IfOk result (λ f. (f.assigns.items ≡ gathered.assigns) × (f.notices.items ≡ gathered.notices.items)) }
 {

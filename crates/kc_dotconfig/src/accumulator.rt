@@ -1,8 +1,8 @@
-//! The accumulated meaning of a file's lines.
+//! The accumulated meaning of a configuration file's lines.
 use super::assigned_values::AssignedValues;
 use kc_dotconfig_model::Notice;
 
-/// The assignment, notices and number of the lines so far, and the unit after the one that was assigned last.
+/// The assignment and the notices of the lines read so far, the number of lines, and the unit after the last assigned one.
 #[derive(Drop)]
 pub(crate) struct Accumulator {
     pub(crate) assigns: AssignedValues,

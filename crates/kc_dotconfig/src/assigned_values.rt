@@ -1,4 +1,4 @@
-//! User values by their units.
+//! User values in ascending order of their units.
 ghost use Rattle.std.specs.Prelude.{◌≡◌, ℕ, List, [], IfOk, OnOk, IsTrue};
 ghost use Rattle.std.specs.BTreeMap.{insert_entry};
 ghost use Rattle.std.specs.Ordering.{nat_cmp};
@@ -10,8 +10,8 @@ use std::collections::BTreeMap;
 use std::marker::Model;
 use std::mem;
 
-/// User values by their units, ascending. Most files assign units in this order: what they assign is kept as a list,
-/// and as a map from the first unit on that comes late.
+/// User values by unit, in ascending order. Files mostly assign in this order, so the values are a list as long as units ascend;
+/// from the first unit out of order on, they are a map.
 #[derive(Drop)]
 pub(crate) struct AssignedValues {
     alloc: Global,
@@ -31,7 +31,7 @@ impl Model for AssignedValues {
     ghost invariant = { λ a. Rises a.listed.items × ((a.listed.items ≡ []) ⊎ (a.mapped.entries ≡ [])) };
 }
 
-/// Whether a unit is above all of a list.
+/// Whether a unit is greater than all units of an ascending list.
 fn is_above(unit: u32, listed: &[(u32, UserValue)]) -> bool
     requires rising { Rises listed.now }
     ensures below { IsTrue result → Below unit listed.now }
@@ -42,7 +42,7 @@ fn is_above(unit: u32, listed: &[(u32, UserValue)]) -> bool
     }
 }
 
-/// A list as a map.
+/// A list of user values with ascending units as a map by unit.
 fn map_of(
     alloc: Global,
     listed: Vec<(u32, UserValue)>,
@@ -60,7 +60,7 @@ fn map_of(
     Ok(map)
 }
 
-/// Gives a unit a user value in a map, in place of an earlier one.
+/// Sets the user value of a unit in a map, and replaces an earlier one.
 fn put(map: &mut BTreeMap<u32, UserValue>, unit: u32, user: UserValue) -> Result<(), AllocError>
     ensures { OnOk result (map.new.entries ≡ insert_entry nat_cmp map.old.entries unit user) }
 {
@@ -85,7 +85,7 @@ impl AssignedValues {
         }
     }
 
-    /// Gives a unit a user value in place of an earlier one.
+    /// Sets the user value of a unit, and replaces an earlier one.
     #[tactic(auto, using(crate::proofs::AscendingUnits::put_mapped))]
     pub(crate) fn insert(&mut self, unit: u32, user: UserValue) -> Result<(), AllocError>
         ensures { OnOk result (self.new ≡ insert_entry nat_cmp self.old unit user) }
@@ -102,7 +102,7 @@ impl AssignedValues {
         put(&mut self.mapped, unit, user)
     }
 
-    /// The user values with their units, in ascending order of units.
+    /// The user values with their units, in ascending order of units. An `Err` means out of memory.
     pub(crate) fn into_list(self) -> Result<Vec<(u32, UserValue)>, AllocError>
         ensures { IfOk result (λ list. list.items ≡ self) }
     {

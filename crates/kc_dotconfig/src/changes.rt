@@ -10,7 +10,7 @@ use kc_rules_model::UserValue;
 use kc_system::System;
 use std::alloc::{AllocError, Global};
 
-/// Appends user values to some changes.
+/// Appends to `changes` those that set the units of `assigns` to copies of their user values.
 pub(crate) fn push_users(
     alloc: Global,
     changes: &mut Vec<(u32, Option<UserValue>)>,
@@ -25,7 +25,7 @@ pub(crate) fn push_users(
     Ok(())
 }
 
-/// Appends the changes after which these units have no user value.
+/// Appends to `changes` those that remove the user value of each unit in `units`.
 pub(crate) fn push_cleared(
     changes: &mut Vec<(u32, Option<UserValue>)>,
     units: &[u32],
@@ -38,7 +38,7 @@ pub(crate) fn push_cleared(
     Ok(())
 }
 
-/// The units of user values.
+/// The units to which a list of user values assigns, in order.
 pub(crate) fn units_assigned(
     alloc: Global,
     assigns: &[(u32, UserValue)],
@@ -63,7 +63,7 @@ fn blank_users(alloc: Global, size: u32) -> Result<Vec<Option<UserValue>>, Alloc
     Ok(users)
 }
 
-/// The assignment of these user values and no others, over `size` units.
+/// The assignment to `size` units that has the user values of `assigns` and no others.
 pub(crate) fn users_assigned(
     alloc: Global,
     size: u32,
@@ -80,7 +80,7 @@ pub(crate) fn users_assigned(
     Ok(users)
 }
 
-/// Appends the units of user values to some held, but for those that have one.
+/// Appends to `held` the units of `assigns` that have no user value in `users`.
 pub(crate) fn merge_units(
     held: &mut Vec<u32>,
     users: &[Option<UserValue>],

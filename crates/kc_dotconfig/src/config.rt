@@ -1,4 +1,4 @@
-//! A configuration: what files assign, and the values that this gives.
+//! A configuration: the user values that files assign, and the values that they give to all units.
 ghost use Rattle.std.specs.Prelude.{◌≡◌, length, IfOk, OnOk, OnErr, option_map};
 ghost use Rattle.std.specs.Option.{option_and_then};
 ghost use Rattle.kc_system.specs.Changes.{IsTouched, IsChanged, IsCountOf, IsListOf};
@@ -22,8 +22,8 @@ use kc_value::ValueRef;
 use std::alloc::{AllocError, Global};
 use std::marker::Model;
 
-/// A configuration of a settled tree: what the files that it took assign, and the one solution of this. Contracts see
-/// the tree, the assignment and the values.
+/// A configuration of a settled tree: the user values that files assign, and the values of all units, which are the one solution
+/// for them. Contracts see the tree, the assignment and the values.
 #[derive(Drop)]
 pub struct Config<'a> {
     alloc: Global,
@@ -51,7 +51,7 @@ impl<'a> Model for Config<'a> {
 }
 
 impl<'a> Config<'a> {
-    /// A configuration without any user value, or out of memory.
+    /// A configuration without any user value. An `Err` means out of memory.
     pub fn new(alloc: Global, settled: &'a Settled) -> Result<Config<'a>, AllocError>
         ensures settled { IfOk result (λ c. c.system ≡ settled.now) }
         ensures users { IfOk result (λ c. c.users ≡ empty_assignment (tree_of_settled settled.now)) }
@@ -70,8 +70,8 @@ impl<'a> Config<'a> {
         })
     }
 
-    /// A configuration that holds what a fragment assigns and nothing else, or out of memory. The caller owes a
-    /// fragment that fits.
+    /// A configuration whose user values are those of a fragment and no others. An `Err` means out of memory. The caller must
+    /// pass a fragment that fits the tree.
     pub fn of(
         alloc: Global,
         settled: &'a Settled,
@@ -97,10 +97,9 @@ impl<'a> Config<'a> {
         })
     }
 
-    /// Holds what a fragment assigns and nothing else, and reports which units' values differ from those before and how
-    /// many units were evaluated. After running out of memory the configuration is as before. The caller owes a
-    /// fragment that
-    /// fits.
+    /// Replaces all user values by those of a fragment, and reports which units' values differ from those before and how many
+    /// units were evaluated. After running out of memory the configuration is as before. The caller must pass a fragment that
+    /// fits the tree.
     pub fn replace(&mut self, fragment: &Fragment) -> Result<Report, AllocError>
         requires fits { FitsTree (tree_in self.old) fragment.now.assigns.items }
         ensures settled { self.new.system ≡ self.old.system }
@@ -119,9 +118,9 @@ impl<'a> Config<'a> {
         Ok(report)
     }
 
-    /// Lays what a fragment assigns over what is held, and reports likewise. After running out of memory the
-    /// configuration is as
-    /// before. The caller owes a fragment that fits.
+    /// Adds the user values of a fragment, which replace earlier ones of the same units, and reports which units' values differ
+    /// from those before and how many units were evaluated. After running out of memory the configuration is as before. The
+    /// caller must pass a fragment that fits the tree.
     pub fn merge(&mut self, fragment: &Fragment) -> Result<Report, AllocError>
         requires fits { FitsTree (tree_in self.old) fragment.now.assigns.items }
         ensures settled { self.new.system ≡ self.old.system }
@@ -150,7 +149,7 @@ impl<'a> Config<'a> {
         }
     }
 
-    /// A configuration of the same tree that holds the same, or out of memory.
+    /// A copy of the configuration, with the same tree, user values and values. An `Err` means out of memory.
     pub fn copy(&self) -> Result<Config<'a>, AllocError>
         ensures { IfOk result (λ copy. copy ≡ self.now) }
     {
@@ -172,7 +171,7 @@ impl<'a> Config<'a> {
         self.settled
     }
 
-    /// The values held: of each unit its value under what is held, the one solution of it.
+    /// The value of each unit, by its number: the one solution for the configuration's user values.
     pub fn values(&self) -> &[UnitValue]
         ensures values { result.now ≡ self.now.values }
         ensures solved { IsSolved self.now }
@@ -180,7 +179,7 @@ impl<'a> Config<'a> {
         self.session.values()
     }
 
-    /// The assignment held: each unit's user value, or none.
+    /// The user value of each unit, by its number, or `None`.
     pub fn users(&self) -> &[Option<UserValue>]
         ensures users { result.now ≡ self.now.users }
         ensures solved { IsSolved self.now }
@@ -197,8 +196,8 @@ impl<'a> Config<'a> {
         Some(self.settled.symbol_value(s, self.session.values()))
     }
 
-    /// The symbols outside choices whose user value isn't their value, and of each choice the user's member if it isn't
-    /// selected, in order of first definition. An `Err` means out of memory.
+    /// The symbols outside choices whose user value isn't their value, and for each choice the member that its user value names,
+    /// if that isn't selected, in order of first definition. An `Err` means out of memory.
     pub fn missed(&self) -> Result<Vec<Sym>, AllocError>
         ensures { IfOk result (λ found. found.items ≡ missed (tree_in self.now) self.now.users self.now.values) }
     {

@@ -7,7 +7,7 @@ use kc_dotconfig_model::Notice;
 use kc_rules::Settled;
 use kc_rules_model::UserValue;
 
-/// A file's own assignment, ascending by unit and each unit once, and its notices in order of lines.
+/// The assignment of one configuration file, each unit once and in ascending order, and its notices in order of lines.
 #[derive(Drop)]
 pub struct Fragment {
     pub assigns: Vec<(u32, UserValue)>,
@@ -15,7 +15,8 @@ pub struct Fragment {
 }
 
 impl Fragment {
-    /// Whether the units ascend, each once, and each user value has the shape of its unit. Takes no memory.
+    /// Whether the units are units of the tree, each once and in ascending order, and each user value has the shape of its unit.
+    /// Takes no memory.
     pub fn fits(&self, settled: &Settled) -> bool
         ensures { IsTrue result ↔ FitsTree (tree_of_settled settled.now) self.now.assigns.items }
     {

@@ -21,7 +21,7 @@ use std::alloc::{AllocError, Global};
 /// How many bytes are read at once.
 const BLOCK: usize = 4096;
 
-/// Takes a piece of a line that goes on.
+/// Takes a piece of a line that has no newline yet; `lines` counts the complete lines before it.
 fn take_piece(cutter: &mut LineBuffer, lines: u32, piece: &[u8]) -> Result<(), LoadKind>
     requires few { lines ≤ MAX_CONFIG_LINES }
     requires one_line { lacks 10 piece.now ≡ true }
@@ -146,7 +146,7 @@ fn fault_on_next_line(lines: u32, kind: LoadKind) -> LoadFault
     LoadFault { line, kind }
 }
 
-/// The meaning of a file that ends here.
+/// The assignment and the notices of a file that ends after the incomplete line in `cutter`.
 fn finish(
     alloc: Global,
     settled: &Settled,
@@ -169,14 +169,15 @@ fn finish(
     }
 }
 
-/// Reads a configuration file to its end, at most 4,096 bytes at once, of which it keeps one line. Returns what the file
-/// assigns with its notices, exactly where it has no fault, whatever pieces the reader gives.
+/// Reads a configuration file to its end, at most 4,096 bytes at once, and keeps one line in memory. Returns the assignment and
+/// the notices of the file exactly if it has no fault, whatever pieces the reader gives.
 ///
-/// Else it returns the first fault with its line, and stops at the piece that has it: `TooLarge` at the first byte past
+/// If it has a fault, returns the first one with its line, and stops at the piece that has it: `TooLarge` at the first byte past
 /// 67,108,864, `TooManyLines` at the first byte of line 1,048,577, `LineTooLong` at the first byte of a line past 65,536,
-/// `NotUtf8` and `Malformed` at a line's end, `Read` where the reader failed after lines without a fault. Then no file
-/// that begins with the bytes read is accepted, but where the file ends there or a read failed. `OutOfMemory` has the
-/// line 0, and means nothing for the file. A refused reader is left at an unstated place. At most one read fails.
+/// `NotUtf8` and `Malformed` at a line's end, `Read` where the reader failed after lines without a fault. After a fault no file
+/// that begins with the bytes read is accepted, unless the fault came with the end of the file or with a failed read.
+/// `OutOfMemory` has the line 0, and says nothing about the file. After a fault the position of the reader isn't specified. At
+/// most one read fails.
 pub fn read_config<R: Source>(
     alloc: Global,
     settled: &Settled,

@@ -1,4 +1,4 @@
-//! The line so far of a file that comes in pieces.
+//! The incomplete line of a file that is read in pieces.
 ghost use Rattle.std.specs.Prelude.{◌≡◌, ℕ, ◌+◌, ◌<◌, ◌≤◌, [], ◌++◌, length, IfErr, OnOk, ◌⊎◌, OnErr};
 
 use kc_dotconfig_model::LoadKind;
@@ -6,7 +6,7 @@ use kc_value::MAX_LINE_BYTES;
 use std::alloc::Global;
 use std::marker::Model;
 
-/// The line so far: at most `MAX_LINE_BYTES` bytes.
+/// The bytes so far of an incomplete line, at most `MAX_LINE_BYTES`.
 #[derive(Drop)]
 pub(crate) struct LineBuffer {
     line: Vec<u8>,
@@ -24,7 +24,7 @@ impl Model for LineBuffer {
 }
 
 impl LineBuffer {
-    /// Nothing so far.
+    /// An empty line buffer.
     pub(crate) fn new(alloc: Global) -> LineBuffer
         ensures { result ≡ [] }
     {
@@ -33,7 +33,7 @@ impl LineBuffer {
         }
     }
 
-    /// The line so far.
+    /// The bytes so far of the incomplete line.
     pub(crate) fn line(&self) -> &[u8]
         ensures line { result.now ≡ self.now }
         ensures short { length self.now ≤ MAX_LINE_BYTES }
@@ -41,7 +41,7 @@ impl LineBuffer {
         self.line.as_slice()
     }
 
-    /// Appends a piece to the line so far, if that isn't too long. An `Err` leaves the line.
+    /// Appends a piece to the incomplete line, unless the line gets too long. An `Err` leaves the line unchanged.
     pub(crate) fn push(&mut self, piece: &[u8]) -> Result<(), LoadKind>
         ensures ok { OnOk result (self.new ≡ self.old ++ piece.now) }
         ensures short { OnOk result (length self.old + length piece.now ≤ MAX_LINE_BYTES) }
@@ -57,7 +57,7 @@ impl LineBuffer {
             .map_err(|_| LoadKind::OutOfMemory)
     }
 
-    /// Begins the next line.
+    /// Empties the buffer for the next line.
     pub(crate) fn clear(&mut self)
         ensures { self.new ≡ [] }
     {

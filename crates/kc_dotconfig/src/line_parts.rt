@@ -1,4 +1,4 @@
-//! The parts of a line.
+//! The parts of a line of a configuration file.
 ghost use Rattle.std.specs.Prelude.{◌≡◌, ◌≢◌, ◌<◌, ℕ, List, not, Some, None, IfSome, IfNone, IsAscii};
 ghost use Rattle.std.specs.List.{find};
 ghost use Rattle.kc_expr.specs.Token.{is_white_byte};
@@ -16,7 +16,7 @@ fn is_white(byte: u8) -> bool
     matches!(byte, 9 | 11 | 12 | 13 | 32)
 }
 
-/// A line without the white bytes at its end.
+/// A line without the white-space bytes at its end.
 pub(crate) fn trimmed(line: &str) -> &str
     ensures { result.now ≡ without_white_end line.now }
 {
@@ -28,7 +28,7 @@ pub(crate) fn trimmed(line: &str) -> &str
     &line[..end]
 }
 
-/// What follows a prefix of ASCII in a text; `None` where the text has another front.
+/// The text after the ASCII prefix `front`; `None` if the text doesn't begin with it.
 fn after_front<'a>(front: &[u8], line: &'a str) -> Option<&'a str>
     requires ascii { IsAscii front.now }
     ensures some { IfSome result (λ rest. after_front front.now line.now ≡ Some rest.now) }
@@ -40,7 +40,7 @@ fn after_front<'a>(front: &[u8], line: &'a str) -> Option<&'a str>
     Some(&line[front.len()..])
 }
 
-/// The text before the first such ASCII character, if it isn't empty, and the text after it.
+/// The text before the first ASCII character `end` and the text after it; `None` without one, or if nothing is before it.
 fn named_before(end: char, text: &str) -> Option<(&str, &str)>
     requires ascii { end < 128 }
     ensures some { IfSome result (λ parts. named_before end text.now ≡ Some (parts.0.now, parts.1.now)) }
@@ -53,7 +53,8 @@ fn named_before(end: char, text: &str) -> Option<(&str, &str)>
     Some((name, rest))
 }
 
-/// The name and the text of a line with `=`.
+/// The symbol name before the first `=` of a line, without the prefix, and the text after it; `None` if the line has another
+/// form.
 pub(crate) fn value_parts<'a>(prefix: &Prefix, line: &'a str) -> Option<(&'a str, &'a str)>
     ensures some { IfSome result (λ parts. value_parts (prefix_bytes prefix.now) line.now ≡ Some (parts.0.now, parts.1.now)) }
     ensures none { IfNone result (value_parts (prefix_bytes prefix.now) line.now ≡ None) }
@@ -62,7 +63,7 @@ pub(crate) fn value_parts<'a>(prefix: &Prefix, line: &'a str) -> Option<(&'a str
     named_before('=', rest)
 }
 
-/// The name of an unset line.
+/// The symbol name of a line `# CONFIG_X is not set`, without the prefix; `None` if the line has another form.
 pub(crate) fn unset_name<'a>(prefix: &Prefix, line: &'a str) -> Option<&'a str>
     ensures some { IfSome result (λ name. unset_name (prefix_bytes prefix.now) line.now ≡ Some name.now) }
     ensures none { IfNone result (unset_name (prefix_bytes prefix.now) line.now ≡ None) }
@@ -77,7 +78,7 @@ pub(crate) fn unset_name<'a>(prefix: &Prefix, line: &'a str) -> Option<&'a str>
     }
 }
 
-/// The text between two `"`, the first byte and the last one of a text.
+/// The text between a `"` at the beginning and a `"` at the end of a text; `None` if it hasn't both.
 pub(crate) fn between_quotes(text: &str) -> Option<&str>
     ensures some { IfSome result (λ inner. text.now ≡ between_quotes inner.now) }
     ensures none { IfNone result ((inner : List ℕ) → text.now ≢ between_quotes inner) }
@@ -85,7 +86,7 @@ pub(crate) fn between_quotes(text: &str) -> Option<&str>
     text.strip_prefix('"')?.strip_suffix('"')
 }
 
-/// Whether a line's first byte that isn't white is `#`.
+/// Whether the first byte of a line that isn't white space is `#`.
 pub(crate) fn is_comment(line: &[u8]) -> bool
     ensures { result ≡ is_hash (find (λ b. not (is_white_byte b)) line.now) }
 {

@@ -1,4 +1,4 @@
-//! The meaning of a line.
+//! The meaning of a line of a configuration file.
 ghost use Rattle.std.specs.Prelude.{◌≡◌, ◌<◌, ℕ, IfOk, IfSome, Some, length, is_some, slice_get, option_map};
 ghost use Rattle.kc_tree_model.specs.Trees.{Symbol};
 ghost use Rattle.kc_tree_model.specs.TreeLookup.{symbol_named};
@@ -18,14 +18,14 @@ use kc_tree::{Sym, Tree, Unit};
 use kc_value::{Kind, Text, Tri, hex_of, int_of, read_quoted};
 use std::alloc::{AllocError, Global};
 
-/// The meaning of a line.
+/// The meaning of a line of a configuration file.
 #[derive(Drop)]
 pub(crate) enum Meaning {
-    /// A user value of a unit.
+    /// The line assigns a user value to the unit of this number.
     Assigns(u32, UserValue),
-    /// A line with a notice.
+    /// The line assigns nothing, and a notice of this kind is due.
     Noted(NoticeKind),
-    /// A line that assigns nothing, and has no notice.
+    /// The line assigns nothing, and no notice is due.
     Nothing,
 }
 
@@ -177,7 +177,7 @@ fn read_unset(tree: &Tree, s: Sym) -> Meaning
     }
 }
 
-/// The symbol of a unit, if there is one of that name.
+/// The symbol that the unit `u` is, if its name is `name`.
 fn symbol_of_unit(tree: &Tree, u: u32, name: &str) -> Option<Sym>
     ensures symbol { IfSome result (λ s. symbol_named tree.now.tree name.now ≡ Some s) }
     ensures there { IfSome result (λ s. s < length tree.now.tree.symbols) }
@@ -232,7 +232,7 @@ fn read_unset_line(tree: &Tree, next: u32, name: &str) -> Meaning
     }
 }
 
-/// Interprets any other line; `None` if it is malformed.
+/// Interprets a line that is neither `CONFIG_X=value` nor `# CONFIG_X is not set`; `None` if it is malformed.
 fn read_other_line(line: &str) -> Option<Meaning>
     ensures meaning { option_map meaning_view result ≡ of_other line.now }
     ensures within { (n : ℕ) → IfSome result (λ meaning. IsWithin n (meaning_view meaning)) }
@@ -244,7 +244,8 @@ fn read_other_line(line: &str) -> Option<Meaning>
     }
 }
 
-/// Interprets a line; `None` if it is malformed. Its name is probably that of the unit `next`, which is tried first.
+/// Interprets a line of a configuration file; `None` if it is malformed. The symbol of the unit `next` is tried first for the
+/// line's name. An `Err` means out of memory.
 pub(crate) fn read_line(
     alloc: Global,
     settled: &Settled,

@@ -1,4 +1,4 @@
-//! Assignments that aren't the values that they are given.
+//! Symbols whose user value isn't their value.
 ghost use Rattle.std.specs.Prelude.{◌≡◌, ◌<◌, ◌∷◌, ◌++◌, [], length, IfOk, OnOk, if◌then◌else◌};
 ghost use Rattle.std.specs.Option.{option_copied};
 ghost use Rattle.kc_dotconfig_model.specs.MissedAssignments.{is_met, is_missed_as, is_missed, missed};
@@ -22,7 +22,7 @@ fn is_value(user: &UserValue, value: Option<&UnitValue>) -> bool
     }
 }
 
-/// Whether a symbol's user value isn't its value; of a choice's members that is asked of the user's alone.
+/// Whether a symbol's user value isn't its value; of the members of a choice, only the one that the user selected can be.
 fn is_missed_value(
     choice: Option<u32>,
     s: Sym,
@@ -67,7 +67,8 @@ fn push_if(found: &mut Vec<Sym>, s: Sym, counts: bool) -> Result<(), AllocError>
     }
 }
 
-/// The symbols whose assignment isn't their value.
+/// The symbols outside choices whose user value isn't their value, and for each choice the member that its user value names, if
+/// that isn't selected, in order of first definition. An `Err` means out of memory.
 pub(crate) fn missed_symbols(
     alloc: Global,
     tree: &Tree,

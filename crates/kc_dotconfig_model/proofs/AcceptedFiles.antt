@@ -22,8 +22,8 @@ count_ends : (earlier : List ℕ) → newlines (earlier ++ 10 ∷ []) ≡ newlin
 count_ends earlier = sum_by-append (λ c. cond (c == 10) 1 0) earlier (10 ∷ [])
 
 -- after one more line
-behind_newline : (bytes line : List ℕ) (n start : ℕ) → IsLineAt bytes line n start → IsLineAt (10 ∷ bytes) line (n + 1) (start + 1)
-behind_newline bytes line n start a = record {
+line_after_newline : (bytes line : List ℕ) (n start : ℕ) → IsLineAt bytes line n start → IsLineAt (10 ∷ bytes) line (n + 1) (start + 1)
+line_after_newline bytes line n start a = record {
   front = 10 ∷ a.front;
   rest = a.rest;
   whole = ap (λ l. 10 ∷ l) a.whole;
@@ -35,8 +35,8 @@ behind_newline bytes line n start a = record {
 }
 
 -- after one more byte of an earlier line
-behind_byte : (b : ℕ) (bytes line : List ℕ) (n start : ℕ) → (b == 10) ≡ false → 1 < n → IsLineAt bytes line n start → IsLineAt (b ∷ bytes) line n (start + 1)
-behind_byte b bytes line n start other later a =
+line_after_byte : (b : ℕ) (bytes line : List ℕ) (n start : ℕ) → (b == 10) ≡ false → 1 < n → IsLineAt bytes line n start → IsLineAt (b ∷ bytes) line n (start + 1)
+line_after_byte b bytes line n start other later a =
     let same : newlines (b ∷ a.front) ≡ newlines a.front = count_more b a.front ∙ ap (λ t. cond t 1 0 + newlines a.front) other ∙ (omega arith) in
     record {
       front = b ∷ a.front;
@@ -84,7 +84,7 @@ no_bytes (b ∷ bytes) e = absurd (some_line b bytes e)
 abbrev Placed : List ℕ → List ℕ → ℕ → Type 0
 Placed bytes line n = (start : ℕ) × IsLineAt bytes line n start
 
--- the line at a place of the list is the line of that number
+-- the line at index `k` of `file_lines`, counted from 0, is the line of the file with the number `k + 1`, counted from 1
 pub placed : (bytes : List ℕ) (k n : ℕ) (line : List ℕ) → n ≡ k + 1 → slice_get (file_lines bytes) k ≡ Some line → (start : ℕ) × IsLineAt bytes line n start
 placed [] k n line e at = cc
 placed (b ∷ bytes) k n line e at = go (b == 10) refl (file_lines bytes) refl k e at (placed bytes) where
@@ -112,7 +112,7 @@ placed (b ∷ bytes) k n line e at = go (b == 10) refl (file_lines bytes) refl k
         below.0 + 1,
         subst (λ m. IsLineAt (b ∷ bytes) line m (below.0 + 1)) number
             (subst (λ c. IsLineAt (c ∷ bytes) line (k + 1 + 1) (below.0 + 1)) (sym (eqb-true b 10 newline))
-            (behind_newline bytes line (k + 1) below.0 below.1)),
+            (line_after_newline bytes line (k + 1) below.0 below.1)),
       )
   go false other [] is zero e at next =
       let whole : b ∷ [] ≡ line = cc in
@@ -141,7 +141,7 @@ placed (b ∷ bytes) k n line e at = go (b == 10) refl (file_lines bytes) refl k
       )
   go false other (first ∷ lines) is (suc k) e at next =
       let below = next (suc k) n line e (ap (λ ls. slice_get ls (suc k)) is ∙ at) in
-      (below.0 + 1, behind_byte b bytes line n below.0 other (omega arith) below.1)
+      (below.0 + 1, line_after_byte b bytes line n below.0 other (omega arith) below.1)
 
 -- a line without a meaning, where the lines together have none
 unread : (format : FileFormat) (tree : Tree) (lines : List (List ℕ)) → meanings_of_lines format tree lines ≡ None
@@ -165,6 +165,6 @@ accepted_read format tree bytes valid accepted = go (file_meanings format tree b
   go None e =
       let lost = unread format tree (file_lines bytes) e in
       let place = placed bytes lost.0 (lost.0 + 1) lost.1 refl lost.2 in
-      let malformed : IsMalformed format tree lost.1 = λ meaning says. let read = (line_read format tree (without_white_end lost.1) meaning valid).1 says in cc
+      let malformed : IsMalformed format tree lost.1 = λ meaning has_meaning. let read = (line_read format tree (without_white_end lost.1) meaning valid).1 has_meaning in cc
       (read, lost.3) in
       absurd (accepted Malformed (place.0 + length lost.1) (lost.0 + 1) (lost.1, place.0, place.1, malformed, refl))

@@ -86,7 +86,7 @@ later_line (b ∷ front) line rest (inr e) none ends = go e.0 e.1 (cases_Bool (b
       ∙ ap (slice_get (onto_first b (file_lines (front ++ (line ++ rest))))) count
       ∙ onto_rest b (file_lines (front ++ (line ++ rest))) (newlines front) (omega (arith, some)) ∙ next (inr (xs, ends_so))
 
--- each line is among the lines of the file
+-- each line of a file (`IsLineAt`) is in `file_lines`, at an index that is one less than its number
 pub line_listed : (bytes line : List ℕ) (number start : ℕ) → IsLineAt bytes line number start
     → (i : ℕ) × (slice_get (file_lines bytes) i ≡ Some line) × (number ≡ i + 1)
 line_listed bytes line number start at = (
@@ -113,26 +113,26 @@ accepted_of_lines format tree bytes small few good LineTooLong byte number c =
     absurd (omega (arith, short, long))
 accepted_of_lines format tree bytes small few good NotUtf8 byte number c = let l = line_listed bytes c.0 number c.1 c.2 in absurd (c.3 (good l.0 c.0 l.1).utf8)
 accepted_of_lines format tree bytes small few good Malformed byte number c =
-    let l = line_listed bytes c.0 number c.1 c.2 in let g = good l.0 c.0 l.1 in absurd (c.3 g.meaning g.says)
+    let l = line_listed bytes c.0 number c.1 c.2 in let g = good l.0 c.0 l.1 in absurd (c.3 g.meaning g.has_meaning)
 accepted_of_lines format tree bytes small few good Read byte number c = absurd c
 accepted_of_lines format tree bytes small few good OutOfMemory byte number c = absurd c
 
 -- a line without a meaning is malformed
-says_something : (format : FileFormat) (tree : Tree) (line : List ℕ) → is_prefix format.prefix ≡ true → (IsMalformed format tree line → ⊥)
+has_some_meaning : (format : FileFormat) (tree : Tree) (line : List ℕ) → is_prefix format.prefix ≡ true → (IsMalformed format tree line → ⊥)
     → (meaning : LineMeaning) × Means format tree (without_white_end line) meaning
-says_something format tree line valid good = go (line_meaning format tree (without_white_end line)) refl where
+has_some_meaning format tree line valid good = go (line_meaning format tree (without_white_end line)) refl where
   go : (o : Option LineMeaning) → line_meaning format tree (without_white_end line) ≡ o
       → (meaning : LineMeaning) × Means format tree (without_white_end line) meaning
   go (Some meaning) e = (meaning, (line_read format tree (without_white_end line) meaning valid).0 e)
-  go None e = absurd (good (λ meaning says. let read = (line_read format tree (without_white_end line) meaning valid).1 says in cc (read, e)))
+  go None e = absurd (good (λ meaning has_meaning. let read = (line_read format tree (without_white_end line) meaning valid).1 has_meaning in cc (read, e)))
 
--- each line of an accepted file is good
+-- each line of an accepted configuration file is short enough, UTF-8 and not malformed
 pub accepted_line : (format : FileFormat) (tree : Tree) (bytes : List ℕ) → is_prefix format.prefix ≡ true → IsAccepted format tree bytes
     → (i : ℕ) (line : List ℕ)
     → slice_get (file_lines bytes) i ≡ Some line → IsGoodLine format tree line
 accepted_line format tree bytes valid accepted i line at =
     let place = placed bytes i (i + 1) line refl at in
-    let some = says_something format tree line valid (λ bad. accepted Malformed (place.0 + length line) (i + 1) (line, place.0, place.1, bad, refl)) in
+    let some = has_some_meaning format tree line valid (λ bad. accepted Malformed (place.0 + length line) (i + 1) (line, place.0, place.1, bad, refl)) in
     record {
       short = elim (cases_lt MAX_LINE_BYTES (length line)) [
         | inl long ↦ absurd (accepted LineTooLong (place.0 + MAX_LINE_BYTES) (i + 1) (line, place.0, place.1, long, refl))
@@ -144,10 +144,10 @@ accepted_line format tree bytes valid accepted i line at =
             (line, place.0, place.1, (λ u. false≢true (sym odd ∙ is_utf8-from_IsUtf8 line u)), refl))
       ];
       meaning = some.0;
-      says = some.1;
+      has_meaning = some.1;
     }
 
--- an accepted file is within the limits
+-- an accepted configuration file has at most `MAX_CONFIG_BYTES` bytes
 pub accepted_size : (format : FileFormat) (tree : Tree) (bytes : List ℕ) → IsAccepted format tree bytes → length bytes ≤ MAX_CONFIG_BYTES
 accepted_size format tree bytes accepted = elim (cases_lt MAX_CONFIG_BYTES (length bytes)) [
   | inl large ↦ absurd (accepted TooLarge MAX_CONFIG_BYTES (newlines (take MAX_CONFIG_BYTES bytes) + 1) (large, refl, refl))
@@ -179,7 +179,7 @@ each_passes : (p : List ℕ → Bool) (lines : List (List ℕ)) → ((i : ℕ) (
 each_passes p [] each = refl
 each_passes p (line ∷ lines) each = and_from (p line) (list_all p lines) (each 0 line refl) (each_passes p lines (λ i l at. each (suc i) l at))
 
--- an accepted file is UTF-8
+-- each line of an accepted configuration file is UTF-8
 pub accepted_utf8 : (format : FileFormat) (tree : Tree) (bytes : List ℕ) → is_prefix format.prefix ≡ true → IsAccepted format tree bytes
     → has_utf8_lines bytes ≡ true
 accepted_utf8 format tree bytes valid accepted =

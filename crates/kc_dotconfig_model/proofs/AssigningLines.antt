@@ -26,18 +26,18 @@ use Rattle.kc_dotconfig_model.specs.ConfigFiles.{assigned_over}
 abbrev Reads : FileFormat → Tree → List (List ℕ) → List LineMeaning → Type 0
 Reads format tree lines meanings = AllZip (λ line meaning. Means format tree (without_white_end line) meaning) lines meanings
 
--- a line that assigns this to the unit
+-- one of the lines assigns the user value `x` to the unit `u`
 pub record HasAssigningLine (format : FileFormat) (tree : Tree) (lines : List (List ℕ)) (u : ℕ) (x : UserValue) : Type 0 where
   pub number : ℕ
   pub line : List ℕ
   pub at : slice_get lines number ≡ Some line
-  pub says : Means format tree (without_white_end line) (assigns u x)
+  pub has_meaning : Means format tree (without_white_end line) (assigns u x)
 
 one_further : (format : FileFormat) (tree : Tree) (first : List ℕ) (lines : List (List ℕ)) (u : ℕ) (x : UserValue) → HasAssigningLine format tree lines u x
     → HasAssigningLine format tree (first ∷ lines) u x
-one_further format tree first lines u x h = record { number = suc h.number; line = h.line; at = h.at; says = h.says }
+one_further format tree first lines u x h = record { number = suc h.number; line = h.line; at = h.at; has_meaning = h.has_meaning }
 
--- what is held after some lines was held before, or one of them assigns it
+-- a user value that a unit has after some lines of a configuration file it had before them, or one of the lines assigns it
 pub assigning_line : (format : FileFormat) (tree : Tree) (lines : List (List ℕ)) (meanings : List LineMeaning) (held : List (Option UserValue)) (u : ℕ)
     (x : UserValue)
     → Reads format tree lines meanings → u < length held
@@ -67,7 +67,7 @@ assigning_line format tree (line ∷ lines) (assigns w y ∷ meanings) held u x 
               number = 0;
               line = line;
               at = refl;
-              says = subst (λ k. Means format tree (without_white_end line) (assigns k x)) (sym same)
+              has_meaning = subst (λ k. Means format tree (without_white_end line) (assigns k x)) (sym same)
                   (subst (λ z. Means format tree (without_white_end line) (assigns w z)) value reads.0);
             })
         | inr other ↦ inl (sym (get_or-set_other held w u (Some y) None other) ∙ before)
@@ -75,7 +75,7 @@ assigning_line format tree (line ∷ lines) (assigns w y ∷ meanings) held u x 
       | inr later ↦ inr (one_further format tree line lines u x later)
     ]
 
--- a symbol and the text after `=` by which a line assigns a text
+-- the line has the form `CONFIG_NAME=text` for a string, int or hex of the unit `u`, and `means` is the text that it assigns
 pub record IsTextLine (format : FileFormat) (tree : Tree) (line : List ℕ) (u : ℕ) (means : List ℕ) : Type 0 where
   pub name : List ℕ
   pub text : List ℕ
@@ -85,32 +85,32 @@ pub record IsTextLine (format : FileFormat) (tree : Tree) (line : List ℕ) (u :
   pub named : symbol_named tree name ≡ Some s
   pub at : slice_get tree.symbols s ≡ Some symbol
   pub unit : unit_of tree s ≡ u
-  pub says : (IsStringSpelling format.strings text means × (symbol.kind ≡ Text)) ⊎ ((text ≡ means) × (is_some (number_of_text symbol.kind text) ≡ true))
+  pub has_meaning : (IsStringSpelling format.strings text means × (symbol.kind ≡ Text)) ⊎ ((text ≡ means) × (is_some (number_of_text symbol.kind text) ≡ true))
 
-abbrev TextSays : Strings → Tree → ℕ → Symbol → List ℕ → ℕ → List ℕ → Type 0
-TextSays strings tree s symbol text u means =
+abbrev TextMeans : Strings → Tree → ℕ → Symbol → List ℕ → ℕ → List ℕ → Type 0
+TextMeans strings tree s symbol text u means =
     (unit_of tree s ≡ u) × ((IsStringSpelling strings text means × (symbol.kind ≡ Text))
     ⊎ ((text ≡ means) × (is_some (number_of_text symbol.kind text) ≡ true)))
 
-text_says : (strings : Strings) (tree : Tree) (s : ℕ) (symbol : Symbol) (text : List ℕ) (meaning : LineMeaning) (u : ℕ) (means : List ℕ)
+text_means : (strings : Strings) (tree : Tree) (s : ℕ) (symbol : Symbol) (text : List ℕ) (meaning : LineMeaning) (u : ℕ) (means : List ℕ)
     → ValueMeans strings tree s symbol text meaning
-    → meaning ≡ assigns u (TextUser means) → TextSays strings tree s symbol text u means
-text_says strings tree s symbol text meaning u means (tri _ t out meant) e = cc
-text_says strings tree s symbol text meaning u means (chosen c _ within meant) e = cc
-text_says strings tree s symbol text meaning u means (not_chosen c _ t within meant other) e = cc
-text_says strings tree s symbol text meaning u means (quoted _ other is stands) e =
+    → meaning ≡ assigns u (TextUser means) → TextMeans strings tree s symbol text u means
+text_means strings tree s symbol text meaning u means (tri _ t out meant) e = cc
+text_means strings tree s symbol text meaning u means (chosen c _ within meant) e = cc
+text_means strings tree s symbol text meaning u means (not_chosen c _ t within meant other) e = cc
+text_means strings tree s symbol text meaning u means (quoted _ other is is_spelling) e =
     let unit : unit_of tree s ≡ u = cc in
     let same : other ≡ means = cc in
-    (unit, inl (subst (IsStringSpelling strings text) same stands, is))
-text_says strings tree s symbol text meaning u means (number _ some) e =
+    (unit, inl (subst (IsStringSpelling strings text) same is_spelling, is))
+text_means strings tree s symbol text meaning u means (number _ some) e =
     let unit : unit_of tree s ≡ u = cc in
     let same : text ≡ means = cc in
     (unit, inr (same, some))
-text_says strings tree s symbol text meaning u means (no_int is) e = cc
-text_says strings tree s symbol text meaning u means (no_hex is) e = cc
-text_says strings tree s symbol text meaning u means (no_tri _ small meant) e = cc
-text_says strings tree s symbol text meaning u means (no_text _ is without) e = cc
-text_says strings tree s symbol text meaning u means (no_number b rest large other without) e = cc
+text_means strings tree s symbol text meaning u means (no_int is) e = cc
+text_means strings tree s symbol text meaning u means (no_hex is) e = cc
+text_means strings tree s symbol text meaning u means (no_tri _ small meant) e = cc
+text_means strings tree s symbol text meaning u means (no_text _ is without) e = cc
+text_means strings tree s symbol text meaning u means (no_number b rest large other without) e = cc
 
 unset_no_text : (tree : Tree) (s : ℕ) (symbol : Symbol) (o : Option ℕ) (u : ℕ) (means : List ℕ) → unset_meaning tree s symbol o ≡ assigns u (TextUser means) → ⊥
 unset_no_text tree s symbol (Some c) u means e = cc
@@ -119,23 +119,23 @@ unset_no_text tree s symbol None u means e = go (is_tri_kind symbol.kind) e wher
   go true e = cc
   go false e = cc
 
-says_text : (format : FileFormat) (tree : Tree) (line : List ℕ) (meaning : LineMeaning) (u : ℕ) (means : List ℕ) → Means format tree line meaning
+is_text_line : (format : FileFormat) (tree : Tree) (line : List ℕ) (meaning : LineMeaning) (u : ℕ) (means : List ℕ) → Means format tree line meaning
     → meaning ≡ assigns u (TextUser means) → IsTextLine format tree line u means
-says_text format tree line meaning u means (value _ name text s symbol _ is named at says) e =
-    let t = text_says format.strings tree s symbol text meaning u means says e in
-    record { name = name; text = text; s = s; symbol = symbol; whole = is.2; named = named; at = at; unit = t.0; says = t.1 }
-says_text format tree line meaning u means (unset _ name s symbol is named at) e = absurd (unset_no_text tree s symbol symbol.choice u means e)
-says_text format tree line meaning u means (unknown_value _ name text is named) e = cc
-says_text format tree line meaning u means (unknown_unset _ name is named) e = cc
-says_text format tree line meaning u means empty e = cc
-says_text format tree line meaning u means (comment _ hash without) e = cc
+is_text_line format tree line meaning u means (value _ name text s symbol _ is named at has_meaning) e =
+    let t = text_means format.strings tree s symbol text meaning u means has_meaning e in
+    record { name = name; text = text; s = s; symbol = symbol; whole = is.2; named = named; at = at; unit = t.0; has_meaning = t.1 }
+is_text_line format tree line meaning u means (unset _ name s symbol is named at) e = absurd (unset_no_text tree s symbol symbol.choice u means e)
+is_text_line format tree line meaning u means (unknown_value _ name text is named) e = cc
+is_text_line format tree line meaning u means (unknown_unset _ name is named) e = cc
+is_text_line format tree line meaning u means empty e = cc
+is_text_line format tree line meaning u means (comment _ hash without) e = cc
 
--- a line that assigns a text is a value line
+-- a line that assigns a text to a unit has the form `CONFIG_NAME=text` for a string, int or hex of that unit
 pub text_line : (format : FileFormat) (tree : Tree) (line : List ℕ) (u : ℕ) (means : List ℕ) → Means format tree line (assigns u (TextUser means))
     → IsTextLine format tree line u means
-text_line format tree line u means says = says_text format tree line (assigns u (TextUser means)) u means says refl
+text_line format tree line u means has_meaning = is_text_line format tree line (assigns u (TextUser means)) u means has_meaning refl
 
--- the symbol of a name has that name
+-- the symbol that is found in the tree by a name has that name
 pub named_so : (tree : Tree) (name : List ℕ) (s : ℕ) (symbol : Symbol) → symbol_named tree name ≡ Some s → slice_get tree.symbols s ≡ Some symbol
     → name ≡ symbol.name
 named_so tree name s symbol named at = go (position_or_len (λ (t : Symbol). bytes_eq name t.name) tree.symbols) refl named where
@@ -153,7 +153,7 @@ named_so tree name s symbol named at = go (position_or_len (λ (t : Symbol). byt
       (λ k. get_or tree.symbols k symbol) (is ∙ p.1) ∙ get_or_from_slice_get tree.symbols s symbol symbol at in
       (bytes_eq-Decides name symbol.name).0 (ap (λ (t : Symbol). bytes_eq name t.name) (sym here) ∙ passes)
 
--- two symbols outside choices of one unit are one
+-- two symbols outside choices that have the same unit are the same symbol
 pub same_symbol : (tree : Tree) → IsConsistent tree → (s t : ℕ) (a b : Symbol) → slice_get tree.symbols s ≡ Some a → slice_get tree.symbols t ≡ Some b
     → a.choice ≡ None → b.choice ≡ None → unit_of tree s ≡ unit_of tree t → s ≡ t
 same_symbol tree sound s t a b first second out without same =

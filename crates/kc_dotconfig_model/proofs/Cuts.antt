@@ -9,7 +9,7 @@ use Rattle.kc_dotconfig_model.specs.ConfigFiles.{file_lines}
 use Rattle.kc_dotconfig_model.specs.LoadFaults.{newlines}
 use Rattle.kc_dotconfig_model.specs.between.PartialFiles.{IsEnded}
 
--- two cuts of one list
+-- if a list is split at two places, the part between the places ends the longer front and begins the longer back
 pub overlap : (xs ys zs ws : List ℕ) → xs ++ ys ≡ zs ++ ws → length xs ≤ length zs → (m : List ℕ) × (zs ≡ xs ++ m) × (ys ≡ m ++ ws)
 overlap [] ys zs ws e h = (zs, refl, e)
 overlap (x ∷ xs) ys [] ws e h = absurd (omega arith)
@@ -20,7 +20,7 @@ overlap (x ∷ xs) ys (z ∷ zs) ws e h =
     let next = overlap xs ys zs ws rest fewer in
     (next.0, (let at = next.1 in cc), next.2)
 
--- a line lacks the newline at its end
+-- bytes with a newline between two parts don't lack a newline
 pub lacks_seam : (a b : List ℕ) → lacks 10 (a ++ 10 ∷ b) ≡ true → ⊥
 lacks_seam [] b e = absurd (false≢true e)
 lacks_seam (c ∷ a) b e = lacks_seam a b (and_parts (not (c == 10)) (lacks 10 (a ++ 10 ∷ b)) e).1
@@ -37,7 +37,7 @@ none_in_line (c ∷ line) e =
       go true e rest = absurd (false≢true e)
       go false e rest = omega arith
 
--- the first line of bytes, and the lines after it
+-- the lines of bytes that begin with a line and its newline are that line and then the lines of the remaining bytes
 pub first_of_lines : (line rest : List ℕ) → lacks 10 line ≡ true → file_lines (line ++ 10 ∷ rest) ≡ line ∷ file_lines rest
 first_of_lines [] rest e = refl
 first_of_lines (c ∷ line) rest e =
@@ -48,7 +48,7 @@ first_of_lines (c ∷ line) rest e =
       go true e next = absurd (false≢true e)
       go false e next = ap (onto_first c) next
 
--- a last line without its newline
+-- bytes without a newline that aren't empty are one line
 pub last_of_lines : (line : List ℕ) → lacks 10 line ≡ true → 0 < length line → file_lines line ≡ line ∷ []
 last_of_lines [] e h = absurd (omega arith)
 last_of_lines (c ∷ line) e h =
@@ -70,24 +70,25 @@ no_lines (c ∷ a) b e = go (c == 10) (file_lines (a ++ b ∷ [])) e where
   go false [] e = cc
   go false (l ∷ ls) e = cc
 
--- lines after whole lines
-pub behind_lines : (earlier rest : List ℕ) → file_lines ((earlier ++ 10 ∷ []) ++ rest) ≡ file_lines (earlier ++ 10 ∷ []) ++ file_lines rest
-behind_lines [] rest = refl
-behind_lines (c ∷ earlier) rest =
-    go (c == 10) (file_lines (earlier ++ 10 ∷ [])) (file_lines ((earlier ++ 10 ∷ []) ++ rest)) (behind_lines earlier rest) (no_lines earlier 10) where
+-- the lines of two joined lists of bytes, of which the first ends with a newline, are those of the first and then
+-- those of the second
+pub lines_after_newline : (earlier rest : List ℕ) → file_lines ((earlier ++ 10 ∷ []) ++ rest) ≡ file_lines (earlier ++ 10 ∷ []) ++ file_lines rest
+lines_after_newline [] rest = refl
+lines_after_newline (c ∷ earlier) rest =
+    go (c == 10) (file_lines (earlier ++ 10 ∷ [])) (file_lines ((earlier ++ 10 ∷ []) ++ rest)) (lines_after_newline earlier rest) (no_lines earlier 10) where
       go : (t : Bool) (front all : List (List ℕ)) → all ≡ front ++ file_lines rest → (front ≡ [] → ⊥)
           → cond t ([] ∷ all) (onto_first c all) ≡ cond t ([] ∷ front) (onto_first c front) ++ file_lines rest
       go true front all e some = ap (λ l. [] ∷ l) e
       go false [] all e some = absurd (some refl)
       go false (l ∷ ls) all e some = ap (onto_first c) e
 
-pub lines_behind : (front rest : List ℕ) → IsEnded front → file_lines (front ++ rest) ≡ file_lines front ++ file_lines rest
-lines_behind front rest ended = elim ended [
+pub lines_after_ended : (front rest : List ℕ) → IsEnded front → file_lines (front ++ rest) ≡ file_lines front ++ file_lines rest
+lines_after_ended front rest ended = elim ended [
   | inl none ↦ ap (λ f. file_lines (f ++ rest)) none ∙ ap (λ f. file_lines f ++ file_lines rest) (sym none)
-  | inr some ↦ ap (λ f. file_lines (f ++ rest)) some.1 ∙ behind_lines some.0 rest ∙ ap (λ f. file_lines f ++ file_lines rest) (sym some.1)
+  | inr some ↦ ap (λ f. file_lines (f ++ rest)) some.1 ∙ lines_after_newline some.0 rest ∙ ap (λ f. file_lines f ++ file_lines rest) (sym some.1)
 ]
 
--- what holds of all lines holds of one
+-- where two lists are related element by element, each element of the first list is related to one of the second
 pub one_of : {A B : Type 0} (R : A → B → Type 0) (front : List A) (x : A) (rest : List A) (ys : List B) → AllZip R (front ++ x ∷ rest) ys → (y : B) × R x y
 one_of R [] x rest [] all = absurd all
 one_of R [] x rest (y ∷ ys) all = (y, all.0)
@@ -107,7 +108,7 @@ zip_append R [] (z ∷ ys) x y all h = absurd all
 zip_append R (z ∷ xs) [] x y all h = absurd all
 zip_append R (z ∷ xs) (w ∷ ys) x y all h = (all.0, zip_append R xs ys x y all.1 h)
 
--- as many lines as newlines, where the bytes end with one
+-- bytes that end with a newline have as many lines as newlines
 pub line_count : (earlier : List ℕ) → length (file_lines (earlier ++ 10 ∷ [])) ≡ newlines (earlier ++ 10 ∷ [])
 line_count [] = refl
 line_count (c ∷ earlier) = go (c == 10) refl (file_lines (earlier ++ 10 ∷ [])) (line_count earlier) (no_lines earlier 10) where
@@ -125,13 +126,14 @@ ended_count front ended = elim ended [
   | inr some ↦ ap (λ f. length (file_lines f)) some.1 ∙ line_count some.0 ∙ ap newlines (sym some.1)
 ]
 
--- A line of the file is among the complete lines, or it is the line so far and goes on, or it begins after that.
-pub data Stands (front line : List ℕ) (more found : List ℕ) (f r : List ℕ) : Type 0 where
-  earlier : (g : List ℕ) → front ≡ f ++ (found ++ 10 ∷ g) → Stands front line more found f r
-  this : f ≡ front → found ++ r ≡ line ++ more → Stands front line more found f r
-  later : length front + length line < length f → Stands front line more found f r
+-- Where a line `found` of a file is, of which only the first part is known, `front` and then the incomplete `line`:
+-- it is among the complete lines of `front`, or it begins where `line` does, or it begins after `line`.
+pub data LinePlace (front line : List ℕ) (more found : List ℕ) (f r : List ℕ) : Type 0 where
+  earlier : (g : List ℕ) → front ≡ f ++ (found ++ 10 ∷ g) → LinePlace front line more found f r
+  this : f ≡ front → found ++ r ≡ line ++ more → LinePlace front line more found f r
+  later : length front + length line < length f → LinePlace front line more found f r
 
--- one of two numbers is less, or not
+-- of two numbers the first is less than the second, or the second is at most the first
 pub split : (a b : ℕ) → (a < b) ⊎ (b ≤ a)
 split a b = grind arith
 
@@ -181,9 +183,9 @@ within found r g h rest end e one ends =
       passed (m, is, after) = absurd (lacks_seam h m (subst (λ l. lacks 10 l ≡ true) (is ∙ ap (λ x. x ++ m) end ∙ append_assoc h (10 ∷ []) m) one))
 
 inside : (front line more found f r : List ℕ) → IsEnded front → lacks 10 found ≡ true → Ends found r → front ++ (line ++ more) ≡ f ++ (found ++ r)
-    → length f < length front → Stands front line more found f r
+    → length f < length front → LinePlace front line more found f r
 inside front line more found f r ended one ends whole less = go (overlap f (found ++ r) front (line ++ more) (sym whole) (omega arith)) where
-  go : (m : List ℕ) × (front ≡ f ++ m) × (found ++ r ≡ m ++ (line ++ more)) → Stands front line more found f r
+  go : (m : List ℕ) × (front ≡ f ++ m) × (found ++ r ≡ m ++ (line ++ more)) → LinePlace front line more found f r
   go (m, is, after) =
       let some : 0 < length m = (let a = ap length is in let b = length-append f m in omega arith) in
       let end = ended_after f m (subst IsEnded is ended) some in
@@ -191,9 +193,9 @@ inside front line more found f r ended one ends whole less = go (overlap f (foun
       earlier found_at.0 (is ∙ ap (λ x. f ++ x) found_at.1)
 
 outside : (front line more found f r : List ℕ) → lacks 10 line ≡ true → IsEnded f → front ++ (line ++ more) ≡ f ++ (found ++ r) → length front ≤ length f
-    → Stands front line more found f r
+    → LinePlace front line more found f r
 outside front line more found f r one ended whole long = go (overlap front (line ++ more) f (found ++ r) whole long) where
-  go : (m : List ℕ) × (f ≡ front ++ m) × (line ++ more ≡ m ++ (found ++ r)) → Stands front line more found f r
+  go : (m : List ℕ) × (f ≡ front ++ m) × (line ++ more ≡ m ++ (found ++ r)) → LinePlace front line more found f r
   go ([], is, after) = this (is ∙ append-nil front) (sym after)
   go (x ∷ m, is, after) =
       let end = ended_after front (x ∷ m) (subst IsEnded is ended) (omega arith) in
@@ -201,17 +203,17 @@ outside front line more found f r one ended whole long = go (overlap front (line
         | inl less ↦ later (let a = ap length is in let b = length-append front (x ∷ m) in omega arith)
         | inr fits ↦ covered (overlap (x ∷ m) (found ++ r) line more (sym after) fits) end
       ] where
-        covered : (k : List ℕ) × (line ≡ (x ∷ m) ++ k) × (found ++ r ≡ k ++ more) → (h : List ℕ) × (x ∷ m ≡ h ++ 10 ∷ []) → Stands front line more found f r
+        covered : (k : List ℕ) × (line ≡ (x ∷ m) ++ k) × (found ++ r ≡ k ++ more) → (h : List ℕ) × (x ∷ m ≡ h ++ 10 ∷ []) → LinePlace front line more found f r
         covered (k, at, after) (h, end) = absurd (lacks_seam h k (subst (λ l. lacks 10 l ≡ true) (at ∙ ap (λ y. y ++ k) end ∙ append_assoc h (10 ∷ []) k) one))
 
-pub stands : (front line more found f r : List ℕ) → IsEnded front → lacks 10 line ≡ true → lacks 10 found ≡ true → Ends found r → IsEnded f
-    → front ++ (line ++ more) ≡ f ++ (found ++ r) → Stands front line more found f r
-stands front line more found f r ended one one_found ends begins whole = elim (split (length f) (length front)) [
+pub line_place : (front line more found f r : List ℕ) → IsEnded front → lacks 10 line ≡ true → lacks 10 found ≡ true → Ends found r → IsEnded f
+    → front ++ (line ++ more) ≡ f ++ (found ++ r) → LinePlace front line more found f r
+line_place front line more found f r ended one one_found ends begins whole = elim (split (length f) (length front)) [
   | inl less ↦ inside front line more found f r ended one_found ends whole less
   | inr long ↦ outside front line more found f r one begins whole long
 ]
 
--- a line that goes on in the line so far isn't shorter
+-- a line of a file that begins where the known part's incomplete last line does is at least as long as that one
 pub no_shorter : (line more found r : List ℕ) → lacks 10 line ≡ true → Ends found r → found ++ r ≡ line ++ more → length line ≤ length found
 no_shorter line more found r one ends whole =
     elim (split (length found) (length line)) [ inl less ↦ absurd (go (overlap found r line more whole (omega arith)) less) | inr long ↦ long ] where
@@ -224,7 +226,8 @@ no_shorter line more found r one ends whole =
                 (subst (λ l. lacks 10 l ≡ true) (is ∙ ap (λ x. found ++ x) first.1) one))
           ]
 
--- nor longer, where the line so far ends
+-- a line of a file that begins where the known part's last line does is no longer than that one, if a newline or
+-- nothing follows the known part
 pub no_longer : (line more found r : List ℕ) → lacks 10 found ≡ true → (more ≡ []) ⊎ ((next : List ℕ) × (more ≡ 10 ∷ next)) → found ++ r ≡ line ++ more
     → length found ≤ length line
 no_longer line more found r one ends whole =
@@ -238,14 +241,14 @@ no_longer line more found r one ends whole =
                 (subst (λ l. lacks 10 l ≡ true) (is ∙ ap (λ x. line ++ x) first.1) one))
           ]
 
--- two fronts of one length are one
+-- if a list is split twice with fronts of the same length, the fronts are equal
 pub same_front : (a b c d : List ℕ) → a ++ b ≡ c ++ d → length a ≡ length c → a ≡ c
 same_front a b c d e n = go (overlap a b c d e (omega arith)) where
   go : (m : List ℕ) × (c ≡ a ++ m) × (b ≡ m ++ d) → a ≡ c
   go ([], is, after) = sym (is ∙ append-nil a)
   go (x ∷ m, is, after) = let e = ap length is in let f = length-append a (x ∷ m) in absurd (omega arith)
 
--- the first line of some bytes
+-- bytes that aren't empty begin with a line without its newline, and after the line comes a newline or nothing
 pub a_line : (more : List ℕ) → 0 < length more → (found : List ℕ) × (r : List ℕ) × (more ≡ found ++ r) × (lacks 10 found ≡ true) × Ends found r
 a_line [] h = absurd (omega arith)
 a_line (x ∷ more) h = go (x == 10) refl more (a_line more) where

@@ -1,24 +1,21 @@
 -- The first fault of small files, and of the same files where a read failed after them.
-use Rattle.std.proofs.Common.{◌≡◌, inl, inr, ℕ, ◌≤◌, true, false, List, [], ◌∷◌, ◌++◌, Some, None, length, refl, sym, ◌∙◌, arith}
+use Rattle.std.proofs.Common.{◌≡◌, inl, inr, ℕ, ◌≤◌, true, List, [], ◌∷◌, ◌++◌, Some, None, length, refl, arith}
 use Rattle.std.specs.Prelude.{codes}
-use Rattle.std.specs.Str.{is_utf8, chars}
-use Rattle.std.proofs.lemmas.Bool.{false≢true}
-use Rattle.std.proofs.lemmas.Str.{is_utf8-from_IsUtf8}
 use Rattle.kc_value.specs.declared.tri.Tri.TheVariants.{Y}
 use Rattle.kc_rules_model.specs.declared.values.UserValue.TheVariants.{Tri as TriUser}
 use Rattle.kc_rules_model.proofs.RowTrees.{tree_a}
-use Rattle.kc_dotconfig_model.specs.declared.fault.LoadKind.TheVariants.{Malformed, NotUtf8, Read}
+use Rattle.kc_dotconfig_model.specs.declared.fault.LoadKind.TheVariants.{Malformed, Read}
 use Rattle.kc_dotconfig_model.specs.PrefixGrammar.{lacks}
 use Rattle.kc_dotconfig_model.specs.declared.format.Strings.TheVariants.{Escaped}
 use Rattle.kc_dotconfig_model.specs.Formats.{FileFormat}
 use Rattle.kc_dotconfig_model.specs.ConfigLines.{LineMeaning, assigns}
-use Rattle.kc_dotconfig_model.specs.LoadFaults.{complete, cut_short, IsFirstFault, IsAccepted}
+use Rattle.kc_dotconfig_model.specs.LoadFaults.{complete, cut_short, IsFirstFault}
 use Rattle.kc_dotconfig_model.specs.between.LineMeanings.{line_meaning}
 use Rattle.kc_dotconfig_model.specs.between.PartialFiles.{IsSound, IsCut}
 use Rattle.kc_dotconfig_model.proofs.LineLaws.{line_read}
 use Rattle.kc_dotconfig_model.proofs.TrimmedLines.{low_utf8}
 use Rattle.kc_dotconfig_model.proofs.FirstFaults.{failed_reads}
-use Rattle.kc_dotconfig_model.proofs.FaultsAtCuts.{clean, not_utf8, malformed, accepted, held}
+use Rattle.kc_dotconfig_model.proofs.FaultsAtCuts.{clean, malformed, held}
 
 abbrev plain : FileFormat
 plain = record { prefix = codes "CONFIG_"; strings = Escaped }
@@ -38,7 +35,7 @@ first_sound : IsSound plain tree_a (codes "CONFIG_A=y") (assigns 0 (TriUser Y))
 first_sound = record {
   text = low_utf8 (codes "CONFIG_A=y") refl;
   short = omega arith;
-  says = (line_read plain tree_a (codes "CONFIG_A=y") (assigns 0 (TriUser Y)) refl).0 first_read;
+  has_meaning = (line_read plain tree_a (codes "CONFIG_A=y") (assigns 0 (TriUser Y)) refl).0 first_read;
 }
 
 known_front : IsCut plain tree_a front [] first
@@ -54,9 +51,6 @@ known_front = record {
   short = omega arith;
 }
 
-front_accepted : IsAccepted plain tree_a front
-front_accepted = accepted plain tree_a front [] first known_front [] (inl (refl, refl))
-
 -- after it a line that isn't whole
 known_more : (line : List ℕ) → length line ≤ 8 → lacks 10 line ≡ true → IsCut plain tree_a (front ++ line) ([] ++ line) first
 known_more line few one = held plain tree_a front [] first known_front line one (omega arith) (omega arith) (omega arith)
@@ -70,7 +64,7 @@ malformed_line : IsFirstFault plain tree_a complete (codes "CONFIG_A=y\nCON") Ma
 malformed_line =
     malformed plain tree_a (front ++ codes "CON") (codes "CON") first (known_more (codes "CON") (omega arith) refl) [] (inl (refl, omega arith))
     (low_utf8 (codes "CON") refl)
-    (λ meaning says. let some = (line_read plain tree_a (codes "CON") meaning refl).1 says in let none = none_read in cc (some, none))
+    (λ meaning has_meaning. let some = (line_read plain tree_a (codes "CON") meaning refl).1 has_meaning in let none = none_read in cc (some, none))
 
 cut_line : IsFirstFault plain tree_a cut_short (codes "CONFIG_A=y\nCON") Read 2
 cut_line =
@@ -80,16 +74,7 @@ cut_line =
       refl,
     )
 
-not_text : is_utf8 (255 ∷ []) ≡ false
-unfolding is_utf8 chars lib.Utf8.encode
-not_text = refl
-
 -- so it is of bytes that aren't UTF-8
-odd_line : IsFirstFault plain tree_a complete (front ++ 255 ∷ []) NotUtf8 2
-odd_line =
-    not_utf8 plain tree_a (front ++ 255 ∷ []) (255 ∷ []) first (known_more (255 ∷ []) (omega arith) refl) [] (inl (refl, omega arith))
-    (λ text. false≢true (sym not_text ∙ is_utf8-from_IsUtf8 (255 ∷ []) text))
-
 cut_odd_line : IsFirstFault plain tree_a cut_short (front ++ 255 ∷ []) Read 2
 cut_odd_line =
     (failed_reads plain tree_a (front ++ 255 ∷ []) 2).1 (

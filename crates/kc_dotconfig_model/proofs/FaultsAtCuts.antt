@@ -17,7 +17,7 @@ use Rattle.kc_dotconfig_model.specs.ConfigFiles.{file_lines, FileMeans}
 use Rattle.kc_value.specs.declared.limits.TheConstants.{MAX_CONFIG_BYTES, MAX_CONFIG_LINES, MAX_LINE_BYTES}
 use Rattle.kc_dotconfig_model.specs.LoadFaults.{complete, newlines, IsLineAt, OccursAt, rank_of, IsFirstFault, IsAccepted}
 use Rattle.kc_dotconfig_model.specs.between.PartialFiles.{IsSound, IsEnded, IsCut}
-use Rattle.kc_dotconfig_model.proofs.Cuts.{split, Stands, earlier, this, later, stands, Ends, no_shorter, no_longer, same_front, a_line, newlines_append, none_in_line, first_of_lines, last_of_lines, lines_behind, one_of, zip_length, zip_append, ended_count}
+use Rattle.kc_dotconfig_model.proofs.Cuts.{split, LinePlace, earlier, this, later, line_place, Ends, no_shorter, no_longer, same_front, a_line, newlines_append, none_in_line, first_of_lines, last_of_lines, lines_after_ended, one_of, zip_length, zip_append, ended_count}
 
 abbrev Part : FileFormat → Tree → List ℕ → List ℕ → List LineMeaning → List ℕ → List ℕ → Type 0
 Part format tree known line meanings more bytes = IsCut format tree known line meanings × (bytes ≡ known ++ more)
@@ -30,24 +30,24 @@ module _ (format : FileFormat) (tree : Tree) (known line : List ℕ) (meanings :
   known_length : length known ≡ length c.front + length line
   known_length = ap length c.whole ∙ length-append c.front line
 
-  says_length : length meanings ≡ newlines c.front
-  says_length = sym (zip_length (IsSound format tree) (file_lines c.front) meanings c.sound) ∙ ended_count c.front c.ended
+  meanings_length : length meanings ≡ newlines c.front
+  meanings_length = sym (zip_length (IsSound format tree) (file_lines c.front) meanings c.sound) ∙ ended_count c.front c.ended
 
   pub known_newlines : newlines known ≡ length meanings
   known_newlines =
       let a = ap newlines c.whole in
       let b = newlines_append c.front line in
       let n = none_in_line line c.one_line in
-      let d = says_length in
+      let d = meanings_length in
       omega arith
 
-  stands_in : (more found : List ℕ) (n s : ℕ) → (at : IsLineAt (known ++ more) found n s) → Stands c.front line more found at.front at.rest
-  stands_in more found n s at =
-      stands c.front line more found at.front at.rest c.ended c.one_line at.one_line at.ends at.begins (sym (whole_is more) ∙ at.whole)
+  line_place_in : (more found : List ℕ) (n s : ℕ) → (at : IsLineAt (known ++ more) found n s) → LinePlace c.front line more found at.front at.rest
+  line_place_in more found n s at =
+      line_place c.front line more found at.front at.rest c.ended c.one_line at.one_line at.ends at.begins (sym (whole_is more) ∙ at.whole)
 
   earlier_sound : (found f g : List ℕ) → IsEnded f → lacks 10 found ≡ true → c.front ≡ f ++ (found ++ 10 ∷ g) → (x : LineMeaning) × IsSound format tree found x
   earlier_sound found f g ended one is =
-      let lines : file_lines c.front ≡ file_lines f ++ (found ∷ file_lines g) = ap file_lines is ∙ lines_behind f (found ++ 10 ∷ g) ended
+      let lines : file_lines c.front ≡ file_lines f ++ (found ∷ file_lines g) = ap file_lines is ∙ lines_after_ended f (found ++ 10 ∷ g) ended
       ∙ ap (λ ls. file_lines f ++ ls) (first_of_lines found g one) in
       one_of (IsSound format tree) (file_lines f) found (file_lines g) meanings (subst (λ ls. AllZip (IsSound format tree) ls meanings) lines c.sound)
 
@@ -58,22 +58,22 @@ module _ (format : FileFormat) (tree : Tree) (known line : List ℕ) (meanings :
       let d = newlines_append found (10 ∷ g) in
       let e = newlines_append (10 ∷ []) g in
       let n : newlines (10 ∷ []) ≡ 1 = refl in
-      let s = says_length in
+      let s = meanings_length in
       omega arith
 
   earlier_length : (found f g : List ℕ) → c.front ≡ f ++ (found ++ 10 ∷ g) → length f + length found < length c.front
   earlier_length found f g is = let a = ap length is in let b = length-append f (found ++ 10 ∷ g) in let d = length-append found (10 ∷ g) in omega arith
 
-  -- no fault is at a known byte, whatever follows
+  -- no fault occurs at a byte of the known part of a file, whatever bytes follow it
   pub clean : (more : List ℕ) (kind : LoadKind) (byte number : ℕ) → OccursAt format tree (known ++ more) kind byte number → length known ≤ byte
   clean more TooLarge byte number h = let s = c.small in let e = h.1 in omega arith
   clean more TooManyLines byte number (found, at, most) =
       let n = at.number_is in
       let s = at.starts in
       let t = known_length in
-      elim (stands_in more found number byte at) [
+      elim (line_place_in more found number byte at) [
         | earlier g is ↦ (let few = c.few in let k = earlier_count found at.front g is in absurd (omega arith))
-        | this same after ↦ (let e = ap length same in let k = ap newlines same in let d = says_length in elim (split 0 (length line))
+        | this same after ↦ (let e = ap length same in let k = ap newlines same in let d = meanings_length in elim (split 0 (length line))
             [ inl some ↦ (let room = c.room some in absurd (omega arith)) | inr none ↦ omega arith ])
         | later h ↦ omega arith
       ]
@@ -81,7 +81,7 @@ module _ (format : FileFormat) (tree : Tree) (known line : List ℕ) (meanings :
       let s = at.starts in
       let t = known_length in
       let short = c.short in
-      elim (stands_in more found number start at) [
+      elim (line_place_in more found number start at) [
         | earlier g is ↦ (let sound = (earlier_sound found at.front g at.begins at.one_line is).1.short in absurd (omega arith))
         | this same after ↦ (let e = ap length same in omega arith)
         | later h ↦ omega arith
@@ -89,7 +89,7 @@ module _ (format : FileFormat) (tree : Tree) (known line : List ℕ) (meanings :
   clean more NotUtf8 byte number (found, start, at, bad, is_byte) =
       let s = at.starts in
       let t = known_length in
-      elim (stands_in more found number start at) [
+      elim (line_place_in more found number start at) [
         | earlier g is ↦ absurd (bad ((earlier_sound found at.front g at.begins at.one_line is).1.text))
         | this same after ↦ (let e = ap length same in let h = no_shorter line more found at.rest c.one_line at.ends after in omega arith)
         | later h ↦ omega arith
@@ -97,8 +97,8 @@ module _ (format : FileFormat) (tree : Tree) (known line : List ℕ) (meanings :
   clean more Malformed byte number (found, start, at, bad, is_byte) =
       let s = at.starts in
       let t = known_length in
-      elim (stands_in more found number start at) [
-        | earlier g is ↦ (let sound = earlier_sound found at.front g at.begins at.one_line is in absurd (bad sound.0 sound.1.says))
+      elim (line_place_in more found number start at) [
+        | earlier g is ↦ (let sound = earlier_sound found at.front g at.begins at.one_line is in absurd (bad sound.0 sound.1.has_meaning))
         | this same after ↦ (let e = ap length same in let h = no_shorter line more found at.rest c.one_line at.ends after in omega arith)
         | later h ↦ omega arith
       ]
@@ -136,7 +136,7 @@ module _ (format : FileFormat) (tree : Tree) (known line : List ℕ) (meanings :
   not_many more number some (found, at, most) =
       let s = at.starts in
       let t = known_length in
-      elim (stands_in more found number (length known) at) [
+      elim (line_place_in more found number (length known) at) [
         | earlier g is ↦ (let k = earlier_length found at.front g is in omega arith)
         | this same after ↦ (let e = ap length same in omega arith)
         | later h ↦ omega arith
@@ -147,7 +147,7 @@ module _ (format : FileFormat) (tree : Tree) (known line : List ℕ) (meanings :
   not_long more number ends (found, start, at, long, is_byte) =
       let s = at.starts in
       let t = known_length in
-      elim (stands_in more found number start at) [
+      elim (line_place_in more found number start at) [
         | earlier g is ↦ (let sound = (earlier_sound found at.front g at.begins at.one_line is).1.short in omega arith)
         | this same after ↦ (let h = no_longer line more found at.rest at.one_line ends after in let short = c.short in omega arith)
         | later h ↦ omega arith
@@ -157,7 +157,7 @@ module _ (format : FileFormat) (tree : Tree) (known line : List ℕ) (meanings :
   not_odd more number text (found, start, at, bad, is_byte) =
       let s = at.starts in
       let t = known_length in
-      elim (stands_in more found number start at) [
+      elim (line_place_in more found number start at) [
         | earlier g is ↦ (let k = earlier_length found at.front g is in omega arith)
         | this same after ↦ (let e = ap length same in let n : length found ≡ length line = omega arith in bad
             (subst IsUtf8 (sym (same_front found at.rest line more after n)) text))
@@ -171,7 +171,7 @@ module _ (format : FileFormat) (tree : Tree) (known line : List ℕ) (meanings :
     rest = more;
     whole = whole_is more;
     starts = refl;
-    number_is = ap (λ n. n + 1) says_length;
+    number_is = ap (λ n. n + 1) meanings_length;
     begins = c.ended;
     ends = ends;
     one_line = c.one_line;
@@ -261,7 +261,7 @@ module _ (format : FileFormat) (tree : Tree) (known line : List ℕ) (meanings :
         rest = found.1;
         whole = whole_is (b ∷ more) ∙ ap (λ m. c.front ++ (line ++ m)) found.2 ∙ ap (λ m. c.front ++ m) (sym (append_assoc line found.0 found.1));
         starts = refl;
-        number_is = ap (λ n. n + 1) says_length;
+        number_is = ap (λ n. n + 1) meanings_length;
         begins = c.ended;
         ends = elim found.4 [ inl last ↦ inl (last.0, omega arith) | inr next ↦ inr next ];
         one_line = list_all-append (λ c. not (c == 10)) line found.0 ∙ and_from (lacks 10 line) (lacks 10 found.0) c.one_line found.3;
@@ -276,7 +276,8 @@ module _ (format : FileFormat) (tree : Tree) (known line : List ℕ) (meanings :
         ]
         first_some (x ∷ found) r is ends = omega arith
 
-  -- the end of the line so far: a newline, or the end of the file
+  -- the known part's last line ends with that part: a newline follows within the limit of bytes, or the file ends and
+  -- the line isn't empty
   abbrev pub AtEnd : List ℕ → Type 0
   AtEnd more = ((more ≡ []) × (0 < length line)) ⊎ ((next : List ℕ) × (more ≡ 10 ∷ next) × (length known < MAX_CONFIG_BYTES))
 
@@ -307,22 +308,22 @@ module _ (format : FileFormat) (tree : Tree) (known line : List ℕ) (meanings :
   pub malformed : (more : List ℕ) → AtEnd more → IsUtf8 line → IsMalformed format tree line
       → IsFirstFault format tree complete (known ++ more) Malformed (length meanings + 1)
   malformed more ends text bad =
-      let some = some_bytes (λ l. (meaning : LineMeaning) × Means format tree (without_white_end l) meaning) (silent, empty) (λ says. bad says.0 says.1) in
+      let some = some_bytes (λ l. (meaning : LineMeaning) × Means format tree (without_white_end l) meaning) (silent, empty) (λ has_meaning. bad has_meaning.0 has_meaning.1) in
       first_by more Malformed (length meanings + 1) (line, length c.front, this_line more (ends_of more ends), bad, known_length)
       (λ o on at. after_odd more on (not_large more on (room_of more ends)) (not_many more on some) (not_long more on (stops_of more ends))
       (not_odd more on text) o at)
 
-  -- the line so far has a meaning, or there is none
-  abbrev pub SaysLast : List LineMeaning → Type 0
-  SaysLast last = ((line ≡ []) × (last ≡ [])) ⊎ ((0 < length line) × ((x : LineMeaning) × (last ≡ x ∷ []) × IsSound format tree line x))
+  -- the list has the meaning of the known part's last line alone, which is sound, or it is empty because that line is
+  abbrev pub MeansLast : List LineMeaning → Type 0
+  MeansLast last = ((line ≡ []) × (last ≡ [])) ⊎ ((0 < length line) × ((x : LineMeaning) × (last ≡ x ∷ []) × IsSound format tree line x))
 
-  last_sound : (last : List LineMeaning) → SaysLast last → 0 < length line → (x : LineMeaning) × IsSound format tree line x
+  last_sound : (last : List LineMeaning) → MeansLast last → 0 < length line → (x : LineMeaning) × IsSound format tree line x
   last_sound last (inl none) some = (let e = ap length none.0 in absurd (omega arith))
-  last_sound last (inr says) some = (says.1.0, says.1.2)
+  last_sound last (inr has_meaning) some = (has_meaning.1.0, has_meaning.1.2)
 
-  -- the file ends here without a fault
-  pub accepted : (last : List LineMeaning) → SaysLast last → IsAccepted format tree known
-  accepted last says kind byte number comes =
+  -- a file that ends where its known part ends is accepted, if its last line is sound or empty
+  pub accepted : (last : List LineMeaning) → MeansLast last → IsAccepted format tree known
+  accepted last has_meaning kind byte number comes =
       let whole : known ++ [] ≡ known = append-nil known in
       go kind byte number (subst (λ b. OccursAt format tree b kind byte number) (sym whole) comes) where
         at_end : (found : List ℕ) (n s : ℕ) → (at : IsLineAt (known ++ []) found n s) → s + length found + length at.rest ≡ length known
@@ -339,7 +340,7 @@ module _ (format : FileFormat) (tree : Tree) (known line : List ℕ) (meanings :
             let t = known_length in
             let s_is = at.starts in
             let all = at_end found n s at in
-            elim (stands_in [] found n s at) [
+            elim (line_place_in [] found n s at) [
               | earlier g is ↦ earlier_sound found at.front g at.begins at.one_line is
               | this same after ↦ (
                   let fits = no_shorter line [] found at.rest c.one_line at.ends after in
@@ -351,7 +352,7 @@ module _ (format : FileFormat) (tree : Tree) (known line : List ℕ) (meanings :
                     | inr next ↦
                         (let h = ap length next.1 in absurd (omega arith))
                   ] in
-                  let sound = last_sound last says some in
+                  let sound = last_sound last has_meaning some in
                   (sound.0, subst (λ l. IsSound format tree l sound.0) (sym is) sound.1))
               | later h ↦ absurd (omega arith)
             ]
@@ -364,31 +365,31 @@ module _ (format : FileFormat) (tree : Tree) (known line : List ℕ) (meanings :
             elim at.ends [ inl last ↦ (let e = last.1 in omega arith) | inr next ↦ (let e = ap length next.1 in omega arith) ]
         go LineTooLong byte number (found, start, at, long, is_byte) = let sound = (found_sound found number start at).1.short in omega arith
         go NotUtf8 byte number (found, start, at, bad, is_byte) = bad ((found_sound found number start at).1.text)
-        go Malformed byte number (found, start, at, bad, is_byte) = let sound = found_sound found number start at in bad sound.0 sound.1.says
+        go Malformed byte number (found, start, at, bad, is_byte) = let sound = found_sound found number start at in bad sound.0 sound.1.has_meaning
         go Read byte number h = h
         go OutOfMemory byte number h = h
 
-  all_say : (lines : List (List ℕ)) (all : List LineMeaning) → AllZip (IsSound format tree) lines all
+  all_mean : (lines : List (List ℕ)) (all : List LineMeaning) → AllZip (IsSound format tree) lines all
       → AllZip (λ l x. Means format tree (without_white_end l) x) lines all
-  all_say [] [] h = tt
-  all_say [] (x ∷ all) h = absurd h
-  all_say (l ∷ lines) [] h = absurd h
-  all_say (l ∷ lines) (x ∷ all) h = (h.0.says, all_say lines all h.1)
+  all_mean [] [] h = tt
+  all_mean [] (x ∷ all) h = absurd h
+  all_mean (l ∷ lines) [] h = absurd h
+  all_mean (l ∷ lines) (x ∷ all) h = (h.0.has_meaning, all_mean lines all h.1)
 
-  -- and has the meanings of its lines
-  pub file_says : (last : List LineMeaning) → SaysLast last → FileMeans format tree known (meanings ++ last)
-  file_says last (inl none) =
+  -- a file that ends where its known part ends has the meanings of the complete lines and then that of the last line
+  pub file_means : (last : List LineMeaning) → MeansLast last → FileMeans format tree known (meanings ++ last)
+  file_means last (inl none) =
       subst (λ b. FileMeans format tree b (meanings ++ last)) (sym (c.whole ∙ ap (λ l. c.front ++ l) none.0 ∙ append-nil c.front))
       (subst (λ all. FileMeans format tree c.front all) (sym (ap (λ l. meanings ++ l) none.1 ∙ append-nil meanings))
-      (all_say (file_lines c.front) meanings c.sound))
-  file_says last (inr (some, (x, is, sound))) =
-      let lines : file_lines known ≡ file_lines c.front ++ line ∷ [] = ap file_lines c.whole ∙ lines_behind c.front line c.ended
+      (all_mean (file_lines c.front) meanings c.sound))
+  file_means last (inr (some, (x, is, sound))) =
+      let lines : file_lines known ≡ file_lines c.front ++ line ∷ [] = ap file_lines c.whole ∙ lines_after_ended c.front line c.ended
       ∙ ap (λ ls. file_lines c.front ++ ls) (last_of_lines line c.one_line some) in
       subst (λ all. FileMeans format tree known (meanings ++ all)) (sym is)
       (subst (λ ls. AllZip (λ l x. Means format tree (without_white_end l) x) ls (meanings ++ x ∷ [])) (sym lines)
-      (all_say (file_lines c.front ++ line ∷ []) (meanings ++ x ∷ []) (zip_append (IsSound format tree) (file_lines c.front) meanings line x c.sound sound)))
+      (all_mean (file_lines c.front ++ line ∷ []) (meanings ++ x ∷ []) (zip_append (IsSound format tree) (file_lines c.front) meanings line x c.sound sound)))
 
-  -- a piece of the line goes on
+  -- with more bytes of its last line, without a newline and within the limits, the known part of a file stays without a fault
   pub held : (piece : List ℕ) → lacks 10 piece ≡ true → length line + length piece ≤ MAX_LINE_BYTES → length meanings < MAX_CONFIG_LINES
       → length known + length piece ≤ MAX_CONFIG_BYTES → IsCut format tree (known ++ piece) (line ++ piece) meanings
   held piece one short room small = record {
@@ -403,12 +404,12 @@ module _ (format : FileFormat) (tree : Tree) (known line : List ℕ) (meanings :
     short = (let e = length-append line piece in omega arith);
   }
 
-  -- the line ends
+  -- with the newline after its last line, which is sound, the known part of a file stays without a fault, within the limits
   pub line_ended : (x : LineMeaning) → IsSound format tree line x → length meanings < MAX_CONFIG_LINES → length known < MAX_CONFIG_BYTES
       → IsCut format tree (known ++ 10 ∷ []) [] (meanings ++ x ∷ [])
   line_ended x sound room small =
       let lines : file_lines (known ++ 10 ∷ []) ≡ file_lines c.front ++ line ∷ [] = ap file_lines (whole_is (10 ∷ []))
-      ∙ lines_behind c.front (line ++ 10 ∷ []) c.ended ∙ ap (λ ls. file_lines c.front ++ ls) (first_of_lines line [] c.one_line) in
+      ∙ lines_after_ended c.front (line ++ 10 ∷ []) c.ended ∙ ap (λ ls. file_lines c.front ++ ls) (first_of_lines line [] c.one_line) in
       record {
         front = known ++ 10 ∷ [];
         whole = sym (append-nil (known ++ 10 ∷ []));
@@ -422,8 +423,8 @@ module _ (format : FileFormat) (tree : Tree) (known line : List ℕ) (meanings :
         short = omega arith;
       }
 
-pub nothing_told : (format : FileFormat) (tree : Tree) → IsCut format tree [] [] []
-nothing_told format tree =
+pub empty_cut : (format : FileFormat) (tree : Tree) → IsCut format tree [] [] []
+empty_cut format tree =
     record {
       front = [];
       whole = refl;

@@ -2,12 +2,11 @@
 use Rattle.std.proofs.Common.{◌≡◌, ℕ, List, [], ◌∷◌, Option, Some, None, refl}
 use Rattle.std.specs.Prelude.{codes}
 use Rattle.std.specs.Option.{option_map}
-use Rattle.kc_value.specs.declared.tri.Tri.TheVariants.{N, M, Y}
-use Rattle.kc_value.specs.Number.{int_text}
+use Rattle.kc_value.specs.declared.tri.Tri.TheVariants.{N, Y}
 use Rattle.kc_tree_model.specs.Trees.{Tree}
 use Rattle.kc_rules_model.specs.declared.values.UserValue.{UserValue}
 use Rattle.kc_rules_model.specs.declared.values.UserValue.TheVariants.{Tri as TriUser, Member as MemberUser}
-use Rattle.kc_rules_model.proofs.RowTrees.{sets, writes, tree_a, tree_int, tree_string, tree_pick, tree_imply, tree_titled}
+use Rattle.kc_rules_model.proofs.RowTrees.{sets, writes, tree_a, tree_string, tree_pick}
 use Rattle.kc_dotconfig_model.specs.declared.notice.NoticeKind.{NoticeKind}
 use Rattle.kc_dotconfig_model.specs.declared.notice.NoticeKind.TheVariants.{UnknownSymbol, NotOfType}
 use Rattle.kc_dotconfig_model.specs.declared.format.Strings.TheVariants.{Escaped, Raw}
@@ -34,18 +33,6 @@ raw = record { prefix = codes "CONFIG_"; strings = Raw }
 abbrev assigning : List (Option UserValue) → Option (List (Option UserValue) × List (ℕ × NoticeKind))
 assigning users = Some (users, [])
 
-unset_lines : (read config tree_a (codes "# CONFIG_A is not set\n") ≡ assigning (sets N ∷ [])) × (read config tree_a [] ≡ assigning (None ∷ []))
-    × (read config tree_imply (codes "CONFIG_FOO=y\nCONFIG_BAR=m\n# CONFIG_BAZ is not set\n") ≡ assigning (None ∷ sets Y ∷ sets M ∷ sets N ∷ []))
-unfolding line_meaning
-unset_lines = (refl, refl, refl)
-
-ints : (read config tree_int (codes "CONFIG_N=25\n") ≡ assigning (writes (codes "25") ∷ []))
-    × (read config tree_int (codes "CONFIG_N=010\n") ≡ assigning (writes (codes "010") ∷ []))
-    × (read config tree_int (codes "CONFIG_N=\n") ≡ assigning (None ∷ []))
-    × (read config tree_int (codes "CONFIG_N=1x\n") ≡ Some (None ∷ [], (1, NotOfType) ∷ []))
-unfolding line_meaning int_text
-ints = (refl, refl, refl, refl)
-
 strings : (read config tree_string (codes "CONFIG_S=\"\"\n") ≡ assigning (writes [] ∷ []))
     × (read config tree_string (codes "CONFIG_S=\"a\\\"b\\\\c\"\n") ≡ assigning (writes (codes "a\"b\\c") ∷ []))
     × (read config tree_string (codes "CONFIG_S=\"a\"b\"\n") ≡ Some (None ∷ [], (1, NotOfType) ∷ []))
@@ -63,23 +50,6 @@ raw_strings : (read raw tree_string (codes "CONFIG_S=\"\"\n") ≡ assigning (wri
 unfolding line_meaning
 raw_strings = (refl, refl, refl, refl, refl)
 
--- and anything else is no string
-no_raw_strings : (read raw tree_string (codes "CONFIG_S=\"a\"b\n") ≡ Some (None ∷ [], (1, NotOfType) ∷ []))
-    × (read raw tree_string (codes "CONFIG_S=\"ab") ≡ Some (None ∷ [], (1, NotOfType) ∷ []))
-    × (read raw tree_string (codes "CONFIG_S=\"\n") ≡ Some (None ∷ [], (1, NotOfType) ∷ []))
-    × (read raw tree_string (codes "CONFIG_S=ab\n") ≡ Some (None ∷ [], (1, NotOfType) ∷ []))
-    × (read raw tree_string (codes "CONFIG_S=ab\"\n") ≡ Some (None ∷ [], (1, NotOfType) ∷ []))
-    × (read raw tree_string (codes "CONFIG_S=\n") ≡ Some (None ∷ [], (1, NotOfType) ∷ []))
-unfolding line_meaning
-no_raw_strings = (refl, refl, refl, refl, refl, refl)
-
--- the other types mean the same
-raw_others : (read raw tree_a (codes "CONFIG_A=y\n") ≡ assigning (sets Y ∷ []))
-    × (read raw tree_a (codes "CONFIG_A=\"y\"\n") ≡ Some (None ∷ [], (1, NotOfType) ∷ []))
-    × (read raw tree_int (codes "CONFIG_N=25\n") ≡ assigning (writes (codes "25") ∷ []))
-unfolding line_meaning int_text
-raw_others = (refl, refl, refl)
-
 -- the member last assigned `y`; `n` of a member assigns nothing
 members : (read config tree_pick (codes "CONFIG_A=y\nCONFIG_C=y\n") ≡ assigning (Some (MemberUser 2) ∷ None ∷ []))
     × (read config tree_pick (codes "CONFIG_C=y\nCONFIG_A=y\nCONFIG_A=n\n# CONFIG_A is not set\n") ≡ assigning (Some (MemberUser 0) ∷ None ∷ []))
@@ -88,10 +58,6 @@ members : (read config tree_pick (codes "CONFIG_A=y\nCONFIG_C=y\n") ≡ assignin
 unfolding line_meaning
 members = (refl, refl, refl, refl)
 
-later_lines_win : read config tree_a (codes "CONFIG_A=y\nCONFIG_A=n\nCONFIG_A=y\n") ≡ assigning (sets Y ∷ [])
-unfolding line_meaning
-later_lines_win = refl
-
 -- a line that assigns nothing leaves what was assigned
 notices_leave_assignments : (read config tree_a (codes "CONFIG_GONE=1\nCONFIG_A=m\n") ≡ Some (None ∷ [], (1, UnknownSymbol) ∷ (2, NotOfType) ∷ []))
     × (read config tree_a (codes "CONFIG_A=y\nCONFIG_A=m\n# CONFIG_GONE is not set\n") ≡ Some
@@ -99,45 +65,13 @@ notices_leave_assignments : (read config tree_a (codes "CONFIG_GONE=1\nCONFIG_A=
 unfolding line_meaning
 notices_leave_assignments = (refl, refl)
 
-comments_and_white_ends : (read config tree_a (codes "#\n# Automatically generated file; DO NOT EDIT.\n#\nCONFIG_A=y  \t\r\n\n") ≡ assigning (sets Y ∷ []))
-    × (read config tree_a (codes "CONFIG_A=y") ≡ assigning (sets Y ∷ []))
-unfolding line_meaning
-comments_and_white_ends = (refl, refl)
-
-malformed_lines : (read config tree_a (codes "CONFIG_A=n\n# x\nFOO=y\n") ≡ None) × (line_meaning config tree_a (codes "FOO=y") ≡ None)
-    × (line_meaning config tree_a (codes "CONFIG_=A=y") ≡ None)
-    × (line_meaning config tree_a (codes " CONFIG_A=y") ≡ None) × (line_meaning config tree_a (codes "CONFIG_A") ≡ None)
-unfolding line_meaning
-malformed_lines = (refl, refl, refl, refl, refl)
-
-names_are_what_stands_there : (line_meaning config tree_a (codes "CONFIG_A =y") ≡ Some (notice UnknownSymbol))
+names_are_as_written : (line_meaning config tree_a (codes "CONFIG_A =y") ≡ Some (notice UnknownSymbol))
     × (line_meaning config tree_a (codes "# CONFIG_A=B is not set") ≡ Some (notice UnknownSymbol))
     × (line_meaning config tree_a (codes "# CONFIG_A is not set is not set") ≡ Some silent)
     × (line_meaning config tree_a (codes " # CONFIG_A is not set") ≡ Some silent)
     × (line_meaning config tree_a (codes "#CONFIG_A is not set") ≡ Some silent)
 unfolding line_meaning
-names_are_what_stands_there = (refl, refl, refl, refl, refl)
-
--- the eleven bytes of `CONFIG_A=y` and a newline, cut
-cut_files : (line_meaning config tree_a (codes "C") ≡ None) × (line_meaning config tree_a (codes "CONFIG_A") ≡ None)
-    × (line_meaning config tree_a (codes "CONFIG_A=") ≡ Some (notice NotOfType))
-    × (line_meaning config tree_a (codes "CONFIG_A=y") ≡ Some (assigns 0 (TriUser Y)))
-unfolding line_meaning
-cut_files = (refl, refl, refl, refl)
-
-other_prefixes : (read (escaped (codes "BOARD_")) tree_a (codes "BOARD_A=y\n") ≡ assigning (sets Y ∷ []))
-    × (read (escaped (codes "BOARD_")) tree_a (codes "CONFIG_A=y\n") ≡ None)
-    × (read (escaped (codes "C")) tree_a (codes "CONFIG_A=y\n") ≡ Some (None ∷ [], (1, UnknownSymbol) ∷ []))
-unfolding line_meaning
-other_prefixes = (refl, refl, refl)
-
--- titles of menus are read as nothing
-headings : (read config (tree_titled (codes "CONFIG_A is not set")) (codes "\n#\n#  CONFIG_A is not set\n#\nCONFIG_A=y\n# end of CONFIG_A is not set\n")
-    ≡ assigning (sets Y ∷ []))
-    × (read (escaped (codes "end")) (tree_titled (codes "CONFIG_A is not set")) (codes "\n#\n# CONFIG_A is not set\n#\nendA=y\n# end of CONFIG_A is not set\n")
-    ≡ assigning (sets Y ∷ []))
-unfolding line_meaning
-headings = (refl, refl)
+names_are_as_written = (refl, refl, refl, refl, refl)
 
 -- a later file over an earlier one
 later_files_win : (assigned_over (assigns 0 (TriUser N) ∷ []) (file_assignment tree_a (assigns 0 (TriUser Y) ∷ [])) ≡ sets N ∷ [])

@@ -64,12 +64,12 @@ kind_back Malformed = refl
 kind_back Read = refl
 kind_back OutOfMemory = refl
 
--- each fault that counts is reported with the line of its byte
-pub number_told : (format : FileFormat) (tree : Tree) (extent : InputEnd) (bytes : List ℕ) (kind : LoadKind) (byte number : ℕ)
+-- the line number of a considered fault is one more than the number of newlines before its byte
+pub line_number_of_fault : (format : FileFormat) (tree : Tree) (extent : InputEnd) (bytes : List ℕ) (kind : LoadKind) (byte number : ℕ)
     → IsConsideredAt format tree extent bytes kind byte number → number ≡ newlines (take byte bytes) + 1
-number_told format tree complete bytes kind byte number comes = number_at format tree bytes kind byte number comes
-number_told format tree cut_short bytes kind byte number (inl comes) = number_at format tree bytes kind byte number comes.0
-number_told format tree cut_short bytes kind byte number (inr read) =
+line_number_of_fault format tree complete bytes kind byte number comes = number_at format tree bytes kind byte number comes
+line_number_of_fault format tree cut_short bytes kind byte number (inl comes) = number_at format tree bytes kind byte number comes.0
+line_number_of_fault format tree cut_short bytes kind byte number (inr read) =
     read.2 ∙ ap (λ b. newlines b + 1) (sym (ap (λ k. take k bytes) read.1 ∙ take-length bytes))
 
 pub one_is_first : OneFaultIsFirst
@@ -85,8 +85,8 @@ one_is_first format tree extent bytes k l m n a b =
       ]
     ] in (
       sym (kind_back k) ∙ ap kind_at both.1 ∙ kind_back l,
-      number_told format tree extent bytes k a.byte m a.comes ∙ ap (λ i. newlines (take i bytes) + 1) both.0
-          ∙ sym (number_told format tree extent bytes l b.byte n b.comes),
+      line_number_of_fault format tree extent bytes k a.byte m a.comes ∙ ap (λ i. newlines (take i bytes) + 1) both.0
+          ∙ sym (line_number_of_fault format tree extent bytes l b.byte n b.comes),
     )
 
 pub refused : FaultyFilesAreRefused

@@ -89,7 +89,7 @@ lacks_newline [] one = refl
 lacks_newline (c ∷ text) one =
     let parts = and_parts (not (c == 10)) (lacks 10 text) one in ap (λ b. b || has_newline text) (not-true (c == 10) parts.0) ∙ lacks_newline text parts.1
 
--- in each form a string's spelling of one line has a text of one line, and one of UTF-8 a text of UTF-8
+-- in each form of strings, a string whose spelling after `=` has no newline has a text without a newline
 pub string_one_line : (strings : Strings) (text means : List ℕ) → IsStringSpelling strings text means → lacks 10 text ≡ true → has_newline means ≡ false
 string_one_line Escaped text means is one = quoted_one_line text means is one
 string_one_line Raw text means is one =
@@ -102,8 +102,8 @@ string_utf8 Raw text means is utf8 =
     utf8_before (means ++ 34 ∷ []) means (34 ∷ []) inner (ascii_alone 34 (omega arith)) refl
 
 -- the bytes after one below 128 are UTF-8
-utf8_behind : (bytes front back : List ℕ) (b : ℕ) → b < 128 → IsUtf8 bytes → bytes ≡ front ++ b ∷ back → IsUtf8 back
-utf8_behind bytes front back b low u is =
+utf8_of_back : (bytes front back : List ℕ) (b : ℕ) → b < 128 → IsUtf8 bytes → bytes ≡ front ++ b ∷ back → IsUtf8 back
+utf8_of_back bytes front back b low u is =
     let v = subst IsUtf8 is u in
     let seam = get_or-append_seam front b back 0 in
     let long = length-append front (b ∷ back) in
@@ -139,10 +139,10 @@ module _ (tree : Tree) (sound : IsConsistent tree) (s : ℕ) (symbol : Symbol) (
   value_fits_unit strings text meaning one utf8 (tri _ t out meant) = outside_fits (TriUser t) out (tri_meant_fits symbol.kind text t meant)
   value_fits_unit strings text meaning one utf8 (chosen c _ within meant) = member_fits c within
   value_fits_unit strings text meaning one utf8 (not_chosen c _ t within meant other) = tt
-  value_fits_unit strings text meaning one utf8 (quoted _ means is stands) =
+  value_fits_unit strings text meaning one utf8 (quoted _ means is is_spelling) =
       outside_fits (TextUser means) (outside symbol.choice refl (λ same. cc (is, same)))
-      (ap (λ k. user_text_fits k means) is ∙ and_from (not (has_newline means)) (is_utf8 means) (ap not (string_one_line strings text means stands one))
-      (is_utf8-from_IsUtf8 means (string_utf8 strings text means stands utf8)))
+      (ap (λ k. user_text_fits k means) is ∙ and_from (not (has_newline means)) (is_utf8 means) (ap not (string_one_line strings text means is_spelling one))
+      (is_utf8-from_IsUtf8 means (string_utf8 strings text means is_spelling utf8)))
   value_fits_unit strings text meaning one utf8 (number _ some) =
       let fits = number_fits symbol.kind text some in outside_fits (TextUser text) (outside symbol.choice refl fits.1) fits.0
   value_fits_unit strings text meaning one utf8 (no_int is) = tt
@@ -159,11 +159,11 @@ module _ (tree : Tree) (sound : IsConsistent tree) (s : ℕ) (symbol : Symbol) (
 
 module _ (format : FileFormat) (tree : Tree) (sound : IsConsistent tree) where
   line_fits : (line : List ℕ) (meaning : LineMeaning) → lacks 10 line ≡ true → IsUtf8 line → Means format tree line meaning → SayingFits tree meaning
-  line_fits line meaning one utf8 (value _ name text s symbol _ is named at says) =
+  line_fits line meaning one utf8 (value _ name text s symbol _ is named at has_meaning) =
       let behind_name = second_lacks name (61 ∷ text) (second_lacks format.prefix (name ++ (61 ∷ text)) (ap (lacks 10) (sym is.2) ∙ one)) in
       let parted : line ≡ (format.prefix ++ name) ++ 61 ∷ text = is.2 ∙ sym (append_assoc format.prefix name (61 ∷ text)) in
       value_fits_unit tree sound s symbol at format.strings text meaning (second_lacks (61 ∷ []) text behind_name)
-      (utf8_behind line (format.prefix ++ name) text 61 (omega arith) utf8 parted) says
+      (utf8_of_back line (format.prefix ++ name) text 61 (omega arith) utf8 parted) has_meaning
   line_fits line meaning one utf8 (unset _ name s symbol is named at) = unset_fits tree sound s symbol at symbol.choice refl (is_tri_kind symbol.kind) refl
   line_fits line meaning one utf8 (unknown_value _ name text is named) = tt
   line_fits line meaning one utf8 (unknown_unset _ name is named) = tt
@@ -233,7 +233,7 @@ none_length zero = refl
 none_length (suc n) = let rest = none_length n in omega arith
 
 pub file_fits : FilesFit
-file_fits format tree bytes meanings sound utf8 says =
+file_fits format tree bytes meanings sound utf8 has_meaning =
     over_fits format tree sound meanings (empty_assignment tree)
     (none_length (length tree.units), λ u h. subst (λ o. IfSome o (λ y. IsTrue (user_fits tree u y))) (sym (none_held (length tree.units) u)) tt)
-    (sayings_fit format tree sound (file_lines bytes) meanings (lines_lack format tree sound bytes) utf8 says)
+    (sayings_fit format tree sound (file_lines bytes) meanings (lines_lack format tree sound bytes) utf8 has_meaning)

@@ -17,7 +17,7 @@ use Rattle.kc_dotconfig_model.specs.between.LineMeanings.{line_meaning}
 use Rattle.kc_dotconfig_model.specs.between.PartialFiles.{IsSound, IsCut}
 use Rattle.kc_dotconfig_model.proofs.LineLaws.{line_read}
 use Rattle.kc_dotconfig_model.proofs.FirstFaults.{failed_reads}
-use Rattle.kc_dotconfig_model.proofs.FaultsAtCuts.{AtEnd, too_large, too_many, too_long, not_utf8, malformed, accepted, held, line_ended, nothing_told}
+use Rattle.kc_dotconfig_model.proofs.FaultsAtCuts.{AtEnd, too_large, too_many, too_long, not_utf8, malformed, accepted, held, line_ended, empty_cut}
 
 abbrev Judged : FileFormat → Tree → List ℕ → Type 0
 Judged format tree bytes = IsAccepted format tree bytes ⊎ ((kind : LoadKind) × (number : ℕ) × IsFirstFault format tree complete bytes kind number)
@@ -42,13 +42,13 @@ module _ (format : FileFormat) (valid : is_prefix format.prefix ≡ true) (tree 
   ] where
     read : (o : Option LineMeaning) → line_meaning format tree (without_white_end line) ≡ o → IsUtf8 line
         → IsAccepted format tree (known ++ more) ⊎ ((kind : LoadKind) × (number : ℕ) × IsFirstFault format tree complete (known ++ more) kind number)
-    read (Some x) e text = next x (record { text = text; short = c.short; says = (line_read format tree (without_white_end line) x valid).0 e })
+    read (Some x) e text = next x (record { text = text; short = c.short; has_meaning = (line_read format tree (without_white_end line) x valid).0 e })
     read None e text =
         inr (
           Malformed,
           length meanings + 1,
           malformed format tree known line meanings c more ends text
-              (λ x says. let some = (line_read format tree (without_white_end line) x valid).1 says in cc (some, e)),
+              (λ x has_meaning. let some = (line_read format tree (without_white_end line) x valid).1 has_meaning in cc (some, e)),
         )
 
   -- the file ends here
@@ -116,7 +116,7 @@ judge format valid tree (b ∷ rest) known line meanings c =
     ]
 
 pub judged : EachFileIsJudged
-judged format tree bytes valid = judge format valid tree bytes [] [] [] (nothing_told format tree)
+judged format tree bytes valid = judge format valid tree bytes [] [] [] (empty_cut format tree)
 
 -- a failed read is the first fault where no other comes before it
 read_first : (format : FileFormat) (tree : Tree) (bytes : List ℕ)

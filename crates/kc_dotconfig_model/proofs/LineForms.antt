@@ -8,18 +8,18 @@ use Rattle.kc_dotconfig_model.specs.PrefixGrammar.{lacks}
 use Rattle.kc_dotconfig_model.specs.ConfigLines.{IsValueLine, IsUnsetLine}
 use Rattle.kc_dotconfig_model.specs.between.LineMeanings.{after_front, split_at_byte, if_named, named_before, value_parts, if_not_set, unset_name}
 
-behind_is : (front text rest : List ℕ) → after_front front text ≡ Some rest → text ≡ front ++ rest
-behind_is [] text rest e = cc
-behind_is (a ∷ front) [] rest e = cc
-behind_is (a ∷ front) (b ∷ text) rest e = go (a == b) refl e (behind_is front text rest) where
+after_front_is : (front text rest : List ℕ) → after_front front text ≡ Some rest → text ≡ front ++ rest
+after_front_is [] text rest e = cc
+after_front_is (a ∷ front) [] rest e = cc
+after_front_is (a ∷ front) (b ∷ text) rest e = go (a == b) refl e (after_front_is front text rest) where
   go : (t : Bool) → (a == b) ≡ t → cond t (after_front front text) None ≡ Some rest → (after_front front text ≡ Some rest → text ≡ front ++ rest)
       → b ∷ text ≡ a ∷ (front ++ rest)
   go true same e next = ap (λ c. c ∷ text) (sym (eqb-true a b same)) ∙ ap (λ l. a ∷ l) (next e)
   go false same e next = cc
 
-behind_front : (front rest : List ℕ) → after_front front (front ++ rest) ≡ Some rest
-behind_front [] rest = refl
-behind_front (a ∷ front) rest = ap (λ t. cond t (after_front front (front ++ rest)) None) (eq-eqb a a refl) ∙ behind_front front rest
+after_front_append : (front rest : List ℕ) → after_front front (front ++ rest) ≡ Some rest
+after_front_append [] rest = refl
+after_front_append (a ∷ front) rest = ap (λ t. cond t (after_front front (front ++ rest)) None) (eq-eqb a a refl) ∙ after_front_append front rest
 
 abbrev Parts : Type 0
 Parts = List ℕ × List ℕ
@@ -81,16 +81,16 @@ some_and_then : {X Y : Type 0} (f : X → Option Y) (o : Option X) (y : Y) → o
 some_and_then f None y e = cc
 some_and_then f (Some x) y e = (x, refl, e)
 
--- a line is read as a name and a text exactly where it is of that form
+-- a line that `value_parts` splits into a name and a text is a value line of that name and that text
 pub value_line_is : (prefix line : List ℕ) (parts : Parts) → value_parts prefix line ≡ Some parts → IsValueLine prefix line parts.0 parts.1
 value_line_is prefix line parts e =
     let rest = some_and_then (named_before 61) (after_front prefix line) parts e in
     let cut = named_is 61 rest.0 parts rest.2 in
-    (cut.some, cut.lacking, behind_is prefix line rest.0 rest.1 ∙ ap (λ l. prefix ++ l) cut.whole)
+    (cut.some, cut.lacking, after_front_is prefix line rest.0 rest.1 ∙ ap (λ l. prefix ++ l) cut.whole)
 
 pub value_line_read : (prefix line name text : List ℕ) → IsValueLine prefix line name text → value_parts prefix line ≡ Some (name, text)
 value_line_read prefix line name text is =
-    ap (value_parts prefix) is.2 ∙ ap (option_and_then (named_before 61)) (behind_front prefix (name ++ (61 ∷ text))) ∙ named_front 61 name text is.0 is.1
+    ap (value_parts prefix) is.2 ∙ ap (option_and_then (named_before 61)) (after_front_append prefix (name ++ (61 ∷ text))) ∙ named_front 61 name text is.0 is.1
 
 if_not_set_is : (parts : Parts) (name : List ℕ) → if_not_set parts ≡ Some name → (parts.0 ≡ name) × (parts.1 ≡ codes "is not set")
 if_not_set_is parts name e = go (bytes_eq parts.1 (codes "is not set")) refl e where
@@ -106,12 +106,12 @@ unset_line_is prefix line name e =
     let parts = if_not_set_is cut.0 name cut.2 in (
       subst (λ l. 0 < length l) parts.0 form.some,
       ap (lacks 32) (sym parts.0) ∙ form.lacking,
-      behind_is (codes "# " ++ prefix) line rest.0 rest.1 ∙ ap (λ l. (codes "# " ++ prefix) ++ l)
+      after_front_is (codes "# " ++ prefix) line rest.0 rest.1 ∙ ap (λ l. (codes "# " ++ prefix) ++ l)
           (form.whole ∙ ap (λ l. l ++ 32 ∷ cut.0.1) parts.0 ∙ ap (λ l. name ++ 32 ∷ l) parts.1),
     )
 
 pub unset_line_read : (prefix line name : List ℕ) → IsUnsetLine prefix line name → unset_name prefix line ≡ Some name
 unset_line_read prefix line name is =
     ap (unset_name prefix) is.2
-    ∙ ap (λ o. option_and_then if_not_set (option_and_then (named_before 32) o)) (behind_front (codes "# " ++ prefix) (name ++ codes " is not set"))
+    ∙ ap (λ o. option_and_then if_not_set (option_and_then (named_before 32) o)) (after_front_append (codes "# " ++ prefix) (name ++ codes " is not set"))
     ∙ ap (option_and_then if_not_set) (named_front 32 name (codes "is not set") is.0 is.1)

@@ -15,7 +15,7 @@ use Rattle.kc_dotconfig_model.specs.ConfigFiles.{file_lines}
 use Rattle.kc_dotconfig_model.specs.between.LineMeanings.{value_meaning, value_parts, unset_name, named_before, after_front, of_symbol_at, of_named, is_hash, of_other, of_unset, of_value, line_meaning, with_rest, meanings_of_lines}
 use Rattle.kc_dotconfig_model.specs.between.LineMeaningLaws.{LinesAreRead, FilesAreRead}
 use Rattle.kc_dotconfig_model.specs.FileLaws.{LinesHaveOneMeaning, FilesHaveOneMeaning}
-use Rattle.kc_dotconfig_model.proofs.ValueLaws.{value_says, value_said}
+use Rattle.kc_dotconfig_model.proofs.ValueLaws.{value_means, value_meaning_is}
 use Rattle.kc_dotconfig_model.proofs.LineForms.{value_line_is, value_line_read, unset_line_is, unset_line_read}
 use Rattle.kc_tree_model.proofs.Lookups.{index_if_found}
 
@@ -95,7 +95,7 @@ module _ (format : FileFormat) (tree : Tree) where
         (of_symbol_at (λ s symbol. value_meaning format.strings tree s symbol parts.1) s o)
     go None at = absurd (named_inside tree parts.0 s named at)
     go (Some symbol) at = value line parts.0 parts.1 s symbol (value_meaning format.strings tree s symbol parts.1) is named at
-        (value_says format.strings tree s symbol parts.1)
+        (value_means format.strings tree s symbol parts.1)
 
   unset_sound : (line name : List ℕ) → IsUnsetLine format.prefix line name → (o : Option ℕ) → symbol_named tree name ≡ o
       → Means format tree line (of_named tree (λ s symbol. unset_meaning tree s symbol symbol.choice) o)
@@ -154,11 +154,11 @@ module _ (format : FileFormat) (tree : Tree) where
 
     form_complete : (line : List ℕ) (meaning : LineMeaning) → Means format tree line meaning → of_value format tree line (value_parts format.prefix line)
         ≡ Some meaning
-    form_complete line meaning (value _ name text s symbol _ is named at says) =
+    form_complete line meaning (value _ name text s symbol _ is named at has_meaning) =
         ap (of_value format tree line) (value_line_read format.prefix line name text is)
         ∙ ap (λ o. Some (of_named tree (λ s symbol. value_meaning format.strings tree s symbol text) o)) named
         ∙ ap (λ o. Some (of_symbol_at (λ s symbol. value_meaning format.strings tree s symbol text) s o)) at
-        ∙ ap Some (value_said format.strings tree s symbol text meaning says)
+        ∙ ap Some (value_meaning_is format.strings tree s symbol text meaning has_meaning)
     form_complete line meaning (unset _ name s symbol is named at) =
         of_unset_line line name is ∙ ap (λ o. Some (of_named tree (λ s symbol. unset_meaning tree s symbol symbol.choice) o)) named
         ∙ ap (λ o. Some (of_symbol_at (λ s symbol. unset_meaning tree s symbol symbol.choice) s o)) at
@@ -210,14 +210,14 @@ pub file_read : FilesAreRead
 file_read format tree bytes meanings valid =
     (lines_sound format tree valid (file_lines bytes) meanings, lines_complete format tree valid (file_lines bytes) meanings)
 
-same_told : {X : Type 0} (a b : X) (o : Option X) → o ≡ Some a → o ≡ Some b → a ≡ b
-same_told a b o p q = cc
+same_if_some : {X : Type 0} (a b : X) (o : Option X) → o ≡ Some a → o ≡ Some b → a ≡ b
+same_if_some a b o p q = cc
 
-pub line_says_one : LinesHaveOneMeaning
-line_says_one format tree line a b valid of_a of_b =
-    same_told a b (line_meaning format tree line) ((line_read format tree line a valid).1 of_a) ((line_read format tree line b valid).1 of_b)
+pub line_means_one : LinesHaveOneMeaning
+line_means_one format tree line a b valid of_a of_b =
+    same_if_some a b (line_meaning format tree line) ((line_read format tree line a valid).1 of_a) ((line_read format tree line b valid).1 of_b)
 
-pub file_says_one : FilesHaveOneMeaning
-file_says_one format tree bytes a b valid of_a of_b =
-    same_told a b (meanings_of_lines format tree (file_lines bytes)) ((file_read format tree bytes a valid).1 of_a)
+pub file_means_one : FilesHaveOneMeaning
+file_means_one format tree bytes a b valid of_a of_b =
+    same_if_some a b (meanings_of_lines format tree (file_lines bytes)) ((file_read format tree bytes a valid).1 of_a)
     ((file_read format tree bytes b valid).1 of_b)

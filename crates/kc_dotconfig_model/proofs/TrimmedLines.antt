@@ -51,19 +51,19 @@ name_low b named = elim (cases_lt b 128) [
       (not_at_most b 122 (omega arith)) (not_at_most b 90 (omega arith)) (not_at_most b 57 (omega arith)) (other_than b 95 (omega arith))) ∙ named))
 ]
 
--- bytes below 128 are UTF-8
+-- a text whose bytes are all below 128 is UTF-8
 pub low_utf8 : (text : List ℕ) → list_all (λ b. nat_lt b 128) text ≡ true → IsUtf8 text
 low_utf8 [] all = IsUtf8-nil
 low_utf8 (b ∷ text) all =
     let parts = and_parts (nat_lt b 128) (list_all (λ c. nat_lt c 128) text) all in ascii_then b text (ltb-true b 128 parts.0) (low_utf8 text parts.1)
 
--- a name is UTF-8
+-- a name, whose bytes are letters, digits and `_`, is UTF-8
 pub name_utf8 : (name : List ℕ) → list_all is_name_byte name ≡ true → IsUtf8 name
 name_utf8 name all = low_utf8 name (all_weaker is_name_byte (λ b. nat_lt b 128) name_low name all)
 
--- the byte after what isn't white at the end is white
-pub white_behind : (line : List ℕ) → 0 < suffix_len is_white_byte line → is_white_byte (get_or line (length line - suffix_len is_white_byte line) 0) ≡ true
-white_behind line some =
+-- if a line ends with white bytes, the byte at which they begin is white
+pub white_suffix_begins : (line : List ℕ) → 0 < suffix_len is_white_byte line → is_white_byte (get_or line (length line - suffix_len is_white_byte line) 0) ≡ true
+white_suffix_begins line some =
     let n = suffix_len is_white_byte line in
     let most : n ≤ length line = suffix_len-le-length is_white_byte line in
     let passes : is_white_byte (get_or (reverse line) (n - 1) 0) ≡ true = prefix_len_passes is_white_byte (reverse line) (n - 1) 0 (omega arith) in
@@ -78,12 +78,12 @@ trimmed_utf8 line u =
     let most : n ≤ length line = suffix_len-le-length is_white_byte line in
     elim (cases_lt 0 n) [
       | inl some ↦ IsUtf8-take line (length line - n) u (IsCharBoundary-before_ascii line (length line - n) (omega arith)
-          (white_low _ (white_behind line some)))
+          (white_low _ (white_suffix_begins line some)))
       | inr none ↦ (let all : length line ≡ length line - n = omega arith in IsUtf8-take line (length line - n) u
           (subst (λ k. IsCharBoundary line k) all (IsCharBoundary-end line)))
     ]
 
--- and no longer
+-- a line without the white bytes at its end is no longer than the line
 pub trimmed_no_longer : (line : List ℕ) → length (without_white_end line) ≤ length line
 trimmed_no_longer line =
     let n = suffix_len is_white_byte line in

@@ -25,7 +25,7 @@ use Rattle.kc_dotconfig_model.specs.between.LineMeanings.{ended, unquoted_rest, 
 record IsRest (rest means : List ℕ) : Type 0 where
   body : List ℕ
   whole : rest ≡ body ++ 34 ∷ []
-  stands : IsBody 34 body means
+  is_body : IsBody 34 body means
 
 some_mapped : (c : ℕ) (o : Option (List ℕ)) (means : List ℕ) → option_map (λ text. c ∷ text) o ≡ Some means
     → (text : List ℕ) × (o ≡ Some text) × (means ≡ c ∷ text)
@@ -38,20 +38,20 @@ at_end (x ∷ rest) means e = cc
 
 one_more : (c : ℕ) (rest text means : List ℕ) → (c == 34) ≡ false → (c == 92) ≡ false → means ≡ c ∷ text → IsRest rest text → IsRest (c ∷ rest) means
 one_more c rest text means not_quote not_escape same r =
-    record { body = c ∷ r.body; whole = ap (λ l. c ∷ l) r.whole; stands = subst (IsBody 34 (c ∷ r.body)) (sym same) (plain not_quote not_escape r.stands) }
+    record { body = c ∷ r.body; whole = ap (λ l. c ∷ l) r.whole; is_body = subst (IsBody 34 (c ∷ r.body)) (sym same) (plain not_quote not_escape r.is_body) }
 
 pair_more : (c d : ℕ) (rest text means : List ℕ) → (c == 92) ≡ true → means ≡ d ∷ text → IsRest rest text → IsRest (c ∷ d ∷ rest) means
 pair_more c d rest text means escape same r =
     record {
       body = c ∷ d ∷ r.body;
       whole = ap (λ l. c ∷ d ∷ l) r.whole;
-      stands = subst (λ b. IsBody 34 (b ∷ d ∷ r.body) means) (sym (eqb-true c 92 escape)) (subst (IsBody 34 (92 ∷ d ∷ r.body)) (sym same) (pair r.stands));
+      is_body = subst (λ b. IsBody 34 (b ∷ d ∷ r.body) means) (sym (eqb-true c 92 escape)) (subst (IsBody 34 (92 ∷ d ∷ r.body)) (sym same) (pair r.is_body));
     }
 
 just_quote : (c : ℕ) (rest means : List ℕ) → (c == 34) ≡ true → ended rest ≡ Some means → IsRest (c ∷ rest) means
 just_quote c rest means quote e =
     let o = at_end rest means e in
-    record { body = []; whole = ap (λ b. b ∷ rest) (eqb-true c 34 quote) ∙ ap (λ l. 34 ∷ l) o.0; stands = subst (IsBody 34 []) (sym o.1) none }
+    record { body = []; whole = ap (λ b. b ∷ rest) (eqb-true c 34 quote) ∙ ap (λ l. 34 ∷ l) o.0; is_body = subst (IsBody 34 []) (sym o.1) none }
 
 unquoted_sound : (rest means : List ℕ) → unquoted_rest false rest ≡ Some means → IsRest rest means
 unquoted_sound [] means e = cc
@@ -80,12 +80,12 @@ unquoted_complete body means (plain {c = c} {bs = bs} {cs = cs} quote escape res
     ∙ ap (option_map (λ text. c ∷ text)) (unquoted_complete bs cs rest)
 unquoted_complete body means (pair {c = c} {bs = bs} {cs = cs} rest) = ap (option_map (λ text. c ∷ text)) (unquoted_complete bs cs rest)
 
--- a quoted text represents what is read between its quotes, and nothing else
+-- if `unquoted` gives a text for some bytes, the bytes are a quoted string that represents this text
 pub unquoted_means : (text means : List ℕ) → unquoted text ≡ Some means → IsQuoted text means
 unquoted_means [] means e = cc
 unquoted_means (c ∷ rest) means e = go (c == 34) refl e where
   go : (t : Bool) → (c == 34) ≡ t → cond t (unquoted_rest false rest) None ≡ Some means → IsQuoted (c ∷ rest) means
-  go true quote e = let r = unquoted_sound rest means e in (r.body, ap (λ b. b ∷ rest) (eqb-true c 34 quote) ∙ ap (λ l. 34 ∷ l) r.whole, r.stands)
+  go true quote e = let r = unquoted_sound rest means e in (r.body, ap (λ b. b ∷ rest) (eqb-true c 34 quote) ∙ ap (λ l. 34 ∷ l) r.whole, r.is_body)
   go false quote e = cc
 
 pub means_unquoted : (text means : List ℕ) → IsQuoted text means → unquoted text ≡ Some means
@@ -113,7 +113,7 @@ raw_is (c ∷ rest) means e = go (c == 34) refl e where
   go true quote e = ap (λ b. b ∷ rest) (eqb-true c 34 quote) ∙ ap (λ l. 34 ∷ l) (before_quote_is rest means e)
   go false quote e = cc
 
--- in each form a text is a string exactly where one is read
+-- if `string_text` gives a text for the bytes after `=`, the bytes are a spelling of this text, in each form of strings
 pub string_is : (strings : Strings) (text means : List ℕ) → string_text strings text ≡ Some means → IsStringSpelling strings text means
 string_is Escaped text means e = unquoted_means text means e
 string_is Raw text means e = raw_is text means e
@@ -145,22 +145,22 @@ number_sound strings tree s symbol text large other empty (Some n) e = number te
 number_sound strings tree s symbol [] large other empty None e = empty
 number_sound strings tree s symbol (b ∷ text) large other empty None e = no_number b text large other e
 
-says_at : (strings : Strings) (tree : Tree) (s : ℕ) (symbol : Symbol) (text : List ℕ) (kind : Kind) → symbol.kind ≡ kind
+means_at_kind : (strings : Strings) (tree : Tree) (s : ℕ) (symbol : Symbol) (text : List ℕ) (kind : Kind) → symbol.kind ≡ kind
     → ValueMeans strings tree s symbol text (meaning_of_kind strings kind (unit_of tree s) s symbol.choice text)
-says_at strings tree s symbol text Boolean is =
+means_at_kind strings tree s symbol text Boolean is =
     tri_sound strings tree s symbol Boolean text is refl symbol.choice refl (tri_of_text Boolean text) (ap (λ k. tri_of_text k text) is)
-says_at strings tree s symbol text Tristate is =
+means_at_kind strings tree s symbol text Tristate is =
     tri_sound strings tree s symbol Tristate text is refl symbol.choice refl (tri_of_text Tristate text) (ap (λ k. tri_of_text k text) is)
-says_at strings tree s symbol text Text is = string_sound strings tree s symbol text is (string_text strings text) refl
-says_at strings tree s symbol text Int is =
+means_at_kind strings tree s symbol text Text is = string_sound strings tree s symbol text is (string_text strings text) refl
+means_at_kind strings tree s symbol text Int is =
     number_sound strings tree s symbol text (ap is_tri_kind is) (λ e. cc) (no_int is) (number_of_text Int text) (ap (λ k. number_of_text k text) is)
-says_at strings tree s symbol text Hex is =
+means_at_kind strings tree s symbol text Hex is =
     number_sound strings tree s symbol text (ap is_tri_kind is) (λ e. cc) (no_hex is) (number_of_text Hex text) (ap (λ k. number_of_text k text) is)
 
--- the text has the meaning that the function returns
-pub value_says : (strings : Strings) (tree : Tree) (s : ℕ) (symbol : Symbol) (text : List ℕ) → ValueMeans strings tree s symbol text
+-- the text after `=` has the meaning that `value_meaning` returns for its symbol
+pub value_means : (strings : Strings) (tree : Tree) (s : ℕ) (symbol : Symbol) (text : List ℕ) → ValueMeans strings tree s symbol text
     (value_meaning strings tree s symbol text)
-value_says strings tree s symbol text = says_at strings tree s symbol text symbol.kind refl
+value_means strings tree s symbol text = means_at_kind strings tree s symbol text symbol.kind refl
 
 is_tri_meant : (kind : Kind) (text : List ℕ) (t : Tri) → tri_of_text kind text ≡ Some t → is_tri_kind kind ≡ true
 is_tri_meant Boolean text t e = refl
@@ -211,37 +211,37 @@ no_meaning : (strings : Strings) (text : List ℕ) (o : Option (List ℕ)) → s
 no_meaning strings text None e lacks = refl
 no_meaning strings text (Some means) e lacks = absurd (lacks means (string_is strings text means e))
 
--- and nothing else
-pub value_said : (strings : Strings) (tree : Tree) (s : ℕ) (symbol : Symbol) (text : List ℕ) (meaning : LineMeaning)
+-- the text after `=` has no other meaning than the one that `value_meaning` returns for its symbol
+pub value_meaning_is : (strings : Strings) (tree : Tree) (s : ℕ) (symbol : Symbol) (text : List ℕ) (meaning : LineMeaning)
     → ValueMeans strings tree s symbol text meaning
     → value_meaning strings tree s symbol text ≡ meaning
-value_said strings tree s symbol text meaning (tri _ t out meant) =
+value_meaning_is strings tree s symbol text meaning (tri _ t out meant) =
     of_tri_kind strings symbol.kind (unit_of tree s) s symbol.choice text (is_tri_meant symbol.kind text t meant)
     ∙ ap (λ o. tri_meaning (unit_of tree s) s symbol.choice o) meant ∙ ap (λ c. tri_meaning (unit_of tree s) s c (Some t)) out
-value_said strings tree s symbol text meaning (chosen c _ within meant) =
+value_meaning_is strings tree s symbol text meaning (chosen c _ within meant) =
     of_tri_kind strings symbol.kind (unit_of tree s) s symbol.choice text (is_tri_meant symbol.kind text Y meant)
     ∙ ap (λ o. tri_meaning (unit_of tree s) s symbol.choice o) meant ∙ ap (λ k. tri_meaning (unit_of tree s) s k (Some Y)) within
-value_said strings tree s symbol text meaning (not_chosen c _ t within meant other) =
+value_meaning_is strings tree s symbol text meaning (not_chosen c _ t within meant other) =
     of_tri_kind strings symbol.kind (unit_of tree s) s symbol.choice text (is_tri_meant symbol.kind text t meant)
     ∙ ap (λ o. tri_meaning (unit_of tree s) s symbol.choice o) meant ∙ ap (λ k. tri_meaning (unit_of tree s) s k (Some t)) within
     ∙ ap (λ b. cond b (assigns (unit_of tree s) (MemberUser s)) silent) (not_y t other)
-value_said strings tree s symbol text meaning (quoted _ means is stands) =
-    ap (λ k. meaning_of_kind strings k (unit_of tree s) s symbol.choice text) is ∙ ap (string_meaning (unit_of tree s)) (string_read strings text means stands)
-value_said strings tree s symbol text meaning (number _ some) =
+value_meaning_is strings tree s symbol text meaning (quoted _ means is is_body) =
+    ap (λ k. meaning_of_kind strings k (unit_of tree s) s symbol.choice text) is ∙ ap (string_meaning (unit_of tree s)) (string_read strings text means is_body)
+value_meaning_is strings tree s symbol text meaning (number _ some) =
     let kinds = number_kind symbol.kind text some in
     of_number_kind strings symbol.kind (unit_of tree s) s symbol.choice text kinds.0 kinds.1
     ∙ ap (λ b. cond b (assigns (unit_of tree s) (TextUser text)) (without_number text)) some
-value_said strings tree s symbol text meaning (no_int is) =
+value_meaning_is strings tree s symbol text meaning (no_int is) =
     ap (λ k. meaning_of_kind strings k (unit_of tree s) s symbol.choice []) is
     ∙ ap (λ o. cond (is_some o) (assigns (unit_of tree s) (TextUser [])) silent) no_int_number
-value_said strings tree s symbol text meaning (no_hex is) =
+value_meaning_is strings tree s symbol text meaning (no_hex is) =
     ap (λ k. meaning_of_kind strings k (unit_of tree s) s symbol.choice []) is
     ∙ ap (λ o. cond (is_some o) (assigns (unit_of tree s) (TextUser [])) silent) no_hex_number
-value_said strings tree s symbol text meaning (no_tri _ small meant) =
+value_meaning_is strings tree s symbol text meaning (no_tri _ small meant) =
     of_tri_kind strings symbol.kind (unit_of tree s) s symbol.choice text small ∙ ap (λ o. tri_meaning (unit_of tree s) s symbol.choice o) meant
-value_said strings tree s symbol text meaning (no_text _ is lacks) =
+value_meaning_is strings tree s symbol text meaning (no_text _ is lacks) =
     ap (λ k. meaning_of_kind strings k (unit_of tree s) s symbol.choice text) is ∙ ap (string_meaning (unit_of tree s))
     (no_meaning strings text (string_text strings text) refl lacks)
-value_said strings tree s symbol text meaning (no_number b rest large other lacks) =
+value_meaning_is strings tree s symbol text meaning (no_number b rest large other lacks) =
     of_number_kind strings symbol.kind (unit_of tree s) s symbol.choice (b ∷ rest) large other
     ∙ ap (λ o. cond (is_some o) (assigns (unit_of tree s) (TextUser (b ∷ rest))) (notice NotOfType)) lacks

@@ -18,7 +18,7 @@ use Rattle.kc_dotconfig_model.specs.declared.notice.NoticeKind.{NoticeKind}
 use Rattle.kc_dotconfig_model.specs.declared.notice.NoticeKind.TheVariants.{UnknownSymbol, NotOfType}
 use Rattle.kc_dotconfig_model.specs.PrefixGrammar.{lacks}
 
--- a user value of a unit, a notice, or nothing
+-- what a line of a configuration file means: it assigns a user value to a unit, it gives a notice, or it does neither
 pub data LineMeaning : Type 0 where
   assigns : (unit : ℕ) (user : UserValue) → LineMeaning
   notice : NoticeKind → LineMeaning
@@ -28,7 +28,7 @@ pub data LineMeaning : Type 0 where
 abbrev pub without_white_end : List ℕ → List ℕ
 without_white_end line = take (length line - suffix_len is_white_byte line) line
 
--- the tristate that a text means: a bool is `y` or `n`, a tristate `y`, `m` or `n`
+-- the tristate that a text means: `y` or `n` for a bool, `y`, `m` or `n` for a tristate; None for any other text or type
 abbrev pub tri_of_text : Kind → List ℕ → Option Tri
 tri_of_text Boolean text = if bytes_eq text (codes "y")
     then Some Y
@@ -38,8 +38,8 @@ tri_of_text Tristate text = if bytes_eq text (codes "y")
     else (if bytes_eq text (codes "m") then Some M else (if bytes_eq text (codes "n") then Some N else None))
 tri_of_text _ text = None
 
--- the meaning of the text after `=`, by the type of the symbol and the form of strings; `n` of a member of a choice and an empty int or hex have
--- none
+-- the text after `=` has this meaning, by the type of the symbol and the form of strings; a value other than `y` for
+-- a member of a choice and an empty int or hex assign nothing and give no notice
 pub data ValueMeans (strings : Strings) (tree : Tree) (s : ℕ) (symbol : Symbol) : List ℕ → LineMeaning → Type 0 where
   tri : (text : List ℕ) (t : Tri) → symbol.choice ≡ None → tri_of_text symbol.kind text ≡ Some t
       → ValueMeans strings tree s symbol text (assigns (unit_of tree s) (TriUser t))
@@ -60,17 +60,18 @@ pub data ValueMeans (strings : Strings) (tree : Tree) (s : ℕ) (symbol : Symbol
   no_number : (b : ℕ) (text : List ℕ) → is_tri_kind symbol.kind ≡ false → symbol.kind ≢ Text
       → number_of_text symbol.kind (b ∷ text) ≡ None → ValueMeans strings tree s symbol (b ∷ text) (notice NotOfType)
 
--- `is not set` assigns `n` to a bool or tristate outside choices, and nothing to another symbol
+-- the meaning of a line `# CONFIG_NAME is not set`: it assigns `n` to a bool or tristate outside choices, and nothing
+-- to any other symbol
 abbrev pub unset_meaning : Tree → ℕ → Symbol → Option ℕ → LineMeaning
 unset_meaning tree s symbol None = if is_tri_kind symbol.kind then assigns (unit_of tree s) (TriUser N) else silent
 unset_meaning tree s symbol (Some c) = silent
 
--- an unset line and its name
+-- the line is `# CONFIG_NAME is not set`, with this prefix and this name
 abbrev pub IsUnsetLine : List ℕ → List ℕ → List ℕ → Type 0
 IsUnsetLine prefix line name = (0 < length name) × (lacks 32 name ≡ true)
     × (line ≡ codes "# " ++ (prefix ++ (name ++ codes " is not set")))
 
--- a line that gives a name the text after `=`
+-- the line is `CONFIG_NAME=text`, with this prefix, this name and this text
 abbrev pub IsValueLine : List ℕ → List ℕ → List ℕ → List ℕ → Type 0
 IsValueLine prefix line name text = (0 < length name) × (lacks 61 name ≡ true)
     × (line ≡ prefix ++ (name ++ (61 ∷ text)))
@@ -92,6 +93,6 @@ pub data Means (format : FileFormat) (tree : Tree) : List ℕ → LineMeaning �
   comment : (line : List ℕ) → find (λ b. not (is_white_byte b)) line ≡ Some 35
       → ((name : List ℕ) → IsUnsetLine format.prefix line name → ⊥) → Means format tree line silent
 
--- a line of none of these forms
+-- the line, without the white bytes at its end, has no meaning
 abbrev pub IsMalformed : FileFormat → Tree → List ℕ → Type 0
 IsMalformed format tree line = (meaning : LineMeaning) → Means format tree (without_white_end line) meaning → ⊥

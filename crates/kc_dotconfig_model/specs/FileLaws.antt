@@ -1,4 +1,4 @@
--- The laws of lines and files.
+-- The laws of configuration files and their lines.
 use Rattle.std.specs.Prelude.{◌≡◌, ◌⊎◌, ◌↔◌, ℕ, ◌+◌, ◌≤◌, true, List, Option, Some, length, slice_get, IsTrue}
 use Rattle.std.specs.Str.{IsUtf8}
 use Rattle.kc_tree_model.specs.Trees.{Tree}
@@ -15,38 +15,38 @@ use Rattle.kc_dotconfig_model.specs.ConfigFiles.{file_lines, has_utf8_lines, Fil
 use Rattle.kc_value.specs.declared.limits.TheConstants.{MAX_CONFIG_BYTES, MAX_CONFIG_LINES, MAX_LINE_BYTES}
 use Rattle.kc_dotconfig_model.specs.LoadFaults.{InputEnd, complete, cut_short, OccursAt, IsFirstFault, IsAccepted, newlines}
 
--- each line has at most one meaning
+-- each line of a configuration file has at most one meaning
 abbrev pub LinesHaveOneMeaning : Type 0
 LinesHaveOneMeaning = (format : FileFormat) (tree : Tree) (line : List ℕ) (a b : LineMeaning) → is_prefix format.prefix ≡ true
     → Means format tree line a → Means format tree line b → a ≡ b
 
--- each file has at most one meaning
+-- the lines of each configuration file have at most one list of meanings
 abbrev pub FilesHaveOneMeaning : Type 0
 FilesHaveOneMeaning = (format : FileFormat) (tree : Tree) (bytes : List ℕ) (a b : List LineMeaning) → is_prefix format.prefix ≡ true
     → FileMeans format tree bytes a → FileMeans format tree bytes b → a ≡ b
 
--- the lines of a file over an assignment are its own assignment over it
+-- reading a configuration file over an assignment gives the same as laying the file's own assignment over it
 abbrev pub FilesLieOverAssignments : Type 0
 FilesLieOverAssignments = (tree : Tree) (meanings : List LineMeaning) (users : List (Option UserValue))
     → length users ≡ length tree.units → assigned_over meanings users ≡ overlay (file_assignment tree meanings) users
 
--- what a file of UTF-8 assigns fits its units
+-- the user values that a configuration file of UTF-8 lines assigns fit their units, over a consistent tree
 abbrev pub FilesFit : Type 0
 FilesFit = (format : FileFormat) (tree : Tree) (bytes : List ℕ) (meanings : List LineMeaning) → IsConsistent tree
     → has_utf8_lines bytes ≡ true → FileMeans format tree bytes meanings
     → FitsUsers (length tree.units) (λ u x. IsTrue (user_fits tree u x)) (file_assignment tree meanings)
 
--- an accepted file has a meaning
+-- each line of an accepted configuration file is understood: it assigns a user value, gives a notice, or does neither
 abbrev pub AcceptedFilesAreRead : Type 0
 AcceptedFilesAreRead = (format : FileFormat) (tree : Tree) (bytes : List ℕ) → is_prefix format.prefix ≡ true
     → IsAccepted format tree bytes → (meanings : List LineMeaning) × FileMeans format tree bytes meanings
 
--- only one fault is the first, with one number of a line
+-- a configuration file has at most one first fault, of one kind and at one line
 abbrev pub OneFaultIsFirst : Type 0
 OneFaultIsFirst = (format : FileFormat) (tree : Tree) (extent : InputEnd) (bytes : List ℕ) (a b : LoadKind) (m n : ℕ)
     → IsFirstFault format tree extent bytes a m → IsFirstFault format tree extent bytes b n → (a ≡ b) × (m ≡ n)
 
--- a file with a first fault isn't accepted
+-- a configuration file with a first fault isn't accepted
 abbrev pub FaultyFilesAreRefused : Type 0
 FaultyFilesAreRefused = (format : FileFormat) (tree : Tree) (bytes : List ℕ) (kind : LoadKind) (number : ℕ)
     → IsFirstFault format tree complete bytes kind number → IsAccepted format tree bytes → ⊥
@@ -58,31 +58,32 @@ FailedReadsAreReported = (format : FileFormat) (tree : Tree) (bytes : List ℕ) 
     ↔ (((kind : LoadKind) (byte other : ℕ) → OccursAt format tree bytes kind byte other → length bytes ≤ byte)
     × (number ≡ newlines bytes + 1))
 
--- a line without a fault of its own
+-- a line of a configuration file has at most `MAX_LINE_BYTES` bytes, is UTF-8, and has a meaning
 pub record IsGoodLine (format : FileFormat) (tree : Tree) (line : List ℕ) : Type 0 where
   pub short : length line ≤ MAX_LINE_BYTES
   pub utf8 : IsUtf8 line
   pub meaning : LineMeaning
-  pub says : Means format tree (without_white_end line) meaning
+  pub has_meaning : Means format tree (without_white_end line) meaning
 
--- a file within the limits, of good lines alone
+-- a configuration file is within the limits of bytes and lines, and each line is within its limit, UTF-8 and not malformed
 pub record IsOfGoodLines (format : FileFormat) (tree : Tree) (bytes : List ℕ) : Type 0 where
   pub small : length bytes ≤ MAX_CONFIG_BYTES
   pub few : length (file_lines bytes) ≤ MAX_CONFIG_LINES
   pub good : (i : ℕ) (line : List ℕ) → slice_get (file_lines bytes) i ≡ Some line → IsGoodLine format tree line
 
--- just these files are accepted
+-- a configuration file is accepted exactly if it is within the limits of bytes and lines, and each of its lines is
+-- within its limit, UTF-8 and not malformed
 abbrev pub AcceptedFilesHaveGoodLines : Type 0
 AcceptedFilesHaveGoodLines = (format : FileFormat) (tree : Tree) (bytes : List ℕ) → is_prefix format.prefix ≡ true
     → IsAccepted format tree bytes ↔ IsOfGoodLines format tree bytes
 
--- each file is accepted or has a first fault
+-- each configuration file is accepted or has a first fault
 abbrev pub EachFileIsJudged : Type 0
 EachFileIsJudged = (format : FileFormat) (tree : Tree) (bytes : List ℕ) → is_prefix format.prefix ≡ true
     → IsAccepted format tree bytes
     ⊎ ((kind : LoadKind) × (number : ℕ) × IsFirstFault format tree complete bytes kind number)
 
--- each file that a failed read cut short has a first fault
+-- each configuration file that a failed read cut short has a first fault
 abbrev pub EachCutFileIsJudged : Type 0
 EachCutFileIsJudged = (format : FileFormat) (tree : Tree) (bytes : List ℕ) → is_prefix format.prefix ≡ true
     → (kind : LoadKind) × (number : ℕ) × IsFirstFault format tree cut_short bytes kind number

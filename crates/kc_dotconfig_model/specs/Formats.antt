@@ -4,25 +4,26 @@ use Rattle.kc_value.specs.QuotedTexts.{quoted, IsQuoted}
 use Rattle.kc_dotconfig_model.specs.declared.format.Strings.{Strings}
 use Rattle.kc_dotconfig_model.specs.declared.format.Strings.TheVariants.{Escaped, Raw}
 
--- the prefix of names, such as `CONFIG_`, and the form of strings
+-- the format of a configuration file: the prefix of names, such as `CONFIG_`, and the form of strings
 pub record FileFormat : Type 0 where
   pub prefix : List ℕ
   pub strings : Strings
 
--- the format of Linux's files
+-- the format of Linux's configuration files: the prefix `CONFIG_`, and escaped strings
 abbrev pub plain_format : FileFormat
 plain_format = record { prefix = codes "CONFIG_"; strings = Escaped }
 
--- a text between two quotes, as it is (u-boot's `conf`)
+-- a text between two quotes, without escapes (U-Boot's `conf`)
 abbrev pub between_quotes : List ℕ → List ℕ
 between_quotes text = 34 ∷ (text ++ 34 ∷ [])
 
--- how a string is written after `=`: escaped as in Kconfiglib's `escape`, or raw
+-- how a string is written after the `=` of a line `CONFIG_NAME=`, in quotes: escaped as in Kconfiglib's `escape`, or raw
 abbrev pub string_spelling : Strings → List ℕ → List ℕ
 string_spelling Escaped text = quoted text
 string_spelling Raw text = between_quotes text
 
--- what is after `=` is a string, and this is its text
+-- a spelling (the first list) is how a line `CONFIG_NAME=` may write a string, escaped or raw, and the second list is the
+-- string's text
 abbrev pub IsStringSpelling : Strings → List ℕ → List ℕ → Type 0
 IsStringSpelling Escaped spelling text = IsQuoted spelling text
 IsStringSpelling Raw spelling text = spelling ≡ between_quotes text

@@ -5,7 +5,7 @@ use Rattle.kc_dotconfig_model.specs.declared.fault.LoadKind.TheVariants.{Malform
 use Rattle.kc_dotconfig_model.specs.declared.notice.NoticeKind.{NoticeKind}
 use Rattle.kc_dotconfig_model.specs.declared.notice.NoticeKind.TheVariants.{UnknownSymbol, NotOfType}
 
--- the name of a kind of load fault
+-- the name of a kind of load fault, as its variant is called
 abbrev pub load_kind_name : LoadKind → List ℕ
 load_kind_name Malformed = codes "Malformed"
 load_kind_name NotUtf8 = codes "NotUtf8"
@@ -15,7 +15,7 @@ load_kind_name Read = codes "Read"
 load_kind_name OutOfMemory = codes "OutOfMemory"
 load_kind_name TooLarge = codes "TooLarge"
 
--- the name of a kind of notice
+-- the name of a kind of notice, as its variant is called
 abbrev pub notice_kind_name : NoticeKind → List ℕ
 notice_kind_name UnknownSymbol = codes "UnknownSymbol"
 notice_kind_name NotOfType = codes "NotOfType"

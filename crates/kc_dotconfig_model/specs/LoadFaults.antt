@@ -10,11 +10,11 @@ use Rattle.kc_dotconfig_model.specs.declared.fault.LoadKind.TheVariants.{Malform
 use Rattle.kc_dotconfig_model.specs.PrefixGrammar.{lacks}
 use Rattle.kc_dotconfig_model.specs.ConfigLines.{IsMalformed}
 
--- the number of newlines
+-- the number of newlines in some bytes
 abbrev pub newlines : List ℕ → ℕ
 newlines bytes = count_by (λ b. b == 10) bytes
 
--- a line of a file, its number and the place of its first byte; the newline after it isn't part of it
+-- `line` is the line of the file with this number, counted from 1, and its first byte is at `start`; its newline isn't part of it
 pub record IsLineAt (bytes line : List ℕ) (number start : ℕ) : Type 0 where
   pub front : List ℕ
   pub rest : List ℕ
@@ -25,7 +25,8 @@ pub record IsLineAt (bytes line : List ℕ) (number start : ℕ) : Type 0 where
   pub ends : ((rest ≡ []) × (0 < length line)) ⊎ ((later : List ℕ) × (rest ≡ 10 ∷ later))
   pub one_line : lacks 10 line ≡ true
 
--- a fault of this kind occurs at this byte, and is reported with this line
+-- in a complete file of these bytes, a fault of this kind occurs at the byte of the first number, counted from 0, and
+-- is reported with the line of the second number, counted from 1
 abbrev pub OccursAt : FileFormat → Tree → List ℕ → LoadKind → ℕ → ℕ → Type 0
 OccursAt format tree bytes TooLarge byte number = (MAX_CONFIG_BYTES < length bytes) × (byte ≡ MAX_CONFIG_BYTES)
     × (number ≡ newlines (take MAX_CONFIG_BYTES bytes) + 1)
@@ -40,7 +41,7 @@ OccursAt format tree bytes Malformed byte number = (line : List ℕ) × (start :
 OccursAt format tree bytes Read byte number = ⊥
 OccursAt format tree bytes OutOfMemory byte number = ⊥
 
--- the order of kinds that come at one byte
+-- the rank of a kind of fault: of several faults at the same byte the one of the lowest rank is the first
 abbrev pub rank_of : LoadKind → ℕ
 rank_of TooLarge = 0
 rank_of TooManyLines = 1
@@ -50,19 +51,20 @@ rank_of Malformed = 4
 rank_of Read = 5
 rank_of OutOfMemory = 6
 
--- whether the file ends after these bytes, or a read failed there
+-- whether a configuration file ends after the bytes that were read, or a read failed there
 pub data InputEnd : Type 0 where
   complete : InputEnd
   cut_short : InputEnd
 
--- The faults considered: all of them in a complete file; after a failed read those placed before it, then the
--- failed read itself. So an incomplete last line can only be too long or one line too many.
+-- A fault of this kind, byte and line may be the first one: in a complete file any that occurs; after a failed read any at a byte
+-- before it, and the failed read itself. So the line that a failed read cuts can only be too long or one line too many.
 abbrev pub IsConsideredAt : FileFormat → Tree → InputEnd → List ℕ → LoadKind → ℕ → ℕ → Type 0
 IsConsideredAt format tree complete bytes kind byte number = OccursAt format tree bytes kind byte number
 IsConsideredAt format tree cut_short bytes kind byte number =
     (OccursAt format tree bytes kind byte number × (byte < length bytes)) ⊎ ((kind ≡ Read) × (byte ≡ length bytes) × (number ≡ newlines bytes + 1))
 
--- the first fault of a file, which is complete or was cut short by a failed read
+-- the first fault of the configuration file, which is complete or was cut short by a failed read, has this kind and
+-- this line number
 pub record IsFirstFault (format : FileFormat) (tree : Tree) (extent : InputEnd) (bytes : List ℕ) (kind : LoadKind) (number : ℕ) : Type 0 where
   pub byte : ℕ
   pub comes : IsConsideredAt format tree extent bytes kind byte number
@@ -70,7 +72,7 @@ pub record IsFirstFault (format : FileFormat) (tree : Tree) (extent : InputEnd) 
       → IsConsideredAt format tree extent bytes other other_byte other_number
       → (byte < other_byte) ⊎ ((byte ≡ other_byte) × (rank_of kind ≤ rank_of other))
 
--- a file without a fault
+-- no fault occurs in the configuration file
 abbrev pub IsAccepted : FileFormat → Tree → List ℕ → Type 0
 IsAccepted format tree bytes =
     (kind : LoadKind) (byte number : ℕ) → IsConsideredAt format tree complete bytes kind byte number → ⊥

@@ -1,4 +1,4 @@
--- Assignments that aren't the values that they are given.
+-- Symbols that don't have the value that a configuration file assigns to them.
 use Rattle.std.specs.Prelude.{ℕ, Bool, true, false, not, ◌&&◌, List, Option, Some, None, ◌==◌, slice_get, filter, unwrap_or}
 use Rattle.std.specs.Option.{option_map}
 use Rattle.kc_tree_model.specs.Trees.{Tree, Symbol}
@@ -11,25 +11,26 @@ use Rattle.kc_rules_model.specs.declared.values.UserValue.TheVariants.{Tri as Tr
 use Rattle.kc_rules_model.specs.Equality.{value_is}
 use Rattle.kc_rules_model.specs.Reports.{symbol_numbers}
 
--- whether a unit's user value, if any, is its value
+-- whether a unit has no user value, or its value is its user value
 abbrev pub is_met : Option UserValue → Option UnitValue → Bool
 is_met None value = true
 is_met (Some (TriUser t)) value = value_is value (TriValue t)
 is_met (Some (TextUser text)) value = value_is value (TextValue text)
 is_met (Some (MemberUser s)) value = value_is value (MemberValue (Some s))
 
--- a symbol outside choices whose assignment isn't its value, or the user's member of a choice that isn't selected
+-- whether a symbol doesn't have its assigned value, by its choice (None outside choices), its number, and its unit's
+-- user value and value; of a choice only the member that the user value selects can be missed
 abbrev pub is_missed_as : Option ℕ → ℕ → Option UserValue → Option UnitValue → Bool
 is_missed_as None s user value = not (is_met user value)
 is_missed_as (Some c) s (Some (MemberUser member)) value = (member == s)
     && not (is_met (Some (MemberUser member)) value)
 is_missed_as (Some c) s _ value = false
 
--- whether a symbol of this number is there and missed
+-- whether the tree has a symbol of this number, and it doesn't have its assigned value
 abbrev pub is_missed : Tree → List (Option UserValue) → List UnitValue → ℕ → Bool
 is_missed tree users values s =
     unwrap_or (option_map (λ (symbol : Symbol). is_missed_as symbol.choice s (user_of users (unit_of tree s)) (slice_get values (unit_of tree s))) (slice_get tree.symbols s)) false
 
--- in order of first definition
+-- the numbers of the symbols that don't have their assigned values, in order of first definition
 abbrev pub missed : Tree → List (Option UserValue) → List UnitValue → List ℕ
 missed tree users values = filter (is_missed tree users values) (symbol_numbers tree)

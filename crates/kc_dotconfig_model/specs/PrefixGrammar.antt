@@ -4,10 +4,10 @@ use Rattle.std.specs.List.{list_all}
 use Rattle.kc_value.specs.declared.limits.TheConstants.{MAX_PREFIX_BYTES}
 use Rattle.kc_tree_model.specs.TreeLookup.{is_name_byte}
 
--- 1 to `MAX_PREFIX_BYTES` letters, digits and `_`
+-- whether a text can be the prefix of names: 1 to `MAX_PREFIX_BYTES` letters, digits and `_`
 abbrev pub is_prefix : List ℕ → Bool
 is_prefix text = nat_lt 0 (length text) && nat_le (length text) MAX_PREFIX_BYTES && list_all is_name_byte text
 
--- no byte of the text is this one
+-- whether a byte doesn't occur in a text
 abbrev pub lacks : ℕ → List ℕ → Bool
 lacks b text = list_all (λ c. not (c == b)) text

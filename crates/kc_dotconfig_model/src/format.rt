@@ -6,7 +6,7 @@ use super::prefix::Prefix;
 /// The form of strings in configuration files.
 #[derive(Clone, Copy, Debug, PartialEq, Eq)]
 pub enum Strings {
-    /// Between two `"`, with a `\` before each `"` and each `\` of the text, as Linux's tools write them.
+    /// The text between two `"`, with a `\` before each `"` and each `\` of the text, as Linux's tools write it.
     Escaped,
     /// The text as it is between two `"`, as U-Boot's tools write it. The first byte after `=` and the last
     /// byte of the line are these two; another `"` or a `\` between them is part of the text.

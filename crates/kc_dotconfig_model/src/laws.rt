@@ -1,24 +1,24 @@
-//! Laws of lines and files.
+//! Laws of configuration files and their lines.
 ghost use Rattle.kc_dotconfig_model.specs.between.LineMeaningLaws.{LinesAreRead, FilesAreRead};
 ghost use Rattle.kc_dotconfig_model.specs.FileLaws.{LinesHaveOneMeaning, FilesHaveOneMeaning, FilesLieOverAssignments, FilesFit, AcceptedFilesAreRead, OneFaultIsFirst, FaultyFilesAreRefused, FailedReadsAreReported, AcceptedFilesHaveGoodLines, EachFileIsJudged, EachCutFileIsJudged};
 
-/// A line has at most one meaning, and so has a file.
+/// A line of a configuration file has at most one meaning, and so has a file.
 pub fn lines_have_one_meaning()
     ensures line { LinesHaveOneMeaning }
     ensures file { FilesHaveOneMeaning }
 {}
 
-/// The meaning of a line as a relation is that of the function with which worked examples compute.
+/// The function `line_meaning` gives a meaning for a line exactly if the relation `Means` holds of the two.
 pub fn lines_are_read()
     ensures { LinesAreRead }
 {}
 
-/// The meaning of a file as a relation is that of the function.
+/// The function `file_meanings` gives a list of meanings for a file exactly if the relation `FileMeans` holds of the two.
 pub fn files_are_read()
     ensures { FilesAreRead }
 {}
 
-/// Reading a file over an assignment is laying its own assignment over it.
+/// Reading a configuration file over an assignment gives the same as laying the file's own assignment over it.
 pub fn files_lie_over_assignments()
     ensures { FilesLieOverAssignments }
 {}
@@ -28,17 +28,17 @@ pub fn files_fit()
     ensures { FilesFit }
 {}
 
-/// An accepted file has a meaning.
+/// Each line of an accepted configuration file is understood: it assigns a user value, gives a notice, or does neither.
 pub fn accepted_files_are_read()
     ensures { AcceptedFilesAreRead }
 {}
 
-/// Only one fault of a file is the first, with one number of a line.
+/// A configuration file has at most one first fault, of one kind and at one line.
 pub fn one_fault_is_first()
     ensures { OneFaultIsFirst }
 {}
 
-/// A file with a first fault isn't accepted.
+/// A configuration file with a first fault isn't accepted.
 pub fn faulty_files_are_refused()
     ensures { FaultyFilesAreRefused }
 {}
@@ -54,7 +54,7 @@ pub fn accepted_files_have_good_lines()
     ensures { AcceptedFilesHaveGoodLines }
 {}
 
-/// Each file is accepted or has a first fault, and each that a failed read cut short has one.
+/// Each configuration file is accepted or has a first fault, and each that a failed read cut short has a first fault.
 pub fn each_file_is_judged()
     ensures whole { EachFileIsJudged }
     ensures cut { EachCutFileIsJudged }

@@ -49,8 +49,8 @@ impl Prefix {
         Prefix { bytes, len: 7 }
     }
 
-    /// The prefix of these bytes; `None` where they are none, more than `MAX_PREFIX_BYTES`, or have another byte
-    /// than letters, digits and `_`.
+    /// The prefix whose bytes are `text`; `None` if it is empty, longer than `MAX_PREFIX_BYTES`, or has another byte than
+    /// letters, digits and `_`.
     pub fn of(text: &[u8]) -> Option<Prefix>
         ensures valid { IsSome result ↔ IsTrue (is_prefix text.now) }
         ensures text { IfSome result (λ prefix. prefix_bytes prefix ≡ text.now) }

@@ -28,7 +28,7 @@ use Rattle.kc_tree_model.specs.Placement.{is_allowed, is_left_out, is_stray_end,
 use Rattle.kc_tree_model.specs.Limits.{is_in_list, is_too_deep, is_too_many}
 use Rattle.kc_tree_model.specs.TreeReading.{statement_by_keyword, statement_by_word, statement_of_tokens, statement_or_fault, statement_on_line, path_to_read}
 use Rattle.kc_tree_model.proofs.HelpLines.{help_alike}
-use Rattle.kc_tree_model.proofs.NestedTrees.LineFits.{unless_ok, bind_ok}
+use Rattle.kc_tree_model.proofs.NestedTrees.LineFits.{fault_if_ok, bind_ok}
 use Rattle.kc_macros_model.specs.Limits.{max_text_bytes}
 use Rattle.kc_macros_model.specs.LineTokens.{LineToken, line_tokens}
 use Rattle.kc_macros_model.specs.WrittenTokens.{is_keyword, inner_keywords, WrittenToken, a_word, a_quoted, an_other, written_as}
@@ -196,12 +196,12 @@ HasStatement language read (p ∷ ps) (Some s) = IsStatement language read p ps 
 keyword_statement : (language : Language) (read : List Group) (k : Keyword) (p : Lexeme) (ps : List Lexeme) (o : Option Statement) → keyword_of p ≡ Some k
     → statement_by_keyword language read k ps ≡ Ok o → HasStatement language read (p ∷ ps) o
 keyword_statement language read k p ps o first h =
-    let a = unless_ok (is_left_out language read k ps) LeftOut _ o h in
-    let b = unless_ok (not (is_allowed read k)) Misplaced _ o a.1 in
-    let c = unless_ok (is_stray_end read k) StrayEnd _ o b.1 in
+    let a = fault_if_ok (is_left_out language read k ps) LeftOut _ o h in
+    let b = fault_if_ok (not (is_allowed read k)) Misplaced _ o a.1 in
+    let c = fault_if_ok (is_stray_end read k) StrayEnd _ o b.1 in
     let d = bind_ok (statement_of k ps) _ o c.1 in
-    let e = unless_ok (is_too_deep read d.0) TooDeep _ o d.2 in
-    let f = unless_ok (is_too_many read d.0) TooMany _ o e.1 in
+    let e = fault_if_ok (is_too_deep read d.0) TooDeep _ o d.2 in
+    let f = fault_if_ok (is_too_many read d.0) TooMany _ o e.1 in
     let same : Some d.0 ≡ o = cc in
     subst (HasStatement language read (p ∷ ps)) same (record { keyword = k; first = first; kept = a.0; form = d.1 })
 
@@ -441,7 +441,7 @@ source_parts (t ∷ ts) s h = by_path (path_of t) ts refl h
         let is : head (source path) ≡ s = cc in (path, record { token = t; parts = refl; means = e }, sym (ap (λ x. path_to_read (Some x)) is))
     by_path (Some path) (u ∷ us) e h = let z : ⊥ = cc in absurd z
 
--- the form of a line that sources a path, or none
+-- a line with these tokens is a `source` line of this one path, which has no `*`, `?` or `[`
 pub record IsPlainPath (real : List WrittenToken) (path : List ℕ) : Type 0 where
   pub one : plain_path real ≡ Some path
   pub no_pattern : is_pattern path ≡ false
@@ -692,7 +692,8 @@ keyword_first language read (p ∷ ps) None h = absurd h
 keyword_first language read (p ∷ ps) (Some s) h =
     let key = keyword_is p h.keyword h.first in ap (λ j. is_word_kind j && is_keyword p.text) key.word ∙ keyword_known p.text h.keyword key.entry
 
--- a line of which the reader makes this statement, and which is no line of a help text
+-- a line that the reader accepts outside help texts: nothing in it is expanded or assigned, and it sources this path, or is in no
+-- form that the expansion writes anew
 pub record IsAcceptedLine (text : List ℕ) (path : Option (List ℕ)) : Type 0 where
   pub short : nat_lt max_text_bytes (length text) ≡ false
   pub utf8 : is_utf8 text ≡ true

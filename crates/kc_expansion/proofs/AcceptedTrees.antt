@@ -249,7 +249,7 @@ module _ (w : World) (r : FileSource) (among : AreAmong r.bytes w.bytes) where
     own : AreFilesIn s.expanded
     files : s.files ≡ length (files_read r read)
     bytes : s.bytes ≡ sum_by (size_in r) (files_read r read)
-    met : (path : List ℕ) → (has_key s.expanded path || is_in_list path opened) ≡ is_in_list path (files_read r read)
+    keys_are : (path : List ℕ) → (has_key s.expanded path || is_in_list path opened) ≡ is_in_list path (files_read r read)
 
   same_follows : {opened : List (List ℕ)} {s : ReadingState} (read more : List Group) → filter_map sourced_path more ≡ filter_map sourced_path read
       → Follows read opened s → Follows more opened s
@@ -258,7 +258,7 @@ module _ (w : World) (r : FileSource) (among : AreAmong r.bytes w.bytes) where
         own = f.own;
         files = f.files ∙ ap (λ ps. length (r.root ∷ ps)) (sym e);
         bytes = f.bytes ∙ ap (λ ps. sum_by (size_in r) (r.root ∷ ps)) (sym e);
-        met = λ path. f.met path ∙ ap (λ ps. is_in_list path (r.root ∷ ps)) (sym e);
+        keys_are = λ path. f.keys_are path ∙ ap (λ ps. is_in_list path (r.root ∷ ps)) (sym e);
       }
 
   -- the same files are open
@@ -546,8 +546,8 @@ module _ (w : World) (r : FileSource) (among : AreAmong r.bytes w.bytes) where
     abbrev new : ExpandedFile
     new = record { key = path; path = path; text = p.text }
 
-    met_before : (x : List ℕ) → has_key before path ≡ true → (has_key before x || is_in_list x opened) ≡ is_in_list x (files_read r read)
-    met_before x k = by_test (bytes_eq path x) refl ∙ q.state.met x
+    known_before : (x : List ℕ) → has_key before path ≡ true → (has_key before x || is_in_list x opened) ≡ is_in_list x (files_read r read)
+    known_before x k = by_test (bytes_eq path x) refl ∙ q.state.keys_are x
       where
         by_test : (b : Bool) → bytes_eq path x ≡ b → (has_key before x || is_in_list x opened) ≡ (has_key before x || (bytes_eq path x || is_in_list x opened))
         by_test true e =
@@ -555,9 +555,9 @@ module _ (w : World) (r : FileSource) (among : AreAmong r.bytes w.bytes) where
             ap (λ b. b || is_in_list x opened) here ∙ sym (ap (λ b. b || (bytes_eq path x || is_in_list x opened)) here)
         by_test false e = sym (ap (λ b. has_key before x || (b || is_in_list x opened)) e)
 
-    met_after : (x : List ℕ) → (has_key (before ++ new ∷ []) x || is_in_list x opened) ≡ is_in_list x (files_read r read)
-    met_after x = ap (λ b. b || is_in_list x opened) (list_any-append (λ (f : ExpandedFile). bytes_eq f.key x) before (new ∷ []))
-        ∙ one_more (has_key before x) (bytes_eq path x) (is_in_list x opened) ∙ q.state.met x
+    known_after : (x : List ℕ) → (has_key (before ++ new ∷ []) x || is_in_list x opened) ≡ is_in_list x (files_read r read)
+    known_after x = ap (λ b. b || is_in_list x opened) (list_any-append (λ (f : ExpandedFile). bytes_eq f.key x) before (new ∷ []))
+        ∙ one_more (has_key before x) (bytes_eq path x) (is_in_list x opened) ∙ q.state.keys_are x
       where
         one_more : (a b c : Bool) → ((a || (b || false)) || c) ≡ (a || (b || c))
         one_more true b c = refl
@@ -575,12 +575,12 @@ module _ (w : World) (r : FileSource) (among : AreAmong r.bytes w.bytes) where
         }
       where
         by_test : (b : Bool) → has_key before path ≡ b → Follows read opened (record p.state { expanded = cond b before (before ++ new ∷ []) })
-        by_test true e = record { own = q.state.own; files = q.state.files; bytes = q.state.bytes; met = λ x. met_before x e }
+        by_test true e = record { own = q.state.own; files = q.state.files; bytes = q.state.bytes; keys_are = λ x. known_before x e }
         by_test false e = record {
           own = one_more_in before new q.state.own (record { key = refl; text = holds });
           files = q.state.files;
           bytes = q.state.bytes;
-          met = met_after;
+          keys_are = known_after;
         }
 
   -- a source that has no fault for the reader has none for the expansion
@@ -616,7 +616,7 @@ module _ (w : World) (r : FileSource) (among : AreAmong r.bytes w.bytes) where
         own = f.own;
         files = omega (arith, f.files);
         bytes = omega (arith, f.bytes, size, before, after, inner);
-        met = λ x. more_of (has_key s.expanded x) (bytes_eq path x) (is_in_list x opened) (bytes_eq r.root x) (is_in_list x paths) (f.met x);
+        keys_are = λ x. more_of (has_key s.expanded x) (bytes_eq path x) (is_in_list x opened) (bytes_eq r.root x) (is_in_list x paths) (f.keys_are x);
       }
 
   source_opens : (start read : List Group) (opened : List (List ℕ)) (at : Position) (path : List ℕ) → Since start read → AreOpen start opened
@@ -663,7 +663,7 @@ module _ (w : World) (r : FileSource) (among : AreAmong r.bytes w.bytes) where
   -- the whole tree
   record IsTree (read : List Group) (fs : List ExpandedFile) : Type 0 where
     own : AreFilesIn fs
-    met : (path : List ℕ) → has_key fs path ≡ is_in_list path (files_read r read)
+    keys_are : (path : List ℕ) → has_key fs path ≡ is_in_list path (files_read r read)
 
   root_gives : (bytes : List ℕ) → r.bytes r.root ≡ Some bytes → (read_root r (Some bytes)).fault ≡ None
       → Gives w (IsTree (read_root r (Some bytes)).read) (root_read r.root initial_state (Some bytes))
@@ -678,7 +678,7 @@ module _ (w : World) (r : FileSource) (among : AreAmong r.bytes w.bytes) where
       begins : Follows [] (r.root ∷ []) (counted (length bytes) initial_state)
       begins =
           let size : size_in r r.root ≡ length bytes = ap (λ o. length (elim o as (λ _. List ℕ) [ None ↦ [] | Some bytes ↦ bytes ])) there in
-          record { own = no_files_in; files = refl; bytes = omega (arith, size, sum_by-cons (size_in r) r.root []); met = λ path. refl }
+          record { own = no_files_in; files = refl; bytes = omega (arith, size, sum_by-cons (size_in r) r.root []); keys_are = λ path. refl }
 
       lines : whole.fault ≡ None → Gives w (IsRead bytes whole.read (r.root ∷ []))
           (lines_read deeper r.root 0 1 (split_at_newlines bytes) (counted (length bytes) initial_state))
@@ -701,8 +701,8 @@ module _ (w : World) (r : FileSource) (among : AreAmong r.bytes w.bytes) where
           (λ p q. record {
             own = one_more_in p.state.expanded (record { key = r.root; path = r.root; text = p.text }) q.state.own
                 (record { key = refl; text = there ∙ ap Some (sym q.text) });
-            met = λ path. list_any-append (λ (f : ExpandedFile). bytes_eq f.key path) p.state.expanded
-                (record { key = r.root; path = r.root; text = p.text } ∷ []) ∙ q.state.met path;
+            keys_are = λ path. list_any-append (λ (f : ExpandedFile). bytes_eq f.key path) p.state.expanded
+                (record { key = r.root; path = r.root; text = p.text } ∷ []) ∙ q.state.keys_are path;
           })
 
   tree_gives : (o : Option (List ℕ)) → r.bytes r.root ≡ o → (read_root r o).fault ≡ None → Gives w (IsTree (read_root r o).read) (tree_read r.root)
@@ -758,11 +758,11 @@ accepted_trees_stay w files root h among =
       expanded = q.value;
       ending = q.ending;
       own = all_in w files root among q.holds.own;
-      met = q.holds.met;
-      texts = λ path. texts_in w files root among q.holds.own path ∙ ap (λ b. cond b (file_at files path) None) (q.holds.met path);
+      keys_are = q.holds.keys_are;
+      texts = λ path. texts_in w files root among q.holds.own path ∙ ap (λ b. cond b (file_at files path) None) (q.holds.keys_are path);
     }
 
--- no question is wanted
+-- the expansion of a tree that the reader accepts asks no question
 pub accepted_trees_want_nothing : AcceptedTreesWantNothing
 unfolding wanted
 accepted_trees_want_nothing w files root h among =

@@ -17,7 +17,7 @@ use Rattle.kc_expansion.proofs.SourceFaultLemmas.{in_reverse}
 abbrev Entry : Type 0
 Entry = Vec ℕ Global × Unit {0}
 
--- whether there is a name
+-- a name is found in the map of the names of choices exactly if it is in the list of those names
 pub name_is_there : (name : List ℕ) (es : List Entry) → is_some (lookup (λ (k : Vec ℕ Global). bytes_eq name k.items) es)
     ≡ is_in_list name (reverse (map name_of_entry es))
 name_is_there name es = in_order es ∙ sym (in_reverse name (map name_of_entry es))
@@ -53,7 +53,7 @@ pub name_inserted : (es : List Entry) (k : Vec ℕ Global) (v : Unit {0}) → is
 name_inserted es k v h = ap reverse (last_inserted es k v (sym (in_reverse k.items (map name_of_entry es)) ∙ h))
     ∙ reverse-append (map name_of_entry es) (k.items ∷ [])
 
--- a line of a choice whose name is there, or not yet
+-- a line that names a choice whose name was read before is written as its tokens are, and the names of choices stay
 pub later_choice : (ts : List WrittenToken) (name t : List ℕ) (s : ReadingState) (names : List (List ℕ)) → s.choices ≡ names → is_in_list name names ≡ true
     → t ≡ line_bytes ts
     → choice_written ts name s ≡ progress t (record s { choices = names })

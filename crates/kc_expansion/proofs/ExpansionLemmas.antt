@@ -39,7 +39,7 @@ module _ (contents : TreeContents) (b : FileRun) (answers : Recorded) (root : Li
     abbrev here : World
     here = world_of contents b.known answers as_known
 
-    -- the expansion that was read
+    -- a run of the code that reads a tree to an end gives the expansion of the tree, with the notices of the run
     pub expansion_read : (notices : List Notice) (tree : Result (List ExpandedFile) Fault) → notices ≡ b.run.notices
         → Reaches b.known (run_at_start answers true) b.run (tree_read root) (ends (ending_of tree)) → IsExpansion contents answers root notices tree
     unfolding expansion
@@ -54,7 +54,8 @@ module _ (contents : TreeContents) (b : FileRun) (answers : Recorded) (root : Li
           ends_so = run.ending;
         }
 
-    -- the questions that were met
+    -- a run of the code that reads a tree to an end gives the wanted answers of the tree: the questions of the run, or its fault
+    -- where there are none
     pub wanted_read : (questions : List (List ℕ)) (e : Ending (List ExpandedFile)) → questions ≡ b.run.questions
         → Reaches b.known (run_at_start answers false) b.run (tree_read root) (ends e) → AreWanted contents answers root (questions_or_fault questions e)
     unfolding wanted
@@ -70,7 +71,7 @@ module _ (contents : TreeContents) (b : FileRun) (answers : Recorded) (root : Li
               ∙ ap (questions_or_fault questions) run.ending;
         }
 
-    -- an expansion doesn't stop for want of an answer
+    -- the reading of a tree for its expansion doesn't stop at a question without an answer
     pub never_stopped : Reaches b.known (run_at_start answers true) b.run (tree_read root) (ends stopped) → ⊥
     unfolding expansion
     never_stopped r =
@@ -85,7 +86,7 @@ module _ (contents : TreeContents) (b : FileRun) (answers : Recorded) (root : Li
     goes_on view (Err kinds.Unanswered) h = never_stopped h
     goes_on view (Err kinds.OutOfMemory) h = tt
 
--- a reading from nothing
+-- a run of a program that begins with no known files grows from no known files, and reaches its end from the state at the start
 pub from_start : {A : Type 0} (a b : FileRun) (answers : Recorded) (all_answered : Bool) (p : Program A) (e : RunEnd A) → a.known ≡ nothing_known
     → a.run ≡ run_at_start answers all_answered → Reads a b p e
     → Grows a.contents nothing_known b.known × Reaches b.known (run_at_start answers all_answered) b.run p e
@@ -94,14 +95,14 @@ from_start a b answers all_answered p e k r h = (
   subst (λ (x : RunState). Reaches b.known x b.run p e) r h.reaches,
 )
 
--- how a reading ended for which there was memory
+-- a result of a reading that isn't out of memory is an end of the definitions: a value, a fault or a stop
 pub end_there : {X : Type 0} (view : X → List ExpandedFile) (r : Result X Stop) → HasEnded r → (e : Ending (List ExpandedFile)) × (end_of view r ≡ ends e)
 end_there view (Ok x) h = (returned (view x), refl)
 end_there view (Err (kinds.Fault f)) h = (failed (fault_of f), refl)
 end_there view (Err kinds.Unanswered) h = (stopped, refl)
 end_there view (Err kinds.OutOfMemory) h = absurd h
 
--- what is given for the questions that were met
+-- where the code's result has the questions or the fault of a reading of a tree, it is what is wanted of the tree
 pub wanted_of : {X V E : Type 0} (contents : TreeContents) (b : FileRun) (answers : Recorded) (root : List ℕ) (grows : Grows contents nothing_known b.known)
     (view : X → List ExpandedFile) (r : Result X Stop) (of : V → Result (List (List ℕ)) Fault) (result : Result V E) (questions : List (List ℕ))
     → questions ≡ b.run.questions → Reaches b.known (run_at_start answers false) b.run (tree_read root) (end_of view r) → OnOk result (HasEnded r)
@@ -113,7 +114,7 @@ wanted_of contents b answers root grows view r of (Ok w) questions q h ended k =
     (subst (Reaches b.known (run_at_start answers false) b.run (tree_read root)) i h))
 wanted_of contents b answers root grows view r of (Err x) questions q h ended k = tt
 
--- the first file goes last
+-- where the lines of the first file are read, the expanded files are those that were sourced with the first file after them
 pub root_ends : {X : Type 0} (b c : FileRun) (p : Program Progress) (root : List ℕ) (s : ReadingState) (view : X → List ℕ) (r : Result X Stop)
     → Reads b c p (end_of (λ x. progress (view x) s) r)
     → Reads b c (p >>= λ q. returns (q.state.expanded ++ record { key = root; path = root; text = q.text } ∷ []))
@@ -165,7 +166,7 @@ unfolding tree_read
 root_leads a b root s read q i same grows run known h =
     leads_read a b root (root_read root initial_state) q read same grows run known (λ bytes e. ap (λ t. root_read root t bytes) (sym i) ∙ h bytes e)
 
--- a tree has no more expanded files than files may be read
+-- an expansion returns no more expanded files than files may be read for a tree
 pub few_files : (contents : TreeContents) (answers : Recorded) (root : List ℕ) (notices : List Notice) (tree : Result (List ExpandedFile) MacroFault)
     → IsExpansion contents answers root notices (tree_of tree) → IfOk tree (λ files. length files ≤ max_files)
 few_files contents answers root notices (Ok files) e = files_are_bounded e.world root files e.ends_so

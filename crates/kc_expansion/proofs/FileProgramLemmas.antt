@@ -42,7 +42,7 @@ grows_then a b c h g k =
     let later : Grows a.contents b.known c.known = subst (λ (t : TreeContents). Grows t b.known c.known) h k in
     record { worlds = λ w x. g.worlds w (later.worlds w x); matched = λ x. later.matched (g.matched x) }
 
--- a run that reads nothing
+-- code that runs a program without reading files also runs it as a program that reads files, with the same known files
 pub reads_by_run : {A : Type 0} (contents : TreeContents) (known : KnownFiles) (s t : RunState) (p : Program A) (e : RunEnd A) → Runs s t p e
     → Reads (file_run contents known s) (file_run contents known t) p e
 reads_by_run {A = A} contents known s t p e a = record { same = refl; grows = grows_same contents known; reaches = by_cases e a }
@@ -51,7 +51,7 @@ reads_by_run {A = A} contents known s t p e a = record { same = refl; grows = gr
     by_cases (ends e) a = reaches_by known s t p e (λ w _ h. in_world w s t p e h a)
     by_cases out_of_memory a = cut_short
 
--- a program that only reads
+-- code runs a program that only reads files to the end to which the program comes in each world that has those files
 pub reads_by_files : {A : Type 0} (a b : FileRun) (p : Program A) (e : Ending A) → b.contents ≡ a.contents → Grows a.contents a.known b.known → b.run ≡ a.run
     → Comes b.known p e → Reads a b p (ends e)
 reads_by_files a b p e same grows run c = record {
@@ -82,7 +82,7 @@ reads_stop a = record {
   reaches = reaches_by a.known a.run a.run stops stopped (λ w _ _. at_end w a.run stops stopped refl);
 }
 
--- a program leads to itself, and to one that is the same
+-- a program leads to itself, and so to an equal program
 pub leads_same : {A : Type 0} (a : FileRun) (p q : Program A) → p ≡ q → Leads a p a q
 leads_same a p q h = record {
   same = refl;
@@ -105,7 +105,7 @@ leads_then a b c p q r f g = record {
 }
 
 module _ {A B : Type 0} (a b : FileRun) (p : Program A) (f : A → Program B) where
-  -- a program that returned a value, before another
+  -- a program that returns a value leads, if another one follows it, to that other program for the value
   pub leads_on : (x : A) → Reads a b p (ends (returned x)) → Leads a (p >>= f) b (f x)
   leads_on x r = record {
     same = r.same;
@@ -117,7 +117,7 @@ module _ {A B : Type 0} (a b : FileRun) (p : Program A) (f : A → Program B) wh
         record { answers = same_answers w a.run b.run p (returned x) first; state = sym whole.state; ending = whole.ending };
   }
 
-  -- a program that stopped early, before another
+  -- where a program stops early, the program followed by another one stops in the same way
   pub reads_early : (stop : Stop) → Reads a b p (end_of_stop stop) → Reads a b (p >>= f) (end_of_stop stop)
   reads_early stop r = record { same = r.same; grows = r.grows; reaches = by_cases stop r.reaches }
     where
@@ -128,7 +128,7 @@ module _ {A B : Type 0} (a b : FileRun) (p : Program A) (f : A → Program B) wh
           (λ w k h. in_world_stopped w a.run p f b.run (reaches_in w b.known a.run b.run p stopped k h e))
       by_cases kinds.OutOfMemory e = cut_short
 
--- the end of what a program leads to is its end
+-- a program comes to the end of the program to which it leads
 pub reads_on : {A : Type 0} (a b c : FileRun) (p q : Program A) (e : RunEnd A) → Leads a p b q → Reads b c q e → Reads a c p e
 reads_on {A = A} a b c p q e f r = record { same = r.same ∙ f.same; grows = grows_then a b c f.same f.grows r.grows; reaches = by_cases e r.reaches }
   where
@@ -139,11 +139,11 @@ reads_on {A = A} a b c p q e f r = record { same = r.same ∙ f.same; grows = gr
         record { state = two.state ∙ sym one.state; ending = one.ending ∙ two.ending })
     by_cases out_of_memory h = cut_short
 
--- a program that leads to a value returns it
+-- a program that leads to a program that returns a value returns that value
 pub reads_value : {A : Type 0} (a b : FileRun) (p : Program A) (x : A) → Leads a p b (returns x) → Reads a b p (ends (returned x))
 reads_value a b p x f = reads_on a b b p (returns x) (ends (returned x)) f (reads_nothing b x)
 
--- memory ran out after a part of a program
+-- where memory runs out after the code has run a part of a program, the whole program ends out of memory
 pub out_after : {A X : Type 0} (a b : FileRun) (p q : Program A) (view : X → A) (r : Result X Stop) → Leads a p b q → IsErrAnd r (λ e. e ≡ kinds.OutOfMemory)
     → Reads a b p (end_of view r)
 out_after a b p q view (Ok x) f h = absurd h
@@ -153,13 +153,13 @@ out_after a b p q view (Err e) f h = record {
   reaches = subst (λ (x : Stop). Reaches b.known a.run b.run p (end_of_stop x)) (sym h) cut_short;
 }
 
--- a stop after a part of a program is passed on
+-- a stop of the program to which a part of a program leads is the stop of the whole program
 pub stopped_after : {A X : Type 0} (a b c : FileRun) (p q : Program A) (view : X → A) (stop : Stop) (r : Result X Stop) → Leads a p b q
     → IsErrAnd r (λ e. e ≡ stop) → Reads b c q (end_of_stop stop) → Reads a c p (end_of view r)
 stopped_after a b c p q view stop (Ok x) f h k = absurd h
 stopped_after a b c p q view stop (Err e) f h k = subst (λ (x : Stop). Reads a c p (end_of_stop x)) (sym h) (reads_on a b c p q (end_of_stop stop) f k)
 
--- a step for which memory runs out, after a program that leads to it
+-- where memory runs out in a step after the code has run a part of a program, the step stops the whole program out of memory
 pub steps_out : {A X : Type 0} (a b : FileRun) (p q : Program A) (next : X → Program A) (r : Result X Stop) → Leads a p b q
     → IsErrAnd r (λ e. e ≡ kinds.OutOfMemory) → Steps a b p next r
 steps_out a b p q next (Ok x) f h = absurd h
@@ -174,7 +174,7 @@ pub steps_stopped : {A X : Type 0} (a b c : FileRun) (p q : Program A) (next : X
 steps_stopped a b c p q next stop (Ok x) f h k = absurd h
 steps_stopped a b c p q next stop (Err e) f h k = subst (λ (x : Stop). Reads a c p (end_of_stop x)) (sym h) (reads_on a b c p q (end_of_stop stop) f k)
 
--- a file that was read
+-- a program that reads a file which was read before leads to the program that goes on with the bytes of the file
 pub leads_read : {A : Type 0} (a b : FileRun) (path : List ℕ) (f : Option (List ℕ) → Program A) (q : Program A) (read : FileRead) → b.contents ≡ a.contents
     → Grows a.contents a.known b.known → b.run ≡ a.run
     → keyword_in_table b.known.files path ≡ Some read → ((bytes : Option (List ℕ)) → AreBytes read bytes → f bytes ≡ q) → Leads a (does (read_file path) f) b q
@@ -196,7 +196,7 @@ pub steps_on : {A X : Type 0} (a b c : FileRun) (p q : Program A) (next : X → 
 steps_on a b c p q next (Ok x) f s = leads_then a b c p q (next x) f s
 steps_on a b c p q next (Err stop) f s = reads_on a b c p q (end_of_stop stop) f s
 
--- a program that is a fault, or a value
+-- a program that fails by a fault ends by the code's stop for the fault
 pub reads_fails : {A : Type 0} (a : FileRun) (p : Program A) (f : Fault) (stop : Stop) → p ≡ fails f → FailsWith f stop → Reads a a p (end_of_stop stop)
 reads_fails {A = A} a p f stop h k = reads_on a a a p (fails f) (end_of_stop stop) (leads_same a p (fails f) h) (by_cases stop k)
   where
@@ -208,14 +208,14 @@ reads_fails {A = A} a p f stop h k = reads_on a a a p (fails f) (end_of_stop sto
 pub reads_returns : {A : Type 0} (a : FileRun) (p : Program A) (x : A) → p ≡ returns x → Reads a a p (ends (returned x))
 reads_returns a p x h = reads_on a a a p (returns x) (ends (returned x)) (leads_same a p (returns x) h) (reads_nothing a x)
 
--- a stop for a fault
+-- a program that ends by a fault ends by the code's stop for the fault
 pub fails_by : {A : Type 0} (a b : FileRun) (p : Program A) (f : Fault) (stop : Stop) → FailsWith f stop → Reads a b p (ends (failed f))
     → Reads a b p (end_of_stop stop)
 fails_by a b p f (kinds.Fault g) k r = subst (λ (g : Fault). Reads a b p (ends (failed g))) (sym k) r
 fails_by a b p f kinds.Unanswered k r = absurd k
 fails_by a b p f kinds.OutOfMemory k r = record { same = r.same; grows = r.grows; reaches = cut_short }
 
--- memory ran out at once
+-- where the code's result is out of memory, code runs any program to that end, with the files that it has read
 pub out_now : {A X : Type 0} (a b : FileRun) (p : Program A) (view : X → A) (r : Result X Stop) → b.contents ≡ a.contents → Grows a.contents a.known b.known
     → IsErrAnd r (λ e. e ≡ kinds.OutOfMemory) → Reads a b p (end_of view r)
 out_now a b p view (Ok x) same grows h = absurd h
@@ -238,7 +238,7 @@ pub if_ok : {T E : Type 0} (r : Result T E) (P Q : T → Type 0) → ((x : T) �
 if_ok (Ok x) P Q f h = f x h
 if_ok (Err e) P Q f h = tt
 
--- a program that returned a value leads to the value
+-- a program that returns a value leads to the program that just returns the value
 pub leads_value : {A : Type 0} (a b : FileRun) (p : Program A) (x : A) → Reads a b p (ends (returned x)) → Leads a p b (returns x)
 leads_value a b p x r = leads_then a a b p (p >>= returns) (returns x) (leads_same a p (p >>= returns) (sym (nothing_after p))) (leads_on a b p returns x r)
 

@@ -61,7 +61,8 @@ help_keyword w = by_tests (bytes_eq w (codes "help")) (bytes_eq w (codes "---hel
     by_tests false true f g = ap (λ v. is_help_word (keyword_in_table keywords v)) ((bytes_eq-Decides w (codes "---help---")).0 g)
     by_tests false false f g = other_words keywords w refl (ap (λ b. b || bytes_eq w (codes "---help---")) f ∙ g)
 
--- whether a help text follows a line without white in front, and one with it
+-- whether a help text follows a line that has no white space in front: it is a help word, with perhaps white space and a comment
+-- after it
 abbrev pub help_line : List ℕ → Bool
 help_line t = let n = length (take_while is_word_byte t) in is_help_text (take n t) && is_end (drop n t)
 
@@ -240,7 +241,8 @@ help_by_words s = by_tests (begins_help s) (help_at s) refl refl
     by_tests true false e f = sym (read_help s (lexemes_from Strict 0 0 s) refl e) ∙ f
     by_tests false true e f = sym e ∙ read_so f
 
--- the same by the lengths of what comes first, and by what is left after it
+-- whether a help text follows a line is decided by its first word, after `w` white bytes and of `n` bytes, and by what is left
+-- after the word
 pub help_split : (text line rest : List ℕ) (w n : ℕ) (a b : Bool) → w ≡ length (take_while is_white_byte text) → line ≡ drop w text
     → n ≡ length (take_while is_word_byte line) → rest ≡ drop n line
     → a ≡ is_help_text (take n line) → b ≡ is_end rest → (a && b) ≡ begins_help text

@@ -36,7 +36,7 @@ pub count_files : (es : List Entry) → length (map expanded_file es) ≡ length
 count_files [] = refl
 count_files (e ∷ es) = ap suc (count_files es)
 
--- whether there is a key
+-- a key is found in the map of expanded files exactly if one of the expanded files has it
 pub key_is_there : (key : List ℕ) (es : List Entry) → is_some (lookup (λ (k : Vec ℕ Global). bytes_eq key k.items) es) ≡ has_key (map expanded_file es) key
 key_is_there key [] = refl
 key_is_there key (e ∷ es) = by_test (bytes_eq key e.0.items) (bytes_eq_turned key e.0.items) (key_is_there key es)
@@ -46,7 +46,7 @@ key_is_there key (e ∷ es) = by_test (bytes_eq key e.0.items) (bytes_eq_turned 
     by_test true t ih = ap (λ c. c || has_key (map expanded_file es) key) t
     by_test false t ih = ih ∙ ap (λ c. c || has_key (map expanded_file es) key) t
 
--- whether the file of a key has other bytes
+-- whether there is an expanded file and its text isn't this text
 abbrev pub differs : List ℕ → Option FileOfKey → Bool
 differs text None = false
 differs text (Some f) = not (bytes_eq f.text.value.items text)
@@ -88,7 +88,7 @@ pub taken_otherwise : (root key text : List ℕ) (es : List Entry) → bytes_eq 
 taken_otherwise root key text es e h = ap (λ b. b || list_any (λ (f : ExpandedFile). bytes_eq f.key key && not (bytes_eq f.text text)) (map expanded_file es)) e
     ∙ taken_by key text es h
 
--- a new key goes last
+-- an entry of a new key in the map of expanded files adds its file at the end of the expanded files
 pub file_inserted : (es : List Entry) (k : Vec ℕ Global) (v : FileOfKey) → has_key (map expanded_file es) k.items ≡ false
     → map expanded_file (insert_entry (λ (a b : Vec ℕ Global). bytes_eq a.items b.items) es k v) ≡ map expanded_file es ++ record {
       key = k.items;
@@ -107,7 +107,7 @@ file_inserted (e ∷ es) k v h = by_test (bytes_eq e.0.items k.items) (bytes_eq_
     by_test false t h ih = ap (λ b. map expanded_file (cond b ((e.0, v) ∷ es) (e ∷ insert_entry (λ (a b : Vec ℕ Global). bytes_eq a.items b.items) es k v))) t
         ∙ ap (λ xs. expanded_file e ∷ xs) (ih h)
 
--- one number further
+-- the search for a free key ends with a key that isn't taken
 pub key_free : (more : ℕ) (root : List ℕ) (files : List ExpandedFile) (path text key : List ℕ) (n : ℕ) → is_taken root files text key ≡ false
     → free_key (suc more) root files path text key n ≡ key
 key_free more root files path text key n e = ap (λ b. elim b [ true ↦ free_key more root files path text (path ++ 35 ∷ decimal n) (n + 1) | false ↦ key ]) e
@@ -140,7 +140,7 @@ same_entry (e ∷ es) k f h = by_test (bytes_eq k.items e.0.items) h (same_entry
     by_test true h ih = ap (λ (x : FileOfKey). (e.0, x) ∷ es) (let z : f ≡ e.1 = cc in z)
     by_test false h ih = ap (λ xs. e ∷ xs) (ih h)
 
--- a key gets a file, unless it has one
+-- an entry that is added to the map of expanded files unless its key is there adds its file unless a file has the key
 pub added_or_there : (es : List Entry) (k : Vec ℕ Global) (new added : FileOfKey) (o : Option FileOfKey) → there_of es k.items ≡ o → added ≡ unwrap_or o new
     → map expanded_file (with_entry es k added) ≡ with_file k.items new.path.items new.text.value.items (map expanded_file es)
 added_or_there es k new added None h p =
@@ -152,11 +152,11 @@ added_or_there es k new added (Some there) h p =
     ∙ ap (map expanded_file) (same_entry es k there h)
     ∙ kept_there k.items new.path.items new.text.value.items (map expanded_file es) (sym (key_is_there k.items es) ∙ ap is_some h)
 
--- entries that are these
+-- equal entries of the map of expanded files are the same expanded files
 pub viewed_as : (es fs : List Entry) (files : List ExpandedFile) → es ≡ fs → map expanded_file fs ≡ files → map expanded_file es ≡ files
 viewed_as es fs files e h = ap (map expanded_file) e ∙ h
 
--- files grow where a key is new
+-- the number of expanded files grows by adding a file exactly if no file had its key
 pub grown_where_new : (key path text : List ℕ) (files more : List ExpandedFile) (before after : ℕ) → before ≡ length files → after ≡ length more
     → more ≡ with_file key path text files → nat_lt before after ≡ not (has_key files key)
 grown_where_new key path text files more before after b a e = by_test (has_key files key) (ap length e)
@@ -170,7 +170,7 @@ grown_where_new key path text files more before after b a e = by_test (has_key f
         let n = h ∙ length-append files (new ∷ []) in
         let z : nat_lt before after ≡ true = grind (arith, nat_tests) in z
 
--- whether a key was new
+-- a key that is reported as new wasn't there before
 pub new_key : (there : Bool) → not there ≡ true → there ≡ false
 new_key true h = absurd (let z : ⊥ = cc in z)
 new_key false h = refl

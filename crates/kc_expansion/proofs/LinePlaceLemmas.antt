@@ -13,13 +13,13 @@ use Rattle.kc_expansion.specs.checker.WrittenViews.{text_up_to}
 use Rattle.kc_expansion.specs.declared.written_file.WrittenFile.{WrittenFile}
 use Rattle.kc_expansion.proofs.ProgramLemmas.{same_rest}
 
--- bytes between two places
+-- the bytes between two places, followed by those from the second place on, are the bytes from the first place on
 pub range_before_rest : (bytes : List ℕ) (at next : ℕ) → at ≤ next → slice_range bytes at next ++ drop next bytes ≡ drop at bytes
 range_before_rest bytes at next h =
     ap (λ t. slice_range bytes at next ++ t) (ap (λ k. drop k bytes) (let e : next ≡ at + (next - at) = omega arith in e) ∙ drop_twice at (next - at) bytes)
     ∙ take-append-drop (next - at) (drop at bytes)
 
--- bytes up to a place and from there on
+-- the bytes between two places are those up to a place between them and those from it on
 pub ranges_meet : (bytes : List ℕ) (a b c : ℕ) → a ≤ b → b ≤ c → slice_range bytes a c ≡ slice_range bytes a b ++ slice_range bytes b c
 ranges_meet bytes a b c h k =
     append_cancel_right (slice_range bytes a c) (slice_range bytes a b ++ slice_range bytes b c) (drop c bytes)
@@ -27,7 +27,8 @@ ranges_meet bytes a b c h k =
     ∙ sym (append_assoc (slice_range bytes a b) (slice_range bytes b c) (drop c bytes) ∙ ap (λ t. slice_range bytes a b ++ t) (range_before_rest bytes b c k)
     ∙ range_before_rest bytes a b h))
 
--- a file that is written further, where nothing is replaced
+-- the text of a file up to a later place, where nothing in between is replaced, is the text up to the earlier place and the bytes
+-- in between
 pub text_further : (out : WrittenFile) (bytes : List ℕ) (mid end : ℕ) → out.original.value.items ≡ bytes → out.copied ≤ mid → mid ≤ end
     → text_up_to out end ≡ text_up_to out mid ++ slice_range bytes mid end
 text_further out bytes mid end e h k =
@@ -64,11 +65,11 @@ newlines_counted (next_line {l = l} {ls = ls} h r) = by_test (newlines_counted r
     by_test e false = e ∙ ap (λ n. replicate n 10) (let k : newline_count (bytes_of_lines ls) ≡ newline_count (l.text ++ bytes_of_lines ls) =
         omega (arith, count_both l.text (bytes_of_lines ls), count_clean l.text h) in k)
 
--- lines with the same text stay
+-- lines whose new text is their joined text keep their bytes
 pub lines_stay : (ls : List PhysicalLine) (text new : List ℕ) → bytes_eq new text ≡ true → lines_written ls text new ≡ bytes_of_lines ls
 lines_stay ls text new e = ap (λ b. cond b (bytes_of_lines ls) (new ++ newlines_of ls)) e
 
--- lines between two places with another text
+-- lines between two places with another text are written as that text and as many newlines as the bytes between the places have
 pub lines_replaced : (bytes : List ℕ) (at next lines : ℕ) (text new : List ℕ) → at ≤ next → split_at_newlines (drop next bytes)
     ≡ drop lines (split_at_newlines (drop at bytes)) → bytes_eq new text ≡ false
     → lines_written (take lines (split_at_newlines (drop at bytes))) text new ≡ new ++ replicate (newline_count (slice_range bytes at next)) 10
@@ -86,7 +87,7 @@ lines_skipped sub file (suc k) n [] s = refl
 lines_skipped sub file (suc k) n (l ∷ ls) s = lines_skipped sub file k (n + 1) ls s ∙ ap (λ m. lines_read sub file 0 m (drop k ls) s)
     (let e : n + 1 + k ≡ n + suc k = omega arith in e)
 
--- what is left of a file's lines after one that is written; `lines` counts its physical lines
+-- the program that reads the lines of a file after a logical line that is written as `line` and has `lines` physical lines
 abbrev pub lines_after : SourceReader → (file : List ℕ) → (lines n : ℕ) → List PhysicalLine → (text : List ℕ) → WrittenLine → Program Progress
 lines_after sub file lines n all text line =
     let help = help_after line.begins_help (drop lines all) in
@@ -111,14 +112,14 @@ one_line sub file n l ls s =
     ∙ ap (λ m. lines_read sub file 0 m (drop (more + help) ls) line.state) (let e : n + 1 + (more + help) ≡ n + suc more + help = omega arith in e)
     ∙ ap (λ rest. lines_read sub file 0 (n + suc more + help) rest line.state) (drop_twice more help ls)))
 
--- the line at the front of lines that aren't none
+-- reading the lines of a file, where there are some, begins by writing the first logical line and goes on with the lines after it
 pub line_in_front : (sub : SourceReader) (file : List ℕ) (n : ℕ) (all : List PhysicalLine) (s : ReadingState) → 0 < length all
     → lines_read sub file 0 n all s ≡ line_written sub (place file n) (is_first_continued (map without_return all)) (joined_bytes (map without_return all)) s
     >>= lines_after sub file (suc (continuation_count (map without_return all))) n all (joined_bytes (map without_return all))
 line_in_front sub file n [] s h = absurd (let z : ⊥ = omega arith in z)
 line_in_front sub file n (l ∷ ls) s h = one_line sub file n l ls s
 
--- bytes that aren't none have lines
+-- a file has at least one line from each place before its end on
 pub some_lines : (bytes : List ℕ) (at : ℕ) → at < length bytes → 0 < length (split_at_newlines (drop at bytes))
 some_lines bytes at h = some_of (drop at bytes) (let e : 0 < length (drop at bytes) = omega (arith, length-drop at bytes) in e)
   where

@@ -33,7 +33,7 @@ module _ (at : Place) (help : Bool) (text : List ℕ) (s : ReadingState) where
   by_length : Bool → Program WrittenLine
   by_length b = elim b [ true ↦ fails (fault_at at LineTooLong) | false ↦ returns (written_line text help s) ]
 
-  -- a line that is too long, or short enough
+  -- a line whose new text is longer than 65,536 bytes fails by `LineTooLong`
   pub long_line : 65536 < length text → short_line at help (progress text s) ≡ fails (fault_at at LineTooLong)
   unfolding by_length
   long_line h = ap by_length (let e : nat_lt max_text_bytes (length text) ≡ true = grind (arith, nat_tests) in e)
@@ -42,7 +42,7 @@ module _ (at : Place) (help : Bool) (text : List ℕ) (s : ReadingState) where
   unfolding by_length
   short_enough h = ap by_length (let e : nat_lt max_text_bytes (length text) ≡ false = grind (arith, nat_tests) in e)
 
--- a text, and the names of choices that are there
+-- the result of a line with an equal text, and with the names of choices that the state has already, is the same result
 pub written_so : (t u : List ℕ) (s : ReadingState) (names : List (List ℕ)) → t ≡ u → s.choices ≡ names
     → returns (progress u s) ≡ returns (let v : ReadingState = record s { choices = names } in progress t v)
 written_so t u s names h k = ap (λ x. returns (progress x s)) (sym h) ∙ ap (λ ns. let v : ReadingState = record s { choices = ns } in returns (progress t v)) k
@@ -74,7 +74,7 @@ module _ (sub : SourceReader) (at : Place) (continued : Bool) (text : List ℕ) 
         (line_tokens 0 text) >>= content_written sub at continued s
   ]
 
-  -- a line that may change
+  -- a line that is UTF-8 and not too long is read into its content, which is then written
   pub changing_line : (nat_lt max_text_bytes (length text) || not (is_utf8 text)) ≡ false → line_written sub at continued text s
       ≡ line_content at s.bindings true (line_tokens 0 text) >>= content_written sub at continued s
   unfolding by_size
@@ -106,7 +106,7 @@ refused_stays text help h e = record {
       ∙ ap (λ b. returns (written_line text b s)) (sym e);
 }
 
--- an assignment on a line
+-- the writing of an assignment on a line binds its name, or fails where the line is continued, and leaves an empty line
 pub assigned_line : (sub : SourceReader) (at : Place) (continued : Bool) (s : ReadingState) (a : Assignment)
     → content_written sub at continued s (assigns a.name (assigned (operator_of a.operator) a.text))
     ≡ (assigned_or_fault at continued s.bindings a >>= λ b. let t : ReadingState = record s { bindings = b } in returns (written_line [] false t))
@@ -115,7 +115,7 @@ assigned_line sub at false s a =
     sym (grouped (variable_assigned at s.bindings (operator_of a.operator) a.text (s.bindings a.name)) (λ v. returns (with_variable a.name v s.bindings))
     (λ b. let t : ReadingState = record s { bindings = b } in returns (written_line [] false t)))
 
--- a line that sources no files leads to its text
+-- the writing of a line whose form is written as a text leads to that text, if it is short enough
 pub text_written : (a : FileRun) (sub : SourceReader) (at : Place) (s u : ReadingState) (ts real : List WrittenToken) (form : LineForm) (t : List ℕ)
     (help : Bool) → is_undecided real ≡ false → form_of real ≡ form → help ≡ is_help_line real
     → form_written sub at ts form s ≡ returns (progress t u) → Leads a (tokens_written sub at s ts real) a (short_line at help (progress t u))
@@ -123,7 +123,7 @@ text_written a sub at s u ts real form t help d f h w =
     leads_same a (tokens_written sub at s ts real) (short_line at help (progress t u))
     (decided sub at s ts real form d f ∙ ap (λ p. p >>= short_line at (is_help_line real)) w ∙ ap (λ b. short_line at b (progress t u)) (sym h))
 
--- a `source` line whose path isn't known, or is
+-- a `source` line whose path isn't known, or isn't copied for lack of memory, ends by that stop
 pub path_unknown : (a : FileRun) (sub : SourceReader) (at : Place) (ts : List WrittenToken) (sort : SourceSort) (path : Value) (s : ReadingState) (help : Bool)
     (stop : Stop) → IsNoPath path stop
     → Reads a a (form_written sub at ts (sources sort path) s >>= short_line at help) (end_of_stop stop)

@@ -43,7 +43,7 @@ module _ (sub : SourceReader) (file bytes : List ℕ) (start : LineStart) (there
       ∙ ap (λ t. front t (suc (continuation_count (physical_lines (drop start.at bytes))))) (sym logical.text_is) ∙ ap (front text) (sym logical.lines_are))
       ∙ grouped written_here (lines_after sub file lines start.number all text) (λ rest. returns (progress (done ++ rest.text) rest.state))
 
-  -- a line that stopped
+  -- where the writing of a line stops, the reading of the remaining lines of its file stops in the same way
   pub line_stopped : (a b : FileRun) (stop : Stop) → Reads a b written_here (end_of_stop stop) → Reads a b (lines_left sub file start done all s)
       (end_of_stop stop)
   line_stopped a b stop r = reads_on a a b (lines_left sub file start done all s) (written_here >>= after_line) (end_of_stop stop)
@@ -80,7 +80,8 @@ module _ (sub : SourceReader) (file bytes : List ℕ) (start : LineStart) (there
         ∙ ap (λ n. after_text text_after (lines_read sub file 0 n (drop help_lines later) t)) (sym (passed.number ∙ ap (λ n. n + help_lines) number))
         ∙ ap (λ ls. after_text text_after (lines_read sub file 0 past.number ls t)) (sym passed.whole)
 
-    -- a line that was written, and what follows it
+    -- where a line was written, the reading of the remaining lines of its file leads to that of the lines after it and its help
+    -- text
     pub line_passed : (a b : FileRun) (out : List ℕ) → out ≡ text_after → Reads a b written_here (ends (returned (written_line new help t)))
         → Leads a (lines_left sub file start done all s) b (lines_left sub file past out (split_at_newlines (drop past.at bytes)) t)
     line_passed a b out e r =
@@ -92,7 +93,8 @@ module _ (sub : SourceReader) (file bytes : List ℕ) (start : LineStart) (there
         (leads_same b (after_line (written_line new help t)) q (line_goes_on ∙ ap (λ x. lines_left sub file past x (split_at_newlines (drop past.at bytes)) t)
         (sym e))))
 
-    -- the text after a line and its help text
+    -- the text of a file up to the place after a line's help text is the text up to the place after the line with the bytes of
+    -- the help text
     pub written_after : (out : WrittenFile) → out.original.value.items ≡ bytes → out.copied ≤ after.at
         → text_up_to out after.at ≡ done ++ lines_written (take lines all) text new → text_up_to out past.at ≡ text_after
     written_after out o c w =
@@ -100,7 +102,7 @@ module _ (sub : SourceReader) (file bytes : List ℕ) (start : LineStart) (there
         ∙ ap (λ x. x ++ slice_range bytes after.at past.at) w
         ∙ ap (λ x. (done ++ lines_written (take lines all) text new) ++ x) (sym (lines_between bytes after.at past.at help_lines passed.from passed.whole))
 
--- a line that stays as it is
+-- where a line stays as it is, the text of its file up to the next line is the text up to the line with the line as it was
 pub stayed : (out : WrittenFile) (bytes : List ℕ) (at next lines : ℕ) (text : List ℕ) → out.original.value.items ≡ bytes → out.copied ≤ at → at ≤ next
     → split_at_newlines (drop next bytes) ≡ drop lines (split_at_newlines (drop at bytes))
     → text_up_to out next ≡ text_up_to out at ++ lines_written (take lines (split_at_newlines (drop at bytes))) text text
@@ -109,7 +111,7 @@ stayed out bytes at next lines text o c h w =
     ∙ ap (λ x. text_up_to out at ++ x) (sym (lines_stay (take lines (split_at_newlines (drop at bytes))) text text (bytes_eq_same text)
     ∙ lines_between bytes at next lines h w))
 
--- a file that is written up to the next line
+-- a file that can be written on from a line can be written on from the place after the line and its help text
 pub written_next : (bytes text : List ℕ) (start after past : LineStart) (next lines : ℕ) (help : Bool) (before out : WrittenFile)
     → IsWrittenTo bytes start before → IsLogicalAt bytes start.at text next lines → after.at ≡ next → after.number ≡ start.number + lines
     → IsHelpPassed bytes after help past → out.original.value.items ≡ bytes → out.copied ≤ next → IsWrittenTo bytes past out

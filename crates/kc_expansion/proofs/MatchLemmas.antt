@@ -8,7 +8,7 @@ use Rattle.std.proofs.lemmas.Str.{IsUtf8-from_is_utf8}
 use Rattle.kc_macros_model.specs.PathPatterns.{matches, some_end_matches, first_byte_matches}
 use Rattle.kc_expansion.specs.checker.EndMatches.{HasEndMatches, AreSpread}
 
--- a `*` matches where some end of the name passes
+-- some entry of a list of truths for each end of a name is true exactly if some end of the name passes the test
 pub any_end : (test : List ℕ → Bool) (name : List ℕ) (ends : List Bool) → length ends ≡ suc (length name)
     → ((k : ℕ) → k ≤ length name → get_or ends k false ≡ test (drop k name))
     → list_any (λ b. b) ends ≡ some_end_matches test name
@@ -24,7 +24,8 @@ any_end test (x ∷ name) (b ∷ bs) h e =
     ap (λ c. c || list_any (λ b. b) bs) (e 0 (omega arith))
     ∙ ap (λ c. test (x ∷ name) || c) (any_end test name bs (omega arith) (λ k l. e (suc k) (omega arith)))
 
--- the first byte of an end of a name
+-- the first byte of the end of a name at place `k` matches a byte of a pattern, and the rest passes a test, exactly if this holds
+-- of the byte at `k` and the next end
 pub first_of_end : (c : ℕ) (test : List ℕ → Bool) (name : List ℕ) (k : ℕ) → k < length name → first_byte_matches c test (drop k name)
     ≡ ((c == get_or name k 0 || (c == 63)) && test (drop (suc k) name))
 first_of_end c test [] k h = absurd (omega arith)
@@ -35,7 +36,7 @@ pub no_first : (c : ℕ) (test : List ℕ → Bool) (name : List ℕ) → first_
 no_first c test [] = refl
 no_first c test (x ∷ name) = no_first c test name
 
--- the ends of a name that match a piece, and those that match it after a `*`
+-- an end of a name matches `*` and then a piece where this end or a shorter one matches the piece
 pub after_any_bytes : (piece name : List ℕ) (old new : List Bool) → HasEndMatches piece name old → length new ≡ length old
     → ((k : ℕ) → k < length old → get_or new k false ≡ list_any (λ b. b) (drop k old)) → HasEndMatches (42 ∷ piece) name new
 after_any_bytes piece name old new h len e = record {
@@ -48,7 +49,8 @@ after_any_bytes piece name old new h len e = record {
 other_byte : (byte : ℕ) (piece name : List ℕ) → (byte == 42) ≡ false → matches (byte ∷ piece) name ≡ first_byte_matches byte (matches piece) name
 other_byte byte piece name e = ap (λ b. elim b [ true ↦ some_end_matches (matches piece) name | false ↦ first_byte_matches byte (matches piece) name ]) e
 
--- the same after another byte
+-- an end of a name matches a byte other than `*` and then a piece where its first byte matches the byte and the next end the
+-- piece
 pub after_byte : (byte : ℕ) (piece name : List ℕ) (old new : List Bool) → (byte == 42) ≡ false → HasEndMatches piece name old → length new ≡ length old
     → ((k : ℕ) → k < length name → get_or new k false ≡ ((byte == get_or name k 0 || (byte == 63)) && get_or old (k + 1) false))
     → get_or new (length name) false ≡ false
@@ -70,7 +72,7 @@ any_from [] n h = absurd (omega arith)
 any_from (b ∷ start) zero h = refl
 any_from (b ∷ start) (suc n) h = any_from start n (omega arith)
 
--- one truth more
+-- the spreading of true entries towards the front goes on by one place: an entry becomes true if it or the one after it is
 pub spread_more : (start ends : List Bool) (at n : ℕ) (some new : Bool) → at ≡ suc n → length ends ≡ length start → AreSpread start ends at some
     → new ≡ (get_or ends n false || some) → AreSpread start (set ends n new) n new
 spread_more start ends at n some new a len h e =
@@ -90,7 +92,7 @@ spread_more start ends at n some new a len h e =
     by_place k l m here (inr f) = let same : k ≡ n = omega arith in ap (λ i. get_or (set ends n new) i false) same
         ∙ get_or-set_same ends n new false (omega arith) ∙ here ∙ ap (λ i. list_any (λ b. b) (drop i start)) (sym same)
 
--- what a slice was written to
+-- a slice that is overwritten in its first `n` entries by `n` new ones begins with the new ones
 pub as_written : {A : Type 0} (n : ℕ) (new old : List A) → length new ≡ n → take n (new ++ drop (length new) old) ≡ new
 as_written n new old h = ap (λ k. take k (new ++ drop (length new) old)) (sym h) ∙ take_at new (drop (length new) old) (length new) refl
 

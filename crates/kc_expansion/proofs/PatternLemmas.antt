@@ -21,7 +21,7 @@ use Rattle.kc_expansion.specs.between.FileRuns.{Comes, HaveSameOutcome, too_many
 use Rattle.kc_expansion.specs.checker.PatternRuns.{found_of, slashed, IsCut, Finds, FindsMore}
 use Rattle.kc_expansion.proofs.ProgramLemmas.{nothing_after, grouped, same_rest, same_then, fails_then, comes_at_once, fails_at_once, same_by, same_twice, comes_as, same_listed, same_later}
 
--- one name more that may match
+-- a name that matches a piece comes, as a path in its folder, after the paths before it and before those of the names after it
 pub matched_more : (piece folder : List ℕ) (name : List ℕ) (ns before : List (List ℕ)) → matches_name piece name ≡ true
     → before ++ map (λ n. folder ++ n) (filter (matches_name piece) (name ∷ ns)) ≡ (before ++ (folder ++ name) ∷ []) ++ map (λ n. folder ++ n)
     (filter (matches_name piece) ns)
@@ -69,7 +69,7 @@ module _ (known : KnownFiles) (at : Place) (piece folder : List ℕ) (listed : �
       (same_by known (matching_names at piece folder listed all) (fails (too_many_at at)) (many_names at piece folder listed all many))
       (fails_at_once known (too_many_at at)))
 
-  -- a folder with more names than may be listed
+  -- the search for matching names in a folder with more names than may be listed fails by `TooMany`
   pub too_many_there : keyword_in_table known.folders folder ≡ Some too_many → Comes known (does (list_folder folder) (matching_names at piece folder listed))
       (failed (too_many_at at))
   too_many_there e = record {
@@ -83,7 +83,8 @@ module _ (known : KnownFiles) (at : Place) (piece folder : List ℕ) (listed : �
       many n h = grind (arith, nat_tests)
 
 module _ (at : Place) (piece : List ℕ) where
-  -- the paths of the remaining folders, after those that were found
+  -- the program that finds the paths that a piece matches in the remaining folders, and lists those that were found `before` in
+  -- front
   abbrev pub rest_of_paths : List (List ℕ) → FoundPaths → Program FoundPaths
   rest_of_paths folders before = paths_in_folders at piece folders before.listed >>= λ rest. returns (found (before.paths ++ rest.paths) rest.listed)
 
@@ -107,7 +108,7 @@ module _ (at : Place) (piece : List ℕ) where
       (λ rest. returns (found (after.paths ++ rest.paths) rest.listed))
       (λ rest. ap (λ ps. returns (found ps rest.listed)) (sym (append_assoc before.paths more rest.paths) ∙ ap (λ ps. ps ++ rest.paths) (sym e)))))
 
-  -- a folder that stops
+  -- where the search in a folder fails by `TooMany`, the search in it and the remaining folders fails by it too
   pub stops_there : (known : KnownFiles) (folder : List ℕ) (folders : List (List ℕ)) (before : FoundPaths)
       → Comes known (paths_in_folder at piece folder before.listed) (failed (too_many_at at))
       → Comes known (rest_of_paths (folder ∷ folders) before) (failed (too_many_at at))
@@ -117,18 +118,18 @@ module _ (at : Place) (piece : List ℕ) where
       (found (first.paths ++ rest.paths) rest.listed) in
       fails_then known (p >>= f) (λ rest. returns (found (before.paths ++ rest.paths) rest.listed)) (too_many_at at) (fails_then known p f (too_many_at at) c)
 
-  -- the first folder
+  -- the search in all folders is the search in the remaining folders where none was searched yet
   pub from_first : (known : KnownFiles) (folders : List (List ℕ)) (listed : ℕ) → HaveSameOutcome known (paths_in_folders at piece folders listed)
       (rest_of_paths folders (found [] listed))
   from_first known folders listed = same_by known (paths_in_folders at piece folders listed) (rest_of_paths folders (found [] listed))
       (sym (nothing_after (paths_in_folders at piece folders listed)))
 
-  -- after the last folder
+  -- the search in no remaining folders returns the paths that were found before
   pub after_last : (known : KnownFiles) (before : FoundPaths) → Comes known (rest_of_paths [] before) (returned before)
   after_last known before = subst (λ ps. Comes known (rest_of_paths [] before) (returned (found ps before.listed))) (append-nil before.paths)
       (comes_at_once known (found (before.paths ++ []) before.listed))
 
-  -- all paths, where a folder stops
+  -- where the code's search in a folder stops, the whole search in the folders stops in the same way
   pub all_stop : (T : Type 0) (known : KnownFiles) (whole : Program FoundPaths) (folder : List ℕ) (folders : List (List ℕ)) (before after : FoundPaths)
       (stop : PatternStop)
       → HaveSameOutcome known whole (rest_of_paths (folder ∷ folders) before) → FindsMore {T = T} known at
@@ -137,7 +138,7 @@ module _ (at : Place) (piece : List ℕ) where
       (stops_there known folder folders before h)
   all_stop T known whole folder folders before after OutOfMemory s h = tt
 
-  -- all paths, after a folder
+  -- where the code's search in a folder finds its paths, the whole search goes on in the folders after it with these paths added
   pub all_go_on : (T : Type 0) (contents : TreeContents) (old known : KnownFiles) → Grows contents old known
       → (whole : Program FoundPaths) (folder : List ℕ) (folders : List (List ℕ)) (before after : FoundPaths) (x : T)
       → HaveSameOutcome old whole (rest_of_paths (folder ∷ folders) before) → FindsMore {T = T} known at
@@ -146,7 +147,7 @@ module _ (at : Place) (piece : List ℕ) where
       same_twice known whole (rest_of_paths (folder ∷ folders) before) (rest_of_paths folders after)
       (same_later contents old known g whole (rest_of_paths (folder ∷ folders) before) s) (more_paths known folder folders before after more e c)
 
--- the texts from a place on
+-- the texts of a list of vectors from place `i` on are the text of the vector at `i` and those from the next place on
 pub cut_items : (vs : List (Vec ℕ Global)) (i : ℕ) (v : Vec ℕ Global) → i < length vs → v ≡ get_or vs i v
     → items_of (drop i vs) ≡ v.items ∷ items_of (drop (i + 1) vs)
 cut_items vs i v h e = ap items_of (drop-cons vs i v h ∙ ap (λ x. x ∷ drop (suc i) vs) (sym e) ∙ ap (λ k. v ∷ drop k vs)
@@ -158,7 +159,7 @@ more_is_many n h = grind (arith, nat_tests)
 pub less_is_few : (n : ℕ) → n ≤ max_listed_names → nat_lt max_listed_names n ≡ false
 less_is_few n h = grind (arith, nat_tests)
 
--- a piece that is a pattern, and one that isn't
+-- the paths that a piece with `*` or `?` matches in a folder are found by listing the folder
 pub by_pattern : (at : Place) (piece folder : List ℕ) (listed : ℕ) → is_pattern piece ≡ true → paths_in_folder at piece folder listed
     ≡ does (list_folder folder) (matching_names at piece folder listed)
 by_pattern at piece folder listed e =
@@ -172,7 +173,7 @@ as_it_is at piece folder listed e =
 not_slash : (c : ℕ) → (c ≡ 47 → ⊥) → (c == 47) ≡ false
 not_slash c h = grind (arith, nat_tests)
 
--- a path up to its first slash, and after it
+-- the pieces of a path are what comes before its first slash and the pieces of what follows the slash
 pub first_piece : (path : List ℕ) (n : ℕ) → n < length path → get_or path n 0 ≡ 47 → ((k : ℕ) → k < n → get_or path k 0 ≡ 47 → ⊥)
     → path_pieces path ≡ take n path ∷ path_pieces (drop (suc n) path)
 first_piece [] n h e none = absurd (omega arith)
@@ -198,7 +199,7 @@ some_piece (c ∷ path) = by_test (c == 47) (some_piece path)
     by_test false (first, rest, e) = (c ∷ first, rest, ap (onto_first c) e)
 
 module _ (at : Place) where
-  -- the paths below the folders of a piece
+  -- the paths below folders that a piece and the pieces of a path match are those below the folders that the piece matches
   pub below_piece : (piece path : List ℕ) (folders : List (List ℕ)) (listed : ℕ)
       → paths_below at (piece ∷ path_pieces path) folders listed ≡ (slashed (paths_in_folders at piece folders listed) >>= λ f. paths_below at
       (path_pieces path) f.paths f.listed)
@@ -211,7 +212,7 @@ module _ (at : Place) where
       ∙ sym (grouped (paths_in_folders at piece folders listed) (λ f. returns (found (map (λ p. p ++ 47 ∷ []) f.paths) f.listed))
       (λ f. paths_below at (path_pieces path) f.paths f.listed))
 
-  -- the folders of a piece, and where they aren't found
+  -- where a program finds paths, with slashes it finds the same paths with a slash after each
   pub slashed_found : (known : KnownFiles) (p : Program FoundPaths) (f : FoundPaths) → Comes known p (returned f)
       → Comes known (slashed p) (returned (found (map (λ path. path ++ 47 ∷ []) f.paths) f.listed))
   slashed_found known p f c =
@@ -235,7 +236,8 @@ module _ (at : Place) where
   finds_same known p q (Ok f) s h = comes_as known p q (returned (found_of f)) s h
   finds_same known p q (Err stop) s h = stops_same known p q stop s h
 
-  -- the paths below the folders of the first piece
+  -- the search for the pieces of a path is, after the folders for its first piece were found, the search below them for the rest
+  -- of the path
   pub below_step : (known : KnownFiles) (path piece tail : List ℕ) (folders : List (List ℕ)) (listed : ℕ) (f : FoundPaths)
       → path_pieces path ≡ piece ∷ path_pieces tail
       → Comes known (slashed (paths_in_folders at piece folders listed)) (returned f) → HaveSameOutcome known (paths_below at (path_pieces path) folders listed)
@@ -259,7 +261,7 @@ module _ (at : Place) where
       (same_by known (paths_below at (path_pieces path) folders listed) (p >>= k) (ap (λ ps. paths_below at ps folders listed) e
       ∙ below_piece piece tail folders listed)) (stops_then known p k stop h)
 
-  -- the paths of the last piece
+  -- the search for a path of one piece is the search for that piece in the folders
   pub below_last : (known : KnownFiles) (path : List ℕ) (folders : List (List ℕ)) (listed : ℕ) (r : Result Found PatternStop) → path_pieces path ≡ path ∷ []
       → Finds known at (paths_in_folders at path folders listed) r → Finds known at (paths_below at (path_pieces path) folders listed) r
   below_last known path folders listed r e h =
@@ -275,7 +277,7 @@ is_cut path n front back h e none f b = record {
   shorter = (let l = length-drop (n + 1) path in let m : length back ≡ length (drop (n + 1) path) = ap length b in omega arith);
 }
 
--- readable paths after those that were found
+-- the program that finds those of the remaining paths whose files can be read, and lists those that were found `before` in front
 abbrev pub rest_of_readable : List (List ℕ) → List (List ℕ) → Program (List (List ℕ))
 rest_of_readable paths before = readable_paths paths >>= λ rest. returns (before ++ rest)
 
@@ -306,7 +308,7 @@ readable_first known paths = same_by known (readable_paths paths) (rest_of_reada
 pub readable_last : (known : KnownFiles) (before : List (List ℕ)) → Comes known (rest_of_readable [] before) (returned before)
 readable_last known before = subst (λ ps. Comes known (rest_of_readable [] before) (returned ps)) (append-nil before) (comes_at_once known (before ++ []))
 
--- the files of a pattern, from the paths that match it and those that can be read
+-- the files of a pattern are those paths that match it and can be read, sorted
 pub files_found : (known : KnownFiles) (at : Place) (pattern : List ℕ) (listed : ℕ) (f : FoundPaths) (paths : List (List ℕ))
     → Comes known (paths_below at (path_pieces pattern) ([] ∷ []) listed) (returned f)
     → Comes known (readable_paths f.paths) (returned paths) → Comes known (files_of_pattern at pattern listed) (returned (found (sorted paths) f.listed))

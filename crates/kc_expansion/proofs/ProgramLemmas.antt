@@ -15,7 +15,7 @@ grouped (fails q) f g = refl
 grouped stops f g = refl
 grouped (does e k) f g = ap (does e) (fun_ext (λ r. grouped (k r) f g))
 
--- the rest of a program by an equal rest
+-- programs that go on after the same program in equal ways are equal
 pub same_rest : {A B : Type 0} (p : Program A) (f g : A → Program B) → ((x : A) → f x ≡ g x) → (p >>= f) ≡ (p >>= g)
 same_rest p f g h = ap (λ k. p >>= k) (fun_ext h)
 
@@ -26,14 +26,14 @@ nothing_after stops = refl
 nothing_after (does e k) = ap (does e) (fun_ext (λ r. nothing_after (k r)))
 
 module _ {A B : Type 0} (known : KnownFiles) (p : Program A) (f : A → Program B) where
-  -- after a program that comes to a value
+  -- a program that comes to a value, followed by another program, has the outcome of that other program for the value
   pub same_then : (x : A) → Comes known p (returned x) → HaveSameOutcome known (p >>= f) (f x)
   same_then x c = record {
     in_world = λ w h all left. composed all w f left p ∙ ap (λ (o : Outcome A). continued_by o o.ending (λ more y. outcome all w more (f y)))
         (c.in_world w h all left);
   }
 
-  -- after a program that fails
+  -- a program that fails, followed by another program, fails by the same fault
   pub fails_then : (g : Fault) → Comes known p (failed g) → Comes known (p >>= f) (failed g)
   fails_then g c = record {
     in_world = λ w h all left. composed all w f left p ∙ ap (λ (o : Outcome A). continued_by o o.ending (λ more y. outcome all w more (f y)))
@@ -62,7 +62,7 @@ module _ {A : Type 0} (contents : TreeContents) (old new : KnownFiles) (g : Grow
   pub same_later : (p q : Program A) → HaveSameOutcome old p q → HaveSameOutcome new p q
   same_later p q c = record { in_world = λ w h. c.in_world w (g.worlds w h) }
 
--- after the names of a folder
+-- a program that lists a folder with known names has the outcome of going on with those names
 pub same_listed : {A : Type 0} (known : KnownFiles) (folder : List ℕ) (k : List (List ℕ) → Program A) (names : List (List ℕ))
     → ((w : World) → Agrees w known → w.names folder ≡ names)
     → HaveSameOutcome known (does (list_folder folder) k) (k names)

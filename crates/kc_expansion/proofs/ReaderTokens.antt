@@ -25,7 +25,8 @@ use Rattle.kc_macros_model.proofs.QuotedBodies.{IsQuotedBody, body_none, body_by
 use Rattle.kc_macros_model.proofs.TokenCuts.{ends_run, begins_with_run, AreWordBytes, no_word_bytes, next_word_byte, IsQuote, double_quote, single_quote}
 use Rattle.kc_macros_model.proofs.TokensOfLines.{tokens_passed}
 
--- the tokens of the reader and those of the expansion: an operator is a byte or two
+-- the tokens of the reader and those of the expansion are of the same line, where an operator of the reader is one byte or two in
+-- the expansion
 pub data AreRead : List Lexeme → List LineToken → Type 0 where
   none_read : AreRead [] []
   gap_read : {s : List ℕ} {ps : List Lexeme} {ts : List LineToken} → AreRead ps ts → AreRead ps (gap s ∷ ts)
@@ -275,7 +276,7 @@ module _ (language : Language) (p : Lexeme) (ps : List Lexeme) (rest : List ℕ)
   token_in_front Open e is long no_dollar = by_tokens is refl (one_byte Open 40 e refl)
   token_in_front Close e is long no_dollar = by_tokens is refl (one_byte Close 41 e refl)
 
--- the tokens of a line without a fault
+-- the tokens into which the reader cuts a line without a fault are those of the expansion
 pub cut_tokens : (language : Language) (at : ℕ) (s : List ℕ) (ps : List Lexeme) → IsCut language at s ps → AreRead ps (line_tokens 0 s)
 cut_tokens language at s ps ends = none_read
 cut_tokens language at s ps (comment {bytes = bs}) = subst (AreRead []) (sym (comment_tokens bs)) (gap_read none_read)

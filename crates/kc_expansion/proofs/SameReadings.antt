@@ -16,7 +16,7 @@ use Rattle.kc_tree_model.specs.Blocks.{Group, Position, sourced_path, file_end, 
 use Rattle.kc_tree_model.specs.Limits.{is_in_list, FileSource, bytes_in, size_in, files_read, open_files, source_fault}
 use Rattle.kc_tree_model.specs.TreeReading.{statement_on_line, with_statement, with_group, path_to_read, Outcome, at_file_end, continue_after_file, continue_after_source, continue_after_statement, continue_after_line, read_lines, read_file, read_root, reading}
 use Rattle.kc_macros_model.specs.Worlds.{returned, expansion}
-use Rattle.kc_expansion.specs.TreeLaws.{paths_met, text_of_key, IsGivenBack, ReadingsStay}
+use Rattle.kc_expansion.specs.TreeLaws.{paths_read, text_of_key, IsGivenBack, ReadingsStay}
 use Rattle.kc_expansion.proofs.AcceptedTrees.{accepted_trees_stay, unfolded_none}
 
 -- a reading without a fault has none in a part of it
@@ -201,13 +201,13 @@ module _ (language : Language) (known other : List ℕ → Option (List ℕ)) (n
       either true b e = refl
       either false b e = e
 
--- a tree that is given back is read as before
+-- the reader reads the expanded files of a tree that it accepts just as it reads the tree itself
 pub readings_stay : ReadingsStay
 unfolding reading
 readings_stay w files root expanded accepted among ending =
     let g : IsGivenBack files root (expansion w root) = accepted_trees_stay w files root accepted among in
     let same : g.expanded ≡ expanded = (let e : returned g.expanded ≡ returned expanded = sym g.ending ∙ ending in cc) in
-    let all = all_listed files.language (file_at files) (text_of_key expanded) (index_of_file files) root (paths_met files root)
+    let all = all_listed files.language (file_at files) (text_of_key expanded) (index_of_file files) root (paths_read files root)
     (λ path e. ap (λ fs. text_of_key fs path) (sym same) ∙ g.texts path ∙ ap (λ b. cond b (file_at files path) None) e) in
     root_same files.language (file_at files) (text_of_key expanded) (index_of_file files) root (file_at files root) refl all.0
     (unfolded_none w files root among accepted) all.1

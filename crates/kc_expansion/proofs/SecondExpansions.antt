@@ -15,7 +15,7 @@ use Rattle.kc_macros_model.specs.Expansion.{text_value}
 use Rattle.kc_macros_model.specs.ReadingStates.{ExpandedFile, has_key}
 use Rattle.kc_macros_model.specs.TreeExpansion.{tree_read}
 use Rattle.kc_macros_model.specs.Worlds.{World, expansion}
-use Rattle.kc_expansion.specs.TreeLaws.{paths_met, by_key, text_of_key, IsFileOf, ExpandedTreesStay, AllFilesStay, LosesAFile}
+use Rattle.kc_expansion.specs.TreeLaws.{paths_read, by_key, text_of_key, IsFileOf, ExpandedTreesStay, AllFilesStay, LosesAFile}
 use Rattle.kc_expansion.proofs.AcceptedLines.{turned}
 use Rattle.kc_expansion.proofs.AcceptedTrees.{accepted_trees_stay}
 
@@ -40,14 +40,14 @@ all_files_stay w again root files e accepted among each =
       ending = g.ending;
       paths = All-weaker (IsFileOf (by_key files)) (λ (f : ExpandedFile). f.key ≡ f.path)
           (λ f h. h.key) g.expanded g.own;
-      texts = λ key. g.texts key ∙ by_test key (is_in_list key (paths_met (by_key files) root)) refl;
+      texts = λ key. g.texts key ∙ by_test key (is_in_list key (paths_read (by_key files) root)) refl;
     }
   where
-    by_key_there : (key : List ℕ) (b : Bool) → has_key files key ≡ b → is_in_list key (paths_met (by_key files) root) ≡ false → b ≡ false
+    by_key_there : (key : List ℕ) (b : Bool) → has_key files key ≡ b → is_in_list key (paths_read (by_key files) root) ≡ false → b ≡ false
     by_key_there key false h n = refl
     by_key_there key true h n = let z = each key h in cc
 
-    by_test : (key : List ℕ) (b : Bool) → is_in_list key (paths_met (by_key files) root) ≡ b → cond b (text_of_key files key) None ≡ text_of_key files key
+    by_test : (key : List ℕ) (b : Bool) → is_in_list key (paths_read (by_key files) root) ≡ b → cond b (text_of_key files key) None ≡ text_of_key files key
     by_test key true h = refl
     by_test key false h = sym (no_text files key (by_key_there key (has_key files key) refl h))
 

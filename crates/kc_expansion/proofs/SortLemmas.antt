@@ -157,7 +157,7 @@ chain_of [] h = no_text
 chain_of (v ∷ []) h = one_text
 chain_of (v ∷ w ∷ vs) h = more_texts (order_by_cmp v.items w.items (h 0 v (omega arith))) (chain_of (w ∷ vs) (λ k d l. h (suc k) d (omega arith)))
 
--- what a sort leaves
+-- a reordered list of vectors in which no text is greater than the next one is the sorted list of the texts
 pub sorted_by_sort : (old new : List (Vec ℕ Global)) → IsPermutation old new
     → ((k : ℕ) (v : Vec ℕ Global) → 0 ≤ k → k + 1 < length new → is_lt (slice_cmp nat_cmp (get_or new (k + 1) v).items (get_or new k v).items) ≡ false)
     → items_of new ≡ sorted (items_of old)

@@ -32,13 +32,13 @@ or_turned true false = refl
 or_turned false true = refl
 or_turned false false = refl
 
--- the order of open files doesn't matter
+-- a path is in a list of paths exactly if it is in the reversed list
 pub in_reverse : (x : List ℕ) (xs : List (List ℕ)) → is_in_list x (reverse xs) ≡ is_in_list x xs
 in_reverse x [] = refl
 in_reverse x (y ∷ xs) = ap (is_in_list x) (reverse-append (y ∷ []) xs) ∙ any_both x (reverse xs) (y ∷ []) ∙ or_turned (is_in_list x (reverse xs)) (bytes_eq y x)
     ∙ ap (λ b. bytes_eq y x || b) (in_reverse x xs)
 
--- whether a path is open
+-- a path is equal to the slice of an open file exactly if it is in the list of the paths of open files
 pub open_by : (path : List ℕ) (os : List (Bor (List ℕ))) → list_any (λ (o : Bor (List ℕ)). bytes_eq o.now path) os ≡ is_in_list path (slices_of os)
 open_by path [] = refl
 open_by path (o ∷ os) = ap (λ b. bytes_eq o.now path || b) (open_by path os)
@@ -51,13 +51,13 @@ module _ (open_files : List (List ℕ)) (s : ReadingState) (path : List ℕ) whe
   pub missing_fault : (bytes : Option (List ℕ)) → is_in_list path open_files ≡ false → bytes ≡ None → source_fault open_files s path bytes ≡ Some MissingFile
   missing_fault bytes e m = ap (source_fault open_files s path) m ∙ ap (λ b. cond b (Some SourceLoop) (Some MissingFile)) e
 
-  -- the fault of a file that is there and isn't open
+  -- the fault of a `source` line whose file is there and isn't open is the fault of the file's size and depth, if any
   pub fault_of_size : (bytes : Option (List ℕ)) (there : List ℕ) → is_in_list path open_files ≡ false → bytes ≡ Some there
       → source_fault open_files s path bytes ≡ size_fault (length open_files) s.files (s.bytes + length there)
   fault_of_size bytes there e m = ap (source_fault open_files s path) m
       ∙ ap (λ b. cond b (Some SourceLoop) (size_fault (length open_files) s.files (s.bytes + length there))) e
 
--- a limit that is passed
+-- a file fails by `TooDeep` where 32 or more files are open within each other
 pub fault_too_deep : (n files bytes : ℕ) → 32 ≤ n → size_fault n files bytes ≡ Some TooDeep
 fault_too_deep n files bytes h = ap (λ b. cond b (Some TooDeep) (cond (nat_le max_files files || nat_lt max_bytes bytes) (Some TooMany) None))
     (let e : nat_le max_open_files n ≡ true = grind (arith, nat_tests) in e)
@@ -73,7 +73,8 @@ fault_too_many n files bytes h k =
     or_true true = refl
     or_true false = refl
 
--- no limit is passed
+-- a file without a fault of size passes no limit: fewer than 32 files are open, fewer than 4,096 were read, and there are at most
+-- 67,108,864 bytes with it
 pub no_limit_passed : (n files bytes : ℕ) → size_fault n files bytes ≡ None → (n < 32) × (files < 4096) × (bytes ≤ 67108864)
 no_limit_passed n files bytes h = by_tests (nat_le max_open_files n) (nat_le max_files files) (nat_lt max_bytes bytes) refl refl refl h
   where
@@ -88,7 +89,7 @@ no_limit_passed n files bytes h = by_tests (nat_le max_open_files n) (nat_le max
       let x : bytes ≤ 67108864 = grind (arith, nat_tests) in x,
     )
 
--- counts that are those of a state
+-- the fault of a file's size is the same by the counts of files and bytes in the state of a reading and by equal counts
 pub fault_counted : (n files bytes len : ℕ) (s : ReadingState) → s.files ≡ files → s.bytes ≡ bytes → size_fault n s.files (s.bytes + len)
     ≡ size_fault n files (bytes + len)
 fault_counted n files bytes len s f g = ap (λ k. size_fault n k (s.bytes + len)) f ∙ ap (λ k. size_fault n files (k + len)) g

@@ -38,7 +38,7 @@ module _ (root : List ℕ) (open_files : List (List ℕ)) (at : Place) (what : S
         (stored_file root (sourced_path what) p)
   ]
 
-  -- a file or a list that may not be read, or may
+  -- the reading of a sourced file or list that has a fault fails by this fault at the `source` line
   pub may_not : (bytes : Option (List ℕ)) (kind : MacroKind) → source_fault open_files s (sourced_path what) bytes ≡ Some kind
       → sourced_read inner root open_files at what s bytes ≡ fails (fault_at at kind)
   unfolding by_fault
@@ -66,7 +66,7 @@ module _ (a b : FileRun) (root : List ℕ) (open_files : List (List ℕ)) (few :
     (c : AreCounts counts s) (path : List ℕ) (read : FileRead)
     (same : b.contents ≡ a.contents) (grows : Grows a.contents a.known b.known) (run : b.run ≡ a.run)
     (known : keyword_in_table b.known.files path ≡ Some read) where
-  -- a file that may not be read
+  -- the reading of a file that may not be read leads to its fault at the `source` line
   pub file_refused : (kind : MacroKind) → MayNotBeRead open_files counts path read kind → Leads a (reader_for root open_files at (one_file path) s) b
       (fails (fault_at at kind))
   file_refused kind m =
@@ -77,7 +77,7 @@ module _ (a b : FileRun) (root : List ℕ) (open_files : List (List ℕ)) (few :
       (fails (fault_at at kind)) read same grows run known
       (λ bytes h. may_not root open_files at (one_file path) s bytes kind (m.is_fault s c bytes h)))
 
-  -- a file that is read
+  -- the reading of a file that may be read leads to the reading of its lines, with the file open, and the storing of its text
   pub file_opened : (bytes : List ℕ) → MayBeRead open_files counts path read bytes
       → Leads a (reader_for root open_files at (one_file path) s) b (lines_read (reader_for root (path ∷ open_files)) path 0 1 (split_at_newlines bytes)
       (counted (length bytes) s) >>= λ p. returns (stored_file root path p))
@@ -109,7 +109,7 @@ module _ (root : List ℕ) (open_files : List (List ℕ)) (few : length open_fil
       whole_alike : {x y : List ℕ} → whole x ≡ whole y → x ≡ y
       whole_alike h = cc
 
--- a text before nothing
+-- a program with an empty text before the text that it returns is the same program
 pub after_nothing : (p : Program Progress) → after_text [] p ≡ p
 after_nothing p = nothing_after p
 
@@ -133,7 +133,7 @@ module _ (sub : SourceReader) (at : Place) (done : List ℕ) (path : List ℕ) (
       regrouped rest = sym (append_assoc done (line_of_key key) rest ∙ ap (λ x. done ++ (codes "source " ++ x))
           (append_assoc (in_quotes_of 34 key) (10 ∷ []) rest))
 
-  -- a file that was read, or stopped
+  -- the reading of the remaining files of a list reads the first of them and goes on with the others
   pub list_first : lists_left sub at done (path ∷ paths) s ≡ sub at (one_file path) s >>= λ p. after_text done (after_file p)
   list_first = grouped (sub at (one_file path) s) after_file (λ rest. returns (progress (done ++ rest.text) rest.state))
 
@@ -156,7 +156,7 @@ module _ (sub : SourceReader) (at : Place) (done : List ℕ) (path : List ℕ) (
       (leads_same a (lists_left sub at done (path ∷ paths) s) (sub at (one_file path) s >>= f) list_first)
       (reads_early a b (sub at (one_file path) s) f stop r)
 
--- no file is left
+-- the reading of a list of files with none left returns the text for the files before
 pub list_done : (sub : SourceReader) (at : Place) (done : List ℕ) (s : ReadingState) → lists_left sub at done [] s ≡ returns (progress (done ++ []) s)
 list_done sub at done s = refl
 
@@ -222,7 +222,7 @@ module _ (sub : SourceReader) (at : Place) (sort : SourceSort) (path : List ℕ)
       affirmed true h = refl
       affirmed false h = absurd (let z : ⊥ = cc in z)
 
--- a text that is kept under its key
+-- the text of a sourced file is stored under its key, unless a file has the key, and the key is returned
 pub kept_so : (root path text key : List ℕ) (s : ReadingState) (files : List ExpandedFile) → key ≡ key_of root s.expanded path text
     → files ≡ with_file (key_of root s.expanded path text) path text s.expanded
     → stored_file root path (progress text s) ≡ progress key (let t : ReadingState = record s { expanded = files } in t)
@@ -230,16 +230,16 @@ kept_so root path text key s files h k =
     ap (λ fs. let t : ReadingState = record s { expanded = fs } in progress (key_of root s.expanded path text) t) (sym k)
     ∙ ap (λ x. let t : ReadingState = record s { expanded = files } in progress x t) (sym h)
 
--- few files are open
+-- where at most 32 slices are paths of open files, these are at most 32 paths
 pub few_open : (os : List (Bor (List ℕ))) → length os ≤ 32 → length (slices_of os) ≤ 32
 few_open os h = omega (arith, length-map os (λ (o : Bor (List ℕ)). o.now))
 
--- counts of a file more
+-- the state of a reading with the code's counts after one more file is the state that counts that file
 pub counted_by : (s : ReadingState) (counts : ReadCounts) (n len : ℕ) → counts ≡ record { files = s.files + 1; bytes = s.bytes + n } → n ≡ len
     → (let t : ReadingState = record s { files = counts.files; bytes = counts.bytes } in t) ≡ counted len s
 counted_by s counts n len h k = ap (λ (c : ReadCounts). let t : ReadingState = record s { files = c.files; bytes = c.bytes } in t) h ∙ ap (λ m. counted m s) k
 
--- the lines of a file, by another name of their state
+-- the end of reading the lines of a file is the same for equal open files and an equal state
 pub lines_here : (b c : FileRun) (root : List ℕ) (paths open_files : List (List ℕ)) (path bytes : List ℕ) (s t : ReadingState) (e : RunEnd Progress)
     → paths ≡ open_files → t ≡ s
     → Reads b c (lines_read (reader_for root paths) path 0 1 (split_at_newlines bytes) t) e → Reads b c
@@ -254,6 +254,6 @@ pub list_here : (b c : FileRun) (root : List ℕ) (paths open_files : List (List
 list_here b c root paths open_files at files s t e h k r =
     subst (λ ps. Reads b c (list_read (reader_for root ps) at files s) e) h (subst (λ u. Reads b c (list_read (reader_for root paths) at files u) e) k r)
 
--- one path more is open
+-- where fewer than 32 files are open, opening one more leaves at most 32 open
 pub one_more_open : (os ps : List (Bor (List ℕ))) (path : List ℕ) → slices_of ps ≡ path ∷ slices_of os → length (slices_of os) < 32 → length ps ≤ 32
 one_more_open os ps path e h = omega (arith, h, ap length e, length-map ps (λ (o : Bor (List ℕ)). o.now))

@@ -17,7 +17,7 @@ grows_same contents known = record { worlds = λ w h. h; matched = λ h. h }
 pub grows_twice : (contents : TreeContents) (a b c : KnownFiles) → Grows contents a b → Grows contents b c → Grows contents a c
 grows_twice contents a b c g h = record { worlds = λ w k. g.worlds w (h.worlds w k); matched = λ k. h.matched (g.matched k) }
 
--- one path more
+-- the known files grow by one more file whose result of reading agrees with its known content
 pub file_more : (contents : TreeContents) (known : KnownFiles) (path : List ℕ) (read : FileRead) → MatchFile (contents.file path) read
     → Grows contents known (record known { files = known.files ++ (path, read) ∷ [] })
 file_more contents known path read m = record {
@@ -29,14 +29,14 @@ file_more contents known path read m = record {
   };
 }
 
--- names that were listed as they were known to be
+-- the names of a folder that was listed as it is known agree with its known content
 pub folder_matched : (content : FolderContent) (names : Option (Vec (Vec ℕ Global) Global)) → ListsAs content max_listed_names (option_map texts_of names)
     → MatchFolder content (folder_of_names names)
 folder_matched None names h = tt
 folder_matched (Some known) None h = h
 folder_matched (Some known) (Some ns) h = h
 
--- one folder more
+-- the known folders grow by one more folder whose result of listing agrees with its known content
 pub folder_more : (contents : TreeContents) (known : KnownFiles) (folder : List ℕ) (read : FolderRead) → MatchFolder (contents.folder folder) read
     → Grows contents known (record known { folders = known.folders ++ (folder, read) ∷ [] })
 folder_more contents known folder read m = record {

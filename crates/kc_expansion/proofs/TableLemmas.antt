@@ -29,7 +29,8 @@ pub some_copied : {X : Type 0} (o : Option (Bor X)) → is_some o ≡ is_some (o
 some_copied None = refl
 some_copied (Some r) = refl
 
--- what holds after a call that changes something where it returns `Ok`, and nothing else
+-- a property of a state holds after a call that changes the state only where it returns `Ok`, if it holds of the old and of the
+-- changed state
 pub by_result : {A E T : Type 0} (r : Result A E) (P : T → Type 0) (old grown new : T) → OnOk r (new ≡ grown) → OnErr r (new ≡ old) → P grown → P old → P new
 by_result (Ok x) P old grown new e f g h = subst P (sym e) g
 by_result (Err x) P old grown new e f g h = subst P (sym f) h
@@ -46,7 +47,7 @@ module _ {V A : Type 0} (view : V → A) where
   found_by true e o = refl
   found_by false e o = refl
 
-  -- a look-up by bytes
+  -- the value found in the map of a table for a path is the one that is found in the table by the bytes of the path
   pub found : (path : List ℕ) (es : List (Vec ℕ Global × V)) → keyword_in_table (map entry_view es) path
       ≡ option_map view (lookup (λ (k : Vec ℕ Global). bytes_eq path k.items) es)
   found path [] = refl
@@ -55,7 +56,7 @@ module _ {V A : Type 0} (view : V → A) where
       ∙ ap (λ o. cond (bytes_eq path e.0.items) (Some (view e.1)) o) (found path es)
       ∙ found_by (bytes_eq path e.0.items) e (lookup (λ (k : Vec ℕ Global). bytes_eq path k.items) es)
 
-  -- a key that isn't there goes last
+  -- an entry of a key that a table doesn't have goes to the end of the table
   pub inserted_new : (es : List (Vec ℕ Global × V)) (k : Vec ℕ Global) (v : V) → keyword_in_table (map entry_view es) k.items ≡ None
       → map entry_view (insert_entry (λ (a b : Vec ℕ Global). bytes_eq a.items b.items) es k v) ≡ map entry_view es ++ (k.items, view v) ∷ []
   inserted_new [] k v h = refl
@@ -71,7 +72,7 @@ module _ {V A : Type 0} (view : V → A) where
           ∙ ap (λ xs. entry_view e ∷ xs) (ih h)
 
 module _ {A : Type 0} where
-  -- what is there stays where another key goes last
+  -- what is found for a key in a table is found also with another entry at the end
   pub stays_found : (t : List (List ℕ × A)) (new : List ℕ × A) (key : List ℕ) (x : A) → keyword_in_table t key ≡ Some x
       → keyword_in_table (t ++ new ∷ []) key ≡ Some x
   stays_found [] new key x h = absurd (let z : ⊥ = cc in z)
@@ -82,7 +83,7 @@ module _ {A : Type 0} where
       by_test true ih h = h
       by_test false ih h = ih h
 
-  -- a new key is found
+  -- a key that a table doesn't have is found after its entry is added at the end
   pub new_found : (t : List (List ℕ × A)) (key : List ℕ) (x : A) → keyword_in_table t key ≡ None → keyword_in_table (t ++ (key, x) ∷ []) key ≡ Some x
   new_found [] key x h = ap (λ b. cond b (Some x) None) (bytes_eq_same key)
   new_found (e ∷ t) key x h = by_test (bytes_eq e.0 key) (new_found t key x) h
@@ -92,7 +93,7 @@ module _ {A : Type 0} where
       by_test true ih h = absurd (let z : ⊥ = cc in z)
       by_test false ih h = ih h
 
-  -- what is found with a new key was there, or is it
+  -- what is found in a table with one more entry at the end was found before, or is that entry's value under its key
   pub found_or_new : (t : List (List ℕ × A)) (key other : List ℕ) (x y : A) → keyword_in_table (t ++ (key, x) ∷ []) other ≡ Some y
       → (keyword_in_table t other ≡ Some y) ⊎ ((other ≡ key) × (y ≡ x))
   found_or_new [] key other x y h = by_test (bytes_eq key other) refl h

@@ -33,7 +33,7 @@ use Rattle.kc_expansion.proofs.FileProgramLemmas.{leads_same, leads_then, leads_
 use Rattle.kc_expansion.proofs.SourceReadLemmas.{follows_path, file_opened, list_opened, kept_so, list_halted, list_next, after_nothing}
 use Rattle.kc_expansion.proofs.LinesLeftLemmas.{written_here, line_stopped, line_passed, written_after, stayed}
 
--- a stop is passed on
+-- a program ends by the stop that the code's result has
 pub passes_on : {A X : Type 0} (a b : FileRun) (p : Program A) (view : X → A) (stop : Stop) (r : Result X Stop) → IsErrAnd r (λ e. e ≡ stop)
     → Reads a b p (end_of_stop stop) → Reads a b p (end_of view r)
 passes_on a b p view stop r h k = stopped_after a a b p p view stop r (leads_same a p p refl) h k
@@ -121,7 +121,7 @@ module _ (a c : FileRun) (root : List ℕ) (open_files : List (List ℕ)) (few :
   list_was_read text u r = leads_then a a c (reader_for root open_files at (file_list name files) s) (files_of_list paths t >>= keeping_list)
       (keeping_list (progress text u)) list_leads (leads_on a c (files_of_list paths t) keeping_list (progress text u) r)
 
--- a text that was read to its end and is kept
+-- where the lines of a file were read to their end, storing the text returns its key with the file among the expanded files
 pub keeps : (a c : FileRun) (p : Program Progress) (root path text key : List ℕ) (s : ReadingState) (files : List ExpandedFile)
     → Leads a p c (returns (stored_file root path (progress text s)))
     → key ≡ key_of root s.expanded path text → files ≡ with_file (key_of root s.expanded path text) path text s.expanded
@@ -131,11 +131,11 @@ keeps a c p root path text key s files l h k =
     reads_value a c p x (leads_then a c c p (returns (stored_file root path (progress text s))) (returns x) l
     (leads_same c (returns (stored_file root path (progress text s))) (returns x) (ap returns (kept_so root path text key s files h k))))
 
--- the paths that are open with one more
+-- the number of open files with one more path at the front is one more
 pub count_more : (os ps : List (Bor (List ℕ))) (path : List ℕ) → slices_of ps ≡ path ∷ slices_of os → length ps ≡ suc (length os)
 count_more os ps path e = sym (length-map ps (λ (o : Bor (List ℕ)). o.now)) ∙ ap length e ∙ ap suc (length-map os (λ (o : Bor (List ℕ)). o.now))
 
--- the files of a list
+-- the reading of the files of a list is that of the remaining files where none was read yet
 pub list_begun : (sub : SourceReader) (at : Place) (done : List ℕ) (paths : List (List ℕ)) (s : ReadingState) → done ≡ []
     → list_read sub at paths s ≡ lists_left sub at done paths s
 list_begun sub at done paths s h = sym (after_nothing (list_read sub at paths s)) ∙ ap (λ x. lists_left sub at x paths s) (sym h)
@@ -165,7 +165,7 @@ list_file_read a b c p sub at done path shown paths left s key t text l e d x r 
     (subst (λ ps. Leads b (lists_left sub at done ps s) c (lists_left sub at text paths t)) (sym e)
     (list_next sub at done path paths s b c key t text x (subst (λ x. Reads b c (sub at (one_file x) s) (ends (returned (progress key t)))) d r)))
 
--- a list whose paths were found
+-- where the paths of a `source` line were found, its reading comes to the end of the reading of the list of these files
 pub list_found : (a b d : FileRun) (p : Program Progress) (sub : SourceReader) (at : Place) (name shown : List ℕ) (files given : List (List ℕ))
     (u : ReadingState) (e : RunEnd Progress) → Leads a p b (sub at (file_list name files) u) → shown ≡ name → given ≡ files
     → Reads b d (sub at (file_list shown given) u) e → Reads a d p e
@@ -193,7 +193,7 @@ module _ (sub : SourceReader) (file bytes : List ℕ) (start : LineStart) (there
       (subst (λ x. line_written sub (place file start.number) (is_first_continued (physical_lines (drop start.at bytes))) x s ≡ returns (written_line x help s))
       d (y.written sub (place file start.number) (is_first_continued (physical_lines (drop start.at bytes))) s)))
 
-  -- a line that was written, and what follows it
+  -- where a line of a file was written, the reading of the lines from it on leads to that of the lines after it and its help text
   pub line_changed : (a b : FileRun) (joined : Bool) → joined ≡ is_first_continued (physical_lines (drop start.at bytes))
       → (t : ReadingState) (new : List ℕ) (out : WrittenFile) → out.original.value.items ≡ bytes → out.copied ≤ next
       → text_up_to out next ≡ text_up_to before start.at ++ lines_written (take lines (split_at_newlines (drop start.at bytes))) text new
@@ -209,7 +209,7 @@ module _ (sub : SourceReader) (file bytes : List ℕ) (start : LineStart) (there
       (ends (returned (written_line new help t)))) d
       (subst (λ y. Reads a b (line_written sub (place file start.number) y shown s) (ends (returned (written_line new help t)))) j r))
 
--- a line whose reading stopped
+-- where the writing of a line of a file stops, the reading of the lines from it on stops in the same way
 pub line_broken : (a b : FileRun) (sub : SourceReader) (file bytes : List ℕ) (start : LineStart) (there : start.at < length bytes) (text : List ℕ)
     (next lines : ℕ) (logical : IsLogicalAt bytes start.at text next lines) (s : ReadingState)
     (done shown : List ℕ) → shown ≡ text → (joined : Bool) → joined ≡ is_first_continued (physical_lines (drop start.at bytes)) → (stop : Stop)
@@ -220,11 +220,11 @@ line_broken a b sub file bytes start there text next lines logical s done shown 
     (subst (λ y. Reads a b (line_written sub (place file start.number) (is_first_continued (physical_lines (drop start.at bytes))) y s) (end_of_stop stop)) d
     (subst (λ y. Reads a b (line_written sub (place file start.number) y shown s) (end_of_stop stop)) j r))
 
--- the bytes of a file beneath its counts of owners
+-- equal shared files have the same bytes
 pub original_is : (r q : Rc (Vec ℕ Global) Global) (v : Vec ℕ Global) → r ≡ q → q.value ≡ v → r.value.items ≡ v.items
 original_is r q v h k = ap (λ (x : Rc (Vec ℕ Global) Global). x.value.items) h ∙ ap (λ (x : Vec ℕ Global). x.items) k
 
--- all lines of a file
+-- the reading of the lines of a file is that of the remaining lines where none was read yet
 pub lines_begun : (sub : SourceReader) (file : List ℕ) (start : LineStart) (done : List ℕ) (ls left : List PhysicalLine) (s : ReadingState) → start.number ≡ 1
     → done ≡ [] → left ≡ ls → lines_read sub file 0 1 ls s ≡ lines_left sub file start done left s
 lines_begun sub file start done ls left s n h e =

@@ -17,7 +17,8 @@ use Rattle.kc_expansion.specs.between.KnownFiles.{FileRead, missing, whole, too_
 longer : {A : Type 0} (x : A) (n : ℕ) → (xs : List A) × (n < length xs)
 longer x n = (replicate (suc n) x, let e = length-replicate (suc n) x in omega (arith, e))
 
--- bytes that a file may have which is known so, and of which this was read
+-- bytes that the file of a path may have in a world, given its known content and, if it was read, the result of reading it; none
+-- for a missing file
 pub bytes_of : FileContent → Option FileRead → Option (List ℕ)
 bytes_of content (Some missing) = None
 bytes_of content (Some (whole bytes)) = Some bytes

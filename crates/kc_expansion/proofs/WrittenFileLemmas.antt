@@ -11,11 +11,12 @@ newline_more b n left e = append_assoc b (10 ∷ []) (replicate n 10) ∙ ap (λ
 no_range : (xs : List ℕ) (n : ℕ) → slice_range xs n n ≡ []
 no_range xs n = ap (λ k. take k (drop n xs)) (let k : n - n ≡ 0 = omega arith in k)
 
--- lines that are replaced, after those before
+-- the text of a file after a replacement is what was written, the bytes up to the replaced ones, and the new text with its
+-- newlines
 pub replaced : (original w s t n : List ℕ) (next : ℕ) → (((w ++ s) ++ t) ++ n) ++ slice_range original next next ≡ (w ++ s) ++ (t ++ n)
 replaced original w s t n next = ap (λ e. (((w ++ s) ++ t) ++ n) ++ e) (no_range original next) ∙ append-nil (((w ++ s) ++ t) ++ n) ∙ append_assoc (w ++ s) t n
 
--- one byte more of an escaped text
+-- a byte of an escaped text, with a backslash before it if it is a backslash, a `$` or a `"`
 abbrev pub escaped_byte : ℕ → List ℕ
 escaped_byte c = cond (c == 92 || (c == 36) || (c == 34)) (92 ∷ c ∷ []) (c ∷ [])
 
@@ -26,7 +27,8 @@ escaped_more b text i h =
     ∙ ap (λ k. b ++ (escaped_byte (get_or text i 0) ++ escaped_text 34 (drop k text))) (let k : i + 1 ≡ suc i = omega arith in k)
     ∙ ap (λ t. b ++ escaped_text 34 t) (sym (drop-cons text i 0 h))
 
--- the line of a list
+-- a line that the code writes piece by piece, for an escaped key, is the `source` line of that key between quotes, with its
+-- newline
 pub source_line_is : (b e : List ℕ) → ((b ++ codes "source \"") ++ e) ++ codes "\"\n" ≡ b ++ (codes "source " ++ ((34 ∷ (e ++ 34 ∷ [])) ++ 10 ∷ []))
 source_line_is b e =
     append_assoc (b ++ codes "source \"") e (codes "\"\n") ∙ append_assoc b (codes "source \"") (e ++ codes "\"\n")

@@ -10,22 +10,23 @@ use Rattle.kc_macros.specs.Runs.{HasAnswers, fault_of}
 use Rattle.kc_expansion.specs.TextViews.{texts_of}
 use Rattle.kc_expansion.specs.TreeContents.{TreeContents, IsWorldOf}
 
--- expanded files or a fault of the code, as the definitions have them
+-- what an expansion by the code ends with: the expanded files, or the fault as one of `kc_macros_model`
 abbrev pub tree_of : Result (List ExpandedFile) MacroFault → Result (List ExpandedFile) Fault
 tree_of (Ok files) = Ok files
 tree_of (Err fault) = Err (fault_of fault)
 
--- questions or a fault of the code, as the definitions have them
+-- what the code's `wants` returns: the questions without an answer as texts, or the fault as one of `kc_macros_model`
 abbrev pub questions_of : Result (Vec (Vec ℕ Global) Global) MacroFault → Result (List (List ℕ)) Fault
 questions_of (Ok questions) = Ok (texts_of questions)
 questions_of (Err fault) = Err (fault_of fault)
 
--- the end of an expansion with these files or this fault
+-- the end of an expansion that returns these expanded files or fails by this fault
 abbrev pub ending_of : Result (List ExpandedFile) Fault → Ending (List ExpandedFile)
 ending_of (Ok files) = returned files
 ending_of (Err fault) = failed fault
 
--- the expansion of a tree has these notices, and these files or this fault, in a world that has the known files and folders and just these answers
+-- the expansion of the tree with the first file `root` has these notices, and returns these expanded files or fails by this
+-- fault, in some `World` whose files and folders agree with `contents`, and that has just these answers
 pub record IsExpansion (contents : TreeContents) (answers : Recorded) (root : List ℕ) (notices : List Notice) (tree : Result (List ExpandedFile) Fault) : Type 0 where
   pub world : World
   pub of_contents : IsWorldOf contents world
@@ -33,7 +34,8 @@ pub record IsExpansion (contents : TreeContents) (answers : Recorded) (root : Li
   pub has_notices : (expansion world root).notices ≡ notices
   pub ends_so : (expansion world root).ending ≡ ending_of tree
 
--- a tree asks these questions, or none and has this fault, in a world that has the known files and folders and just these answers
+-- the tree with the first file `root` asks these questions without an answer, or asks none and has this fault, in some `World`
+-- whose files and folders agree with `contents`, and that has just these answers
 pub record AreWanted (contents : TreeContents) (answers : Recorded) (root : List ℕ) (questions : Result (List (List ℕ)) Fault) : Type 0 where
   pub world : World
   pub of_contents : IsWorldOf contents world

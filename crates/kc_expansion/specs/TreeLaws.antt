@@ -15,15 +15,16 @@ use Rattle.kc_macros_model.specs.PlainLines.{is_plain_line, is_before_help}
 use Rattle.kc_macros_model.specs.ReadingStates.{ExpandedFile, has_key}
 use Rattle.kc_macros_model.specs.Worlds.{World, returned, Outcome, expansion, wanted}
 
--- the paths that the reader of a tree meets, the first among them
-abbrev pub paths_met : Files → List ℕ → List (List ℕ)
-paths_met files root = root ∷ filter_map sourced_path (reading files root).read
+-- the paths of the files that the reader of a tree reads: that of the first file, then those that are sourced, in order of
+-- reading
+abbrev pub paths_read : Files → List ℕ → List (List ℕ)
+paths_read files root = root ∷ filter_map sourced_path (reading files root).read
 
--- expanded files by their keys, in the language of Linux
+-- the tree of expanded files with their keys as paths, to be read in the language of Linux
 abbrev pub by_key : List ExpandedFile → Files
 by_key expanded = linux_files (map (λ (f : ExpandedFile). (f.key, f.text)) expanded)
 
--- the text of the expanded file of a key
+-- the text of the expanded file with a key, if there is one
 abbrev pub text_of_key : List ExpandedFile → List ℕ → Option (List ℕ)
 text_of_key expanded key = file_at (by_key expanded) key
 
@@ -31,19 +32,19 @@ text_of_key expanded key = file_at (by_key expanded) key
 abbrev pub is_sourced_by : Option Statement → List ℕ → Bool
 is_sourced_by o path = elim (path_to_read o) [ None ↦ false | Some p ↦ bytes_eq p path ]
 
--- the expansion doesn't act on a line that the reader accepts, but to follow its `source`, and sees a help text after it
--- where the reader does
+-- the expansion does nothing to a line that the reader accepts, except that it follows a `source` line, and it takes a help text
+-- to follow the line exactly where the reader does
 abbrev pub AcceptedLinesStay : Type 0
 AcceptedLinesStay = (language : Language) (read : List Group) (l : LogicalLine) (o : Option Statement) → l.help ≡ false → statement_on_line language read l ≡ Ok o
     → (is_plain_line (is_sourced_by o) l.text ≡ true) × (is_before_help l.text ≡ begins_help l.text)
 
--- an expanded file is one of these files: it has its own bytes under its own path
+-- an expanded file is an unchanged file of a tree: its key is its path, and its text the bytes of that path
 pub record IsFileOf (files : Files) (f : ExpandedFile) : Type 0 where
   pub key : f.key ≡ f.path
   pub text : file_at files f.path ≡ Some f.text
 
--- An outcome that returns the files of a tree: no notice, no question, no work, and exactly the files that the reader meets,
--- each with its own bytes under its own path.
+-- An outcome of an expansion that returns the files of a tree: no notice, no question, no work, and exactly the files that the
+-- reader reads, each with its own bytes under its own path.
 pub record IsGivenBack (files : Files) (root : List ℕ) (o : Outcome (List ExpandedFile)) : Type 0 where
   pub notices : o.notices ≡ []
   pub questions : o.questions ≡ []
@@ -51,8 +52,8 @@ pub record IsGivenBack (files : Files) (root : List ℕ) (o : Outcome (List Expa
   pub expanded : List ExpandedFile
   pub ending : o.ending ≡ returned expanded
   pub own : All (IsFileOf files) expanded
-  pub met : (path : List ℕ) → has_key expanded path ≡ is_in_list path (paths_met files root)
-  pub texts : (path : List ℕ) → text_of_key expanded path ≡ (if is_in_list path (paths_met files root) then file_at files path else None)
+  pub keys_are : (path : List ℕ) → has_key expanded path ≡ is_in_list path (paths_read files root)
+  pub texts : (path : List ℕ) → text_of_key expanded path ≡ (if is_in_list path (paths_read files root) then file_at files path else None)
 
 -- The expansion returns the files of a tree that the reader accepts, in the strict language or in that of Linux, in every world
 -- that has its files, whatever else is in that world and whatever the answers are. The limits of the reader are those of the
@@ -60,40 +61,40 @@ pub record IsGivenBack (files : Files) (root : List ℕ) (o : Outcome (List Expa
 abbrev pub AcceptedTreesStay : Type 0
 AcceptedTreesStay = (w : World) (files : Files) (root : List ℕ) → first_tree_fault files root ≡ None → AreAmong (file_at files) w.bytes → IsGivenBack files root (expansion w root)
 
--- a tree that the reader accepts wants no answer
+-- the expansion of a tree that the reader accepts asks no question
 abbrev pub AcceptedTreesWantNothing : Type 0
 AcceptedTreesWantNothing = (w : World) (files : Files) (root : List ℕ) → first_tree_fault files root ≡ None → AreAmong (file_at files) w.bytes → wanted w root ≡ Ok []
 
--- The reader reads the expanded files of a tree that it accepts as it reads the tree itself, where they have the numbers of
--- its files.
+-- The reader reads the expanded files of a tree that it accepts just as it reads the tree itself, where each expanded file has
+-- the number of the file from which it comes.
 abbrev pub ReadingsStay : Type 0
 ReadingsStay = (w : World) (files : Files) (root : List ℕ) (expanded : List ExpandedFile) → first_tree_fault files root ≡ None → AreAmong (file_at files) w.bytes → (expansion w root).ending ≡ returned expanded
     → reading_from (record { language = files.language; bytes = text_of_key expanded; number = index_of_file files; root = root }) ≡ reading files root
 
--- A second expansion of a tree, with no answers or with any, returns the files of the first that the reader meets, if it accepts
--- them by their keys in the language of Linux.
+-- The expansion of expanded files, whatever the answers, returns exactly those of them that the reader reads, if it accepts them,
+-- with their keys as paths, in the language of Linux.
 abbrev pub ExpandedTreesStay : Type 0
 ExpandedTreesStay = (w again : World) (root : List ℕ) (files : List ExpandedFile) → (expansion w root).ending ≡ returned files
     → first_tree_fault (by_key files) root ≡ None → AreAmong (text_of_key files) again.bytes → IsGivenBack (by_key files) root (expansion again root)
 
--- a reading of expanded files that meets each of them
+-- the reader, which begins with the first file, reads each of the expanded files
 abbrev pub MeetsEach : List ExpandedFile → List ℕ → Type 0
-MeetsEach files root = (key : List ℕ) → has_key files key ≡ true → is_in_list key (paths_met (by_key files) root) ≡ true
+MeetsEach files root = (key : List ℕ) → has_key files key ≡ true → is_in_list key (paths_read (by_key files) root) ≡ true
 
--- an outcome returns just these expanded files: it has their texts under their keys, and each key is a path
+-- an outcome of an expansion returns just these expanded files: the same texts under the same keys, and each key is also the path
 pub record IsSameTree (files : List ExpandedFile) (o : Outcome (List ExpandedFile)) : Type 0 where
   pub expanded : List ExpandedFile
   pub ending : o.ending ≡ returned expanded
   pub paths : All (λ (f : ExpandedFile). f.key ≡ f.path) expanded
   pub texts : (key : List ℕ) → text_of_key expanded key ≡ text_of_key files key
 
--- a second expansion returns all expanded files, where the reader accepts them and meets each
+-- the expansion of expanded files returns all of them, where the reader accepts them and reads each
 abbrev pub AllFilesStay : Type 0
 AllFilesStay = (w again : World) (root : List ℕ) (files : List ExpandedFile) → (expansion w root).ending ≡ returned files
     → first_tree_fault (by_key files) root ≡ None → AreAmong (text_of_key files) again.bytes → MeetsEach files root → IsSameTree files (expansion again root)
 
--- An expansion of which the reader accepts the files without meeting each. There are such: a line after a help text of which
--- nothing is left is blank, so that the help text goes on over lines after it that are indented, a `source` among them.
+-- An expansion whose files the reader accepts without reading each. Such expansions exist: if a line after a help text expands to
+-- nothing, it is blank, and the help text goes on over the indented lines after it, which may include a `source` line.
 pub record LosesAFile : Type 0 where
   pub world : World
   pub root : List ℕ
@@ -102,4 +103,4 @@ pub record LosesAFile : Type 0 where
   pub ending : (expansion world root).ending ≡ returned files
   pub accepted : first_tree_fault (by_key files) root ≡ None
   pub there : has_key files key ≡ true
-  pub lost : is_in_list key (paths_met (by_key files) root) ≡ false
+  pub lost : is_in_list key (paths_read (by_key files) root) ≡ false

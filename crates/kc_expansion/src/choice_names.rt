@@ -7,7 +7,7 @@ use kc_value::Seed;
 use std::alloc::{AllocError, Global};
 use std::marker::Model;
 
-/// The names that choices had so far, the last one first.
+/// The names of the choices of a tree that were read so far, the last one first.
 #[derive(Drop)]
 pub(crate) struct ChoiceNames {
     alloc: Global,
@@ -25,7 +25,7 @@ impl Model for ChoiceNames {
 }
 
 impl ChoiceNames {
-    /// No names; `seed` will hash them.
+    /// An empty set of names of choices, which will be hashed by `seed`.
     pub(crate) fn new(alloc: Global, seed: Seed) -> ChoiceNames
         ensures { result ≡ [] }
     {
@@ -35,14 +35,14 @@ impl ChoiceNames {
         }
     }
 
-    /// Whether a choice had this name.
+    /// Whether a choice that was read before has this name.
     pub(crate) fn has(&self, name: &[u8]) -> bool
         ensures { result ≡ is_in_list name.now self.now }
     {
         self.names.get(name).is_some()
     }
 
-    /// Adds a name that no choice had.
+    /// Adds the name of a choice; no choice that was read before has this name.
     ///
     /// # Errors
     ///

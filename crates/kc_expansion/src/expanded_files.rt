@@ -13,7 +13,7 @@ use std::alloc::{AllocError, Global};
 use std::marker::Model;
 use std::rc::Rc;
 
-/// The path of the file of a key, and its expanded text.
+/// The path that was read for the expanded file of a key, and its expanded text.
 #[derive(Drop)]
 pub(crate) struct FileOfKey {
     pub path: Vec<u8>,
@@ -38,7 +38,7 @@ impl Model for ExpandedFiles {
     ghost view = { λ e. map expanded_file e.files.entries };
 }
 
-/// A key: a path, `#` and a number.
+/// A key of an expanded file: a path, `#` and a number.
 fn numbered(alloc: Global, path: &[u8], number: usize) -> Result<Vec<u8>, AllocError>
     ensures { IfOk result (λ key. key.items ≡ path.now ++ 35 ∷ decimal number) }
 {
@@ -50,7 +50,7 @@ fn numbered(alloc: Global, path: &[u8], number: usize) -> Result<Vec<u8>, AllocE
 }
 
 impl ExpandedFiles {
-    /// No files; `seed` will hash their keys.
+    /// An empty map of expanded files, whose keys will be hashed by `seed`.
     pub(crate) fn new(alloc: Global, seed: Seed) -> ExpandedFiles
         ensures { result ≡ [] }
     {
@@ -60,7 +60,7 @@ impl ExpandedFiles {
         }
     }
 
-    /// The number of files, no two of which have the same key.
+    /// The number of expanded files, no two of which have the same key.
     pub(crate) fn len(&self) -> usize
         ensures value { result ≡ length self.now }
         ensures small { result < 2 ^ 63 }
@@ -69,7 +69,7 @@ impl ExpandedFiles {
         self.files.len()
     }
 
-    /// The file at a place from 0 on, or none past the last.
+    /// The expanded file at a place, counted from 0; `None` past the last.
     pub(crate) fn get(&self, at: usize) -> Option<ExpandedText<'_>>
         ensures { option_map file_of_slices result ≡ slice_get self.now at }
     {
@@ -164,7 +164,8 @@ impl ExpandedFiles {
         Ok(key)
     }
 
-    /// Appends the text of a path, and returns its key; a text that is there under its key isn't appended again.
+    /// Appends the expanded text of a path, and returns its key: the path, or the path with `#` and a number. A text that is
+    /// there under its key isn't appended again.
     ///
     /// # Errors
     ///
@@ -189,7 +190,7 @@ impl ExpandedFiles {
         self.keep_beside(root, path, text)
     }
 
-    /// The path of the file of a key, if there is one.
+    /// The path that was read for the expanded file of a key, if there is one.
     pub(crate) fn path_of(&self, key: &[u8]) -> Option<&[u8]>
         ensures { option_map (λ p. p.now) result ≡ path_of_key self.now key.now }
     {

@@ -15,7 +15,8 @@ pub struct ExpandedText<'a> {
     pub text: &'a [u8],
 }
 
-/// The expanded files of a tree, in the order in which their last lines were read. So the first file of the tree is the last.
+/// The expanded files of a tree, in the order in which their last lines were read, so that the first file of the tree is the
+/// last.
 #[derive(Drop)]
 pub struct ExpandedTree {
     sourced: ExpandedFiles,
@@ -51,7 +52,7 @@ impl ExpandedTree {
         self.sourced.len() + 1
     }
 
-    /// The expanded file at a place from 0 on, or none past the last.
+    /// The expanded file at a place, counted from 0; `None` past the last.
     pub fn get(&self, at: usize) -> Option<ExpandedText<'_>>
         ensures { option_map file_of_slices result ≡ slice_get self.now at }
     {
@@ -65,7 +66,7 @@ impl ExpandedTree {
         self.sourced.get(at)
     }
 
-    /// The path that was read for the file of a key, if there is one.
+    /// The path that was read for the expanded file of a key, if there is one.
     pub fn path_of(&self, key: &[u8]) -> Option<&[u8]>
         ensures { option_map (λ p. p.now) result ≡ path_of_key self.now key.now }
     {

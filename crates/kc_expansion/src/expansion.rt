@@ -17,7 +17,7 @@ use super::choice_names::ChoiceNames;
 use super::expanded_files::ExpandedFiles;
 use super::expanded_tree::ExpandedTree;
 use super::faults::fault;
-use super::file_read::FileRead;
+use super::file_bytes::FileRead;
 use super::files::TreeFiles;
 use super::limits::{MAX_FILES, MAX_TREE_BYTES};
 use super::line_steps::LineState;
@@ -38,7 +38,7 @@ pub struct Expansion {
     pub tree: Result<ExpandedTree, MacroFault>,
 }
 
-/// A reading at its start.
+/// The reading of a tree at its start.
 fn new_reading(alloc: Global, seed: Seed, answers: &Answers, all_answered: bool) -> Reading<'_>
     ensures run { result.lines.run ≡ run_at_start answers.now all_answered }
     ensures state { state_of result ≡ initial_state }
@@ -144,7 +144,7 @@ pub fn expand<F: TreeFiles>(
     })
 }
 
-/// The questions that a reading met, or its fault where it met none.
+/// The questions of a reading, or its fault where it asked none.
 fn wanted_by(
     read: Result<Rc<Vec<u8>>, Stop>,
     questions: Vec<Vec<u8>>,
@@ -159,8 +159,8 @@ fn wanted_by(
     }
 }
 
-/// The questions without an answer that a reading of a tree meets, each once in order of first sight; where it meets none, its
-/// fault, if it has one. The reading goes on after a question as far as nothing depends on its answer.
+/// The questions without an answer that the macros of a tree ask, each once in order of first appearance; where they ask none,
+/// the fault of the tree, if it has one. The reading goes on after a question as far as nothing depends on its answer.
 ///
 /// # Errors
 ///

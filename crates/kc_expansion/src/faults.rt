@@ -6,7 +6,8 @@ ghost use Rattle.kc_expansion.specs.checker.ReadingViews.{fault_at};
 use kc_macros::{Bytes, MacroFault, MacroKind, Place, Stop};
 use std::alloc::Global;
 
-/// Stops a reading by a fault at a line, or by running out of memory where the fault can't be copied.
+/// The stop of a reading by a fault of this kind at a line, without a text; out of memory where the path of the file can't be
+/// copied.
 pub(crate) fn fault(alloc: Global, at: Place<'_>, kind: MacroKind) -> Stop
     ensures { FailsWith (fault_at (place_of at.entry) kind) result }
 {

@@ -3,13 +3,13 @@ ghost use Rattle.std.specs.Prelude.{◌≡◌, [], ◌∷◌, ◌++◌, None, On
 ghost use Rattle.kc_tree_model.specs.Keywords.{keyword_in_table};
 ghost use Rattle.kc_expansion.specs.checker.FileViews.{file_of};
 
-use super::file_read::FileRead;
+use super::file_bytes::FileRead;
 use indexmap::IndexMap;
 use kc_value::Seed;
 use std::alloc::{AllocError, Global};
 use std::marker::Model;
 
-/// Paths, each with the reading of its file.
+/// The files that were read: paths, each with the result of reading its file.
 #[derive(Drop)]
 pub(crate) struct FileTable {
     alloc: Global,
@@ -28,7 +28,7 @@ impl Model for FileTable {
 }
 
 impl FileTable {
-    /// No paths; `seed` will hash them.
+    /// An empty table of files, whose paths will be hashed by `seed`.
     pub(crate) fn new(alloc: Global, seed: Seed) -> FileTable
         ensures { result ≡ [] }
     {
@@ -38,14 +38,14 @@ impl FileTable {
         }
     }
 
-    /// The reading of the file of a path, if it was read.
+    /// The result of reading the file of a path, if it was read.
     pub(crate) fn get(&self, path: &[u8]) -> Option<&FileRead>
         ensures { option_map (λ r. file_of r.now) result ≡ keyword_in_table self.now path.now }
     {
         self.entries.get(path)
     }
 
-    /// Adds the reading of the file of a path that the table doesn't have.
+    /// Adds a path that the table doesn't have, with the result of reading its file.
     ///
     /// # Errors
     ///

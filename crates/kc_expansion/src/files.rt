@@ -14,7 +14,7 @@ pub trait TreeFiles {
     /// The known contents of each path and each folder.
     ghost contents: { Self → TreeContents };
 
-    /// The seed by which paths and names are hashed; it changes no answer.
+    /// The seed by which paths and names are hashed; no result depends on it.
     fn seed(&self) -> Seed;
 
     /// A reader of the bytes of a regular file, also of one that a link leads to. Anything else, and what can't be opened, has
@@ -27,7 +27,7 @@ pub trait TreeFiles {
         ensures same { contents self.new ≡ contents self.old }
         ensures opens { IfOk result (λ reader. OpensAs ((contents self.old).file path.now) (option_map Self.File.Source.left reader)) };
 
-    /// How many bytes an open file is likely to have, and 0 where that isn't known; it changes no answer.
+    /// How many bytes an open file is likely to have, and 0 where that isn't known; no result depends on it.
     fn size_of(&self, _file: &Self::File) -> usize {
         0
     }

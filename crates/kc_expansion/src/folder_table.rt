@@ -8,7 +8,7 @@ use kc_value::Seed;
 use std::alloc::{AllocError, Global};
 use std::marker::Model;
 
-/// Folders, with the names in them; `None` for one with more than may be listed.
+/// The folders that were listed: paths, each with the names in the folder, or `None` where it has more than may be listed.
 #[derive(Drop)]
 pub(crate) struct FolderTable {
     alloc: Global,
@@ -27,7 +27,7 @@ impl Model for FolderTable {
 }
 
 impl FolderTable {
-    /// No folders; `seed` will hash their paths.
+    /// An empty table of folders, whose paths will be hashed by `seed`.
     pub(crate) fn new(alloc: Global, seed: Seed) -> FolderTable
         ensures { result ≡ [] }
     {
@@ -37,14 +37,14 @@ impl FolderTable {
         }
     }
 
-    /// The names of a folder, if it was listed.
+    /// The names in a folder, if it was listed; the inner `None` means more names than may be listed.
     pub(crate) fn get(&self, folder: &[u8]) -> Option<&Option<Vec<Vec<u8>>>>
         ensures { option_map (λ ns. folder_of_names ns.now) result ≡ keyword_in_table self.now folder.now }
     {
         self.entries.get(folder)
     }
 
-    /// Adds a folder that the table doesn't have, with its names.
+    /// Adds a folder that the table doesn't have, with the names in it, or `None` where it has more than may be listed.
     ///
     /// # Errors
     ///

@@ -49,7 +49,7 @@ fn is_end(text: &[u8]) -> bool
     }
 }
 
-/// Whether a help text follows a line: its one token is a word that begins one.
+/// Whether a help text follows a line: apart from white space and a comment, the line is `help` or `---help---`.
 pub(crate) fn begins_help(text: &[u8]) -> bool
     ensures { result ≡ begins_help text.now }
 {

@@ -6,7 +6,7 @@ mod expanded_files;
 mod expanded_tree;
 mod expansion;
 mod faults;
-mod file_read;
+mod file_bytes;
 mod file_table;
 mod files;
 mod folder_table;

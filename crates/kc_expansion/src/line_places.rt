@@ -10,14 +10,14 @@ use super::written_file::WrittenFile;
 use kc_lines::{help_at, physical_at};
 use std::alloc::AllocError;
 
-/// Where a line begins, and its number.
+/// Where a line of a file begins: its place in the bytes, counted from 0, and its number, counted from 1.
 #[derive(Clone, Copy)]
 pub(crate) struct LineStart {
     pub at: usize,
     pub number: u32,
 }
 
-/// Whether the line at a place goes on in the next one.
+/// Whether the physical line that begins at a place is continued on the next one: it ends in a backslash and a newline.
 pub(crate) fn is_continued_at(bytes: &[u8], at: usize) -> bool
     requires there { at < length bytes.now }
     ensures value { result ≡ is_first_continued (physical_lines (drop at bytes.now)) }
@@ -40,7 +40,7 @@ fn after_help_text(bytes: &[u8], after: LineStart) -> LineStart
     }
 }
 
-/// The place after the help text that follows a line, if one does; `after` is the place after the line.
+/// The place after the help text that follows a line, or the place `after` the line where none follows.
 pub(crate) fn after_help(bytes: &[u8], after: LineStart, begins_help: bool) -> LineStart
     requires within { after.at ≤ length bytes.now }
     requires small { length bytes.now ≤ MAX_TREE_BYTES }
@@ -60,8 +60,8 @@ fn newline_count(text: &[u8]) -> usize
     text.iter().filter(|byte| **byte == b'\n').count()
 }
 
-/// Replaces the logical line between two places by the text `new` and as many newlines as it has; where `new` is its joined
-/// text `text`, its physical lines stay.
+/// Replaces the logical line between two places by the text `new` and as many newlines as the line has; where `new` is the
+/// line's joined text `text`, the line's bytes stay as they are.
 ///
 /// # Errors
 ///

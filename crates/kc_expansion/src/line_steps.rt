@@ -26,7 +26,7 @@ use kc_macros::{
 };
 use std::alloc::{AllocError, Global};
 
-/// The state that lines change: the run, the variables, and the names of choices.
+/// The state of a reading that the lines of a file change: the run, the variables, and the names of choices.
 #[derive(Drop)]
 pub(crate) struct LineState<'a> {
     pub run: Run<'a>,
@@ -49,14 +49,14 @@ pub(crate) struct SourceLine {
     pub given: Vec<u8>,
 }
 
-/// The first step of a line: its text, or the files that have to be read first.
+/// The result of the first step of expanding a line: its new text, or a `source` line whose files have to be read first.
 #[derive(Drop)]
 pub(crate) enum LineStep {
     Written(NewLine),
     Sources(SourceLine),
 }
 
-/// A written line, unless it is too long.
+/// A line with its new text, or the fault `LineTooLong` where the text is too long.
 pub(crate) fn short_line(
     alloc: Global,
     at: Place<'_>,
@@ -133,7 +133,7 @@ fn given_path(alloc: Global, given: Option<&[u8]>) -> Result<Vec<u8>, Stop>
     }
 }
 
-/// The first step of a line with these tokens.
+/// The first step of expanding a line with these tokens: its new text, or the files that have to be read first.
 fn tokens_step(
     state: &mut LineState<'_>,
     at: Place<'_>,
@@ -163,7 +163,8 @@ fn tokens_step(
     }
 }
 
-/// The first step of a line that may have macros.
+/// The first step of expanding a line that may have macros: its new text, empty for an assignment, or the `source` line whose
+/// files have to be read first.
 pub(crate) fn line_step(
     state: &mut LineState<'_>,
     at: Place<'_>,

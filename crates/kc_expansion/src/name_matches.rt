@@ -55,7 +55,7 @@ fn pass(ends: &mut [bool], byte: u8, name: &[u8])
     }
 }
 
-/// Whether a name matches a piece. The work is the product of their lengths.
+/// Whether the name of a file or folder matches a piece of a pattern, by `*` and `?`. The work is the product of their lengths.
 ///
 /// # Errors
 ///
@@ -106,7 +106,8 @@ fn begins_with_dot(text: &[u8]) -> bool
     }
 }
 
-/// Whether a name matches a piece; one that begins with a dot matches only a piece that does.
+/// Whether the name of a file or folder matches a piece of a pattern. A name that begins with a dot matches only a piece that
+/// does, and one that isn't UTF-8 or has a newline matches none.
 ///
 /// # Errors
 ///

@@ -11,7 +11,7 @@ pub(crate) struct OpenFiles<'a> {
     pub paths: &'a [&'a [u8]],
 }
 
-/// Paths with one more at their front.
+/// The paths of open files, with one more path at their front. An `Err` means out of memory.
 pub(crate) fn with_path<'a>(
     alloc: Global,
     path: &'a [u8],

@@ -10,7 +10,7 @@ use itoa::Buffer;
 use kc_macros::Place;
 use std::alloc::{AllocError, Global};
 
-/// `*` or `?`.
+/// Whether a byte is `*` or `?`.
 pub(crate) fn is_wildcard(byte: u8) -> bool
     ensures { result ≡ is_wildcard byte }
 {
@@ -52,7 +52,8 @@ fn folder_of(path: &[u8]) -> &[u8]
     &path[..end]
 }
 
-/// The path that a `source` of a file means; a relative one begins in the folder of the file.
+/// The path that a `source` line of a file means: with `relative`, the given path is in the folder of the file, unless it begins
+/// with a slash.
 ///
 /// # Errors
 ///
@@ -73,7 +74,7 @@ pub(crate) fn path_meant(
     Vec::from_slice(alloc, given)
 }
 
-/// The name of the list of files that a line sources: the path of its file, `:` and its number.
+/// The name of the list of files that a line sources: the path of the line's file, `:` and the number of the line.
 ///
 /// # Errors
 ///

@@ -16,7 +16,7 @@ use super::paths::is_pattern;
 use super::store::Store;
 use std::alloc::{AllocError, Global};
 
-/// Paths, and how many names were listed for the tree so far.
+/// The paths that a pattern matches, and how many names in folders were listed for the tree so far.
 #[derive(Drop)]
 pub(crate) struct Found {
     pub paths: Vec<Vec<u8>>,
@@ -118,7 +118,7 @@ fn push_paths<F: TreeFiles>(
     Ok(())
 }
 
-/// The paths that a piece matches in some folders.
+/// The paths that a piece of a pattern matches in some folders.
 fn paths_in_folders<F: TreeFiles>(
     alloc: Global,
     store: &mut Store,
@@ -263,7 +263,7 @@ fn push_if(
     Ok(())
 }
 
-/// The paths of a list whose files can be read.
+/// Those paths of a list whose files can be read, in the order of the list. An `Err` means out of memory.
 pub(crate) fn readable_paths<F: TreeFiles>(
     alloc: Global,
     store: &mut Store,

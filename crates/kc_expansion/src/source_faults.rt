@@ -7,12 +7,12 @@ ghost use Rattle.kc_expansion.specs.checker.Slices.{slices_of};
 ghost use Rattle.kc_expansion.specs.checker.ReadingViews.{MayBeRead, MayNotBeRead};
 ghost use Rattle.kc_expansion.specs.checker.Sizes.{size_fault};
 
-use super::file_read::FileRead;
+use super::file_bytes::FileRead;
 use super::limits::{MAX_FILES, MAX_OPEN_FILES, MAX_TREE_BYTES};
 use kc_macros_model::MacroKind;
 use std::rc::Rc;
 
-/// How many files and bytes of a tree were read.
+/// How many files and bytes of a tree were read so far.
 #[derive(Clone, Copy)]
 pub(crate) struct ReadCounts {
     pub files: usize,
@@ -67,11 +67,12 @@ fn size_fault(open_count: usize, counts: ReadCounts, size: usize) -> Option<Macr
     None
 }
 
-/// The bytes of a file or a list, unless they may not be read; `open_files` are the paths of the open files, the last one first.
+/// The bytes of a file or a list of files that a `source` line reads, unless they may not be read; `open_files` are the paths of
+/// the files that are open within each other, the last one first.
 ///
 /// # Errors
 ///
-/// The fault of a file that is open or missing, or of a limit that it passes.
+/// The fault of a file that is open already or missing, or of the limit that it passes.
 pub(crate) fn bytes_to_read(
     open_files: &[&[u8]],
     counts: ReadCounts,

@@ -1,4 +1,4 @@
-//! The lines of a list of files.
+//! The `source` lines that the expansion writes.
 ghost use Rattle.std.specs.Prelude.{◌≡◌, ◌++◌, ◌∷◌, [], OnOk, codes, if◌then◌else◌, ◌||◌, ◌==◌};
 ghost use Rattle.kc_macros_model.specs.WrittenTokens.{escaped_text, in_quotes_of};
 
@@ -25,7 +25,7 @@ fn push_escaped(bytes: &mut Vec<u8>, text: &[u8]) -> Result<(), AllocError>
     Ok(())
 }
 
-/// Appends a line that sources the file of a key.
+/// Appends a `source` line, with its newline, that names an expanded file by its key.
 pub(crate) fn push_source_line(bytes: &mut Vec<u8>, key: &[u8]) -> Result<(), AllocError>
     ensures { OnOk result (bytes.new.items ≡ bytes.old.items ++ (codes "source " ++ (in_quotes_of 34 key.now ++ 10 ∷ []))) }
 {

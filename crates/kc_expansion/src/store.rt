@@ -5,7 +5,7 @@ ghost use Rattle.kc_macros_model.specs.Worlds.{World};
 ghost use Rattle.kc_expansion.specs.between.KnownFiles.{is_read, Agrees, Grows};
 ghost use Rattle.kc_expansion.specs.checker.FileViews.{file_of, folder_of_items, known_of};
 
-use super::file_read::{FileRead, read_file};
+use super::file_bytes::{FileRead, read_file};
 use super::file_table::FileTable;
 use super::files::TreeFiles;
 use super::folder_table::FolderTable;
@@ -14,7 +14,8 @@ use kc_value::Seed;
 use std::alloc::{AllocError, Global};
 use std::rc::Rc;
 
-/// The files that were read, the folders that were listed, and room for the bytes that are read at once.
+/// The store of a reading of a tree: the files that were read, the folders that were listed, and a buffer for the bytes that are
+/// read at once.
 #[derive(Drop)]
 pub(crate) struct Store {
     files: FileTable,
@@ -22,7 +23,7 @@ pub(crate) struct Store {
     block: [u8; MAX_BLOCK_BYTES],
 }
 
-/// The reading of a file once more; its bytes are shared.
+/// The result of reading a file once more; its bytes are shared.
 fn shared(read: &FileRead) -> Result<FileRead, AllocError>
     ensures { IfOk result (λ copy. file_of copy ≡ file_of read.now) }
 {
@@ -33,7 +34,7 @@ fn shared(read: &FileRead) -> Result<FileRead, AllocError>
     }
 }
 
-/// Whether the file of a reading isn't missing.
+/// Whether a file that was read isn't missing.
 fn is_read(read: &FileRead) -> bool
     ensures { result ≡ is_read (file_of read.now) }
 {
@@ -57,7 +58,7 @@ impl Store {
         }
     }
 
-    /// The reading of the file of a path, which is opened only the first time.
+    /// The result of reading the file of a path, which is opened only the first time.
     ///
     /// # Errors
     ///

@@ -15,7 +15,7 @@ ghost use Rattle.kc_expansion.specs.checker.ReadingViews.{state_of, file_run_of,
 ghost use Rattle.kc_expansion.specs.checker.WrittenViews.{text_up_to};
 
 use super::faults::fault;
-use super::file_read::FileRead;
+use super::file_bytes::FileRead;
 use super::files::TreeFiles;
 use super::limits::{MAX_OPEN_FILES, MAX_TREE_BYTES};
 use super::line_places::{LineStart, after_help, is_continued_at, write_over};
@@ -212,7 +212,7 @@ fn next_line<F: TreeFiles>(
     Ok(after_help(bytes, after, new.begins_help))
 }
 
-/// Reads the lines of a file with these bytes, and all that they source; returns its expanded text.
+/// Reads the lines of a file with these bytes, and all files that the lines source; returns the expanded text of the file.
 #[cycle(reading)]
 pub(crate) fn read_lines<F: TreeFiles>(
     reading: &mut Reading<'_>,

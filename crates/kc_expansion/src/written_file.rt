@@ -4,7 +4,8 @@ ghost use Rattle.std.specs.Prelude.{◌≡◌, ◌≤◌, ◌++◌, [], OnOk, le
 use std::alloc::{AllocError, Global};
 use std::rc::Rc;
 
-/// The text of a file: its own bytes, but for the lines that were replaced. Nothing is copied before the first of those.
+/// The expanded text of a file: its own bytes, except for the lines that were replaced. Nothing is copied before a line is
+/// replaced.
 #[derive(Drop)]
 pub(crate) struct WrittenFile {
     alloc: Global,
@@ -31,7 +32,7 @@ impl WrittenFile {
     ghost use Rattle.std.specs.Prelude.{◌≡◌, ◌<◌, ◌≤◌, ◌++◌, [], IfOk, OnOk, length, replicate};
     ghost use Rattle.kc_expansion.specs.checker.WrittenViews.{text_up_to};
 
-    /// A file of which no line was replaced.
+    /// The text of a file of which no line was replaced yet.
     pub(crate) fn new(alloc: Global, original: Rc<Vec<u8>>) -> WrittenFile
         ensures original { result.original ≡ original }
         ensures copied { result.copied ≡ 0 }
@@ -45,11 +46,12 @@ impl WrittenFile {
         }
     }
 
-    /// Replaces the bytes between two places, after those that were replaced before, by a text and newlines.
+    /// Replaces the bytes of the file from `at` up to `next`, which come after all that were replaced before, by a text and
+    /// newlines.
     ///
     /// # Errors
     ///
-    /// Where memory runs out, the text is unstated.
+    /// Where memory runs out, nothing is promised of the text of the file.
     pub(crate) fn replace(
         &mut self,
         at: usize,
@@ -73,7 +75,7 @@ impl WrittenFile {
         Ok(())
     }
 
-    /// The whole text, which is the file's own where no line was replaced.
+    /// The whole expanded text of the file; where no line was replaced, the file's own bytes without a copy.
     ///
     /// # Errors
     ///

@@ -6,7 +6,7 @@ use Rattle.kc_expr.specs.Token.{Lexeme}
 use Rattle.kc_expr.specs.Expr.{Expr, Operand, named, alone, related, negated}
 use Rattle.kc_expr.specs.Grammar.{Level, ors, ands, factor, IsExpr, one_and, more_ors, one_factor, more_ands, operand, relation, negation, parentheses, operand_of_lexeme}
 
--- an expression within a depth is one within a greater depth
+-- an expression within a depth is one within any greater depth
 pub within_more : {l : Level} {d : ℕ} {ts : List Lexeme} {e : Expr} → IsExpr l d ts e → (more : ℕ) → d ≤ more → IsExpr l more ts e
 within_more (one_and x) n h = one_and (within_more x n h)
 within_more (more_ors o x f z eq) n h = more_ors o (within_more x n h) f (within_more z n h) eq
@@ -22,7 +22,7 @@ within_more (parentheses o c f x g eq) (suc n) h = parentheses o c f (within_mor
 abbrev pub Begins : Level → ℕ → List Lexeme → Type 0
 Begins l d ts = (us : List Lexeme) × (e : Expr) × IsExpr l d (ts ++ us) e
 
--- a word and a `)` that complete what was begun
+-- a word token, which completes tokens that begin an expression
 abbrev pub some_word : Lexeme
 some_word = record { kind = Word; start = 0; stop = 0; text = [] }
 
@@ -60,7 +60,7 @@ pub parentheses_begin : (d : ℕ) (t : Lexeme) (ts : List Lexeme) → t.kind ≡
 parentheses_begin d t ts k (us, e, x) =
     (us ++ some_close ∷ [], e, parentheses t some_close k x refl (ap (λ vs. t ∷ vs) (sym (append_assoc ts us (some_close ∷ [])))))
 
--- only `!` and `(`
+-- a token is a `!` or a `(`
 abbrev pub IsPrefix : Lexeme → Type 0
 IsPrefix t = (t.kind ≡ Not) ⊎ (t.kind ≡ Open)
 
@@ -72,7 +72,7 @@ pub prefix_last : (ts : List Lexeme) (t : Lexeme) → ArePrefixes ts → IsPrefi
 prefix_last [] t p q = (q, tt)
 prefix_last (u ∷ ts) t p q = (p.0, prefix_last ts t p.1 q)
 
--- after `!` and `(` an expression is deeper
+-- where tokens begin a factor, they begin one with `!` and `(` put in front too, at some depth
 pub prefixes_begin : (ts us : List Lexeme) → ArePrefixes ts → Begins factor 0 us → (d : ℕ) × Begins factor d (ts ++ us)
 prefixes_begin [] us p b = (0, b)
 prefixes_begin (t ∷ ts) us p b = by_kind p.0 (prefixes_begin ts us p.1 b)

@@ -10,10 +10,10 @@ use Rattle.kc_expr.specs.declared.token.TokenKind.{TokenKind}
 use Rattle.kc_expr.specs.Token.{Lexeme, with_front, is_white_byte, lexemes_of, next_token, lexemes_from}
 use Rattle.kc_expr.specs.TokenGrammar.{IsToken, IsLongest, IsCut, ends, comment, white, token, IsFirstTokenFault, here, after_white, after_token}
 use Rattle.kc_expr.proofs.TokenSteps.{lexemes_white, lexemes_comment, lexemes_fault, with_front_none}
-use Rattle.kc_expr.proofs.TokenFronts.{Says, lead_says}
+use Rattle.kc_expr.proofs.TokenFronts.{IsNextToken, next_token_is}
 use Rattle.kc_expr.proofs.TokenLaws.{first_byte, token_at, token_read}
 
--- the tokens of a line from a place on, or its first fault
+-- a result is what the token language says of a line from a place on: its tokens, or its first fault
 abbrev pub IsReading : Language → ℕ → List ℕ → Result (List Lexeme) ExprFault → Type 0
 IsReading language at bytes (Ok ps) = IsCut language at bytes ps
 IsReading language at bytes (Err fault) = IsFirstTokenFault language at bytes fault
@@ -32,13 +32,13 @@ after_one language at kind text rest (Err fault) is long h = after_token kind te
 token_some : (language : Language) (k : TokenKind) (text : List ℕ) → IsToken language k text → 0 < length text
 token_some language k text is = let (c, cs, e) = first_byte language k text is in omega (arith, ap length e)
 
--- what is read is a reading
+-- what `lexemes_from` gives of a line is what the token language says of the line
 pub read_is : (language : Language) (n at : ℕ) (bytes : List ℕ) → length bytes ≤ n → IsReading language at bytes (lexemes_from language 0 at bytes)
 read_is language n at [] l = ends
 read_is language zero at (b ∷ bs) l = absurd (omega arith)
-read_is language (suc n) at (b ∷ bs) l = by_lead (next_token language (b ∷ bs)) refl (lead_says language b bs) (λ at bytes l. read_is language n at bytes l)
+read_is language (suc n) at (b ∷ bs) l = by_lead (next_token language (b ∷ bs)) refl (next_token_is language b bs) (λ at bytes l. read_is language n at bytes l)
   where
-    by_lead : (lead : NextToken) → next_token language (b ∷ bs) ≡ lead → Says language b bs lead
+    by_lead : (lead : NextToken) → next_token language (b ∷ bs) ≡ lead → IsNextToken language b bs lead
         → ((at : ℕ) (bytes : List ℕ) → length bytes ≤ n → IsReading language at bytes (lexemes_from language 0 at bytes))
         → IsReading language at (b ∷ bs) (lexemes_from language 0 at (b ∷ bs))
     by_lead White e s ih =
@@ -63,7 +63,7 @@ pub read_fault : (language : Language) (n at : ℕ) (bytes : List ℕ) (fault : 
     → IsFirstTokenFault language at bytes fault
 read_fault language n at bytes fault l h = subst (IsReading language at bytes) h (read_is language n at bytes l)
 
--- the results of a call, with no tokens before
+-- the tokens that a call appends to an empty list are those into which the token language cuts the line
 pub cut_of_call : (language : Language) (line : List ℕ) (before : List CodeToken) (ps : List Lexeme) → before ≡ []
     → with_front (lexemes_of before) (lexemes_from language 0 0 line) ≡ Ok ps → IsCut language 0 line ps
 cut_of_call language line before ps e h =

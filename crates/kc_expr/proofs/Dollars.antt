@@ -87,7 +87,7 @@ place_first : (front rest : List ℕ) → list_any (λ c. eqb c 36) front ≡ fa
 place_first [] rest h = refl
 place_first (c ∷ cs) rest h = let (f, r) = or_parts (eqb c 36) (list_any (λ c. eqb c 36) cs) h in rw f (omega (arith, place_first cs rest r))
 
--- a body, its first `$` that is left out, and what is before it
+-- a body between quotes has at a place its first `$` that the language leaves out
 pub record IsFirstDollar (language : Language) (body : List ℕ) (place : ℕ) : Type 0 where
   pub front : List ℕ
   pub back : List ℕ

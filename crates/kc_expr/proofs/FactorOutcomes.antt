@@ -9,7 +9,7 @@ use Rattle.kc_expr.specs.Token.{Lexeme}
 use Rattle.kc_expr.specs.Expr.{Expr, Operand, named, quoted, alone, related, negated, both, either}
 use Rattle.kc_expr.specs.Grammar.{ors, ands, factor, one_and, more_ors, one_factor, more_ands, operand, relation, negation, parentheses, Read, on_read, chain, closed, is_and, is_or, is_close, past_depth_limit, after_operand, right_operand, operand_of_lexeme, constant_or, quoted_text, is_operand_kind, read_factor, read_ands, read_ors}
 use Rattle.kc_expr.proofs.Beginnings.{IsPrefix, ArePrefixes, whole_begins, front_begins, ands_begin, ors_begin, word_begins, none_begins, operand_begins, relation_begins, negation_begins, parentheses_begin, prefix_last, prefixes_begin, some_word}
-use Rattle.kc_expr.proofs.GrammarComplete.{Stops, is_relation, behind_none, operand_read, relation_read, chain_same, factor_short, ands_short}
+use Rattle.kc_expr.proofs.GrammarComplete.{Stops, is_relation, no_relation_after, operand_read, relation_read, chain_same, factor_short, ands_short}
 use Rattle.kc_expr.proofs.ReaderSteps.{beyond_kind, zero_kind, suc_kind}
 use Rattle.kc_expr.proofs.GrammarLaws.{and_kind, or_kind, close_kind, word_is, quoted_is}
 use Rattle.kc_expr.proofs.Outcomes.{Alike, alike_stops, IsRead, ends, wrong, deep, IsRefused, Outcome, refused_there, refused_after, refused_beside, chain_outcome}
@@ -171,7 +171,7 @@ module _ (d : ℕ) (t : Lexeme) (a : Operand) (is : operand_of_lexeme t ≡ Some
     front = t ∷ [];
     is = refl;
     whole = operand t is refl;
-    again = λ n h us same. operand_read n t a us is ∙ behind_none a us (alike_stops is_relation ts us same s);
+    again = λ n h us same. operand_read n t a us is ∙ no_relation_after a us (alike_stops is_relation ts us same s);
   }
 
   right_outcome : (u : Lexeme) (op : Relop) → u.kind ≡ Relation op → (ts : List Lexeme) → Outcome factor d (t ∷ u ∷ ts) (right_operand (related op a) ts)
@@ -199,7 +199,7 @@ module _ (d : ℕ) (t : Lexeme) (a : Operand) (is : operand_of_lexeme t ≡ Some
     where
       by_next : (k : TokenKind) → u.kind ≡ k → Outcome factor d (t ∷ u ∷ ts) (after_operand a (u ∷ ts))
       by_next (Relation op) e = subst (Outcome factor d (t ∷ u ∷ ts)) (sym (rw (e, after_operand) refl)) (right_outcome u op e ts)
-      by_next k e = let s = ap is_relation e in subst (Outcome factor d (t ∷ u ∷ ts)) (sym (behind_none a (u ∷ ts) s)) (single (u ∷ ts) s)
+      by_next k e = let s = ap is_relation e in subst (Outcome factor d (t ∷ u ∷ ts)) (sym (no_relation_after a (u ∷ ts) s)) (single (u ∷ ts) s)
 
 -- a `!` before a factor
 negation_outcome : (d : ℕ) (t : Lexeme) (ts : List Lexeme) (q : Read) → t.kind ≡ Not → Outcome factor d ts q
@@ -304,7 +304,7 @@ no_factor d t ts h =
 operand_first : (d : ℕ) (t : Lexeme) (ts : List Lexeme) (a : Operand) → operand_of_lexeme t ≡ Some a → Outcome factor d (t ∷ ts) (read_factor d (t ∷ ts))
 operand_first d t ts a e = subst (Outcome factor d (t ∷ ts)) (sym (operand_read d t a ts e)) (operand_outcome d t a e ts)
 
--- by the first token
+-- what the reader of factors gives of tokens is an expression that is read at greater depths too, or a fault with its cause
 pub factor_outcome : (d : ℕ) (ts : List Lexeme) → Outcome factor d ts (read_factor d ts)
 factor_outcome zero [] = refused_there factor 0 [] [] Malformed [] refl (none_begins 0) (ends 0 (omega arith) (none_begins 0))
 factor_outcome (suc d) [] = refused_there factor (suc d) [] [] Malformed [] refl (none_begins (suc d)) (ends (suc d) (omega arith) (none_begins (suc d)))
@@ -340,6 +340,6 @@ factor_outcome (suc d) (t ∷ ts) = by_kind t.kind refl (factor_outcome d)
     by_kind Or e ih = none (ap begins_none e)
     by_kind Close e ih = none (ap begins_none e)
 
--- a whole expression
+-- what the reader of expressions gives of tokens is an expression that is read at greater depths too, or a fault with its cause
 pub expr_outcome : (d : ℕ) (ts : List Lexeme) → Outcome ors d ts (read_ors (read_factor d) ts)
 expr_outcome d ts = ors_outcome d (ands_outcome d (factor_outcome d)) ts

@@ -15,7 +15,7 @@ use Rattle.kc_expr.specs.TokenGrammar.{HasDollarsOf, NothingBegins, IsFaultAt, d
 use Rattle.kc_expr.proofs.CutLaws.{IsReading, read_is}
 use Rattle.kc_expr.proofs.Dollars.{left_out_first}
 use Rattle.kc_expr.proofs.TokenSteps.{lexemes_white, lexemes_fault}
-use Rattle.kc_expr.proofs.TokenFronts.{Says, lead_says}
+use Rattle.kc_expr.proofs.TokenFronts.{IsNextToken, next_token_is}
 use Rattle.kc_expr.proofs.TokenLaws.{cut_read, white_lead, lead_quoted, quote_facts, quote_no_slash, token_at, token_read}
 
 -- the fault of a byte, as it is read
@@ -64,9 +64,9 @@ other_only language at c bytes fault d q (other_byte e h) = refl
 
 other_read : (language : Language) (at c : ℕ) (bytes : List ℕ) → NothingBegins language c bytes → eqb c 36 ≡ false → is_quote c ≡ false
     → IsRead language at (c ∷ bytes) (record { offset = at; kind = BadToken })
-other_read language at c bytes none d q = by_lead (next_token language (c ∷ bytes)) refl (lead_says language c bytes)
+other_read language at c bytes none d q = by_lead (next_token language (c ∷ bytes)) refl (next_token_is language c bytes)
   where
-    by_lead : (lead : NextToken) → next_token language (c ∷ bytes) ≡ lead → Says language c bytes lead
+    by_lead : (lead : NextToken) → next_token language (c ∷ bytes) ≡ lead → IsNextToken language c bytes lead
         → IsRead language at (c ∷ bytes) (record { offset = at; kind = BadToken })
     by_lead White e s = absurd (both_ways (is_white_byte c) none.0 s)
     by_lead Comment e s = absurd (both_ways (eqb c 35) none.1 (eq-eqb c 35 s))
@@ -84,7 +84,7 @@ fault_lead language at c bytes fault none (unclosed h n) = unclosed_read languag
 fault_lead language at c bytes fault none (dollar_between front back means rest h is dollars) = between_read language at c front back means rest h is dollars
 fault_lead language at c bytes fault none (other_byte d q) = other_read language at c bytes none d q
 
--- a line with this first fault is read so
+-- where the token language says that a fault is a line's first, reading the line gives that fault
 pub fault_read : (language : Language) (at : ℕ) (bytes : List ℕ) (fault : ExprFault) → IsFirstTokenFault language at bytes fault
     → lexemes_from language 0 at bytes ≡ Err fault
 fault_read language at bytes fault (here {c = c} {bytes = bs} none is) =

@@ -93,7 +93,7 @@ first_by ts (Ok (e, t ∷ us)) f none y h =
     subst (IsFirstExprFault ts) q (at_token y.front t y.is (no_fault y.front y.front [] 64 b b (sym (append-nil y.front)) tt)
     (wrong_fault y.front t (λ n h vs x q. other_rest (read_ors (read_factor n) (y.front ++ t ∷ vs)) e x t vs (y.again n h (t ∷ vs) refl) q)))
 
--- the fault that is read is the first one
+-- the fault that reading tokens as an expression gives is their first one
 pub first_fault : (ts : List Lexeme) (f : ExprKind × List Lexeme) → read_expr ts ≡ Err f → IsFirstExprFault ts f
 unfolding read_expr
 first_fault ts f h = first_by ts (read_ors (read_factor 64) ts) f (λ e x. let q = expr_complete ts e x in cc) (expr_outcome 64 ts) h
@@ -150,7 +150,7 @@ no_first : (ts : List Lexeme) (e : Expr) {f : ExprKind × List Lexeme} → IsExp
 no_first ts e x (at_token {us = us} front t is clear y) = no_fault_begins front us t y (subst (Begins ors 64) is (whole_begins ors 64 ts e x))
 no_first ts e x (at_end clear none) = none e x
 
--- the first fault is read
+-- the first fault of tokens as an expression is the one that reading them gives
 pub fault_read : (ts : List Lexeme) (f : ExprKind × List Lexeme) → IsFirstExprFault ts f → read_expr ts ≡ Err f
 fault_read ts f x = by_result (read_expr ts) refl
   where

@@ -12,7 +12,7 @@ abbrev pub is_relation : TokenKind → Bool
 is_relation (Relation op) = true
 is_relation k = false
 
--- the first of the tokens, if there is one, is none of a kind
+-- there is no token, or the first one isn't of the tested kind
 abbrev pub Stops : (TokenKind → Bool) → List Lexeme → Type 0
 Stops p [] = Unit {0}
 Stops p (t ∷ ts) = p t.kind ≡ false
@@ -47,7 +47,7 @@ module _ (is_joint : TokenKind → Bool) (join : Expr → Expr → Expr) (part :
   chain_stops (suc n) a [] s = refl
   chain_stops (suc n) a (t ∷ ts) s = rw (s, chain) refl
 
-  -- one link more
+  -- reading a chain at an operator, with a part after it, joins the part and continues with the tokens after the part
   pub chain_links : (a b : Expr) (o : Lexeme) (us rest : List Lexeme) → is_joint o.kind ≡ true → part (us ++ rest) ≡ Ok (b, rest)
       → chain is_joint join part (length (o ∷ (us ++ rest))) a (o ∷ (us ++ rest)) ≡ chain is_joint join part (length rest) (join a b) rest
   chain_links a b o us rest e p = rw (e, chain) (ap (λ q. on_read q (λ r. chain is_joint join part (length (us ++ rest)) (join a r.0) r.1)) p
@@ -62,7 +62,7 @@ factor_short d ts r h = shorter factor d ts r (factor_sound d ts r h)
 pub ands_short : (d : ℕ) (ts : List Lexeme) (r : Expr × List Lexeme) → read_ands (read_factor d) ts ≡ Ok r → length r.1 ≤ length ts
 ands_short d ts r h = shorter ands d ts r (ands_sound d (read_factor d) (factor_sound d) ts r h)
 
--- what is claimed of each level
+-- tokens are read as an expression of a level also where other tokens follow that can't continue it
 abbrev pub Claim : Level → ℕ → List Lexeme → Expr → Type 0
 Claim ors d front e = (rest : List Lexeme) → Stops is_relation rest → Stops is_and rest → read_ors (read_factor d) (front ++ rest)
     ≡ chain is_or either (read_ands (read_factor d)) (length rest) e rest
@@ -74,9 +74,9 @@ whole_ands : (d : ℕ) (front : List Lexeme) (e : Expr) → Claim ands d front e
     → read_ands (read_factor d) (front ++ rest) ≡ Ok (e, rest)
 whole_ands d front e c rest s a = c rest s ∙ chain_stops is_and both (read_factor d) (factor_short d) (length rest) e rest a
 
-pub behind_none : (a : Operand) (rest : List Lexeme) → Stops is_relation rest → after_operand a rest ≡ Ok (alone a, rest)
-behind_none a [] s = refl
-behind_none a (t ∷ ts) s = none_at t.kind t ts s
+pub no_relation_after : (a : Operand) (rest : List Lexeme) → Stops is_relation rest → after_operand a rest ≡ Ok (alone a, rest)
+no_relation_after a [] s = refl
+no_relation_after a (t ∷ ts) s = none_at t.kind t ts s
   where
     none_at : (k : TokenKind) (t : Lexeme) (ts : List Lexeme) → is_relation k ≡ false → elim k as (λ _. Read) [
       | Relation op ↦ right_operand (related op a) ts
@@ -145,7 +145,7 @@ complete ands d front e (more_ands {ts = ts} {us = us} o {a = a} {b = b} x f z e
     ∙ complete ands d ts a x (o ∷ (us ++ rest)) (rw f refl)
     ∙ chain_links is_and both (read_factor d) (factor_short d) a b o us rest (rw f refl) (complete factor d us b z rest s)
 complete factor d front e (operand t {a = a} h eq) = λ rest s.
-    ap (λ vs. read_factor d (vs ++ rest)) eq ∙ operand_read d t a rest h ∙ behind_none a rest s
+    ap (λ vs. read_factor d (vs ++ rest)) eq ∙ operand_read d t a rest h ∙ no_relation_after a rest s
 complete factor d front e (relation t r u {a = a} {b = b} op h f g eq) = λ rest s.
     ap (λ vs. read_factor d (vs ++ rest)) eq ∙ relation_read d t r u a b op rest h f g
 complete factor (suc d) front (negated e) (negation {ts = ts} t f x eq) = λ rest s.
@@ -153,12 +153,12 @@ complete factor (suc d) front (negated e) (negation {ts = ts} t f x eq) = λ res
 complete factor (suc d) front e (parentheses {ts = ts} o c f x g eq) = λ rest s.
     ap (λ vs. read_factor (suc d) (vs ++ rest)) eq ∙ parens_read d o c ts e rest f g (complete ors d ts e x)
 
--- an expression is read to its end
+-- tokens that the grammar has as an expression are read as it, with no token left
 pub expr_read : (d : ℕ) (ts : List Lexeme) (e : Expr) → IsExpr ors d ts e → read_ors (read_factor d) ts ≡ Ok (e, [])
 expr_read d ts e x = ap (read_ors (read_factor d)) (sym (append-nil ts)) ∙ complete ors d ts e x [] tt tt
     ∙ chain_stops is_or either (read_ands (read_factor d)) (ands_short d) 0 e [] tt
 
--- whatever is in the grammar is read, and as that expression
+-- tokens that the grammar has as an expression within the limit of depth are read as that expression
 pub expr_complete : (ts : List Lexeme) (e : Expr) → IsExpr ors 64 ts e → read_expr ts ≡ Ok e
 unfolding read_expr
 expr_complete ts e x = ap read_to_end (expr_read 64 ts e x)

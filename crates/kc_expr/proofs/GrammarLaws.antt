@@ -10,7 +10,7 @@ use Rattle.std.proofs.Common.{cond}
 use Rattle.kc_expr.specs.Expr.{named, quoted}
 use Rattle.kc_expr.specs.declared.fault.ExprKind.TheVariants.{Malformed, TooDeep}
 
--- a front of the tokens is an expression, and the others follow
+-- tokens begin with those of an expression of a level, and the rest follows
 abbrev pub Reads : Level → ℕ → List Lexeme → Expr × List Lexeme → Type 0
 Reads l d ts r = (front : List Lexeme) × (ts ≡ front ++ r.1) × IsExpr l d front r.0
 
@@ -233,7 +233,7 @@ suc_at And d t ts r e ih h = cc
 suc_at Or d t ts r e ih h = cc
 suc_at Close d t ts r e ih h = cc
 
--- an expression that is read is in the grammar, within the given depth
+-- a factor that is read at the front of tokens is in the grammar, within the given depth
 pub factor_sound : (d : ℕ) (ts : List Lexeme) (r : Expr × List Lexeme) → read_factor d ts ≡ Ok r → Reads factor d ts r
 factor_sound zero [] r h = cc
 factor_sound (suc d) [] r h = cc
@@ -245,7 +245,7 @@ whole_ok (Err k) e h = cc
 whole_ok (Ok (x, [])) e h = let q : x ≡ e = cc in ap (λ y. ok (y, [])) q
 whole_ok (Ok (x, t ∷ ts)) e h = cc
 
--- a whole expression that is read is in the grammar
+-- the expression as which tokens are read is the one that the grammar has for them
 pub expr_sound : (ts : List Lexeme) (e : Expr) → read_expr ts ≡ Ok e → IsExpr ors 64 ts e
 unfolding read_expr
 expr_sound ts e h =

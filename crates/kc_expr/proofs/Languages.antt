@@ -61,7 +61,7 @@ unquoted_alike : (l m : Language) (b : ℕ) (bs : List ℕ) → is_quote b ≡ f
 unfolding next_token
 unquoted_alike l m b bs h = rw h refl
 
--- no token but quoted ones
+-- a kind of token is another than that of quoted tokens
 abbrev pub IsUnquoted : TokenKind → Type 0
 IsUnquoted kind = kind ≡ Quoted → ⊥
 

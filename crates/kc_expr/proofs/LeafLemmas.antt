@@ -17,7 +17,7 @@ use Rattle.kc_expr.specs.Token.{lexemes_of, lexeme_of}
 pub quote_ascii : (c : ℕ) → is_quote c ≡ true → c < 128
 quote_ascii c h = grind (arith, nat_tests)
 
--- the tokens from a place on
+-- the tokens from a place on are the one at the place and those after it
 pub lexeme_at : (ts : List CodeToken) (at : ℕ) (d : CodeToken) → at < length ts → drop at (lexemes_of ts)
     ≡ lexeme_of (get_or ts at d) ∷ drop (suc at) (lexemes_of ts)
 lexeme_at [] at d h = absurd (omega arith)
@@ -48,7 +48,7 @@ nothing_at [] (suc at) h = refl
 nothing_at (t ∷ ts) zero h = absurd (omega arith)
 nothing_at (t ∷ ts) (suc at) h = nothing_at ts at (omega arith)
 
--- `m` in a condition
+-- the constant `m` as a condition is `m && MODULES`
 pub m_condition : (condition : Bool) (leaf : Leaf) (names texts : List (List ℕ)) → condition ≡ true → is_m leaf ≡ true
     → as_condition condition (alone (operand_of names texts leaf)) ≡ both (alone (constant M)) (alone (named modules))
 m_condition condition (Constant M) names texts e h = rw e refl

@@ -10,9 +10,9 @@ pub mod KeptLists
 pub mod Languages
 pub mod LeafLemmas
 pub mod TokenSteps
-pub mod NamesInLemmas
+pub mod ExpressionNameLemmas
 pub mod NameLemmas
-pub mod NamesRead
+pub mod ParserNames
 pub mod NodeLemmas
 pub mod Outcomes
 pub mod ParseSteps
@@ -26,5 +26,5 @@ pub mod TokenPlaces
 pub mod TokenTexts
 mod Vectors
 pub mod VisitLemmas
-pub mod WordAlone
+pub mod SingleWords
 pub mod WordBytes

@@ -5,7 +5,7 @@ use Rattle.kc_expr.specs.declared.store.Store.{Store}
 use Rattle.kc_expr.specs.checker.Store.{exprs_in, IsSound, Extends}
 use Rattle.kc_expr.proofs.StoreLemmas.{grows, length-nodes}
 
--- no node more, so the same expressions
+-- a store that is extended, but not by nodes, has the same expressions
 pub same_exprs : (old new : Store) → IsSound old → Extends old new → new.nodes.items ≡ old.nodes.items → (exprs_in new).nodes ≡ (exprs_in old).nodes
 same_exprs old new sound x same =
     let long : length (exprs_in new).nodes ≡ length (exprs_in old).nodes = length-nodes new ∙ ap length same ∙ sym (length-nodes old) in

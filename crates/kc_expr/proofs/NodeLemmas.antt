@@ -36,7 +36,7 @@ tri_and_assoc M Y N = refl
 tri_and_assoc M Y M = refl
 tri_and_assoc M Y Y = refl
 
--- one more conjunct at the left end of a chain
+-- a value that is joined by `&&` with a right value and then with a left one is the value joined with the `&&` of both
 pub chained : (least left right : Tri) → tri_and (tri_and least right) left ≡ tri_and least (tri_and left right)
 chained least left right = tri_and_assoc least right left ∙ ap (tri_and least) (tri_and_comm right left)
 
@@ -81,7 +81,7 @@ pub chain_more : (new least found left right here all : Tri) → new ≡ tri_and
 chain_more new least found left right here all e f h k = rw (e, f) (chained least left right ∙ ap (tri_and least) (sym h) ∙ k)
 
 module _ (names texts : List (List ℕ)) where
-  -- the nodes before are kept
+  -- the expressions of nodes stay the same when nodes are appended
   pub kept : (es : List Expr) (ns : List Node) (i : ℕ) → i < length es → at (exprs_after names texts es ns) i ≡ at es i
   kept es [] i h = refl
   kept es (n ∷ ns) i h = kept (es ++ expr_of names texts es n ∷ []) ns i (omega (arith, length-append es (expr_of names texts es n ∷ [])))
@@ -115,7 +115,8 @@ module _ (names texts : List (List ℕ)) where
       let len : length more ≡ length es + 1 = length-append es (expr_of names texts es n ∷ []) in
       step_at x y more ns i at_i (omega (arith, len)) (λ k m e l. f (suc k) m (omega (arith, len)) (omega arith)) (omega arith)
 
-  -- the expression that the node at a place represents
+  -- the expression that a node represents is also the one that it has over the expressions of all nodes, not just of those before
+  -- it
   pub node_at : (x y : ℕ) (ns : List Node) (i : ℕ) → AreNodes x y ns → i < length ns → at (exprs_of names texts ns) i
       ≡ expr_of names texts (exprs_of names texts ns) (get_or ns i some_node)
   node_at x y ns i f h = step_at x y [] ns i i (omega arith) (λ k m e l. let g : k ≡ m = omega arith in rw (← g) (f k l)) h
@@ -133,7 +134,7 @@ module _ (names texts : List (List ℕ)) where
   exprs-push es [] n = refl
   exprs-push es (m ∷ ns) n = exprs-push (es ++ expr_of names texts es m ∷ []) ns n
 
-  -- what an arena with one node more shows
+  -- an arena to which a node is appended keeps its names and nodes
   pub grows_by : (ns : List Node) (n : Node) → Grows (record { names = names; nodes = exprs_of names texts ns })
       (record { names = names; nodes = exprs_of names texts (ns ++ n ∷ []) })
   grows_by ns n = record {

@@ -9,13 +9,13 @@ use Rattle.kc_expr.specs.Grammar.{Level, ors, ands, factor, IsExpr, Read, on_rea
 use Rattle.kc_expr.proofs.Beginnings.{Begins, ArePrefixes, front_begins, within_more}
 use Rattle.kc_expr.proofs.GrammarComplete.{Stops, chain_stops, chain_links}
 
--- the reader of a level
+-- the reader of a level of the grammar, with at most this many `!` and parentheses around a symbol
 abbrev pub reader : Level → ℕ → List Lexeme → Read
 reader ors d ts = read_ors (read_factor d) ts
 reader ands d ts = read_ands (read_factor d) ts
 reader factor d ts = read_factor d ts
 
--- the same first token, or none
+-- two lists of tokens have the same first token, or both have none
 abbrev pub Alike : List Lexeme → List Lexeme → Type 0
 Alike [] [] = Unit {0}
 Alike [] (u ∷ us) = ⊥
@@ -28,14 +28,15 @@ alike_stops p [] (u ∷ us) h s = absurd h
 alike_stops p (t ∷ ts) [] h s = absurd h
 alike_stops p (t ∷ ts) (u ∷ us) h s = subst (λ (v : Lexeme). p v.kind ≡ false) h s
 
--- an expression at the front, which is read at a greater depth too
+-- an expression of a level is read at the front of tokens, and at any greater depth too
 pub record IsRead (l : Level) (d : ℕ) (ts : List Lexeme) (r : Expr × List Lexeme) : Type 0 where
   pub front : List Lexeme
   pub is : ts ≡ front ++ r.1
   pub whole : IsExpr l d front r.0
   pub again : (n : ℕ) → d ≤ n → (us : List Lexeme) → Alike r.1 us → reader l n (front ++ us) ≡ Ok (r.0, us)
 
--- a fault after tokens, which is met at a greater depth too, unless it is TooDeep
+-- a fault comes after tokens that begin an expression, at this or a greater depth, and unless it is TooDeep it does at any
+-- greater depth too
 pub data Cause (l : Level) (d : ℕ) (front : List Lexeme) : ExprKind → List Lexeme → Type 0 where
   ends : (n : ℕ) → d ≤ n → Begins l n front → Cause l d front Malformed []
   wrong : {t : Lexeme} {us : List Lexeme} (n : ℕ) → d ≤ n → Begins l n front
@@ -43,7 +44,7 @@ pub data Cause (l : Level) (d : ℕ) (front : List Lexeme) : ExprKind → List L
   deep : {t : Lexeme} {us : List Lexeme} (n : ℕ) → d ≤ n → Begins l n (front ++ t ∷ []) → is_operand_kind t.kind ≡ true
       → ((vs : List Lexeme) → reader l d (front ++ t ∷ vs) ≡ Err (TooDeep, t ∷ vs)) → Cause l d front TooDeep (t ∷ us)
 
--- before a fault stands what begins an expression within the depth, and then only `!` and `(`
+-- tokens are refused with a fault: it comes after tokens that begin an expression within the depth and then only `!` and `(`
 pub record IsRefused (l : Level) (d : ℕ) (ts : List Lexeme) (f : ExprKind × List Lexeme) : Type 0 where
   pub front : List Lexeme
   pub is : ts ≡ front ++ f.1
@@ -63,13 +64,14 @@ cause_begins l d front (ends n h b) = (n, h, b)
 cause_begins l d front (wrong n h b again) = (n, h, b)
 cause_begins l d front (deep {t = t} n h b o again) = (n, h, front_begins l n front (t ∷ []) b)
 
--- what is refused where nothing deeper was begun
+-- a fault with its cause refuses tokens, if the tokens before it begin an expression within the depth
 pub refused_there : (l : Level) (d : ℕ) (ts front : List Lexeme) (k : ExprKind) (rest : List Lexeme) → ts ≡ front ++ rest → Begins l d front
     → Cause l d front k rest → IsRefused l d ts (k, rest)
 refused_there l d ts front k rest is b c =
     record { front = front; is = is; cause = c; within = front; deeper = []; splits = sym (append-nil front); begins = b; prefixes = tt }
 
--- a part that is refused after other tokens, where a fault of the part is one of the whole, and what begins the part goes on with the whole
+-- a part that is refused after other tokens, where a fault of the part is one of the whole, and what begins the part goes on with
+-- the whole
 module _ (l m : Level) (d e : ℕ) (before : List Lexeme)
     (fails : (n : ℕ) → e ≤ n → (k : ℕ) × (d ≤ k)
     × ((us : List Lexeme) (f : ExprKind × List Lexeme) → reader l k us ≡ Err f → reader m n (before ++ us) ≡ Err f))

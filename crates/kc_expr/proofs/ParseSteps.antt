@@ -37,7 +37,7 @@ pub as_either : (c : Bool) (a b : Expr) → either (as_condition c a) (as_condit
 as_either true a b = refl
 as_either false a b = refl
 
--- a refusal passes on where its fault does
+-- where a fault of one reading is that of another too, the parser's refusal by the former is one by the latter
 pub refused_on : (all : List Lexeme) (read more : Read) (e : ExprFault) → ((f : ExprKind × List Lexeme) → read ≡ Err f → more ≡ Err f) → IsRefused all read e
     → IsRefused all more e
 refused_on all read more e h (inl m) = inl m
@@ -46,11 +46,11 @@ refused_on all read more e h (inr (f, r, q)) = inr (f, h f r, q)
 pub refused_by : (all : List Lexeme) (read more : Read) (e : ExprFault) → more ≡ read → IsRefused all read e → IsRefused all more e
 refused_by all read more e h x = refused_on all read more e (λ f r. h ∙ r) x
 
--- so does all that is answered
+-- what the parser returns for a reading it returns for any equal reading
 pub parses_by : (s : Store) (all : List Lexeme) (condition : Bool) (at : ℕ) (read more : Read) (r : Result (ℕ × ℕ) ExprFault) → more ≡ read
     → Parses s all condition at read r → Parses s all condition at more r
 parses_by s all condition at read more (Err e) h p = refused_by all read more e h p
-parses_by s all condition at read more (Ok r) h p = record { expr = p.expr; reads = h ∙ p.reads; forward = p.forward; within = p.within; stands = p.stands }
+parses_by s all condition at read more (Ok r) h p = record { expr = p.expr; reads = h ∙ p.reads; forward = p.forward; within = p.within; represents = p.represents }
 
 drop_two : (at : ℕ) (all : List Lexeme) → drop (at + 2) all ≡ drop 1 (drop 1 (drop at all))
 drop_two at all = ap (λ n. drop n all) (let q : at + 2 ≡ (at + 1) + 1 = omega arith in q) ∙ drop_one (at + 1) all ∙ ap (drop 1) (drop_one at all)
@@ -94,7 +94,7 @@ module _ {X : Type 0} (f : X → Operand) (o : Option X) (all : List Lexeme) (at
           ∙ ap (λ us. Ok (alone (f x), us)) (sym (drop_one at all));
       forward = omega arith;
       within = operand_within all at (f x) (found_some f o x (drop at all) found is);
-      stands = h;
+      represents = h;
     }
 
     module _ (op : Relop) (relates : first_relation (drop (at + 1) all) ≡ Some op) {Y : Type 0} (g : Y → Operand) (p : Option Y)
@@ -117,7 +117,7 @@ module _ {X : Type 0} (f : X → Operand) (o : Option X) (all : List Lexeme) (at
             ∙ ap (λ us. Ok (related op (f x) (g y), us)) (sym (drop_three at all));
         forward = omega arith;
         within = omega (arith, operand_within all (at + 2) (g y) (found_some g p y (drop (at + 2) all) right q));
-        stands = subst (Represents (exprs_in s) id) (ap (λ v. related op v (g y)) same ∙ as_related condition op (f x) (g y)) h;
+        represents = subst (Represents (exprs_in s) id) (ap (λ v. related op v (g y)) same ∙ as_related condition op (f x) (g y)) h;
       }
 
 -- a factor, by its first token
@@ -156,7 +156,7 @@ module _ (all : List Lexeme) (condition : Bool) (at : ℕ) where
       reads = not_step k ∙ ap (λ q. on_read q (λ r. Ok (negated r.0, r.1))) p.reads;
       forward = omega (arith, p.forward);
       within = p.within;
-      stands = subst (Represents (exprs_in new) id) (ap negated p.stands.is ∙ as_negated condition p.expr) h;
+      represents = subst (Represents (exprs_in new) id) (ap negated p.represents.is ∙ as_negated condition p.expr) h;
     }
 
     pub open_fails : first_kind (drop at all) ≡ Some Open → (e : ExprFault) → IsRefused all (ors_read n (drop (at + 1) all)) e
@@ -181,17 +181,18 @@ module _ (all : List Lexeme) (condition : Bool) (at : ℕ) where
       reads = open_step k ∙ ap (λ q. on_read q closed) p.reads ∙ closed_ok p.expr (drop next all) c ∙ ap (λ us. Ok (p.expr, us)) (sym (drop_one next all));
       forward = omega (arith, p.forward);
       within = kind_within all next Close c;
-      stands = p.stands;
+      represents = p.represents;
     }
 
--- what is read of a chain so far
+-- the front of a chain was read from an index of the tokens on, a node represents it, and `next` is the index where the chain
+-- continues
 pub record IsChained (on : ℕ → Expr → List Lexeme → Read) (whole : ℕ → List Lexeme → Read) (s : Store) (all : List Lexeme) (condition : Bool)
     (at d id next : ℕ) : Type 0 where
   pub expr : Expr
   pub reads : whole d (drop at all) ≡ on d expr (drop next all)
   pub forward : at ≤ next
   pub within : next ≤ length all
-  pub stands : Represents (exprs_in s) id (as_condition condition expr)
+  pub represents : Represents (exprs_in s) id (as_condition condition expr)
 
 -- chains, by the steps of their readers
 module _ (part whole : ℕ → List Lexeme → Read) (on : ℕ → Expr → List Lexeme → Read) (kind : TokenKind) (joined : Expr → Expr → Expr)
@@ -212,7 +213,7 @@ module _ (part whole : ℕ → List Lexeme → Read) (on : ℕ → Expr → List
     reads = first d (drop at all) (drop next all) p.expr p.reads;
     forward = p.forward;
     within = p.within;
-    stands = p.stands;
+    represents = p.represents;
   }
 
   pub chain_fails : (s : Store) (left next : ℕ) → IsChained on whole s all condition at d left next → first_kind (drop next all) ≡ Some kind → (e : ExprFault)
@@ -224,14 +225,14 @@ module _ (part whole : ℕ → List Lexeme → Read) (on : ℕ → Expr → List
       → first_kind (drop next all) ≡ Some kind → IsSound s0 → Extends s0 s1 → IsParsed s1 all condition (next + 1) (part d (drop (next + 1) all)) right after
       → Represents (exprs_in s2) id (joined (node_expr (exprs_in s1) left) (node_expr (exprs_in s1) right)) → IsChained on whole s2 all condition at d id after
   chain_goes_on s0 s1 s2 left next right after id c k sound x p h =
-      let kept = represents_later s0 s1 left (as_condition condition c.expr) sound x c.stands in
+      let kept = represents_later s0 s1 left (as_condition condition c.expr) sound x c.represents in
       record {
         expr = joined c.expr p.expr;
         reads = c.reads ∙ link d (drop next all) (drop after all) c.expr p.expr k (ap (part d) (sym (drop_one next all)) ∙ p.reads);
         forward = omega (arith, c.forward, p.forward);
         within = p.within;
-        stands = subst (Represents (exprs_in s2) id) (ap (λ v. joined v (node_expr (exprs_in s1) right)) kept.is
-            ∙ ap (joined (as_condition condition c.expr)) p.stands.is ∙ as_joined condition c.expr p.expr) h;
+        represents = subst (Represents (exprs_in s2) id) (ap (λ v. joined v (node_expr (exprs_in s1) right)) kept.is
+            ∙ ap (joined (as_condition condition c.expr)) p.represents.is ∙ as_joined condition c.expr p.expr) h;
       }
 
   pub chain_ends : (s : Store) (id next : ℕ) → IsChained on whole s all condition at d id next → (first_kind (drop next all) ≡ Some kind → ⊥)
@@ -241,7 +242,7 @@ module _ (part whole : ℕ → List Lexeme → Read) (on : ℕ → Expr → List
     reads = c.reads ∙ ends d (drop next all) c.expr n;
     forward = c.forward;
     within = c.within;
-    stands = c.stands;
+    represents = c.represents;
   }
 
 -- all of the tokens
@@ -259,5 +260,5 @@ module _ (all : List Lexeme) (condition : Bool) (at d : ℕ) where
   whole_parsed s id next p l = record {
     expr = p.expr;
     reads = whole_ok d (drop at all) (drop next all) p.expr p.reads (drop_of_length-le all l);
-    stands = p.stands;
+    represents = p.represents;
   }

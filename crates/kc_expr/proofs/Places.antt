@@ -31,12 +31,12 @@ place_by false n m o e = rw e (by_test (ltb n m) refl)
     by_test true f = let l : n < m = ltb-true n m f in let g : ltb (1 + n) (suc m) ≡ true = lt-ltb _ _ (omega arith) in rw g (ap Some (omega arith))
     by_test false f = let l : m ≤ n = ltb-false n m f in let g : ltb (1 + n) (suc m) ≡ false = le-ltb _ _ (omega arith) in rw g refl
 
--- among no names it has no place
+-- no name has a place in the empty list
 pub place_of_none : (x : List ℕ) → index_of_name x [] ≡ None
 unfolding index_of_name
 place_of_none x = refl
 
--- a name is the first one, or is found among the others
+-- the place of a name is 0 if it is the first of a list, else one more than its place among the others
 pub place_of_more : (x y : List ℕ) (ys : List (List ℕ)) → index_of_name x (y ∷ ys) ≡ cond (bytes_eq x y) (Some 0) (option_map suc (index_of_name x ys))
 unfolding index_of_name
 place_of_more x y ys = sym (place_by (bytes_eq x y) (position_or_len (bytes_eq x) ys) (length ys) (index_of_name x ys) refl)
@@ -47,7 +47,7 @@ place_at (n ∷ ns) zero d h = place_of_more n n ns ∙ rw (same_bytes n) refl
 place_at (n ∷ ns) (suc i) d h = place_of_more (get_or ns i []) n ns ∙ at_place (bytes_eq (get_or ns i []) n) i n (index_of_name (get_or ns i []) ns)
     (other_bytes (get_or ns i []) n (λ e. omega (arith, d zero (suc i) (omega arith) h (sym e)))) (place_at ns i (tail_distinct n ns d) (omega arith))
 
--- a name that is held at a place is found there
+-- a name at a place of a list in which no name occurs twice is found at that place
 pub place_of_held : (names : List (List ℕ)) (i : ℕ) (x : List ℕ) → AreDistinct names → i < length names → get_or names i [] ≡ x → index_of_name x names ≡ Some i
 place_of_held names i x d h e = ap (λ y. index_of_name y names) (sym e) ∙ place_at names i d h
 
@@ -57,7 +57,7 @@ seen_at names i symbol_values d h = ap (option_and_then symbol_values) (place_at
 
 -- names that are held under keys
 module _ {K : Type 0} (name : K → List ℕ) (x : List ℕ) where
-  -- the place of a name is that of its key
+  -- the place of a name among the names of keys is that of the first key with this name
   pub place-position : (ks : List K) → index_of_name x (map name ks) ≡ position (λ k. bytes_eq x (name k)) ks
   place-position [] = place_of_none x
   place-position (k ∷ ks) =
@@ -105,7 +105,7 @@ module _ {K : Type 0} (name : K → List ℕ) (x : List ℕ) where
       by_places (inr a) (inl b) = absurd (n j b (sym (get_or_append_left names (x ∷ []) [] j b) ∙ sym e ∙ last i h a))
       by_places (inr a) (inr b) = omega (arith, length-append names (x ∷ []))
 
-  -- an appended name is found at the place that the set has for it
+  -- a name that is added to a set is found at the place that the set has for it
   pub place_pushed : (v : K) → name v ≡ x → (ks : List K) → index_of_name x (map name (cond (list_any (λ k. bytes_eq x (name k)) ks) ks (ks ++ v ∷ [])))
       ≡ Some (position_or_len (λ k. bytes_eq x (name k)) ks)
   place_pushed v e ks = by_any (list_any (λ k. bytes_eq x (name k)) ks) refl
@@ -126,7 +126,7 @@ module _ {K : Type 0} (name : K → List ℕ) (x : List ℕ) where
       ap is_some (place_of_more x (name k) (map name ks))
       ∙ some_by (bytes_eq x (name k)) (index_of_name x (map name ks)) (list_any (λ k. bytes_eq x (name k)) ks) (has_place ks)
 
-  -- it comes after the others, unless it is there
+  -- the names of a set to which a name is added are those before, with the name appended unless the set had it
   pub names_pushed : (v : K) → name v ≡ x → (ks : List K) → map name (cond (list_any (λ k. bytes_eq x (name k)) ks) ks (ks ++ v ∷ []))
       ≡ with_name x (map name ks)
   names_pushed v e ks = by_any (list_any (λ k. bytes_eq x (name k)) ks) (has_place ks)
@@ -135,7 +135,7 @@ module _ {K : Type 0} (name : K → List ℕ) (x : List ℕ) where
       by_any true h = rw h refl
       by_any false h = rw (h, map-append, e) refl
 
-  -- and no name is then held twice
+  -- where no name occurs twice in a set, none does after a name is added
   pub distinct_pushed : (v : K) → name v ≡ x → (ks : List K) → AreDistinct (map name ks) → AreDistinct
       (map name (cond (list_any (λ k. bytes_eq x (name k)) ks) ks (ks ++ v ∷ [])))
   distinct_pushed v e ks d = by_any (list_any (λ k. bytes_eq x (name k)) ks) refl

@@ -14,7 +14,7 @@ use Rattle.kc_expr.proofs.GrammarComplete.{Stops, chain_same, chain_stops, facto
 pub drop_one : {X : Type 0} (at : ℕ) (xs : List X) → drop (at + 1) xs ≡ drop 1 (drop at xs)
 drop_one at xs = sym (drop-drop 1 at xs)
 
--- what is read after a kind
+-- what the reader past the limit of depth gives of a token of a kind and the tokens after it
 abbrev pub beyond_kind : TokenKind → Lexeme → List Lexeme → Read
 beyond_kind k t ts = elim k as (λ _. Read) [
   | Not ↦ past_depth_limit ts
@@ -28,8 +28,8 @@ beyond_kind k t ts = elim k as (λ _. Read) [
       Err (Malformed, t ∷ ts)
 ]
 
-abbrev behind_kind : Operand → TokenKind → Lexeme → List Lexeme → Read
-behind_kind a k t ts = elim k as (λ _. Read) [
+abbrev after_operand_kind : Operand → TokenKind → Lexeme → List Lexeme → Read
+after_operand_kind a k t ts = elim k as (λ _. Read) [
   | Relation op ↦ right_operand (related op a) ts
   | Word ↦ Ok (alone a, t ∷ ts)
   | Quoted ↦ Ok (alone a, t ∷ ts)
@@ -99,30 +99,30 @@ pub beyond_other : (us : List Lexeme) → ((first_kind us ≡ Some Not) ⊎ (fir
 beyond_other [] n s = refl
 beyond_other (t ∷ ts) n s = beyond_by t.kind t ts refl n s
 
--- an operand, and a relation after it
+-- where the first token is no operand, reading an operand gives Malformed at it
 pub operand_none : (us : List Lexeme) → first_operand us ≡ None → operand_read us ≡ Err (Malformed, us)
 unfolding operand_read
 operand_none [] h = refl
 operand_none (t ∷ ts) h = ap (λ o. operand_else o t ts) h
 
-behind_by : (k : TokenKind) (a : Operand) (t : Lexeme) (ts : List Lexeme) → t.kind ≡ k → relation_of k ≡ None → after_operand a (t ∷ ts) ≡ Ok (alone a, t ∷ ts)
-behind_by (Relation op) a t ts e h = cc
-behind_by Word a t ts e h = ap (λ k. behind_kind a k t ts) e
-behind_by Quoted a t ts e h = ap (λ k. behind_kind a k t ts) e
-behind_by Not a t ts e h = ap (λ k. behind_kind a k t ts) e
-behind_by And a t ts e h = ap (λ k. behind_kind a k t ts) e
-behind_by Or a t ts e h = ap (λ k. behind_kind a k t ts) e
-behind_by Open a t ts e h = ap (λ k. behind_kind a k t ts) e
-behind_by Close a t ts e h = ap (λ k. behind_kind a k t ts) e
+after_operand_by : (k : TokenKind) (a : Operand) (t : Lexeme) (ts : List Lexeme) → t.kind ≡ k → relation_of k ≡ None → after_operand a (t ∷ ts) ≡ Ok (alone a, t ∷ ts)
+after_operand_by (Relation op) a t ts e h = cc
+after_operand_by Word a t ts e h = ap (λ k. after_operand_kind a k t ts) e
+after_operand_by Quoted a t ts e h = ap (λ k. after_operand_kind a k t ts) e
+after_operand_by Not a t ts e h = ap (λ k. after_operand_kind a k t ts) e
+after_operand_by And a t ts e h = ap (λ k. after_operand_kind a k t ts) e
+after_operand_by Or a t ts e h = ap (λ k. after_operand_kind a k t ts) e
+after_operand_by Open a t ts e h = ap (λ k. after_operand_kind a k t ts) e
+after_operand_by Close a t ts e h = ap (λ k. after_operand_kind a k t ts) e
 
-behind_none : (a : Operand) (ts : List Lexeme) → first_relation ts ≡ None → after_operand a ts ≡ Ok (alone a, ts)
-behind_none a [] h = refl
-behind_none a (t ∷ ts) h = behind_by t.kind a t ts refl h
+no_relation_after : (a : Operand) (ts : List Lexeme) → first_relation ts ≡ None → after_operand a ts ≡ Ok (alone a, ts)
+no_relation_after a [] h = refl
+no_relation_after a (t ∷ ts) h = after_operand_by t.kind a t ts refl h
 
 pub operand_alone : (us : List Lexeme) (a : Operand) → first_operand us ≡ Some a → first_relation (drop 1 us) ≡ None → operand_read us ≡ Ok (alone a, drop 1 us)
 unfolding operand_read
 operand_alone [] a h r = cc
-operand_alone (t ∷ ts) a h r = ap (λ o. operand_else o t ts) h ∙ behind_none a ts r
+operand_alone (t ∷ ts) a h r = ap (λ o. operand_else o t ts) h ∙ no_relation_after a ts r
 
 relation_kind : (k : TokenKind) (op : Relop) → relation_of k ≡ Some op → k ≡ Relation op
 relation_kind (Relation op) o h = ap Relation (let q : op ≡ o = cc in q)
@@ -136,7 +136,7 @@ relation_kind Close op h = cc
 
 after_relation : (a : Operand) (op : Relop) (ts : List Lexeme) → first_relation ts ≡ Some op → after_operand a ts ≡ right_operand (related op a) (drop 1 ts)
 after_relation a op [] h = cc
-after_relation a op (t ∷ ts) h = let k = relation_kind t.kind op h in ap (λ k. behind_kind a k t ts) k
+after_relation a op (t ∷ ts) h = let k = relation_kind t.kind op h in ap (λ k. after_operand_kind a k t ts) k
 
 right_none : (f : Operand → Expr) (ts : List Lexeme) → first_operand ts ≡ None → right_operand f ts ≡ Err (Malformed, ts)
 right_none f [] h = refl
@@ -219,7 +219,7 @@ pub closed_not : (e : Expr) (us : List Lexeme) → (first_kind us ≡ Some Close
 closed_not e [] n = refl
 closed_not e (t ∷ ts) n = let k = close_by t.kind n in rw k refl
 
--- a chain that goes on after what was read of it
+-- reads the further factors of an `&&` chain, after the expression that was read of it
 unfoldable pub ands_on : ℕ → Expr → List Lexeme → Read
 ands_on d e us = chain is_and both (read_factor d) (length us) e us
 
@@ -314,7 +314,7 @@ pub ors_end : (d : ℕ) (us : List Lexeme) (e : Expr) → (first_kind us ≡ Som
 unfolding ors_on
 ors_end d us e n = chain_stops is_or either (read_ands (read_factor d)) (ands_short d) (length us) e us (or_stops us n)
 
--- all of the tokens
+-- a fault of reading an expression is one of reading all tokens as an expression
 pub whole_fails : (d : ℕ) (us : List Lexeme) (f : ExprKind × List Lexeme) → ors_read d us ≡ Err f → read_all_tokens d us ≡ Err f
 unfolding ors_read read_all_tokens
 whole_fails d us f e = ap read_to_end e

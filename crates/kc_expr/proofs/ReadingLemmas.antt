@@ -24,7 +24,7 @@ lexemes-drop zero (t ∷ ts) = refl
 lexemes-drop (suc n) [] = refl
 lexemes-drop (suc n) (t ∷ ts) = lexemes-drop n ts
 
--- `&tokens[at..]`
+-- the slice `&tokens[at..]` has the tokens from that index on
 pub tail_pieces : (ts : List CodeToken) (at : ℕ) → lexemes_of (take (length ts - at) (drop at ts)) ≡ drop at (lexemes_of ts)
 tail_pieces ts at = ap lexemes_of (rw (← length-drop at ts) (take-length (drop at ts))) ∙ lexemes-drop at ts
 
@@ -39,7 +39,7 @@ extent_front [] = refl
 extent_front (t ∷ []) = refl
 extent_front (t ∷ u ∷ ts) = extent_by ((is_operand_kind t.kind || is_close t.kind) && is_operand_kind u.kind) t (u ∷ ts) (extent_front (u ∷ ts))
 
--- `&tokens[..end]`, and its tokens from the place on
+-- the slice `&tokens[..end]` has the tokens up to the end of the expression
 pub front_pieces : (ts : List CodeToken) (at end : ℕ) → end ≡ expr_end (lexemes_of ts) at → lexemes_of (take end ts)
     ≡ take (expr_end (lexemes_of ts) at) (lexemes_of ts)
 front_pieces ts at end e = sym (take-map lexeme_of end ts) ∙ ap (λ n. take n (lexemes_of ts)) e
@@ -57,7 +57,7 @@ module _ (ts line : List CodeToken) (at end : ℕ) (is_line : line ≡ take end 
   line_read s condition id p =
       let middle = ap (λ l. drop at (lexemes_of l)) is_line ∙ middle_pieces ts at end is_end in
       let reads = sym (whole_expr (expr_tokens (lexemes_of ts) at)) ∙ ap (read_all_tokens 64) (sym middle) ∙ p.reads in
-      record { expr = p.expr; in_grammar = expr_sound (expr_tokens (lexemes_of ts) at) p.expr reads; stands = p.stands }
+      record { expr = p.expr; in_grammar = expr_sound (expr_tokens (lexemes_of ts) at) p.expr reads; represents = p.represents }
 
   not_in : (f : ExprKind × List Lexeme) → read_expr (expr_tokens (lexemes_of ts) at) ≡ Err f → (x : Expr) → IsExpr ors 64 (expr_tokens (lexemes_of ts) at) x → ⊥
   not_in f r x g = let k = expr_complete (expr_tokens (lexemes_of ts) at) x g in cc

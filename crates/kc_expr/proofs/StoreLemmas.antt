@@ -16,7 +16,7 @@ use Rattle.kc_expr.specs.checker.Nodes.{operand_of, expr_of, exprs_after, exprs_
 use Rattle.kc_expr.specs.checker.Store.{stored_names, exprs_in, IsSound, Extends}
 use Rattle.kc_expr.proofs.NodeLemmas.{at_node, nodes_push, represents_last, length-exprs}
 
--- the expression that a node represents, by its form
+-- the expression that a sound store represents at a number is that of the node with this number
 pub node_of : (s : Store) (i : ℕ) (found n : Node) → IsSound s → i < length s.nodes.items → found ≡ get_or s.nodes.items i some_node → found ≡ n
     → node_expr (exprs_in s) i ≡ expr_of (stored_names s) s.texts.items (exprs_in s).nodes n
 node_of s i found n sound h e f = at_node (stored_names s) s.texts.items (length (stored_names s)) (length s.texts.items) s.nodes.items i n sound.nodes h
@@ -102,10 +102,10 @@ module _ (names texts : List (List ℕ)) where
   exprs-append es (n ∷ ns) ms = exprs-append (es ++ expr_of names texts es n ∷ []) ns ms
 
   -- expressions of further nodes come after
-  behind : (es : List Expr) (ns : List Node) → (rest : List Expr) × (exprs_after names texts es ns ≡ es ++ rest)
-  behind es [] = ([], sym (append-nil es))
-  behind es (n ∷ ns) =
-      let (rest, e) = behind (es ++ expr_of names texts es n ∷ []) ns in
+  exprs_extended : (es : List Expr) (ns : List Node) → (rest : List Expr) × (exprs_after names texts es ns ≡ es ++ rest)
+  exprs_extended es [] = ([], sym (append-nil es))
+  exprs_extended es (n ∷ ns) =
+      let (rest, e) = exprs_extended (es ++ expr_of names texts es n ∷ []) ns in
       (expr_of names texts es n ∷ rest, e ∙ append_assoc es (expr_of names texts es n ∷ []) rest)
 
 -- an extended store represents each expression that it represented before
@@ -117,7 +117,7 @@ grows old new sound e =
     exprs_kept (stored_names old) old.texts.items (stored_names new) new.texts.items names_kept e.texts [] old.nodes.items
     (λ k m q l. let g : k ≡ m = omega arith in rw (← g) (sound.nodes k l)) in
     let es = exprs_of (stored_names old) old.texts.items old.nodes.items in
-    let (rest, f) = behind (stored_names new) new.texts.items es more in
+    let (rest, f) = exprs_extended (stored_names new) new.texts.items es more in
     record {
       names = names_kept;
       nodes = ap (λ ns. take (length es) (exprs_of (stored_names new) new.texts.items ns)) (prefix_parts old.nodes.items new.nodes.items e.nodes)
@@ -126,7 +126,7 @@ grows old new sound e =
           ∙ take-append_seam es rest;
     }
 
--- so does a node
+-- a node of an arena represents the same expression after names and nodes are appended
 pub represents_on : (old new : Exprs) (id : ℕ) (e : Expr) → Grows old new → Represents old id e → Represents new id e
 represents_on old new id e g s = record {
   within = omega (arith, s.within, prefix_long old.nodes new.nodes g.nodes);
@@ -158,15 +158,15 @@ module _ (old new : Store) (node : Node) (sound : IsSound old) (nodes : new.node
       (expr_of (stored_names old) old.texts.items (exprs_in old).nodes node)
   push_represents id e = rw (nodes, names, texts) (represents_last (stored_names old) old.texts.items old.nodes.items node id e)
 
--- the nodes of a store are as many as its expressions
+-- a store has as many expressions as nodes
 pub length-nodes : (s : Store) → length (exprs_in s).nodes ≡ length s.nodes.items
 length-nodes s = omega (arith, length-exprs (stored_names s) s.texts.items [] s.nodes.items)
 
--- a number of an expression is one of a node
+-- the number of an expression that contracts see is that of a node of the store
 pub within_nodes : (a : Exprs) (s : Store) (i : ℕ) → exprs_in s ≡ a → i < length a.nodes → i < length s.nodes.items
 within_nodes a s i e h = omega (arith, h, ap (λ (x : Exprs). length x.nodes) e, length-nodes s)
 
--- names and texts that come after keep a store sound
+-- a sound store is still sound after names and texts are appended, if no name is held twice and there aren't too many
 pub sound_on : (old new : Store) → IsSound old → Extends old new → new.nodes.items ≡ old.nodes.items → AreDistinct (stored_names new)
     → length new.names.keys ≤ 2 ^ 32 → IsSound new
 sound_on old new sound e same d few = record {
@@ -177,7 +177,7 @@ sound_on old new sound e same d few = record {
   few_nodes = rw same sound.few_nodes;
 }
 
--- an operand stays what it was
+-- an operand means the same in an extended store
 pub operand_on : (old new : Store) (a : Leaf) → Extends old new → LeafFits (length (stored_names old)) (length old.texts.items) a
     → operand_of (stored_names new) new.texts.items a ≡ operand_of (stored_names old) old.texts.items a
 operand_on old new a e h = operand_kept (stored_names old) old.texts.items (stored_names new) new.texts.items
@@ -188,14 +188,14 @@ pub leaf_on : (old new : Store) (a : Leaf) → Extends old new → LeafFits (len
 leaf_on old new a e h = leaf_kept (stored_names old) old.texts.items (stored_names new) new.texts.items
     (prefix_map string_bytes old.names.keys new.names.keys e.names) e.texts a h
 
--- a node stays one
+-- the number of a node is that of a node in an extended store too
 pub node_on : (old new : Store) (i : ℕ) → Extends old new → i < length old.nodes.items → i < length new.nodes.items
 node_on old new i e h = omega (arith, h, prefix_long old.nodes.items new.nodes.items e.nodes)
 
 pub represents_node : (s : Store) (i : ℕ) (e : Expr) → Represents (exprs_in s) i e → i < length s.nodes.items
 represents_node s i e h = omega (arith, h.within, length-nodes s)
 
--- an appended name comes last, unless it was there
+-- a list to which an element is appended, or none, begins with what it was
 pub pushed_prefix : {X : Type 0} (b : Bool) (xs : List X) (x : X) → take (length xs) (cond b xs (xs ++ x ∷ [])) ≡ xs
 pushed_prefix true xs x = take-length xs
 pushed_prefix false xs x = take-append_seam xs (x ∷ [])

@@ -21,7 +21,7 @@ use Rattle.kc_expr.proofs.Dollars.{dollars_between, first_left_out}
 use Rattle.kc_expr.proofs.TokenSteps.{word_run}
 use Rattle.kc_expr.proofs.TokenLaws.{run_all, run_front, front_run, quote_facts, quote_no_slash, lead_quoted, quoted_lead}
 
--- a token at the front of bytes, the longest that fits
+-- bytes begin with a token of a kind and a length, the longest that fits
 pub record IsTokenAt (language : Language) (k : TokenKind) (len : ℕ) (bytes : List ℕ) : Type 0 where
   pub text : List ℕ
   pub rest : List ℕ
@@ -30,12 +30,12 @@ pub record IsTokenAt (language : Language) (k : TokenKind) (len : ℕ) (bytes : 
   pub is : IsToken language k text
   pub longest : IsLongest language text bytes
 
--- the bytes at the front, by what they begin with
-abbrev pub Says : Language → ℕ → List ℕ → NextToken → Type 0
-Says language b bs White = is_white_byte b ≡ true
-Says language b bs Comment = b ≡ 35
-Says language b bs (Token k len) = IsTokenAt language k len (b ∷ bs)
-Says language b bs (Fault k n) = NothingBegins language b bs × ((at : ℕ) → IsFaultAt language at (b ∷ bs) (record { offset = at + n; kind = k }))
+-- bytes begin as a `NextToken` says: with white space, a comment, a token, or a byte at which nothing begins and its fault
+abbrev pub IsNextToken : Language → ℕ → List ℕ → NextToken → Type 0
+IsNextToken language b bs White = is_white_byte b ≡ true
+IsNextToken language b bs Comment = b ≡ 35
+IsNextToken language b bs (Token k len) = IsTokenAt language k len (b ∷ bs)
+IsNextToken language b bs (Fault k n) = NothingBegins language b bs × ((at : ℕ) → IsFaultAt language at (b ∷ bs) (record { offset = at + n; kind = k }))
 
 -- a fault at the very byte
 here_at : (language : Language) (k : ExprKind) (bytes : List ℕ) → ((at : ℕ) → IsFaultAt language at bytes (record { offset = at; kind = k })) → (at : ℕ)
@@ -133,11 +133,11 @@ module _ (language : Language) (b : ℕ) (bs : List ℕ) (no_white : is_white_by
       nothing_begins : NothingBegins language b bs
       nothing_begins = (no_white, no_hash, λ k text rest e is. no_token k text rest e is)
 
-      bad_says : eqb b 36 ≡ false → Says language b bs (Fault BadToken 0)
-      bad_says d = (nothing_begins, here_at language BadToken (b ∷ bs) (λ at. other_byte d no_quote))
+      bad_is_next : eqb b 36 ≡ false → IsNextToken language b bs (Fault BadToken 0)
+      bad_is_next d = (nothing_begins, here_at language BadToken (b ∷ bs) (λ at. other_byte d no_quote))
 
-      dollar_says : b ≡ 36 → Says language b bs (Fault LeftOut 0)
-      dollar_says e = (
+      dollar_is_next : b ≡ 36 → IsNextToken language b bs (Fault LeftOut 0)
+      dollar_is_next e = (
         nothing_begins,
         here_at language LeftOut (b ∷ bs)
             (λ at. subst (λ c. IsFaultAt language at (c ∷ bs) (record { offset = at; kind = LeftOut })) (sym e) dollar),
@@ -173,20 +173,20 @@ module _ (language : Language) (b : ℕ) (bs : List ℕ) (no_white : is_white_by
 
   -- two operators with one first byte
   either_way : (t : Bool) (k j : TokenKind) (c d : ℕ) → b ≡ c → 0 < d → IsToken language k (c ∷ d ∷ []) → IsToken language j (c ∷ [])
-      → is_pair c (get_or bs 0 0) ≡ eqb (get_or bs 0 0) d → eqb (get_or bs 0 0) d ≡ t → Says language b bs (cond t (Token k 2) (Token j 1))
+      → is_pair c (get_or bs 0 0) ≡ eqb (get_or bs 0 0) d → eqb (get_or bs 0 0) d ≡ t → IsNextToken language b bs (cond t (Token k 2) (Token j 1))
   either_way true k j c d e p is js f g = two_bytes k c d e g p is
   either_way false k j c d e p is js f g = one_byte j c e js (no_pair_at c d e f g)
 
   or_fault : (t : Bool) (k : TokenKind) (c : ℕ) → b ≡ c → 0 < c → IsToken language k (c ∷ c ∷ []) → is_pair c (get_or bs 0 0) ≡ eqb (get_or bs 0 0) c
-      → is_single c ≡ false → eqb c 36 ≡ false → eqb (get_or bs 0 0) c ≡ t → Says language b bs (cond t (Token k 2) (Fault BadToken 0))
+      → is_single c ≡ false → eqb c 36 ≡ false → eqb (get_or bs 0 0) c ≡ t → IsNextToken language b bs (cond t (Token k 2) (Fault BadToken 0))
   or_fault true k c e p is f s d g = two_bytes k c c e g p is
-  or_fault false k c e p is f s d g = bad_says (no_pair_at c c e f g) (ap is_single e ∙ s) (ap (λ x. eqb x 36) e ∙ d)
+  or_fault false k c e p is f s d g = bad_is_next (no_pair_at c c e f g) (ap is_single e ∙ s) (ap (λ x. eqb x 36) e ∙ d)
 
-  single : (k : TokenKind) (c : ℕ) → b ≡ c → is_pair c (get_or bs 0 0) ≡ false → IsToken language k (c ∷ []) → Says language b bs (Token k 1)
+  single : (k : TokenKind) (c : ℕ) → b ≡ c → is_pair c (get_or bs 0 0) ≡ false → IsToken language k (c ∷ []) → IsNextToken language b bs (Token k 1)
   single k c e n is = one_byte k c e is (ap (λ x. is_pair x (get_or bs 0 0)) e ∙ n)
 
-  by_test : (t : Bool) (c : ℕ) (l m : NextToken) → eqb b c ≡ t → (b ≡ c → Says language b bs l) → (eqb b c ≡ false → Says language b bs m)
-      → Says language b bs (cond t l m)
+  by_test : (t : Bool) (c : ℕ) (l m : NextToken) → eqb b c ≡ t → (b ≡ c → IsNextToken language b bs l) → (eqb b c ≡ false → IsNextToken language b bs m)
+      → IsNextToken language b bs (cond t l m)
   by_test true c l m e f g = f (eqb-true b c e)
   by_test false c l m e f g = g e
 
@@ -209,8 +209,8 @@ module _ (language : Language) (b : ℕ) (bs : List ℕ) (no_white : is_white_by
   abbrev second_equal : Bool
   second_equal = eqb (get_or bs 0 0) 61
 
-  pub operator_says : Says language b bs (next_operator b (get_or bs 0 0))
-  operator_says =
+  pub operator_is_next : IsNextToken language b bs (next_operator b (get_or bs 0 0))
+  operator_is_next =
       by_test (eqb b 33) 33 _ _ refl (λ e. either_way second_equal (Relation NotEqual) Not 33 61 e (omega arith) refl refl (pair_33 second_equal) refl)
       (λ n33.
       by_test (eqb b 60) 60 _ _ refl (λ e. either_way second_equal (Relation LessEqual) (Relation Less) 60 61 e (omega arith) refl refl
@@ -226,7 +226,7 @@ module _ (language : Language) (b : ℕ) (bs : List ℕ) (no_white : is_white_by
       (λ n40. by_test (eqb b 41) 41 _ _ refl (λ e. single Close 41 e refl refl)
       (λ n41. let pairs : is_pair b (get_or bs 0 0) ≡ false = rw (n33, n60, n62, n38, n124) refl in
       let singles : is_single b ≡ false = rw (n33, n60, n62, n61, n40, n41) refl in
-      by_test (eqb b 36) 36 _ _ refl (λ e. dollar_says pairs singles e) (λ n36. bad_says pairs singles n36)))))))))
+      by_test (eqb b 36) 36 _ _ refl (λ e. dollar_is_next pairs singles e) (λ n36. bad_is_next pairs singles n36)))))))))
 
 -- a word at the front
 other_word : (language : Language) (k : TokenKind) (b : ℕ) (bs front rest : List ℕ) → (k ≡ Word → ⊥) → is_word_byte b ≡ true → b ∷ bs ≡ front ++ rest
@@ -264,8 +264,8 @@ word_longest language Or b bs front rest w e is = absurd (other_word language Or
 word_longest language Open b bs front rest w e is = absurd (other_word language Open b bs front rest (λ q. cc) w e is)
 word_longest language Close b bs front rest w e is = absurd (other_word language Close b bs front rest (λ q. cc) w e is)
 
-word_says : (language : Language) (b : ℕ) (bs : List ℕ) → is_word_byte b ≡ true → IsTokenAt language Word (length (take_while is_word_byte (b ∷ bs))) (b ∷ bs)
-word_says language b bs w = record {
+word_is_next : (language : Language) (b : ℕ) (bs : List ℕ) → is_word_byte b ≡ true → IsTokenAt language Word (length (take_while is_word_byte (b ∷ bs))) (b ∷ bs)
+word_is_next language b bs w = record {
   text = take_while is_word_byte (b ∷ bs);
   rest = drop (length (take_while is_word_byte (b ∷ bs))) (b ∷ bs);
   parts = run_front (b ∷ bs);
@@ -355,8 +355,8 @@ module _ (language : Language) (b : ℕ) (bs : List ℕ) (q : is_quote b ≡ tru
       refused text rest e t =
           let both : Token Quoted (length text) ≡ Fault k n = sym (quoted_lead language text rest t) ∙ ap (next_token language) (sym e) ∙ f in cc
 
-  unclosed_says : closing b false bs ≡ None → Says language b bs (Fault UnclosedQuote 0)
-  unclosed_says c = (
+  unclosed_is_next : closing b false bs ≡ None → IsNextToken language b bs (Fault UnclosedQuote 0)
+  unclosed_is_next c = (
     no_quoted UnclosedQuote 0 (lead_quoted language b bs q ∙ ap (quoted_up_to language (b ∷ bs)) c),
     here_at language UnclosedQuote (b ∷ bs) (λ at. unclosed q open_to_the_end),
   )
@@ -365,10 +365,10 @@ module _ (language : Language) (b : ℕ) (bs : List ℕ) (q : is_quote b ≡ tru
       open_to_the_end body means rest is e =
           let both : None ≡ Some (suc (length body)) = sym c ∙ ap (closing b false) e ∙ body_closes b body means rest (quote_facts b q).0 is in cc
 
-  left_out_says : (n : ℕ) (o : Option ℕ) → closing b false bs ≡ Some n → dollar_left_out language (take (n + 1) (b ∷ bs)) ≡ o
-      → Says language b bs (quoted_or_left_out (n + 1) o)
-  left_out_says n None c e = quoted_at language b n bs q c e
-  left_out_says n (Some k) c e =
+  left_out_is_next : (n : ℕ) (o : Option ℕ) → closing b false bs ≡ Some n → dollar_left_out language (take (n + 1) (b ∷ bs)) ≡ o
+      → IsNextToken language b bs (quoted_or_left_out (n + 1) o)
+  left_out_is_next n None c e = quoted_at language b n bs q c e
+  left_out_is_next n (Some k) c e =
       let lead = lead_quoted language b bs q ∙ ap (quoted_up_to language (b ∷ bs)) c ∙ ap (quoted_or_left_out (n + 1)) e in
       (no_quoted LeftOut k lead, by_body (closed b false bs n c))
     where
@@ -383,9 +383,9 @@ module _ (language : Language) (b : ℕ) (bs : List ℕ) (q : is_quote b ≡ tru
           (subst (λ x. IsFaultAt language at (b ∷ x) (record { offset = at + 1 + length f.front; kind = LeftOut })) (sym parts)
           (dollar_between f.front f.back (unescaped false w.body) w.rest q is f.dollars))
 
-  quoted_says : (o : Option ℕ) → closing b false bs ≡ o → Says language b bs (quoted_up_to language (b ∷ bs) o)
-  quoted_says None c = unclosed_says c
-  quoted_says (Some n) c = left_out_says n (dollar_left_out language (take (n + 1) (b ∷ bs))) c refl
+  quoted_is_next : (o : Option ℕ) → closing b false bs ≡ o → IsNextToken language b bs (quoted_up_to language (b ∷ bs) o)
+  quoted_is_next None c = unclosed_is_next c
+  quoted_is_next (Some n) c = left_out_is_next n (dollar_left_out language (take (n + 1) (b ∷ bs))) c refl
 
 -- the bytes at the front decide what is there
 module _ (language : Language) (b : ℕ) (bs : List ℕ) where
@@ -399,23 +399,23 @@ module _ (language : Language) (b : ℕ) (bs : List ℕ) where
   from_word = cond (is_word_byte b) (Token Word (length (take_while is_word_byte (b ∷ bs)))) from_quote
 
   at_quote : (t : Bool) → is_white_byte b ≡ false → eqb b 35 ≡ false → is_word_byte b ≡ false → is_quote b ≡ t
-      → Says language b bs (cond t (quoted_up_to language (b ∷ bs) (closing b false bs)) operator)
-  at_quote true s h w e = quoted_says language b bs e s h (closing b false bs) refl
-  at_quote false s h w e = operator_says language b bs s h w e
+      → IsNextToken language b bs (cond t (quoted_up_to language (b ∷ bs) (closing b false bs)) operator)
+  at_quote true s h w e = quoted_is_next language b bs e s h (closing b false bs) refl
+  at_quote false s h w e = operator_is_next language b bs s h w e
 
   at_word : (t : Bool) → is_white_byte b ≡ false → eqb b 35 ≡ false → is_word_byte b ≡ t
-      → Says language b bs (cond t (Token Word (length (take_while is_word_byte (b ∷ bs)))) from_quote)
-  at_word true s h e = word_says language b bs e
+      → IsNextToken language b bs (cond t (Token Word (length (take_while is_word_byte (b ∷ bs)))) from_quote)
+  at_word true s h e = word_is_next language b bs e
   at_word false s h e = at_quote (is_quote b) s h e refl
 
-  at_hash : (t : Bool) → is_white_byte b ≡ false → eqb b 35 ≡ t → Says language b bs (cond t Comment from_word)
+  at_hash : (t : Bool) → is_white_byte b ≡ false → eqb b 35 ≡ t → IsNextToken language b bs (cond t Comment from_word)
   at_hash true s e = eqb-true b 35 e
   at_hash false s e = at_word (is_word_byte b) s e refl
 
-  at_white : (t : Bool) → is_white_byte b ≡ t → Says language b bs (cond t White (cond (eqb b 35) Comment from_word))
+  at_white : (t : Bool) → is_white_byte b ≡ t → IsNextToken language b bs (cond t White (cond (eqb b 35) Comment from_word))
   at_white true e = e
   at_white false e = at_hash (eqb b 35) e refl
 
-  pub lead_says : Says language b bs (next_token language (b ∷ bs))
+  pub next_token_is : IsNextToken language b bs (next_token language (b ∷ bs))
   unfolding next_token
-  lead_says = at_white (is_white_byte b) refl
+  next_token_is = at_white (is_white_byte b) refl

@@ -20,7 +20,7 @@ use Rattle.kc_expr.specs.TokenGrammar.{IsQuotedToken, IsToken, IsLongest, IsCut,
 use Rattle.kc_expr.proofs.Dollars.{none_left_out}
 use Rattle.kc_expr.proofs.TokenSteps.{lexemes_white, lexemes_comment, lexemes_token, word_run}
 
--- bytes of one sort are of no other
+-- a byte of words is no white byte
 pub word_no_white : (c : ℕ) → is_word_byte c ≡ true → is_white_byte c ≡ false
 word_no_white c h = grind (arith, nat_tests)
 
@@ -34,7 +34,7 @@ quote_is c h = by_or (or_cases (eqb c 34) (eqb c 39) h)
     by_or (inl e) = inl (eqb-true c 34 e)
     by_or (inr e) = inr (eqb-true c 39 e)
 
--- runs of word bytes
+-- the longest front of word bytes consists of word bytes
 pub run_all : (bs : List ℕ) → list_all is_word_byte (take_while is_word_byte bs) ≡ true
 run_all [] = refl
 run_all (b ∷ bs) = rw take_while-cons (by_test (is_word_byte b) refl (run_all bs))
@@ -162,7 +162,7 @@ token_lead language Or text rest is long = operator_lead language Or rest (λ e.
 token_lead language Open text rest is long = operator_lead language Open rest (λ e. cc) (λ e. cc) text is long
 token_lead language Close text rest is long = operator_lead language Close rest (λ e. cc) (λ e. cc) text is long
 
--- a token has a byte
+-- the text of a token has at least one byte
 pub first_byte : (language : Language) (k : TokenKind) (text : List ℕ) → IsToken language k text → (c : ℕ) × (cs : List ℕ) × (text ≡ c ∷ cs)
 first_byte language Word [] is = absurd (omega (arith, is.0))
 first_byte language Word (c ∷ cs) is = (c, cs, refl)
@@ -179,11 +179,11 @@ first_byte language Or text is = (124, 124 ∷ [], is)
 first_byte language Open text is = (40, [], is)
 first_byte language Close text is = (41, [], is)
 
--- the token of a text at a place
+-- the token of a kind and a text that begins at a place of a line
 abbrev pub token_at : ℕ → TokenKind → List ℕ → Lexeme
 token_at at kind text = record { kind = kind; start = at; stop = at + length text; text = text }
 
--- what is read, where a token and a rest follow
+-- where a token's text and a rest follow each other in a line, the token is read and then the tokens of the rest
 abbrev pub AreRead : Language → ℕ → TokenKind → (text rest : List ℕ) → Type 0
 AreRead language at kind text rest =
     lexemes_from language 0 at (text ++ rest) ≡ with_front (token_at at kind text ∷ []) (lexemes_from language 0 (at + length text) rest)
@@ -212,7 +212,7 @@ hash_lead : (language : Language) (bs : List ℕ) → next_token language (35 �
 unfolding next_token
 hash_lead language bs = refl
 
--- a line that is cut so is read so
+-- a line that the token language cuts into tokens is read as these tokens
 pub cut_read : (language : Language) (at : ℕ) (bytes : List ℕ) (ps : List Lexeme) → IsCut language at bytes ps → lexemes_from language 0 at bytes ≡ Ok ps
 cut_read language at bytes ps ends = refl
 cut_read language at bytes ps (comment {bytes = bs}) = lexemes_comment language at 35 bs (hash_lead language bs)

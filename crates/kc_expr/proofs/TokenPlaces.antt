@@ -99,15 +99,15 @@ pub some_token : CodeToken
 some_token = record { kind = Word; start = 0; end = 0; text = record { ref_ptr = (0, 0); now = [] } }
 
 -- the place after a token is at most the number of tokens
-stood_by : (ts : List CodeToken) (at : ℕ) (k : TokenKind) → first_kind (drop at (lexemes_of ts)) ≡ Some k → (at < length ts) ⊎ (length ts ≤ at)
+token_within_by : (ts : List CodeToken) (at : ℕ) (k : TokenKind) → first_kind (drop at (lexemes_of ts)) ≡ Some k → (at < length ts) ⊎ (length ts ≤ at)
     → at + 1 ≤ length ts
-stood_by ts at k e (inl h) = omega arith
-stood_by ts at k e (inr h) = absurd (no_kind_at ts at k h e)
+token_within_by ts at k e (inl h) = omega arith
+token_within_by ts at k e (inr h) = absurd (no_kind_at ts at k h e)
 
-pub stood_within : (ts : List CodeToken) (at : ℕ) (k : TokenKind) → first_kind (drop at (lexemes_of ts)) ≡ Some k → at + 1 ≤ length ts
-stood_within ts at k e = stood_by ts at k e (cases_lt at (length ts))
+pub token_within : (ts : List CodeToken) (at : ℕ) (k : TokenKind) → first_kind (drop at (lexemes_of ts)) ≡ Some k → at + 1 ≤ length ts
+token_within ts at k e = token_within_by ts at k e (cases_lt at (length ts))
 
 pub opened_within : (ts : List CodeToken) (at : ℕ) → (first_kind (drop at (lexemes_of ts)) ≡ Some Not) ⊎ (first_kind (drop at (lexemes_of ts)) ≡ Some Open)
     → at + 1 ≤ length ts
-opened_within ts at (inl e) = stood_within ts at Not e
-opened_within ts at (inr e) = stood_within ts at Open e
+opened_within ts at (inl e) = token_within ts at Not e
+opened_within ts at (inr e) = token_within ts at Open e

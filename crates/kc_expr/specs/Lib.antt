@@ -3,7 +3,7 @@ pub mod ExprFaults
 pub mod FaultNames
 pub mod Grammar
 pub mod Lookup
-pub mod NamesIn
+pub mod ExpressionNames
 pub mod Token
 pub mod TokenGrammar
 pub mod between

@@ -12,18 +12,18 @@ use Rattle.kc_expr.specs.declared.token.Token.{Token as CodeToken}
 use Rattle.kc_expr.specs.declared.token.NextToken.{NextToken}
 use Rattle.kc_expr.specs.declared.token.NextToken.TheVariants.{White, Comment, Token, Fault}
 
--- a token: what it is, the places of its first byte and of the byte after it, and its bytes
+-- a token of a line: its kind, the places of its first byte and of the byte after it, counted from 0, and its bytes
 pub record Lexeme : Type 0 where
   pub kind : TokenKind
   pub start : ℕ
   pub stop : ℕ
   pub text : List ℕ
 
--- white space within a line
+-- whether a byte is white space within a line
 abbrev pub is_white_byte : ℕ → Bool
 is_white_byte c = c == 9 || (c == 11) || (c == 12) || (c == 13) || (c == 32)
 
--- a letter, a digit, `_`, `-`, `.` or `/`
+-- whether a byte is one of words: a letter, a digit, `_`, `-`, `.` or `/`
 abbrev pub is_word_byte : ℕ → Bool
 is_word_byte c = (nat_le 65 c && nat_le c 90) || (nat_le 97 c && nat_le c 122) || (nat_le 48 c && nat_le c 57) || (c == 95) || (c == 45) || (c == 46) || (c == 47)
 
@@ -35,34 +35,37 @@ lexeme_of t = record { kind = t.kind; start = t.start; stop = t.end; text = t.te
 abbrev pub lexemes_of : List CodeToken → List Lexeme
 lexemes_of ts = map lexeme_of ts
 
--- The definitions from here on compute what the grammar of TokenGrammar says of a line, by the laws `tokens_are_the_language` and `token_faults_are_first_faults`.
+-- The definitions from here on compute what the grammar of TokenGrammar says of a line, by the laws `tokens_are_the_language` and
+-- `token_faults_are_first_faults`.
 
--- the place of the first `$` that stands in no pair of a backslash and a character
+-- the place of the first `$` that isn't in a pair of a backslash and a character; the flag says that a backslash is before the
+-- first byte
 abbrev pub bare_dollar : Bool → List ℕ → Option ℕ
 bare_dollar escaped [] = None
 bare_dollar true (c ∷ cs) = option_map suc (bare_dollar false cs)
 bare_dollar false (c ∷ cs) = if c == 36 then Some 0 else option_map suc (bare_dollar (c == 92) cs)
 
--- the place of the first `$` of a quoted text that is left out: in the strict language of any, in that of Linux of one in no pair
+-- the place of the first `$` of a quoted text that its language leaves out: the strict one any, that of Linux one that isn't in a
+-- pair of a backslash and a character
 abbrev pub dollar_left_out : Language → List ℕ → Option ℕ
 dollar_left_out Strict text = position (λ c. c == 36) text
 dollar_left_out Linux text = bare_dollar false text
 
--- a quoted text reaches up to its closing quote, unless a `$` in it is left out
+-- the quoted token of a length, or the fault `LeftOut` at the place of a `$` in it that the language forbids, if one is given
 abbrev pub quoted_or_left_out : ℕ → Option ℕ → NextToken
 quoted_or_left_out len None = Token Quoted len
 quoted_or_left_out len (Some k) = Fault LeftOut k
 
--- the quoted text that ends at its closing quote, if it has one
+-- the quoted token at the front of bytes, by the place of its closing quote after the opening one, or its fault
 abbrev pub quoted_up_to : Language → List ℕ → Option ℕ → NextToken
 quoted_up_to language bytes None = Fault UnclosedQuote 0
 quoted_up_to language bytes (Some n) = quoted_or_left_out (n + 1) (dollar_left_out language (take (n + 1) bytes))
 
--- the quoted text at the front of bytes
+-- the quoted token at the front of bytes that begin with a quote, or its fault
 abbrev pub next_quoted : Language → List ℕ → NextToken
 next_quoted language bytes = quoted_up_to language bytes (closing (slice_index bytes 0) false (drop 1 bytes))
 
--- the longest operator that fits
+-- the longest operator at the front of bytes, by the first two bytes, or a fault if there is none
 abbrev pub next_operator : ℕ → ℕ → NextToken
 next_operator a b =
     if a == 33 then (if b == 61 then Token (Relation NotEqual) 2 else Token Not 1)
@@ -76,7 +79,7 @@ next_operator a b =
     else if a == 36 then Fault LeftOut 0
     else Fault BadToken 0
 
--- the token or the white space at the front of bytes
+-- what bytes begin with: white space, a comment, a token, or a fault
 unfoldable pub next_token : Language → List ℕ → NextToken
 next_token language bytes =
     let a = slice_index bytes 0 in
@@ -86,7 +89,7 @@ next_token language bytes =
     else if a == 34 || (a == 39) then next_quoted language bytes
     else next_operator a (slice_index bytes 1)
 
--- a list in front of the list of a result
+-- a result whose list has another list put in front; a fault is kept
 abbrev pub with_front : {X E : Type 0} → List X → Result (List X) E → Result (List X) E
 with_front front (Ok xs) = Ok (front ++ xs)
 with_front front (Err e) = Err e

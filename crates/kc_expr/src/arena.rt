@@ -1,4 +1,4 @@
-//! Expressions that share their parts.
+//! Arenas of expressions that share their parts.
 ghost use Rattle.std.specs.Prelude.{◌≡◌, ◌<◌, ◌≤◌, ◌⊎◌, ◌↔◌, ◌++◌, ◌||◌, ◌^◌, ℕ, Bool, List, false, true, length, map, [], All, Contains, IfOk, IfErr, IfSome, OnOk, OnErr, Some, option_map, slice_index_or};
 ghost use Rattle.std.specs.List.Sorted.{IsStrictlyIncreasing};
 ghost use Rattle.kc_expr.specs.declared.fault.ExprKind.TheVariants.{OutOfMemory};
@@ -18,7 +18,8 @@ use kc_value::{MAX_EXPR_DEPTH, Seed, Tri};
 use std::alloc::{AllocError, Global};
 use std::marker::Model;
 
-/// Names and expressions. Contracts see the list of names and, for each node, the expression that it represents.
+/// An arena of names and expressions. Contracts see the list of its names and, for each of its nodes, the expression that the
+/// node represents.
 #[derive(Drop)]
 pub struct Arena {
     store: Store,
@@ -43,7 +44,7 @@ impl Arena {
     ghost use Rattle.kc_expr.specs.between.Arena.{Grows, node_expr, Represents};
     ghost use Rattle.kc_expr.specs.Expr.{alone, both, constant, shown, value};
     ghost use Rattle.kc_expr.specs.Lookup.{AreDistinct, environment_of, index_of_name};
-    ghost use Rattle.kc_expr.specs.NamesIn.{names_in};
+    ghost use Rattle.kc_expr.specs.ExpressionNames.{names_in};
     ghost use Rattle.kc_expr.specs.between.Names.{name_alone, with_name, with_names};
     ghost use Rattle.kc_expr.specs.between.Operand.{operand_alone, operand_of_ref, HasKnownName};
     ghost use Rattle.kc_expr.specs.between.ParseResults.{expr_tokens, expr_end, ReadsExpr, RefusesExpr};
@@ -51,7 +52,7 @@ impl Arena {
     ghost use Rattle.kc_expr.specs.between.ReverseNames.{names_in_reverse};
     ghost use Rattle.kc_expr.specs.between.Visits.{is_visited, mentions, passes_some_name, HasFound};
 
-    /// No names and no nodes. Takes no memory. Names are hashed with the same seed in each run.
+    /// An arena without names and nodes, which takes no memory. Names are hashed with the same seed in each run.
     pub fn new(alloc: Global) -> Arena
         ensures names { result.names ≡ [] }
         ensures nodes { result.nodes ≡ [] }
@@ -59,7 +60,7 @@ impl Arena {
         Arena::with_seed(alloc, Seed::fixed())
     }
 
-    /// No names and no nodes. Takes no memory. Names are hashed with a seed, on which no answer depends.
+    /// An arena without names and nodes, which takes no memory. Names are hashed with `seed`, on which no result depends.
     pub fn with_seed(alloc: Global, seed: Seed) -> Arena
         ensures names { result.names ≡ [] }
         ensures nodes { result.nodes ≡ [] }
@@ -69,7 +70,7 @@ impl Arena {
         }
     }
 
-    /// The value of an expression, its names having the values of the look-up. Takes no memory.
+    /// The value of an expression whose names have the values that `lookup` gives. Takes no memory.
     pub fn value<L: Lookup>(&self, id: ExprId, lookup: &L) -> Tri
         requires there { id < length self.now.nodes }
         ensures value { result ≡ value (environment_of self.now.names (L.symbol_values lookup.now)) (node_expr self.now id) }
@@ -77,16 +78,17 @@ impl Arena {
         value_of(&self.store, id.index(), lookup)
     }
 
-    /// Reads the expression that begins at a token. It reaches up to the first word or quoted token that directly
-    /// follows an operand or a `)`, else to the end of the tokens. Returns its number and the place after it.
+    /// Reads the expression that begins at the token of index `at`. It reaches up to the first word or quoted token that directly
+    /// follows an operand or a `)`, else to the end of the tokens. Returns the expression's number and the index after its last
+    /// token. Its new names are appended, in their order.
     ///
     /// In a condition, a constant `m` that isn't an operand of a relation means `m && MODULES`.
     ///
     /// # Errors
     ///
-    /// `Malformed`, at the first token that can't continue the expression, or at the end of the last token if none is
-    /// left; `TooDeep`, at a symbol under more than `MAX_EXPR_DEPTH` `!` and parentheses; `OutOfMemory`. The first one is
-    /// returned, and the arena is as it was. An `Ok` adds the new names of the expression, in their order.
+    /// `Malformed`, at the first token that can't continue the expression, or at the end of the last token if none is left;
+    /// `TooDeep`, at a symbol under more than `MAX_EXPR_DEPTH` `!` and parentheses; `OutOfMemory`. The first of them is returned,
+    /// and leaves the arena as it was.
     #[inline(always)]
     pub fn parse_expr(
         &mut self,
@@ -116,7 +118,8 @@ impl Arena {
         }
     }
 
-    /// The conjunction of two expressions. An `Err` means out of memory, and leaves the arena as it was.
+    /// The conjunction (`&&`) of two expressions, as a further expression. An `Err` means out of memory, and leaves the arena as
+    /// it was.
     pub fn join(&mut self, a: ExprId, b: ExprId) -> Result<ExprId, ExprFault>
         requires left { a < length self.old.nodes }
         requires right { b < length self.old.nodes }
@@ -130,7 +133,8 @@ impl Arena {
         Ok(ExprId::at(id))
     }
 
-    /// `y` where an expression isn't `n`, and else `n`. An `Err` means out of memory, and leaves the arena as it was.
+    /// The expression that is `y` where a given one isn't `n`, and else `n`. An `Err` means out of memory, and leaves the arena
+    /// as it was.
     pub fn shown(&mut self, id: ExprId) -> Result<ExprId, ExprFault>
         requires there { id < length self.old.nodes }
         ensures grows { Grows self.old self.new }
@@ -143,7 +147,7 @@ impl Arena {
         Ok(ExprId::at(id))
     }
 
-    /// The expression of a constant. An `Err` means out of memory, and leaves the arena as it was.
+    /// The expression that is just a constant. An `Err` means out of memory, and leaves the arena as it was.
     pub fn constant(&mut self, value: Tri) -> Result<ExprId, ExprFault>
         ensures grows { Grows self.old self.new }
         ensures names { self.new.names ≡ self.old.names }
@@ -155,7 +159,7 @@ impl Arena {
         Ok(ExprId::at(id))
     }
 
-    /// How many names there are, 2^32 at most. No name is there twice.
+    /// How many names the arena holds: 2^32 at most, none of them twice.
     pub fn name_count(&self) -> usize
         ensures count { result ≡ length self.now.names }
         ensures most { length self.now.names ≤ 2 ^ 32 }
@@ -164,7 +168,7 @@ impl Arena {
         self.store.name_count()
     }
 
-    /// How many expressions there are, 2^32 at most: their numbers are those below.
+    /// How many expressions the arena holds: 2^32 at most, with the numbers from 0 on.
     pub fn node_count(&self) -> usize
         ensures count { result ≡ length self.now.nodes }
         ensures most { length self.now.nodes ≤ 2 ^ 32 }
@@ -172,8 +176,8 @@ impl Arena {
         self.store.node_count()
     }
 
-    /// The number of a name, which is appended if it is new, as it mostly is: it is hashed once. No expression is
-    /// made. An `Err` means out of memory, and leaves the arena as it was.
+    /// The number of a name, which is appended if the arena doesn't hold it. Mostly it is new, so it is hashed just once. No
+    /// expression is added. An `Err` means out of memory, and leaves the arena as it was.
     pub fn intern(&mut self, name: &str) -> Result<NameId, ExprFault>
         ensures names { IfOk result (λ id. self.new.names ≡ with_name name.now self.old.names) }
         ensures place { IfOk result (λ id. index_of_name name.now self.new.names ≡ Some id) }
@@ -188,7 +192,7 @@ impl Arena {
         Ok(NameId::at(index))
     }
 
-    /// The word of a name.
+    /// The text of a name, by its number.
     pub fn name(&self, id: NameId) -> &str
         requires there { id < length self.now.names }
         ensures value { result.now ≡ slice_index_or self.now.names id [] }
@@ -196,7 +200,7 @@ impl Arena {
         self.store.name(id.index())
     }
 
-    /// The number of a name that the arena holds, and else `None`. Takes no memory.
+    /// The number of a name; `None` if the arena doesn't hold it. Takes no memory.
     pub fn find(&self, name: &str) -> Option<NameId>
         ensures { result ≡ index_of_name name.now self.now.names }
     {
@@ -204,7 +208,7 @@ impl Arena {
         Some(NameId::at(index))
     }
 
-    /// The operand that an expression is; `None` where it isn't just one.
+    /// The operand that an expression consists of; `None` where the expression isn't just one operand.
     pub fn operand(&self, id: ExprId) -> Option<Operand<'_>>
         requires there { id < length self.now.nodes }
         ensures operand { option_map (operand_of_ref self.now.names) result ≡ operand_alone (node_expr self.now id) }
@@ -220,7 +224,7 @@ impl Arena {
         }
     }
 
-    /// The name that an expression is; `None` where it isn't just one. Takes no memory.
+    /// The number of the name that an expression consists of; `None` where the expression isn't just a name. Takes no memory.
     pub fn bare_name(&self, id: ExprId) -> Option<NameId>
         requires there { id < length self.now.nodes }
         ensures name { option_map (λ i. slice_index_or self.now.names i []) result ≡ name_alone (node_expr self.now id) }
@@ -236,8 +240,8 @@ impl Arena {
         }
     }
 
-    /// Appends the names in an expression, some perhaps more than once. An `Err` means out of memory, and
-    /// leaves the others alone.
+    /// Appends to `found` the numbers of the names in an expression, some perhaps more than once. An `Err` means out of memory,
+    /// and leaves `found` as it was.
     pub fn push_names(&self, id: ExprId, found: &mut Vec<NameId>) -> Result<(), AllocError>
         requires there { id < length self.now.nodes }
         ensures words { OnOk result (map (λ i. slice_index_or self.now.names i []) found.new.items
@@ -255,7 +259,8 @@ impl Arena {
         }
     }
 
-    /// A walk over the expressions held: none was walked yet. An `Err` means out of memory.
+    /// The empty set of visited expressions for `push_new_names`, with room for all expressions of the arena. An `Err` means out
+    /// of memory.
     pub fn walk(&self) -> Result<VisitedSet, AllocError>
         ensures room { IfOk result (λ walk. length walk ≡ length self.now.nodes) }
         ensures none { IfOk result (λ walk. (node : ℕ) → is_visited walk node ≡ false) }
@@ -263,10 +268,9 @@ impl Arena {
         VisitedSet::new(self.store.alloc(), self.node_count())
     }
 
-    /// Appends the names in an expression, some perhaps more than once, and walks it. The expressions in it
-    /// that were walked in this turn are passed over, since their names are there. An `Err` means out of memory: it
-    /// leaves
-    /// the others alone, and none was walked.
+    /// Appends to `found` the numbers of the names in an expression, some perhaps more than once, and marks the expression as
+    /// visited in `walk`. Parts that are visited already are skipped, since their names are in `found`. An `Err` means out of
+    /// memory: it leaves `found` as it was, and empties `walk`.
     pub fn push_new_names(
         &self,
         id: ExprId,
@@ -294,7 +298,7 @@ impl Arena {
         }
     }
 
-    /// The names in an expression, ascending, each once. An `Err` means out of memory.
+    /// The numbers of the names in an expression, ascending, each once. An `Err` means out of memory.
     pub fn names(&self, id: ExprId) -> Result<Vec<NameId>, AllocError>
         requires there { id < length self.now.nodes }
         ensures ascending { IfOk result (λ ids. IsStrictlyIncreasing ids.items) }

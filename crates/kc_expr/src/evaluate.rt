@@ -30,7 +30,7 @@ fn letter_of(value: Tri) -> &'static str
     }
 }
 
-/// Whether a relation holds between operands that compare so.
+/// Whether a relation holds between operands, by how they compare.
 fn relation_holds(op: Relop, order: Ordering) -> bool
     ensures { result ≡ relation_holds op order }
 {
@@ -64,7 +64,7 @@ fn rank_of(value: Tri) -> i128
     }
 }
 
-/// The number of a symbol.
+/// The number of a symbol, by its type, its tristate value and its text; `None` if it has none.
 fn symbol_number(kind: Kind, tri: Tri, text: &str) -> Option<i128>
     ensures { result ≡ number_of_kind kind tri text.now }
 {
@@ -155,7 +155,7 @@ fn leaf_value<L: Lookup>(store: &Store, leaf: Leaf, lookup: &L) -> Tri
     }
 }
 
-/// `y` where the value isn't `n`.
+/// The value with `y` in place of `m`.
 fn shown_value(value: Tri) -> Tri
     ensures { result ≡ y_for_m value }
 {
@@ -182,7 +182,7 @@ fn related_value<L: Lookup>(store: &Store, op: Relop, a: Leaf, b: Leaf, lookup: 
     }
 }
 
-/// The value of the expression of a node. Most are leaves.
+/// The value of the expression that a node represents, by the node's number. Most expressions are just one operand.
 #[inline(always)]
 pub(crate) fn value_of<L: Lookup>(store: &Store, index: usize, lookup: &L) -> Tri
     requires there { index < length store.now.nodes.items }

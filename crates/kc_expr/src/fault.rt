@@ -1,8 +1,8 @@
-//! Faults of tokens and expressions.
+//! Faults of a line's tokens and of expressions.
 use std::alloc::{AllocError, AllocFailed};
 use thiserror::Error;
 
-/// The kind of a fault; its text is its name.
+/// The kind of a fault of a line's tokens or of an expression; it is displayed by its name.
 #[derive(Clone, Copy, Debug, PartialEq, Eq, Error)]
 pub enum ExprKind {
     /// A byte that begins no token.
@@ -17,7 +17,8 @@ pub enum ExprKind {
     /// A symbol under more than `MAX_EXPR_DEPTH` `!` and parentheses.
     #[error("TooDeep")]
     TooDeep,
-    /// A `$` outside a comment.
+    /// A `$` outside comments that the language leaves out: in the strict language any, in that of Linux any but the `$` of a
+    /// pair `\$` in quotes.
     #[error("LeftOut")]
     LeftOut,
     /// Out of memory.
@@ -29,7 +30,7 @@ impl ExprKind {
     ghost use Rattle.std.specs.Prelude.{◌≡◌};
     ghost use Rattle.kc_expr.specs.FaultNames.{expr_kind_name};
 
-    /// The name of the kind, which is its text too.
+    /// The name of the kind of fault, by which it is also displayed.
     pub fn name(self) -> &'static str
         ensures { result.now ≡ expr_kind_name self }
     {
@@ -46,7 +47,7 @@ impl ExprKind {
 
 /// A fault of a line's tokens or of an expression.
 ///
-/// `offset` is the byte of the line at which it is, and 0 if memory ran out.
+/// `offset` is the place of its byte in the line, counted from 0; it is 0 if memory ran out.
 #[derive(Clone, Copy, Debug, PartialEq, Eq, Error)]
 #[error("{kind} at byte {offset}")]
 pub struct ExprFault {

@@ -1,7 +1,7 @@
 //! Numbers of names and expressions.
 use std::marker::Model;
 
-/// The number of a name of an arena.
+/// The number of a name in an arena, counted from 0 in order of first occurrence.
 #[derive(Clone, Copy, Debug, PartialEq, Eq, PartialOrd, Ord)]
 pub struct NameId {
     index: u32,
@@ -26,7 +26,7 @@ impl NameId {
         NameId { index }
     }
 
-    /// The place in the list of names. An arena holds at most 2^32.
+    /// The index in the arena's list of names, which holds at most 2^32.
     pub fn index(self) -> usize
         ensures { result ≡ self }
     {
@@ -34,7 +34,7 @@ impl NameId {
     }
 }
 
-/// The number of an expression of an arena.
+/// The number of an expression in an arena, counted from 0.
 #[derive(Clone, Copy, Debug, PartialEq, Eq)]
 pub struct ExprId {
     number: u32,
@@ -59,7 +59,7 @@ impl ExprId {
         ExprId { number }
     }
 
-    /// The place in the list of expressions. An arena holds at most 2^32.
+    /// The index in the arena's list of expressions, which holds at most 2^32.
     pub fn index(self) -> usize
         ensures { result ≡ self }
     {

@@ -1,10 +1,10 @@
 //! The languages in which the files of a tree may be written.
 
-/// A language of Kconfig files.
+/// The language in which the files of a Kconfig tree are written.
 #[derive(Clone, Copy, Debug, PartialEq, Eq)]
 pub enum Language {
-    /// A `$` outside comments is left out.
+    /// The strict language, in which each `$` outside comments is a fault.
     Strict,
-    /// As Linux reads it: in quotes a pair of a backslash and a `$` represents a `$`.
+    /// The language of Linux: in quotes a pair of a `\` and a `$` represents a `$`, any other `$` outside comments is a fault.
     Linux,
 }

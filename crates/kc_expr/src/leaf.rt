@@ -5,7 +5,7 @@ ghost use Rattle.kc_expr.specs.between.Arena.{Represents};
 ghost use Rattle.kc_expr.specs.Expr.{alone, named, quoted};
 ghost use Rattle.kc_expr.specs.Grammar.{constant_or, letter_value, quoted_text};
 ghost use Rattle.kc_expr.specs.checker.Conditions.{as_condition};
-ghost use Rattle.kc_expr.specs.NamesIn.{operand_names};
+ghost use Rattle.kc_expr.specs.ExpressionNames.{operand_names};
 ghost use Rattle.kc_expr.specs.between.Names.{with_names};
 ghost use Rattle.kc_expr.specs.checker.Nodes.{LeafFits, operand_of};
 ghost use Rattle.kc_expr.specs.checker.ParserResults.{first_operand, is_m, names_of_leaf, names_of_m};
@@ -39,7 +39,7 @@ fn is_constant_m(leaf: Leaf) -> bool
 impl Store {
     ghost use Rattle.kc_expr.specs.checker.Store.{stored_names, exprs_in, IsSound, Extends, HasNamesOf};
 
-    /// The operand that a word is.
+    /// The operand that a word is: a constant or a name, which is appended if it is new.
     #[inline(always)]
     fn word_leaf(&mut self, text: &str) -> Result<Leaf, ExprFault>
         requires sound { IsSound self.old }
@@ -60,7 +60,7 @@ impl Store {
         Ok(Leaf::Name(index))
     }
 
-    /// The operand that a quoted token is.
+    /// The operand that a quoted token is: a constant or a quoted text, which is appended.
     fn quoted_leaf(&mut self, text: &str) -> Result<Leaf, ExprFault>
         requires sound { IsSound self.old }
         ensures sound { IsSound self.new }
@@ -80,7 +80,8 @@ impl Store {
         }
     }
 
-    /// The operand that the token at a place is, if it is one.
+    /// The operand that the token of index `at` is; `None` if it is no word and no quoted text. A new name or a quoted text is
+    /// appended to the store. An `Err` means out of memory.
     pub(crate) fn leaf_at(
         &mut self,
         tokens: &[Token<'_>],
@@ -105,21 +106,22 @@ impl Store {
         }
     }
 
-    /// A node for a word that is a whole expression.
+    /// Appends a node for an expression that is just a word, and returns its number.
     #[inline(always)]
     pub(crate) fn parse_word(&mut self, text: &str, condition: bool) -> Result<u32, ExprFault>
         requires sound { IsSound self.old }
         ensures sound { IsSound self.new }
         ensures extends { Extends self.old self.new }
         ensures names { IfOk result (HasNamesOf self.old self.new) }
-        ensures stands { IfOk result (λ id. Represents (exprs_in self.new) id (as_condition condition (alone (constant_or named text.now)))) }
+        ensures represents { IfOk result (λ id. Represents (exprs_in self.new) id (as_condition condition (alone (constant_or named text.now)))) }
         ensures memory { IfErr result (λ e. e.kind ≡ OutOfMemory) }
     {
         let leaf = self.word_leaf(text)?;
         self.push_alone(leaf, condition)
     }
 
-    /// A node for an operand that is a whole expression. In a condition `m` means `m && MODULES`.
+    /// Appends a node for an expression that is just one operand, and returns its number. In a condition `m` means `m &&
+    /// MODULES`.
     #[inline(always)]
     pub(crate) fn push_alone(&mut self, leaf: Leaf, condition: bool) -> Result<u32, ExprFault>
         requires sound { IsSound self.old }
@@ -127,7 +129,7 @@ impl Store {
         ensures sound { IsSound self.new }
         ensures extends { Extends self.old self.new }
         ensures names { IfOk result (λ _. stored_names self.new ≡ with_names (names_of_m condition leaf) (stored_names self.old)) }
-        ensures stands { IfOk result (λ id. Represents (exprs_in self.new) id (as_condition condition (alone (operand_of (stored_names self.old) self.old.texts.items leaf)))) }
+        ensures represents { IfOk result (λ id. Represents (exprs_in self.new) id (as_condition condition (alone (operand_of (stored_names self.old) self.old.texts.items leaf)))) }
         ensures memory { IfErr result (λ e. e.kind ≡ OutOfMemory) }
     {
         let id = self.push(Node::Alone(leaf))?;

@@ -1,7 +1,7 @@
 //! The names in an expression.
 ghost use Rattle.std.specs.Prelude.{◌≡◌, ◌<◌, ◌++◌, [], All, length, map, take, OnOk, slice_index_or};
 ghost use Rattle.kc_expr.specs.between.Arena.{node_expr};
-ghost use Rattle.kc_expr.specs.NamesIn.{operand_names};
+ghost use Rattle.kc_expr.specs.ExpressionNames.{operand_names};
 ghost use Rattle.kc_expr.specs.checker.Nodes.{LeafFits, operand_of};
 ghost use Rattle.kc_expr.specs.checker.Store.{stored_names, exprs_in, IsSound};
 ghost use Rattle.kc_expr.specs.checker.ExpressionWalks.{HasFoundTo, HasVisited};
@@ -28,7 +28,7 @@ fn push_name(store: &Store, leaf: Leaf, found: &mut Vec<NameId>) -> Result<(), A
     Ok(())
 }
 
-/// Appends the names in the expression of a node.
+/// Appends to `found` the numbers of the names in the expression that a node represents.
 pub(crate) fn push_names(
     store: &Store,
     index: usize,
@@ -63,8 +63,8 @@ pub(crate) fn push_names(
     }
 }
 
-/// Appends the names in the expression of a node, skipping visited nodes, and marks the node as visited. Most are
-/// leaves.
+/// Appends to `found` the numbers of the names in the expression that a node represents, skipping visited nodes, and marks the
+/// node as visited. Most expressions are just one operand.
 #[inline(always)]
 pub(crate) fn push_unvisited(
     store: &Store,

@@ -98,7 +98,8 @@ fn too_deep(tokens: &[Token<'_>], at: usize) -> ExprFault
     }
 }
 
-/// How many tokens an expression at the front has: up to the first word or quoted token after an operand or a `)`.
+/// How many of the tokens the expression at their front has: those up to the first word or quoted token that directly follows an
+/// operand or a `)`, else all.
 pub(crate) fn extent_len(tokens: &[Token<'_>]) -> usize
     ensures count { result ≡ length (extent (lexemes_of tokens.now)) }
     ensures within { result ≤ length tokens.now }
@@ -122,7 +123,7 @@ fn ends_between(left: TokenKind, right: TokenKind) -> bool
 impl Store {
     ghost use Rattle.kc_expr.specs.checker.Store.{IsSound, Extends, HasNamesOf};
 
-    /// An operand, or a relation of two.
+    /// Reads an operand, or a relation of two.
     fn parse_relation(
         &mut self,
         tokens: &[Token<'_>],
@@ -148,7 +149,7 @@ impl Store {
         Ok((self.push(Node::Related(op, left, right))?, at + 3))
     }
 
-    /// A factor, with at most `depth` more `!` and parentheses around a symbol.
+    /// Reads a factor, with at most `depth` more `!` and parentheses around a symbol.
     #[cycle(parser)]
     fn parse_factor(
         &mut self,
@@ -183,7 +184,7 @@ impl Store {
         }
     }
 
-    /// Factors joined by `&&`.
+    /// Reads factors joined by `&&`.
     #[cycle(parser)]
     fn parse_ands(
         &mut self,
@@ -208,7 +209,7 @@ impl Store {
         Ok((left, next))
     }
 
-    /// Conjunctions joined by `||`.
+    /// Reads conjunctions joined by `||`.
     #[cycle(parser)]
     #[inline(never)]
     fn parse_ors(
@@ -234,7 +235,8 @@ impl Store {
         Ok((left, next))
     }
 
-    /// All tokens from a place on. Most expressions are one word alone.
+    /// Reads all tokens from index `at` on as one expression, with at most `depth` `!` and parentheses around a symbol, and
+    /// returns the number of its node. Most expressions are just one word.
     #[inline(always)]
     pub(crate) fn parse_to_end(
         &mut self,

@@ -24,8 +24,8 @@ fn is_quote(byte: u8) -> bool
     byte == b'"' || byte == b'\''
 }
 
-/// The text that a quoted token represents: the bytes between its quotes, with the character alone for
-/// each `\` and character. An `Err` means out of memory.
+/// The text that a quoted token represents: the characters between its quotes, a pair of a `\` and a character being that
+/// character. An `Err` means out of memory.
 pub fn quoted_text(alloc: Global, text: &str) -> Result<String, AllocError>
     ensures { IfOk result (λ t. string_bytes t ≡ quoted_text text.now) }
 {

@@ -12,7 +12,8 @@ use indexmap::IndexSet;
 use kc_value::{Seed, Text};
 use std::alloc::{AllocError, Global};
 
-/// Names by order of first sight, other quoted texts, and nodes whose children have smaller numbers.
+/// The lists that an arena holds: names in order of first occurrence, quoted texts other than the constants, and nodes whose
+/// children have smaller numbers.
 #[derive(Drop)]
 pub(crate) struct Store {
     alloc: Global,
@@ -21,7 +22,7 @@ pub(crate) struct Store {
     nodes: Vec<Node>,
 }
 
-/// How long the lists of a store are.
+/// The lengths of a store's lists at some moment, to which `back_to` cuts them.
 #[derive(Clone, Copy)]
 pub(crate) struct Mark {
     names: usize,
@@ -44,7 +45,7 @@ fn index_of_32_bits(place: usize) -> Result<u32, ExprFault>
 impl Store {
     ghost use Rattle.kc_expr.specs.checker.Store.{stored_names, exprs_in, IsSound, Extends, IsMark};
 
-    /// No names, texts and nodes. Names are hashed by a seed.
+    /// A store without names, texts and nodes. Names are hashed with `seed`.
     pub(crate) fn new(alloc: Global, seed: Seed) -> Store
         ensures names { result.names.keys ≡ [] }
         ensures texts { result.texts.items ≡ [] }
@@ -74,7 +75,7 @@ impl Store {
         self.nodes.len()
     }
 
-    /// The node of a number.
+    /// The node with a given number.
     pub(crate) fn node(&self, index: usize) -> Node
         requires there { index < length self.now.nodes.items }
         ensures value { result ≡ slice_index_or self.now.nodes.items index some_node }
@@ -82,7 +83,7 @@ impl Store {
         self.nodes[index]
     }
 
-    /// The name of a number.
+    /// The text of a name, by its number.
     pub(crate) fn name(&self, index: usize) -> &str
         requires there { index < length (stored_names self.now) }
         ensures value { result.now ≡ slice_index_or (stored_names self.now) index [] }
@@ -90,7 +91,7 @@ impl Store {
         self.names.as_slice()[index].as_str()
     }
 
-    /// The quoted text of a number.
+    /// The text of a quoted text, by its number.
     pub(crate) fn text(&self, index: usize) -> &str
         requires there { index < length self.now.texts.items }
         ensures value { result.now ≡ slice_index_or self.now.texts.items index [] }
@@ -98,7 +99,7 @@ impl Store {
         self.texts[index].as_str()
     }
 
-    /// The number of a name that is held.
+    /// The number of a name; `None` if the store doesn't hold it.
     pub(crate) fn find(&self, name: &str) -> Option<u32>
         requires sound { IsSound self.now }
         ensures value { result ≡ index_of_name name.now (stored_names self.now) }
@@ -109,7 +110,8 @@ impl Store {
         }
     }
 
-    /// The number of a name that is one of the last two: expressions often name what was just defined.
+    /// The number of a name, if it is one of the last two that were appended, else `None`: expressions often name a symbol that
+    /// was just defined.
     pub(crate) fn find_newest(&self, name: &str) -> Option<u32>
         requires sound { IsSound self.now }
         ensures place { IfSome result (λ i. index_of_name name.now (stored_names self.now) ≡ Some i) }
@@ -134,14 +136,14 @@ impl Store {
         held.len() == name.len() && held.as_bytes().last() == name.as_bytes().last() && held == name
     }
 
-    /// Appends a node. An `Err` means out of memory, as 2^32 nodes would be.
+    /// Appends a node, and returns its number. An `Err` means out of memory, or that there are 2^32 nodes already.
     pub(crate) fn push(&mut self, node: Node) -> Result<u32, ExprFault>
         requires sound { IsSound self.old }
         requires fits { NodeFits (length (stored_names self.old)) (length self.old.texts.items) (length self.old.nodes.items) node }
         ensures sound { IsSound self.new }
         ensures extends { Extends self.old self.new }
         ensures names { stored_names self.new ≡ stored_names self.old }
-        ensures stands { IfOk result (λ id. Represents (exprs_in self.new) id (expr_of (stored_names self.old) self.old.texts.items (exprs_in self.old).nodes node)) }
+        ensures represents { IfOk result (λ id. Represents (exprs_in self.new) id (expr_of (stored_names self.old) self.old.texts.items (exprs_in self.old).nodes node)) }
         ensures memory { IfErr result (λ e. e.kind ≡ OutOfMemory) }
         ensures err { OnErr result (exprs_in self.new ≡ exprs_in self.old) }
     {
@@ -150,7 +152,7 @@ impl Store {
         Ok(id)
     }
 
-    /// The number of a name, which is appended if it is new.
+    /// The number of a name, which is appended if the store doesn't hold it. An `Err` means out of memory.
     pub(crate) fn intern(&mut self, name: &str) -> Result<u32, ExprFault>
         requires sound { IsSound self.old }
         ensures sound { IsSound self.new }
@@ -170,7 +172,8 @@ impl Store {
         }
     }
 
-    /// The number of a name, which is appended unless it is there. An `Err` means out of memory, as 2^32 names would be.
+    /// The number of a name, which is appended if the store doesn't hold it. An `Err` means out of memory, or that there are 2^32
+    /// names already.
     pub(crate) fn insert_name(&mut self, name: &str) -> Result<u32, ExprFault>
         requires sound { IsSound self.old }
         ensures sound { IsSound self.new }
@@ -189,7 +192,7 @@ impl Store {
         Ok(index as u32)
     }
 
-    /// Appends a quoted text. An `Err` means out of memory, as 2^32 texts would be.
+    /// Appends a quoted text, and returns its number. An `Err` means out of memory, or that there are 2^32 texts already.
     pub(crate) fn keep(&mut self, text: Text) -> Result<u32, ExprFault>
         requires sound { IsSound self.old }
         ensures sound { IsSound self.new }
@@ -214,7 +217,7 @@ impl Store {
         }
     }
 
-    /// Takes away what came since a mark.
+    /// Cuts the lists back to the lengths of a mark, which removes what was appended since.
     pub(crate) fn back_to(&mut self, mark: Mark)
         ensures names { self.new.names.keys ≡ take mark.names self.old.names.keys }
         ensures texts { self.new.texts.items ≡ take mark.texts self.old.texts.items }

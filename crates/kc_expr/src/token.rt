@@ -11,7 +11,7 @@ use super::language::Language;
 use kc_value::closing_quote;
 use std::alloc::Global;
 
-/// A relation between two operands.
+/// The operator of a relation between two operands.
 #[derive(Clone, Copy, Debug, PartialEq, Eq)]
 pub enum Relop {
     Equal,
@@ -22,7 +22,7 @@ pub enum Relop {
     GreaterEqual,
 }
 
-/// The kinds of tokens.
+/// The kind of a token.
 #[derive(Clone, Copy, Debug, PartialEq, Eq)]
 pub enum TokenKind {
     Word,
@@ -35,7 +35,7 @@ pub enum TokenKind {
     Close,
 }
 
-/// A token, its first byte in its line and the byte after it.
+/// A token of a line: its kind, the places in the line of its first byte and of the byte after it, counted from 0, and its text.
 #[derive(Clone, Copy)]
 pub struct Token<'a> {
     pub kind: TokenKind,
@@ -44,7 +44,8 @@ pub struct Token<'a> {
     pub text: &'a str,
 }
 
-/// The token or white space at the front of bytes.
+/// What bytes begin with: white space, a comment, a token with its length in bytes, or a fault with the place of its byte,
+/// counted from the first.
 #[derive(Clone, Copy)]
 pub(crate) enum NextToken {
     White,
@@ -84,7 +85,7 @@ fn first_dollar(text: &[u8]) -> Option<usize>
     text.iter().position(|b| *b == b'$')
 }
 
-/// The first `$` that stands in no pair of a backslash and a character.
+/// The place of the first `$` that isn't in a pair of a backslash and a character.
 fn bare_dollar(text: &[u8]) -> Option<usize>
     ensures place { result ≡ bare_dollar false text.now }
     ensures within { IfSome result (λ k. k < length text.now) }
@@ -102,7 +103,7 @@ fn bare_dollar(text: &[u8]) -> Option<usize>
     None
 }
 
-/// The first `$` of a quoted text that is left out.
+/// The place of the first `$` of a quoted text that the language leaves out.
 fn dollar_left_out(language: Language, text: &[u8]) -> Option<usize>
     ensures place { result ≡ dollar_left_out language text.now }
     ensures within { IfSome result (λ k. k < length text.now) }
@@ -199,7 +200,8 @@ pub fn tokens(alloc: Global, language: Language, line: &str) -> Result<Vec<Token
     Ok(found)
 }
 
-/// Appends the tokens of a line, up to a comment. An `Err` leaves the list as it was.
+/// Appends to `found` the tokens of a line, up to a comment. An `Err` is the line's first fault or out of memory, and leaves
+/// `found` as it was.
 pub fn push_tokens<'a>(
     language: Language,
     line: &'a str,

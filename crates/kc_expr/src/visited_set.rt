@@ -5,7 +5,7 @@ ghost use Rattle.kc_expr.specs.between.Visits.{is_visited};
 use std::alloc::{AllocError, Global};
 use std::marker::Model;
 
-/// The expressions of an arena that were visited in this turn. Contracts see, for each expression, whether it was.
+/// The set of the expressions of an arena that were visited since the last `begin`. Contracts see a flag for each expression.
 #[derive(Drop)]
 pub struct VisitedSet {
     stamps: Vec<u32>,
@@ -24,7 +24,7 @@ impl Model for VisitedSet {
 }
 
 impl VisitedSet {
-    /// The empty set, for this count of expressions.
+    /// The empty set for an arena of `count` expressions. An `Err` means out of memory.
     pub(crate) fn new(alloc: Global, count: usize) -> Result<VisitedSet, AllocError>
         ensures room { IfOk result (λ walk. length walk ≡ count) }
         ensures none { IfOk result (λ walk. (node : ℕ) → is_visited walk node ≡ false) }
@@ -35,7 +35,7 @@ impl VisitedSet {
         })
     }
 
-    /// Begins a turn, which empties the set.
+    /// Empties the set. Mostly this only changes the number that marks an expression as visited.
     pub fn begin(&mut self)
         ensures room { length self.new ≡ length self.old }
         ensures none { (node : ℕ) → is_visited self.new node ≡ false }
@@ -47,7 +47,7 @@ impl VisitedSet {
         self.turn += 1;
     }
 
-    /// Whether an expression was visited in this turn.
+    /// Whether an expression is in the set, by its number.
     pub(crate) fn contains(&self, index: usize) -> bool
         requires there { index < length self.now }
         ensures value { result ≡ is_visited self.now index }
@@ -55,7 +55,7 @@ impl VisitedSet {
         self.stamps[index] == self.turn
     }
 
-    /// Marks an expression as visited in this turn.
+    /// Adds an expression to the set, by its number.
     pub(crate) fn mark(&mut self, index: usize)
         requires there { index < length self.old }
         ensures marked { self.new ≡ slice_set self.old index true }

@@ -1,34 +1,34 @@
--- Lines that go on in the next one.
+-- Physical lines that a backslash at the end joins with the next line.
 use Rattle.std.proofs.Common.{◌≡◌, ℕ, suc, zero, ◌+◌, ◌≤◌, ◌<◌, Bool, true, false, List, [], ◌∷◌, ◌++◌, length, drop, take, refl, ap, sym, ◌∙◌, arith, cond, ◌-◌, ◌==◌, length-drop, drop-drop, append_assoc}
 use Rattle.std.proofs.lemmas.List.{length-map}
 use Rattle.std.proofs.lemmas.List.{length-take-le}
 use Rattle.std.proofs.Math.Seq.{drop-length}
 use Rattle.std.specs.Prelude.{slice_range}
-use Rattle.kc_tree_model.specs.LogicalLines.{PhysicalLine as Seen, split_at_newlines, with_first_byte, physical_lines, without_last, is_continued, joined_bytes, continuation_count, logical_lines_from, begins_help, help_line_count}
+use Rattle.kc_tree_model.specs.LogicalLines.{PhysicalLine as LineView, split_at_newlines, with_first_byte, physical_lines, without_last, is_continued, joined_bytes, continuation_count, logical_lines_from, begins_help, help_line_count}
 use Rattle.kc_lines.specs.declared.lines.PhysicalLine.{PhysicalLine}
 use Rattle.kc_lines.specs.between.LinePlaces.{line_of, whole_line, IsLineAt, IsLogicalAt, AreJoined}
 use Rattle.kc_lines.proofs.CutSteps.{take_less}
 
-joined_alone : (l : Seen) (ls : List Seen) → is_continued l ≡ false → joined_bytes (l ∷ ls) ≡ l.text
+joined_alone : (l : LineView) (ls : List LineView) → is_continued l ≡ false → joined_bytes (l ∷ ls) ≡ l.text
 joined_alone l ls e = rw e refl
 
-joined_more : (l : Seen) (ls : List Seen) → is_continued l ≡ true → joined_bytes (l ∷ ls) ≡ without_last l.text ++ joined_bytes ls
+joined_more : (l : LineView) (ls : List LineView) → is_continued l ≡ true → joined_bytes (l ∷ ls) ≡ without_last l.text ++ joined_bytes ls
 joined_more l ls e = rw e refl
 
-lines_alone : (l : Seen) (ls : List Seen) → is_continued l ≡ false → continuation_count (l ∷ ls) ≡ 0
+lines_alone : (l : LineView) (ls : List LineView) → is_continued l ≡ false → continuation_count (l ∷ ls) ≡ 0
 lines_alone l [] e = refl
 lines_alone l (m ∷ ls) e = rw e refl
 
-lines_more : (l : Seen) (ls : List Seen) → is_continued l ≡ true → 0 < length ls → continuation_count (l ∷ ls) ≡ suc (continuation_count ls)
+lines_more : (l : LineView) (ls : List LineView) → is_continued l ≡ true → 0 < length ls → continuation_count (l ∷ ls) ≡ suc (continuation_count ls)
 lines_more l [] e h = absurd (omega arith)
 lines_more l (m ∷ ls) e h = rw e refl
 
--- bytes that are there have a line
-byte_before_some : (b : ℕ) (ls : List Seen) → 0 < length (with_first_byte b ls)
+-- a list of one byte or more has a line
+byte_before_some : (b : ℕ) (ls : List LineView) → 0 < length (with_first_byte b ls)
 byte_before_some b [] = omega arith
 byte_before_some b (l ∷ ls) = omega arith
 
-cut_some_by : (t : Bool) (b : ℕ) (ls : List Seen) → 0 < length (cond t (record { text = []; ended = true } ∷ ls) (with_first_byte b ls))
+cut_some_by : (t : Bool) (b : ℕ) (ls : List LineView) → 0 < length (cond t (record { text = []; ended = true } ∷ ls) (with_first_byte b ls))
 cut_some_by true b ls = omega arith
 cut_some_by false b ls = byte_before_some b ls
 
@@ -44,7 +44,7 @@ without_last_is bytes begin end h s =
     (omega (arith, length-drop begin bytes)) in
     rw n (take_less (end - begin - 1) (end - begin) (drop begin bytes) (omega arith) ∙ ap (λ k. take k (drop begin bytes)) (omega arith))
 
-pub drop_one_more : (n : ℕ) (l : Seen) (ls all : List Seen) → l ∷ ls ≡ drop n all → ls ≡ drop (n + 1) all
+pub drop_one_more : (n : ℕ) (l : LineView) (ls all : List LineView) → l ∷ ls ≡ drop n all → ls ≡ drop (n + 1) all
 drop_one_more n l ls all e = ap (drop 1) e ∙ drop-drop 1 n all
 
 module _ (bytes : List ℕ) (at begin : ℕ) (text : List ℕ) (lines : ℕ) (p : PhysicalLine) (so_far : AreJoined bytes at begin text lines)
@@ -85,7 +85,7 @@ module _ (bytes : List ℕ) (at begin : ℕ) (text : List ℕ) (lines : ℕ) (p 
         few = omega arith;
       }
 
--- a line that doesn't go on is a logical line
+-- a physical line without a backslash at its end is a logical line by itself
 pub line_alone : (bytes : List ℕ) (at : ℕ) (p : PhysicalLine) → IsLineAt bytes at p → is_continued (line_of bytes at p) ≡ false
     → IsLogicalAt bytes at (slice_range bytes at p.end) p.next 1
 line_alone bytes at p l e = record {
@@ -98,15 +98,15 @@ line_alone bytes at p l e = record {
   few = omega arith;
 }
 
--- lines that belong to the line before are passed over
-logical_after : (behind help n : ℕ) (ls : List Seen) → logical_lines_from behind help n ls ≡ logical_lines_from 0 help (n + behind) (drop behind ls)
+-- joined physical lines after the first one of a logical line are passed over
+logical_after : (joined help n : ℕ) (ls : List LineView) → logical_lines_from joined help n ls ≡ logical_lines_from 0 help (n + joined) (drop joined ls)
 logical_after zero help n [] = refl
 logical_after zero help n (l ∷ ls) = ap (λ k. logical_lines_from 0 help k (l ∷ ls)) (omega arith)
-logical_after (suc behind) zero n [] = refl
-logical_after (suc behind) (suc help) n [] = refl
-logical_after (suc behind) help n (l ∷ ls) = logical_after behind help (n + 1) ls ∙ ap (λ k. logical_lines_from 0 help k (drop behind ls)) (omega arith)
+logical_after (suc joined) zero n [] = refl
+logical_after (suc joined) (suc help) n [] = refl
+logical_after (suc joined) help n (l ∷ ls) = logical_after joined help (n + 1) ls ∙ ap (λ k. logical_lines_from 0 help k (drop joined ls)) (omega arith)
 
-logical_front : (n : ℕ) (ls : List Seen) → 0 < length ls
+logical_front : (n : ℕ) (ls : List LineView) → 0 < length ls
     → logical_lines_from 0 0 n ls ≡ record { number = n; text = joined_bytes ls; help = false } ∷ logical_lines_from 0
     (cond (begins_help (joined_bytes ls)) (help_line_count (drop (suc (continuation_count ls)) ls)) 0) (n + suc (continuation_count ls))
     (drop (suc (continuation_count ls)) ls)
@@ -117,7 +117,7 @@ logical_front n (l ∷ ls) h =
     (n + 1) ls ∙ ap (λ k. logical_lines_from 0 (cond (begins_help (joined_bytes (l ∷ ls))) (help_line_count (drop (continuation_count (l ∷ ls)) ls)) 0) k
     (drop (continuation_count (l ∷ ls)) ls)) (omega arith))
 
--- one step of the reading: the logical line at the front, and the lines after it
+-- the logical lines from `at` on are the one that begins at `at`, and those after it
 pub logical_step : (bytes : List ℕ) (at n : ℕ) (text : List ℕ) (next lines : ℕ) → at < length bytes → IsLogicalAt bytes at text next lines
     → logical_lines_from 0 0 n (physical_lines (drop at bytes)) ≡ record { number = n; text = text; help = false } ∷ logical_lines_from 0
     (cond (begins_help text) (help_line_count (physical_lines (drop next bytes))) 0) (n + lines) (physical_lines (drop next bytes))
@@ -127,7 +127,7 @@ logical_step bytes at n text next lines h l =
     let r = l.rest in
     rw (r, t, k) (logical_front n (physical_lines (drop at bytes)) (lines_some (drop at bytes) (omega (arith, length-drop at bytes))))
 
--- one step of the reading in a help text
+-- within a help text, the lines from `at` on are the physical line that begins at `at`, and those after it
 pub help_step : (bytes : List ℕ) (at n help : ℕ) (p : PhysicalLine) → IsLineAt bytes at p
     → logical_lines_from 0 (suc help) n (physical_lines (drop at bytes)) ≡ record { number = n; text = slice_range bytes at p.end; help = true }
     ∷ logical_lines_from 0 help (n + 1) (physical_lines (drop p.next bytes))

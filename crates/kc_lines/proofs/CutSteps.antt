@@ -1,4 +1,4 @@
--- Lines cut off the front.
+-- Lines at the front of a list of bytes, up to the first newline or to the end.
 use Rattle.std.proofs.Common.{◌≡◌, ℕ, suc, zero, ◌+◌, ◌≤◌, ◌<◌, Bool, true, false, List, [], ◌∷◌, length, drop, take, refl, ap, sym, ◌∙◌, arith, get_or, ◌-◌, ◌==◌, length-drop, map, drop-drop}
 use Rattle.std.proofs.lemmas.List.{get_or-take, length-take-le}
 use Rattle.std.proofs.lemmas.Bool.Decides.{nat_tests}
@@ -7,7 +7,7 @@ use Rattle.bstr.specs.Find.{Nowhere, Passes, is_byte}
 use Rattle.kc_tree_model.specs.LogicalLines.{split_at_newlines, with_first_byte, physical_lines, without_return, without_last, last_byte}
 use Rattle.kc_lines.specs.between.LinePlaces.{IsLineAt}
 
--- a newline at a place ends the line at the front
+-- the bytes up to the first newline are the first line
 pub cut_at_newline : (n : ℕ) (bs : List ℕ) → n < length bs → ((k : ℕ) → k < n → (get_or bs k 0 == 10) ≡ false) → (get_or bs n 0 == 10) ≡ true
     → split_at_newlines bs ≡ record { text = take n bs; ended = true } ∷ split_at_newlines (drop (suc n) bs)
 cut_at_newline n [] h before e = absurd (omega arith)
@@ -17,7 +17,7 @@ cut_at_newline (suc n) (b ∷ bs) h before e =
     let rest = cut_at_newline n bs (omega arith) (λ k l. before (suc k) (omega arith)) e in
     rw first (ap (with_first_byte b) rest)
 
--- without a newline all that is left is one line
+-- bytes without a newline are one line, which no newline ends
 pub cut_at_end : (bs : List ℕ) → 0 < length bs → ((k : ℕ) → k < length bs → (get_or bs k 0 == 10) ≡ false)
     → split_at_newlines bs ≡ record { text = bs; ended = false } ∷ []
 cut_at_end [] h none = absurd (omega arith)
@@ -37,7 +37,7 @@ take_less (suc m) zero xs h = absurd (omega arith)
 take_less (suc m) (suc n) [] h = refl
 take_less (suc m) (suc n) (x ∷ xs) h = ap (λ t. x ∷ t) (take_less m n xs (omega arith))
 
--- the last line, which no newline ends
+-- without a newline from `at` on, the rest of the file is its last line
 pub line_at_end : (bytes : List ℕ) (at : ℕ) → at < length bytes → Nowhere (Passes (is_byte 10) (drop at bytes)) 0 (length (drop at bytes))
     → IsLineAt bytes at (record { end = length bytes; next = length bytes; ended = false })
 line_at_end bytes at h none =
@@ -87,7 +87,7 @@ module _ (bytes : List ℕ) (at n : ℕ) (h : n < length (drop at bytes)) (befor
       cut_at_newline n (drop at bytes) h (λ k l. is_false (get_or (drop at bytes) k 0 == 10) (before k (omega arith) l)) here
       ∙ ap (λ t. record { text = take n (drop at bytes); ended = true } ∷ split_at_newlines t) behind
 
-  -- with its carriage return
+  -- the first line at `at`, with a carriage return before its newline
   at_newline_whole : split_at_newlines (drop at bytes) ≡ record { text = take (at + n + 1 - 1 - at) (drop at bytes); ended = true } ∷ split_at_newlines
       (drop (at + n + 1) bytes)
   at_newline_whole = at_newline ∙ ap (λ k. record { text = take k (drop at bytes); ended = true } ∷ split_at_newlines (drop (at + n + 1) bytes))

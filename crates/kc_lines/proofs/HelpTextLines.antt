@@ -3,15 +3,15 @@ use Rattle.std.proofs.Common.{◌≡◌, ℕ, suc, ◌+◌, ◌≤◌, Bool, tru
 use Rattle.std.specs.Prelude.{take_while, ◌==◌}
 use Rattle.std.proofs.Math.Seq.{drop-length}
 use Rattle.std.proofs.lemmas.List.Sums.{take_while-cons}
-use Rattle.kc_tree_model.specs.LogicalLines.{PhysicalLine as Seen, split_at_newlines, physical_lines, first_indentation}
+use Rattle.kc_tree_model.specs.LogicalLines.{PhysicalLine as LineView, split_at_newlines, physical_lines, first_indentation}
 use Rattle.kc_lines.specs.declared.lines.PhysicalLine.{PhysicalLine}
 use Rattle.kc_lines.specs.between.LinePlaces.{line_of, whole_line, IsLineAt, is_of_help, AreIndented, AreIndentedSoFar, IsHelpAt}
 use Rattle.kc_lines.proofs.ContinuedLines.{drop_one_more}
 
-taken : (p : Seen → Bool) (l : Seen) (ls : List Seen) → p l ≡ true → length (take_while p (l ∷ ls)) ≡ suc (length (take_while p ls))
+taken : (p : LineView → Bool) (l : LineView) (ls : List LineView) → p l ≡ true → length (take_while p (l ∷ ls)) ≡ suc (length (take_while p ls))
 taken p l ls e = ap length (take_while-cons p l ls) ∙ ap (λ b. length (cond b (l ∷ take_while p ls) [])) e
 
-not_taken : (p : Seen → Bool) (l : Seen) (ls : List Seen) → p l ≡ false → length (take_while p (l ∷ ls)) ≡ 0
+not_taken : (p : LineView → Bool) (l : LineView) (ls : List LineView) → p l ≡ false → length (take_while p (l ∷ ls)) ≡ 0
 not_taken p l ls e = ap length (take_while-cons p l ls) ∙ ap (λ b. length (cond b (l ∷ take_while p ls) [])) e
 
 module _ (columns : ℕ) (bytes : List ℕ) (at begin lines : ℕ) (so_far : AreIndentedSoFar columns bytes at begin lines) where

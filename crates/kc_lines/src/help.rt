@@ -13,14 +13,14 @@ fn is_white(byte: u8) -> bool
     matches!(byte, 0x09 | 0x0B | 0x0C | 0x0D | 0x20)
 }
 
-/// Whether a line is of white bytes alone.
+/// Whether the text of a line has white bytes alone, or none.
 fn is_white_line(text: &[u8]) -> bool
     ensures { result ≡ list_all is_white_byte text.now }
 {
     text.iter().all(|b| is_white(*b))
 }
 
-/// The column to which spaces and tabs lead.
+/// The indentation of a line: the column, counted from 0, of its first byte that is neither a space nor a tab.
 fn columns_of(text: &[u8]) -> usize
     requires small { length text.now < 2 ^ 60 }
     ensures value { result ≡ column_from 0 text.now }
@@ -36,7 +36,8 @@ fn columns_of(text: &[u8]) -> usize
     column
 }
 
-/// The indentation of the first line from a place on that isn't blank.
+/// The indentation of the first line that isn't blank, from the place `at` in a file on; 0 if there is none. A tab goes to the
+/// next multiple of 8.
 pub fn first_columns(bytes: &[u8], at: usize) -> usize
     requires within { at ≤ length bytes.now }
     requires small { length bytes.now < 2 ^ 60 }
@@ -54,7 +55,7 @@ pub fn first_columns(bytes: &[u8], at: usize) -> usize
     0
 }
 
-/// Whether a line of this text belongs to a help text that is indented so far.
+/// Whether a line with this text is part of a help text indented by `columns`: it is indented at least as far, or blank.
 pub fn is_of_help(text: &[u8], columns: usize) -> bool
     requires small { length text.now < 2 ^ 60 }
     ensures value { result ≡ (list_all is_white_byte text.now || nat_le columns (column_from 0 text.now)) }
@@ -62,14 +63,14 @@ pub fn is_of_help(text: &[u8], columns: usize) -> bool
     columns_of(text) >= columns || is_white_line(text)
 }
 
-/// A help text: where the line after it begins, and how many lines it has.
+/// The extent of a help text in a file: the place where the line after it begins, and how many physical lines it has.
 #[derive(Clone, Copy)]
 pub struct HelpText {
     pub next: usize,
     pub lines: usize,
 }
 
-/// The lines from a place on that are indented so far.
+/// The lines from the place `at` on, up to the first that is neither blank nor indented by `columns` or more.
 fn indented_at(bytes: &[u8], at: usize, columns: usize) -> HelpText
     requires within { at ≤ length bytes.now }
     requires small { length bytes.now < 2 ^ 60 }
@@ -88,7 +89,8 @@ fn indented_at(bytes: &[u8], at: usize, columns: usize) -> HelpText
     HelpText { next: begin, lines }
 }
 
-/// The help text at a place, which may be empty.
+/// The extent of the help text that begins at the place `at` in a file. It has no lines if the first line that isn't blank isn't
+/// indented, or if there is none.
 pub fn help_at(bytes: &[u8], at: usize) -> HelpText
     requires within { at ≤ length bytes.now }
     requires small { length bytes.now < 2 ^ 60 }

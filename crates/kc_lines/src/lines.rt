@@ -8,7 +8,8 @@ use bstr::ByteSlice;
 use std::alloc::{AllocError, Global};
 use std::borrow::CowSlice;
 
-/// A physical line: where its text ends, where the next one begins, and whether a newline ends it.
+/// A physical line of a file, by places in the file: where its text ends (without a newline, and a carriage return before it),
+/// where the next line begins, and whether a newline ends the line.
 #[derive(Clone, Copy)]
 pub struct PhysicalLine {
     pub end: usize,
@@ -16,7 +17,7 @@ pub struct PhysicalLine {
     pub ended: bool,
 }
 
-/// The line at a place.
+/// The physical line that begins at the place `at` in a file.
 pub fn physical_at(bytes: &[u8], at: usize) -> PhysicalLine
     requires there { at < length bytes.now }
     ensures line { IsLineAt bytes.now at result }
@@ -42,7 +43,7 @@ pub fn physical_at(bytes: &[u8], at: usize) -> PhysicalLine
     }
 }
 
-/// Whether the line at a place goes on in the next one.
+/// Whether a backslash at the end of the line that begins at `at` joins it with the next line.
 fn is_joined(bytes: &[u8], at: usize, line: PhysicalLine) -> bool
     requires start { at ≤ line.end }
     requires within { line.end ≤ length bytes.now }
@@ -51,7 +52,8 @@ fn is_joined(bytes: &[u8], at: usize, line: PhysicalLine) -> bool
     line.ended && line.end > at && bytes[line.end - 1] == b'\\'
 }
 
-/// A logical line: its bytes, where the next one begins, and how many lines it takes.
+/// A logical line of a file (physical lines joined by backslashes at their ends): its bytes, the place in the file where the next
+/// line begins, and how many physical lines it takes.
 #[derive(Drop)]
 pub struct LogicalLine<'a> {
     pub text: CowSlice<'a, u8>,
@@ -59,7 +61,7 @@ pub struct LogicalLine<'a> {
     pub lines: usize,
 }
 
-/// The logical line at a place. An `Err` means out of memory.
+/// The logical line that begins at the place `at` in a file. An `Err` means out of memory.
 pub fn logical_at(alloc: Global, bytes: &[u8], at: usize) -> Result<LogicalLine<'_>, AllocError>
     requires there { at < length bytes.now }
     ensures line { IfOk result (λ l. IsLogicalAt bytes.now at (cow_slice_items l.text) l.next l.lines) }
@@ -80,7 +82,7 @@ pub fn logical_at(alloc: Global, bytes: &[u8], at: usize) -> Result<LogicalLine<
     })
 }
 
-/// The bytes of the logical line at a place, where the next one begins, and how many lines it takes.
+/// The bytes of the logical line that begins at `at`, where the next line begins, and how many physical lines it takes.
 fn joined_at(alloc: Global, bytes: &[u8], at: usize) -> Result<(Vec<u8>, usize, usize), AllocError>
     requires there { at < length bytes.now }
     ensures line { IfOk result (λ r. IsLogicalAt bytes.now at r.0.items r.1 r.2) }

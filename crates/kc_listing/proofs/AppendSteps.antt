@@ -1,4 +1,4 @@
--- A group appended to those read before.
+-- A statement appended to those that were read before.
 use Rattle.std.proofs.Common.{◌≡◌, ◌↔◌, ℕ, suc, ◌+◌, ◌-◌, ◌<◌, ◌≤◌, Bool, true, false, List, [], ◌∷◌, ◌++◌, length, drop, take, map, Option, Some, None, Result, Ok, Err, OnOk, refl, ap, sym, subst, ◌∙◌, arith, reverse, cond, ◌||◌, length-append, length-drop}
 use Rattle.std.specs.Prelude.{slice_get, slice_range, filter, filter_map, All, option_to_list, IsSome, is_some, option_map, bytes_eq}
 use Rattle.std.proofs.lemmas.List.{reverse-append, append-nil, drop-append-le, take_all, map-append}
@@ -14,7 +14,7 @@ use Rattle.kc_tree_model.specs.TreeReading.{with_group, with_attribute}
 use Rattle.kc_tree_model.proofs.NestedTrees.OpenBlocks.{pushed, popped, open_inside}
 use Rattle.kc_listing.specs.declared.listing.Group.{Group as CodeGroup}
 use Rattle.kc_listing.specs.declared.listing.Line.{Line as CodeLine}
-use Rattle.kc_listing.specs.declared.listing.GroupHead.{GroupHead as CodeWhat}
+use Rattle.kc_listing.specs.declared.listing.GroupHead.{GroupHead as CodeHead}
 use Rattle.kc_listing.specs.declared.listing.GroupHead.TheVariants as codes
 use Rattle.kc_expr.proofs.Places.{place_of_more, place_of_none}
 use Rattle.kc_expr.specs.Lookup.{index_of_name}
@@ -45,7 +45,7 @@ reverse_push xs x = reverse-append xs (x ∷ [])
 pub grows_same : (e : Exprs) → Grows e e
 grows_same e = record { names = take-length e.names; nodes = take-length e.nodes }
 
--- more expressions and texts
+-- a listing represents the same statements after more expressions and texts were appended to its arena and its texts
 pub lists_grown : (old new : Exprs) (symbols numbers : List ℕ) (texts ts texts2 : List (List ℕ)) (lines : List CodeLine) (groups : List CodeGroup)
     (read : List Group)
     → Grows old new → texts2 ≡ texts ++ ts
@@ -57,7 +57,7 @@ lists_grown old new symbols numbers texts ts texts2 lines groups read grows e h 
       (sym (append-nil lines)) h.held (reverse groups) read (length lines) (omega arith) h.groups_are;
 }
 
--- more expressions, and other tables of the same names
+-- a listing represents the same statements after its arena has grown, with any tables of symbols that have the same names
 pub lists_names : (old new : Exprs) (symbols numbers symbols2 numbers2 : List ℕ) (texts : List (List ℕ)) (lines : List CodeLine) (groups : List CodeGroup)
     (read : List Group)
     → Grows old new → HasNames new symbols2 numbers2 (names_defined read)
@@ -66,9 +66,10 @@ lists_names old new symbols numbers symbols2 numbers2 texts lines groups read gr
     let k = lists_grown old new symbols numbers texts [] texts lines groups read grows (sym (append-nil texts)) h in
     record { names = has; held = k.held; groups_are = k.groups_are }
 
--- a group after the others, perhaps with a new name
+-- a listing with one more group at its end, which may define a new symbol, represents the statements with the group's
+-- statement appended
 pub lists_pushed : (old new : Exprs) (symbols numbers symbols2 numbers2 : List ℕ) (ns texts : List (List ℕ)) (lines : List CodeLine)
-    (groups groups2 : List CodeGroup) (read : List Group) (file line n : ℕ) (what : CodeWhat) (m : GroupHead)
+    (groups groups2 : List CodeGroup) (read : List Group) (file line n : ℕ) (what : CodeHead) (m : GroupHead)
     → Grows old new
     → n ≡ length lines → groups2 ≡ groups ++ record { file = file; line = line; head = what; attributes = n } ∷ []
     → RepresentsLists old symbols numbers texts lines groups read → names_defined (with_group (at_line file line) m read) ≡ names_defined read ++ ns
@@ -90,7 +91,7 @@ lists_pushed old new symbols numbers symbols2 numbers2 ns texts lines groups gro
           (own, (let k : length lines ≤ length lines = omega arith in k), kept);
     }
 
--- what closes a block defines and opens nothing
+-- the end of a block or of a sourced file defines no symbol
 pub closing_name : (m : GroupHead) → side_of m ≡ closing → from_head name_of_head m ≡ None
 closing_name (of_head (ends b)) e = refl
 closing_name (of_head x) e = cc
@@ -106,14 +107,15 @@ closing_path (of_head (ends b)) e = refl
 closing_path (of_head x) e = cc
 closing_path file_end e = refl
 
--- names stay where none is defined
+-- a group that defines no symbol leaves the names of the defined symbols as they are
 pub same_names : (file line : ℕ) (m : GroupHead) (read : List Group) → from_head name_of_head m ≡ None
     → names_defined (with_group (at_line file line) m read) ≡ names_defined read ++ []
 same_names file line m read e = rw e (sym (append-nil (names_defined read)))
 
--- a group that defines nothing
+-- a listing with one more group at its end, which defines no symbol, represents the statements with the group's
+-- statement appended
 pub lists_put_same : (e : Exprs) (symbols numbers : List ℕ) (texts : List (List ℕ)) (lines : List CodeLine) (groups groups2 : List CodeGroup)
-    (read : List Group) (file line n : ℕ) (what : CodeWhat) (m : GroupHead)
+    (read : List Group) (file line n : ℕ) (what : CodeHead) (m : GroupHead)
     → n ≡ length lines → groups2 ≡ groups ++ record { file = file; line = line; head = what; attributes = n } ∷ []
     → RepresentsLists e symbols numbers texts lines groups read → from_head name_of_head m ≡ None
     → RepresentsHead e (names_defined read) texts what m
@@ -321,7 +323,8 @@ counted_grown r texts ts texts2 opened choices files bytes read e h = record {
 
 module _ (r : FileSource) (texts : List (List ℕ)) (old : List OpenBlock) (choices files bytes : ℕ) (read : List Group) (file line : ℕ) (m : GroupHead)
     (h : IsCounted r texts old choices files bytes read) where
-  -- the end of a block
+  -- the reader's stack and counts are right (`IsCounted`) after the end of a block or file, if the innermost one was
+  -- taken off the stack
   pub counted_end : (new : List OpenBlock) (o : Option OpenBlock) → side_of m ≡ closing → old ≡ new ++ option_to_list o → IsSome o ↔ (0 < length old)
       → IsCounted r texts new choices files bytes (with_group (at_line file line) m read)
   counted_end new o e p v =
@@ -335,7 +338,7 @@ module _ (r : FileSource) (texts : List (List ℕ)) (old : List OpenBlock) (choi
         bytes_are = rw q h.bytes_are;
       }
 
-  -- a statement that opens and closes nothing
+  -- the reader's stack and counts stay right (`IsCounted`) after a statement that opens and closes nothing
   pub counted_inside : side_of m ≡ inside → IsCounted r texts old choices files bytes (with_group (at_line file line) m read)
   counted_inside e =
       let b = inside_block m e in
@@ -353,7 +356,7 @@ module _ (r : FileSource) (texts : List (List ℕ)) (old : List OpenBlock) (choi
   stack_push o new e p s =
       rw (pushed (record { number = length read; at = at_line file line; head = m; attributes = [] }) read e, p, reverse_push old o) (s, h.stack)
 
-  -- a menu or an `if`
+  -- the reader's stack and counts are right (`IsCounted`) after a menu or an `if`, if it was pushed onto the stack
   pub counted_block : (b : Block) (new : List OpenBlock) → new ≡ old ++ opens.Block b line ∷ [] → from_head block_of_head m ≡ Some b
       → same_block blocks.Choice b ≡ false
       → IsCounted r texts new choices files bytes (with_group (at_line file line) m read)
@@ -366,7 +369,7 @@ module _ (r : FileSource) (texts : List (List ℕ)) (old : List OpenBlock) (choi
         bytes_are = rw q h.bytes_are;
       }
 
-  -- a choice
+  -- the reader's stack and counts are right (`IsCounted`) after a choice, if it was pushed onto the stack and counted
   pub counted_choice : (new : List OpenBlock) (choices2 : ℕ) → m ≡ of_head choice → new ≡ old ++ opens.Block blocks.Choice line ∷ [] → choices2 ≡ choices + 1
       → IsCounted r texts new choices2 files bytes (with_group (at_line file line) m read)
   counted_choice new choices2 e p n =
@@ -380,7 +383,8 @@ module _ (r : FileSource) (texts : List (List ℕ)) (old : List OpenBlock) (choi
         bytes_are = rw q h.bytes_are;
       }
 
-  -- a sourced file
+  -- the reader's stack and counts are right (`IsCounted`) after a `source`, if its file was pushed onto the stack and
+  -- counted with its bytes
   pub counted_source : (t : ℕ) (path : List ℕ) (new : List OpenBlock) (files2 bytes2 : ℕ) → m ≡ of_head (source path) → slice_get texts t ≡ Some path
       → new ≡ old ++ opens.Source t ∷ [] → files2 ≡ files + 1 → bytes2 ≡ bytes + size_in r path
       → IsCounted r texts new choices files2 bytes2 (with_group (at_line file line) m read)

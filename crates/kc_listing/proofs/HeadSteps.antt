@@ -16,7 +16,7 @@ use Rattle.kc_listing.specs.checker.Steps.{limits, AppendsHead}
 use Rattle.kc_listing.specs.checker.Symbols.{is_full}
 use Rattle.kc_listing.proofs.AppendSteps.{place_among}
 
--- the group that is appended where no limit is passed
+-- a call that appends a statement within the limits, or runs out of memory, has a result as `AppendsHead` requires
 pub head_pushed : (r : FileSource) (file line : ℕ) (before : List Group) (h : Head) (new : ReaderState) (result : Result (Unit {0}) TreeKind)
     → limits before (head h) ≡ None
     → OnOk result (Describes r new (with_group (at_line file line) (of_head h) before)) → IfErr result (λ k. k ≡ OutOfMemory)

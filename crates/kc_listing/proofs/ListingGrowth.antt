@@ -9,13 +9,13 @@ use Rattle.kc_value.specs.declared.tri.Tri.TheVariants.{N}
 use Rattle.kc_tree_model.specs.Blocks.{Group, GroupHead}
 use Rattle.kc_statements.specs.declared.statement.Attribute.{Attribute as CodeAttribute}
 use Rattle.kc_statements.specs.declared.statement.Attribute.TheVariants as attributes
-use Rattle.kc_statements.specs.declared.statement.DefaultAttribute.{DefaultAttribute as CodeValued}
-use Rattle.kc_statements.specs.declared.statement.TargetAttribute.{TargetAttribute as CodeAimed}
-use Rattle.kc_statements.specs.declared.statement.RangeAttribute.{RangeAttribute as CodeBounded}
+use Rattle.kc_statements.specs.declared.statement.DefaultAttribute.{DefaultAttribute as CodeDefaultAttribute}
+use Rattle.kc_statements.specs.declared.statement.TargetAttribute.{TargetAttribute as CodeTargetAttribute}
+use Rattle.kc_statements.specs.declared.statement.RangeAttribute.{RangeAttribute as CodeRangeAttribute}
 use Rattle.kc_statements.specs.between.StatementViews.{attribute_in, AttributeNodesExist, IfNodeExists, if_in, OperandNodeExists, operand_or_n, operand_of_expr, DefaultNodesExist, default_in, TargetNodesExist, target_in, RangeNodesExist, range_in}
 use Rattle.kc_listing.specs.declared.listing.Group.{Group as CodeGroup}
 use Rattle.kc_listing.specs.declared.listing.Line.{Line as CodeLine}
-use Rattle.kc_listing.specs.declared.listing.GroupHead.{GroupHead as CodeWhat}
+use Rattle.kc_listing.specs.declared.listing.GroupHead.{GroupHead as CodeHead}
 use Rattle.kc_listing.specs.declared.listing.GroupHead.TheVariants as codes
 use Rattle.kc_listing.specs.between.ListingView.{RepresentsHead, line_in, LineNodesExist, RepresentsGroup, RepresentsGroups}
 use Rattle.kc_listing.proofs.NameLemmas.{words_kept, longer}
@@ -55,16 +55,16 @@ module _ (old new : Exprs) (grows : Grows old new) where
   operand_held : (id : ℕ) → OperandNodeExists old id → OperandNodeExists new id
   operand_held id h = record { within = node_held id h.within; is = node_kept id h.within ∙ h.is ∙ ap alone (sym (operand_kept id h)) }
 
-  valued_kept : (d : CodeValued) → DefaultNodesExist old d → default_in new d ≡ default_in old d
+  valued_kept : (d : CodeDefaultAttribute) → DefaultNodesExist old d → default_in new d ≡ default_in old d
   valued_kept d h = rw (node_kept d.value h.0, if_kept d.condition h.1) refl
 
-  target_kept : (d : CodeAimed) → TargetNodesExist old d → target_in new d ≡ target_in old d
+  target_kept : (d : CodeTargetAttribute) → TargetNodesExist old d → target_in new d ≡ target_in old d
   target_kept d h = rw (words_kept old new grows d.name h.0, if_kept d.condition h.1) refl
 
-  target_held : (d : CodeAimed) → TargetNodesExist old d → TargetNodesExist new d
+  target_held : (d : CodeTargetAttribute) → TargetNodesExist old d → TargetNodesExist new d
   target_held d h = (let l = longer old new grows in let w = h.0 in omega arith, if_held d.condition h.1)
 
-  bounded_kept : (d : CodeBounded) → RangeNodesExist old d → range_in new d ≡ range_in old d
+  bounded_kept : (d : CodeRangeAttribute) → RangeNodesExist old d → range_in new d ≡ range_in old d
   bounded_kept d h = rw (operand_kept d.low h.0, operand_kept d.high h.1, if_kept d.condition h.2) refl
 
   attribute_kept : (a : CodeAttribute) → AttributeNodesExist old a → attribute_in new a ≡ attribute_in old a
@@ -104,7 +104,7 @@ module _ (old new : Exprs) (grows : Grows old new) where
   lines_kept [] h = refl
   lines_kept (l ∷ lines) h = rw (attribute_kept l.attribute (h 0 l (omega arith)), lines_kept lines (λ k d i. h (suc k) d (omega arith))) refl
 
-  what_kept : (names ns texts ts : List (List ℕ)) (c : CodeWhat) (w : GroupHead) → RepresentsHead old names texts c w
+  what_kept : (names ns texts ts : List (List ℕ)) (c : CodeHead) (w : GroupHead) → RepresentsHead old names texts c w
       → RepresentsHead new (names ++ ns) (texts ++ ts) c w
   what_kept names ns texts ts (codes.Config s) w h = (h.0, get_more names ns s h.0 h.1, h.2)
   what_kept names ns texts ts codes.Choice w h = h

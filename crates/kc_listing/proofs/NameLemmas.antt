@@ -54,7 +54,7 @@ map_words old new g (i ∷ ids) h = rw (words_kept old new g i (h 0 0 (omega ari
 pub longer : (old new : Exprs) → Grows old new → length old.names ≤ length new.names
 longer old new g = let e = ap length (split old new g) in omega (arith, e, length-append old.names (drop (length old.names) new.names))
 
--- the names stay where the arena grows
+-- the symbols keep their names (`HasNames`) when the arena of the names grows
 pub names_later : (old new : Exprs) (symbols numbers : List ℕ) (names : List (List ℕ)) → Grows old new → HasNames old symbols numbers names
     → HasNames new symbols numbers names
 names_later old new symbols numbers names g h =
@@ -147,7 +147,7 @@ module _ (old new : Exprs) (symbols numbers padded : List ℕ) (names : List (Li
         few = rw length-set few;
       }
 
--- a name that is there, and one that isn't
+-- at the index that `index_of_name` finds for a name, the list has that name
 pub place_get : (x : List ℕ) (names : List (List ℕ)) (i : ℕ) → index_of_name x names ≡ Some i → slice_get names i ≡ Some x
 place_get x names i e = let t = place_there x names i e in slice_get-get_or names i [] t.0 ∙ ap Some t.1
 

@@ -82,7 +82,7 @@ last_is : (xs : List OpenBlock) → slice_get xs (length xs - 1) ≡ slice_get (
 last_is [] = refl
 last_is (x ∷ xs) = last_by (x ∷ xs) (omega arith) x
 
--- a block of the stack and one of the definition
+-- the innermost open block by the reader's stack, with its line, is the one by the definition, or neither has one
 abbrev pub IsInnermost : Option (Block × ℕ) → Option (Group × Block) → Type 0
 IsInnermost None None = Unit {0}
 IsInnermost (Some p) (Some q) = (q.1 ≡ p.0) × (q.0.at.line ≡ p.1)
@@ -122,7 +122,7 @@ module _ (r : FileSource) (texts : List (List ℕ)) (opened : List OpenBlock) (c
   innermost_is =
       subst (λ o. IsInnermost (block_at o) (innermost read)) (sym (last_is opened)) (innermost_top texts (reverse opened) (open_blocks 0 read) h.stack)
 
--- the end of a file
+-- the end of a file has no fault if no block is open in the file
 pub ended_none : (file : ℕ) (read : List Group) (p : Option (Block × ℕ)) (q : Option (Group × Block)) → IsInnermost p q → p ≡ None
     → (at_file_end file read q).fault ≡ None
 ended_none file read None None h e = refl

@@ -19,7 +19,7 @@ use Rattle.kc_tree_model.specs.declared.keyword.OpenEntry.{OpenEntry}
 use Rattle.kc_tree_model.specs.declared.keyword.Keyword.TheVariants as words
 use Rattle.kc_listing.specs.declared.listing.Group.{Group as CodeGroup}
 use Rattle.kc_listing.specs.declared.listing.Line.{Line as CodeLine}
-use Rattle.kc_listing.specs.declared.listing.GroupHead.{GroupHead as CodeWhat}
+use Rattle.kc_listing.specs.declared.listing.GroupHead.{GroupHead as CodeHead}
 use Rattle.kc_listing.specs.declared.listing.GroupHead.TheVariants as codes
 use Rattle.kc_listing.specs.between.ListingView.{RepresentsHead, RepresentsGroups, RepresentsLists}
 use Rattle.kc_listing.specs.checker.LinePlacement.{place_of_keyword, is_allowed_here, block_ended, is_stray_block, entry_opened, entry_of_group, entry_kept, fault_before}
@@ -75,7 +75,7 @@ last_is : (xs : List CodeGroup) → slice_get xs (length xs - 1) ≡ slice_get (
 last_is [] = refl
 last_is (x ∷ xs) = last_by (x ∷ xs) (omega arith) x
 
-entry_same : (exprs : Exprs) (names texts : List (List ℕ)) (c : CodeWhat) (w : GroupHead) → RepresentsHead exprs names texts c w
+entry_same : (exprs : Exprs) (names texts : List (List ℕ)) (c : CodeHead) (w : GroupHead) → RepresentsHead exprs names texts c w
     → from_head opened_by w ≡ (entry_opened c)
 entry_same exprs names texts (codes.Config s) w h = rw h.2 refl
 entry_same exprs names texts codes.Choice w h = rw h refl

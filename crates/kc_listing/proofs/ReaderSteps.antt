@@ -31,11 +31,11 @@ use Rattle.kc_lines.specs.declared.lines.PhysicalLine.{PhysicalLine}
 use Rattle.kc_lines.specs.between.LinePlaces.{is_of_help, line_of}
 use Rattle.kc_listing.specs.checker.Steps.{indented, IsIndentedLeft}
 
--- an outcome that is another one
+-- a reading that ended with a fault by one outcome ended with it by any equal outcome
 pub ended_as : (r : FileSource) (o p : Outcome) (new : ReaderState) (f : TreeFault) → o ≡ p → IsEnded r p new f → IsEnded r o new f
 ended_as r o p new f e h = let P : Outcome → Type 0 = λ q. IsEnded r q new f in subst P (sym e) h
 
--- what is described is shown
+-- if a reader's state describes some statements, its listing represents them
 pub shown_of : (r : FileSource) (p : ReaderState) (read : List Group) → Describes r p read → RepresentsListing p.listing read
 unfolding Describes
 shown_of r p read d = d.shows
@@ -66,7 +66,7 @@ module _ (r : FileSource) (sub : List ℕ → List Group → Outcome) (file : �
       → left_from sub r file bytes at number before ≡ read_lines sub r file
       (logical_lines_from 0 (cond help (help_line_count (physical_lines (drop next bytes))) 0) (number + lines) (physical_lines (drop next bytes)))
       (with_statement (at_line file number) s.statement before)
-  statement_left help new s = front ∙ rw (s.says, s.no_path, s.begins) refl
+  statement_left help new s = front ∙ rw (s.gives, s.no_path, s.begins) refl
 
   pub one_next : (new : ReaderState) → HasStatement r file number text before false new → IsOneRead r sub file bytes at number before new next lines
   one_next new s = record { now = with_statement (at_line file number) s.statement before; describes = s.describes; left = statement_left false new s }
@@ -100,7 +100,7 @@ module _ (r : FileSource) (sub : List ℕ → List Group → Outcome) (file : �
       → left_from sub r file bytes at number before ≡ continue_after_statement sub
       (read_lines sub r file (logical_lines_from 0 0 (number + lines) (physical_lines (drop next bytes)))) r (at_line file number) before
       (Some (head (source path))) (Some path)
-  source_left path said s = front ∙ rw (s.says, s.begins) refl
+  source_left path said s = front ∙ rw (s.gives, s.begins) refl
 
   pub one_source : (path : List ℕ) (said new : ReaderState) → IsSource r number text path before said → IsSourceRead r sub file number path before new
       → IsOneRead r sub file bytes at number before new next lines
@@ -118,15 +118,15 @@ module _ (r : FileSource) (sub : List ℕ → List Group → Outcome) (file : �
   one_source_faulty path said new f s (inr t) =
       ended_as r (left_from sub r file bytes at number before) t.outcome new f
       (source_left path said s ∙ t.is (read_lines sub r file (logical_lines_from 0 0 (number + lines) (physical_lines (drop next bytes)))))
-      (inr (t.told, t.shows))
+      (inr (t.fault_is, t.shows))
 
--- a file is read by its lines
+-- reading a file is reading its logical lines, where one file fewer may be open within another
 pub file_lines : (depth : ℕ) (r : FileSource) (path : List ℕ) (before : List Group) → 0 < depth
     → read_file depth r path before ≡ read_lines (read_file (depth - 1) r) r (r.number path) (lines_of (bytes_in r path)) before
 file_lines zero r path before h = absurd (omega arith)
 file_lines (suc n) r path before h = ap (λ k. read_lines (read_file k r) r (r.number path) (lines_of (bytes_in r path)) before) (omega arith)
 
--- all lines are left at the beginning
+-- at the beginning of a file, with the line number 1, all its lines are left to read
 pub all_left : (r : FileSource) (sub : List ℕ → List Group → Outcome) (file : ℕ) (bytes : List ℕ) (before : List Group) (l : ReaderState) → Describes r l before
     → IsLeft r sub file bytes before l 0 1
 unfolding lines_of
@@ -172,7 +172,7 @@ module _ (r : FileSource) (sub : List ℕ → List Group → Outcome) (file line
   not_sourced new f (inr h) = inr (record {
     outcome = ended_by_fault (at_line file line) h.0 (with_statement (at_line file line) (Some (head (source path))) before);
     is = λ rest. rw h.1 refl;
-    told = ap Some (sym h.2);
+    fault_is = ap Some (sym h.2);
     shows = h.3;
   })
 
@@ -182,7 +182,7 @@ module _ (r : FileSource) (sub : List ℕ → List Group → Outcome) (file line
   file_faulty new f s (inr h) = inr (record {
     outcome = sub path (with_statement (at_line file line) (Some (head (source path))) before);
     is = λ rest. rw (s, h.0) refl;
-    told = h.0;
+    fault_is = h.0;
     shows = h.1;
   })
 
@@ -197,7 +197,7 @@ module _ (r : FileSource) (sub : List ℕ → List Group → Outcome) (file line
   }
   source_done new (Err f) s n a = inl a
 
--- the tests of a line's bytes
+-- a logical line of more than `MAX_LINE_BYTES` bytes has the fault `LineTooLong`
 pub too_long : (language : Language) (read : List Group) (number : ℕ) (help : Bool) (text : List ℕ) → nat_lt MAX_LINE_BYTES (length text) ≡ true
     → statement_on_line language read (record { number = number; text = text; help = help }) ≡ Err LineTooLong
 unfolding statement_on_line
@@ -208,10 +208,10 @@ pub no_text : (language : Language) (read : List Group) (number : ℕ) (help : B
 unfolding statement_on_line
 no_text language read number help text e u = rw (e, u) refl
 
-help_says : (language : Language) (read : List Group) (number : ℕ) (text : List ℕ) → nat_lt MAX_LINE_BYTES (length text) ≡ false → is_utf8 text ≡ true
+help_is_no_statement : (language : Language) (read : List Group) (number : ℕ) (text : List ℕ) → nat_lt MAX_LINE_BYTES (length text) ≡ false → is_utf8 text ≡ true
     → statement_on_line language read (record { number = number; text = text; help = true }) ≡ Ok None
 unfolding statement_on_line
-help_says language read number text e u = rw (e, u) refl
+help_is_no_statement language read number text e u = rw (e, u) refl
 
 -- one line of a help text
 help_one : (sub : List ℕ → List Group → Outcome) (r : FileSource) (read : List Group) (file : ℕ) (bytes : List ℕ) (begin n left : ℕ) (p : PhysicalLine)
@@ -223,7 +223,7 @@ help_one sub r read file bytes begin n zero p h l e u = absurd (omega arith)
 help_one sub r read file bytes begin n (suc k) p h l e u =
     ap (λ ls. read_lines sub r file ls read) (help_step bytes begin n k p l)
     ∙ ap (continue_after_line sub (read_lines sub r file (logical_lines_from 0 k (n + 1) (physical_lines (drop p.next bytes)))) r (at_line file n) read)
-    (help_says r.language read n (slice_range bytes begin p.end) e u)
+    (help_is_no_statement r.language read n (slice_range bytes begin p.end) e u)
     ∙ ap (λ j. read_lines sub r file (logical_lines_from 0 j (n + 1) (physical_lines (drop p.next bytes))) read) (omega arith)
 
 -- `n` lines are indented so far
@@ -277,13 +277,13 @@ module _ (file : ℕ) (bytes : List ℕ) (at number columns begin lines : ℕ) (
         → ((language : Language) (read : List Group) → statement_on_line language read
         (record { number = number + lines; text = slice_range bytes begin p.end; help = true }) ≡ Err kind)
         → f ≡ fault_in file (number + lines) kind → HelpRead file bytes at number (indented columns bytes at) (Err f)
-    help_faulty kind f i says e = inr (λ sub r read.
+    help_faulty kind f i gives e = inr (λ sub r read.
         h.is sub r read
         ∙ ap (λ k. read_lines sub r file (logical_lines_from 0 k (number + lines) (physical_lines (drop begin bytes))) read)
         (indented_one columns bytes begin p l i)
         ∙ ap (λ ls. read_lines sub r file ls read) (help_step bytes begin (number + lines) (indented columns bytes p.next) p l)
         ∙ ap (continue_after_line sub (read_lines sub r file (logical_lines_from 0 (indented columns bytes p.next) (number + lines + 1)
-        (physical_lines (drop p.next bytes)))) r (at_line file (number + lines)) read) (says r.language read)
+        (physical_lines (drop p.next bytes)))) r (at_line file (number + lines)) read) (gives r.language read)
         ∙ ap (λ t. record { read = read; fault = Some t }) (sym e))
 
 -- a whole help text by its indentation
@@ -359,7 +359,7 @@ module _ (r : FileSource) (before : List Group) (path : List ℕ) where
   unfolding source_fault
   source_fits a b c d e = rw (a, b, c, d, e) refl
 
--- the limits of files, by numbers
+-- with 31 or more sourced files open besides the first file, the limit `MAX_OPEN_FILES` is reached
 pub deep_is : (n k : ℕ) → n ≡ k + 1 → 31 ≤ k → nat_le MAX_OPEN_FILES n ≡ true
 deep_is n k e h = grind (arith, nat_tests)
 

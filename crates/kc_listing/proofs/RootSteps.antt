@@ -41,20 +41,21 @@ lists_of_nothing exprs symbols numbers texts lines groups e s n l g = record {
   groups_are = rw g tt;
 }
 
--- a new listing shows nothing
+-- a listing whose lists are empty represents no statements
 pub nothing_shown : (l : Listing) → l.names.arena.names ≡ [] → l.names.symbols.items ≡ [] → l.names.numbers.items ≡ [] → l.lines.items ≡ []
     → l.groups.items ≡ []
     → RepresentsListing l []
 unfolding RepresentsListing
 nothing_shown l e s n i g = lists_of_nothing l.names.arena l.names.symbols.items l.names.numbers.items l.texts.items l.lines.items l.groups.items e s n i g
 
--- nothing was read yet, and the first file counts
+-- a reader's state with an empty listing and stack, in which just the first file is counted, describes the beginning
+-- of the reading
 pub begun : (r : FileSource) (p : ReaderState) → RepresentsListing p.listing [] → p.stack.items ≡ [] → p.choices ≡ 0 → p.files ≡ 1 → p.bytes ≡ size_in r r.root
     → Describes r p []
 unfolding Describes
 begun r p s k c f b = record { shows = s; counted = record { stack = rw k tt; choices_are = c; files_are = f; bytes_are = omega (arith, b) } }
 
--- the first file was read
+-- if the first file was read without a fault, its listing without a fault is the result of the reading
 pub first_read : (r : FileSource) (o : Outcome) (new : ReaderState) → (o.fault ≡ None) × Describes r new o.read → OutcomeRead o (new.listing, None)
 first_read r o new h = inr (sym h.0, shown_of r new o.read h.1)
 
@@ -62,7 +63,7 @@ pub first_faulty : (r : FileSource) (o : Outcome) (new : ReaderState) (f : TreeF
 first_faulty r o new f (inl m) = inl (ap Some m)
 first_faulty r o new f (inr h) = inr (sym h.0, h.1)
 
--- what is read of the first file
+-- the result of a call that reads the file of the root path, with no statements before, is that of reading the first file
 pub first_of : (r : FileSource) (number : ℕ) (bytes : List ℕ) (new : ReaderState) (result : Result (Unit {0}) TreeFault)
     → (number ≡ r.number r.root → bytes ≡ bytes_in r r.root → FileRead r (read_file 32 r r.root []) new result)
     → number ≡ r.number r.root → bytes ≡ bytes_in r r.root → FileRead r (of_first r) new result
@@ -90,7 +91,7 @@ fitting_by r (Some bytes) e h = let t : nat_lt MAX_TREE_BYTES (length bytes) ≡
 outcome_as : (o p : Outcome) (l : Listing × Option TreeFault) → o ≡ p → OutcomeRead p l → OutcomeRead o l
 outcome_as o p l e h = rw e h
 
--- the path of the first file
+-- the root path of a file source is that of the reader's files
 pub root_is : (f : SourceFiles) → (file_source_of f).root ≡ f.root.now
 unfolding file_source_of
 root_is f = refl
@@ -118,7 +119,7 @@ pub fitting_root : (f : SourceFiles) (l : Listing × Option TreeFault) (bytes : 
 fitting_root f l bytes there b h =
     outcome_as _ _ l (fitting_by (file_source_of f) ((file_source_of f).bytes (file_source_of f).root) (rw (root_is f) there) (rw (root_is f, sym b) h))
 
--- the parts of an outcome
+-- the fault in the result of a reading is out of memory, or is the fault of the reading by the definition
 pub fault_of : (o : Outcome) (l : Listing × Option TreeFault) → OutcomeRead o l → (l.1 ≡ Some no_memory) ⊎ (l.1 ≡ o.fault)
 fault_of o l (inl m) = inl m
 fault_of o l (inr h) = inr h.0

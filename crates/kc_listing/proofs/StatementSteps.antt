@@ -21,7 +21,7 @@ use Rattle.kc_tree_model.specs.Placement.{is_allowed, is_left_out, is_stray_end}
 use Rattle.kc_tree_model.specs.Blocks.{Group}
 use Rattle.kc_tree_model.specs.Limits.{FileSource, is_too_deep, is_too_many, too_many_by_attribute}
 use Rattle.kc_value.specs.declared.limits.TheConstants.{MAX_LINE_BYTES}
-use Rattle.kc_tree_model.specs.TreeReading.{unless, statement_by_keyword, statement_of_tokens, statement_by_word, statement_or_fault, statement_on_line}
+use Rattle.kc_tree_model.specs.TreeReading.{fault_if, statement_by_keyword, statement_of_tokens, statement_by_word, statement_or_fault, statement_on_line}
 use Rattle.kc_tree_model.proofs.HelpLines.{help_alike}
 use Rattle.kc_listing.specs.declared.state.SourceFiles.{SourceFiles}
 use Rattle.kc_listing.specs.checker.StateViews.{file_source_of}
@@ -35,14 +35,14 @@ use Rattle.kc_listing.specs.checker.Steps.{line_here, limits, AppendsHead, Appen
 use Rattle.kc_listing.proofs.AppendSteps.{lists_grown}
 use Rattle.kc_listing.specs.checker.StatementResults.{no_path, AppendsStatement, begins_with, IsGiven, IsSourceGiven, ReturnsStatementRead}
 
--- an attribute's limit
+-- an attribute that selects or implies a name that is too long has the fault `TooMany`
 pub attribute_long : (before : List Group) (a : Attribute) → too_many_by_attribute a ≡ true → limits before (attribute a) ≡ Some TooMany
 attribute_long before a e = rw e refl
 
 pub attribute_fits : (before : List Group) (a : Attribute) → too_many_by_attribute a ≡ false → limits before (attribute a) ≡ None
 attribute_fits before a e = rw e refl
 
--- the appended group has no path
+-- a call that appends a statement other than a `source` returns no path to read
 pub head_given : (r : FileSource) (file line : ℕ) (before : List Group) (h : Head) (new : ReaderState) (put : Result (Unit {0}) TreeKind)
     → path_of_head h ≡ None
     → AppendsHead r file line before h new put
@@ -56,7 +56,7 @@ pub attribute_given : (r : FileSource) (file line : ℕ) (before : List Group) (
 attribute_given r file line before a new (Ok u) p = (p.0, refl, p.1)
 attribute_given r file line before a new (Err k) p = p
 
--- more expressions
+-- a listing represents the same statements after its arena has grown
 pub shows_grown : (l : Listing) (arena : Exprs) (before : List Group) → Grows l.names.arena arena → RepresentsListing l before
     → RepresentsListing (record l { names = record l.names { arena = arena } }) before
 unfolding RepresentsListing
@@ -65,14 +65,14 @@ shows_grown l arena before grows h = lists_grown _ arena _ _ _ [] _ _ _ before g
 -- the tests before a form
 early : (a b c : Bool) (kind : TreeKind) (rest : Result (Option Statement) TreeKind)
     → cond a (Some LeftOut) (cond b (Some Misplaced) (cond c (Some StrayEnd) None)) ≡ Some kind
-    → (unless a LeftOut >>= λ _. unless b Misplaced >>= λ _. unless c StrayEnd >>= λ _. rest) ≡ Err kind
+    → (fault_if a LeftOut >>= λ _. fault_if b Misplaced >>= λ _. fault_if c StrayEnd >>= λ _. rest) ≡ Err kind
 early true b c kind rest e = cc
 early false true c kind rest e = cc
 early false false true kind rest e = cc
 early false false false kind rest e = cc
 
 late : (a b c : Bool) (rest : Result (Option Statement) TreeKind) → cond a (Some LeftOut) (cond b (Some Misplaced) (cond c (Some StrayEnd) None)) ≡ None
-    → (unless a LeftOut >>= λ _. unless b Misplaced >>= λ _. unless c StrayEnd >>= λ _. rest) ≡ rest
+    → (fault_if a LeftOut >>= λ _. fault_if b Misplaced >>= λ _. fault_if c StrayEnd >>= λ _. rest) ≡ rest
 late true b c rest e = cc
 late false true c rest e = cc
 late false false true rest e = cc
@@ -80,20 +80,20 @@ late false false false rest e = refl
 
 -- the limits after it
 limited : (a b : Bool) (s : Statement) (kind : TreeKind) → cond a (Some TooDeep) (cond b (Some TooMany) None) ≡ Some kind
-    → (unless a TooDeep >>= λ _. unless b TooMany >>= λ _. Ok (Some s)) ≡ Err kind
+    → (fault_if a TooDeep >>= λ _. fault_if b TooMany >>= λ _. Ok (Some s)) ≡ Err kind
 limited true b s kind e = cc
 limited false true s kind e = cc
 limited false false s kind e = cc
 
 unlimited : (a b : Bool) (s : Statement) → cond a (Some TooDeep) (cond b (Some TooMany) None) ≡ None
-    → (unless a TooDeep >>= λ _. unless b TooMany >>= λ _. Ok (Some s)) ≡ Ok (Some s)
+    → (fault_if a TooDeep >>= λ _. fault_if b TooMany >>= λ _. Ok (Some s)) ≡ Ok (Some s)
 unlimited true b s e = cc
 unlimited false true s e = cc
 unlimited false false s e = refl
 
 -- the statement once its form was read
 abbrev limited_by : List Group → Result Statement TreeKind → Result (Option Statement) TreeKind
-limited_by before given = given >>= λ s. unless (is_too_deep before s) TooDeep >>= λ _. unless (is_too_many before s) TooMany >>= λ _. Ok (Some s)
+limited_by before given = given >>= λ s. fault_if (is_too_deep before s) TooDeep >>= λ _. fault_if (is_too_many before s) TooMany >>= λ _. Ok (Some s)
 
 module _ (language : Language) (before : List Group) (k : Keyword) (ts : List Lexeme) where
   pub statement_early : (kind : TreeKind) → fault_before language before k ts ≡ Some kind → statement_by_keyword language before k ts ≡ Err kind
@@ -136,7 +136,7 @@ module _ (r : FileSource) (file line : ℕ) (language : Language) (before : List
   pub source_given : (path : List ℕ) → AppendsStatement r file line before s new (Ok (Some path)) → IsSourceGiven r (statement_by_keyword language before k ts)
       (begins_with k ts) path before new
   source_given path p = record {
-    says = statement_well language before k ts s early form p.0 ∙ ap (λ t. Ok (Some t)) p.1;
+    gives = statement_well language before k ts s early form p.0 ∙ ap (λ t. Ok (Some t)) p.1;
     follows = no_help_of_source k ts path (form ∙ ap Ok p.1);
     describes = p.2;
   }
@@ -145,7 +145,7 @@ module _ (r : FileSource) (file line : ℕ) (language : Language) (before : List
       → IsGiven r file line (statement_by_keyword language before k ts) (begins_with k ts) before false new
   next_given n p = record {
     statement = Some s;
-    says = statement_well language before k ts s early form p.0;
+    gives = statement_well language before k ts s early form p.0;
     without_path = p.1;
     follows = no_help k ts n;
     describes = p.2;
@@ -155,7 +155,7 @@ module _ (r : FileSource) (file line : ℕ) (language : Language) (before : List
       → IsGiven r file line (statement_by_keyword language before k ts) (begins_with k ts) before true new
   help_given n p = record {
     statement = Some s;
-    says = statement_well language before k ts s early form p.0;
+    gives = statement_well language before k ts s early form p.0;
     without_path = p.1;
     follows = a_help k ts s n form;
     describes = p.2;
@@ -166,7 +166,7 @@ module _ (r : FileSource) (file line : ℕ) (language : Language) (before : List
   limit_given kind (inl m) = inl m
   limit_given kind (inr h) = inr (statement_limited language before k ts s kind early form h.0, h.1)
 
--- the tokens of a line
+-- a line whose first token isn't a keyword has the fault `UnknownStatement`
 pub word_unknown : (language : Language) (before : List Group) (t : Lexeme) (ts : List Lexeme) → keyword_of t ≡ None
     → statement_of_tokens language before (t ∷ ts) ≡ Err UnknownStatement
 word_unknown language before t ts e = ap (statement_by_word language before ts) e
@@ -185,12 +185,12 @@ pub given_by_word : (r : FileSource) (file line : ℕ) (language : Language) (be
     → ReturnsStatementRead r file line (statement_of_tokens language before (t ∷ ts)) (is_help (t ∷ ts)) before new result
 given_by_word r file line language before t ts k new result e g = rw (word_known language before t ts k e, help_known t ts k e) g
 
--- tokens after none
-pub behind_none : {E : Type 0} (read : Result (List Lexeme) E) → with_front [] read ≡ read
-behind_none (Ok ts) = refl
-behind_none (Err e) = refl
+-- no tokens in front of a line's other tokens leave them, or their fault, as they are
+pub with_no_front : {E : Type 0} (read : Result (List Lexeme) E) → with_front [] read ≡ read
+with_no_front (Ok ts) = refl
+with_no_front (Err e) = refl
 
--- the language of the files
+-- the language of a file source is that of the reader's files
 pub language_of_source : (f : SourceFiles) → (file_source_of f).language ≡ f.texts.now.language
 unfolding file_source_of
 language_of_source f = refl
@@ -207,27 +207,27 @@ module _ (r : FileSource) (file line : ℕ) (before : List Group) (text : List �
       → ReturnsStatementRead r file line (statement_of_tokens r.language before ts) (is_help ts) before new result → LineRead r file line text before new result
   line_of_tokens ts (Ok Next) e g = record {
     statement = g.statement;
-    says = gives_tokens r.language before line text short utf8 ∙ ap (statement_or_fault r.language before) e ∙ g.says;
+    gives = gives_tokens r.language before line text short utf8 ∙ ap (statement_or_fault r.language before) e ∙ g.gives;
     no_path = g.without_path;
     begins = sym (help_alike text r.language) ∙ ap is_help_or_fault e ∙ g.follows;
     describes = g.describes;
   }
   line_of_tokens ts (Ok Help) e g = record {
     statement = g.statement;
-    says = gives_tokens r.language before line text short utf8 ∙ ap (statement_or_fault r.language before) e ∙ g.says;
+    gives = gives_tokens r.language before line text short utf8 ∙ ap (statement_or_fault r.language before) e ∙ g.gives;
     no_path = g.without_path;
     begins = sym (help_alike text r.language) ∙ ap is_help_or_fault e ∙ g.follows;
     describes = g.describes;
   }
   line_of_tokens ts (Ok (Source path)) e g = record {
-    says = gives_tokens r.language before line text short utf8 ∙ ap (statement_or_fault r.language before) e ∙ g.says;
+    gives = gives_tokens r.language before line text short utf8 ∙ ap (statement_or_fault r.language before) e ∙ g.gives;
     begins = sym (help_alike text r.language) ∙ ap is_help_or_fault e ∙ g.follows;
     describes = g.describes;
   }
   line_of_tokens ts (Err kind) e (inl m) = inl m
   line_of_tokens ts (Err kind) e (inr h) = inr (gives_tokens r.language before line text short utf8 ∙ ap (statement_or_fault r.language before) e ∙ h.0, h.1)
 
-  -- the first fault of its tokens
+  -- a line whose tokens can't be read has the fault of its first token that can't be read, or memory ran out
   pub line_of_fault : (f : ExprFault) (kind : TreeKind) → kind ≡ kind_of_fault f.kind → (f.kind ≡ expr_kinds.OutOfMemory)
       ⊎ (lexemes_from r.language 0 0 text ≡ Err f) → RepresentsListing new.listing before → LineRead r file line text before new (Err kind)
   line_of_fault f kind e (inl m) s = inl (e ∙ ap kind_of_fault m)

@@ -15,11 +15,11 @@ use Rattle.kc_listing.specs.declared.listing.SymbolTable.{SymbolTable}
 use Rattle.kc_listing.specs.checker.Symbols.{is_full, KeepsNames, ReturnsSymbol}
 use Rattle.kc_listing.proofs.NameLemmas.{with_new, full_is, as_many_names}
 
--- an arena that stays as it is
+-- `Grows` holds of an arena that stays as it is
 pub same_names : (e : Exprs) → Grows e e
 same_names e = record { names = take-length e.names; nodes = take-length e.nodes }
 
--- the place of a name by the table
+-- the number of a symbol, by the index of its name in the arena, is the one that the table of numbers has for this index
 pub place_known : (e : Exprs) (symbols numbers : List ℕ) (names : List (List ℕ)) (x : List ℕ) (id : ℕ) → HasNames e symbols numbers names
     → index_of_name x e.names ≡ Some id → index_of_name x names ≡ number_in_slot (get_or numbers id 0)
 place_known e symbols numbers names x id h p = sym (h.numbered x) ∙ ap (option_and_then (λ i. number_in_slot (get_or numbers i 0))) p

@@ -14,7 +14,7 @@ use super::state::{OpenBlock, ReaderState};
 use kc_tree_model::{Block, TreeKind};
 use kc_value::Text;
 
-/// Appends a group that defines no symbol.
+/// Appends to the listing a statement that defines no symbol, or the end of a file.
 pub(crate) fn push_group(
     listing: &mut Listing,
     file: u32,
@@ -39,7 +39,7 @@ pub(crate) fn push_group(
     Ok(())
 }
 
-/// Appends the end of a block or of a file.
+/// Appends the end of the innermost block or sourced file, and takes it off the stack.
 pub(crate) fn push_end(
     read: &mut ReaderState,
     file: u32,
@@ -54,7 +54,7 @@ pub(crate) fn push_end(
     push_group(&mut read.listing, file, line, head)
 }
 
-/// Appends a statement that defines, opens and ends nothing.
+/// Appends a statement that defines no symbol, and opens and ends no block or file.
 pub(crate) fn push_plain(
     read: &mut ReaderState,
     file: u32,
@@ -105,7 +105,7 @@ pub(crate) fn push_choice_group(
     push_group(&mut read.listing, file, line, GroupHead::Choice)
 }
 
-/// Appends a text.
+/// Appends a text, which is a title or a path, and returns its index among the texts.
 pub(crate) fn push_text(read: &mut ReaderState, text: Text) -> Result<usize, TreeKind>
     ensures kept { IfOk result (λ t. slice_get read.new.listing.texts.items t ≡ Some text) }
     ensures describes { (r : FileSource) (before : List Placed) → Describes r read.old before → OnOk result (Describes r read.new before) }
@@ -120,7 +120,7 @@ pub(crate) fn push_text(read: &mut ReaderState, text: Text) -> Result<usize, Tre
     Ok(place)
 }
 
-/// Appends a `source`, and counts its file.
+/// Appends a `source` whose path is the text at the index `place`, and counts its file and the file's bytes.
 pub(crate) fn push_source(
     read: &mut ReaderState,
     file: u32,

@@ -25,7 +25,7 @@ fn has_long_name(arena: &Arena, attribute: &Attribute) -> bool
     }
 }
 
-/// Appends an attribute to the newest group.
+/// Appends an attribute to the newest group; `TooMany` if it selects or implies a name that is too long.
 pub(crate) fn push_attribute(
     read: &mut ReaderState,
     line: u32,

@@ -1,11 +1,11 @@
-//! Faults at their places.
+//! Faults with their files and lines.
 ghost use Rattle.std.specs.Prelude.{◌≡◌, ◌⊎◌, Some};
 ghost use Rattle.kc_tree_model.specs.declared.fault.TreeKind.TheVariants.{OutOfMemory};
 ghost use Rattle.kc_listing.specs.checker.Faults.{IsMemory, fault_in};
 
 use kc_tree_model::{TreeFault, TreeKind};
 
-/// Out of memory.
+/// The fault of running out of memory, which has no file and no line.
 pub(crate) fn out_of_memory() -> TreeFault
     ensures { IsMemory result }
 {
@@ -16,7 +16,7 @@ pub(crate) fn out_of_memory() -> TreeFault
     }
 }
 
-/// A fault at a line of a file.
+/// A fault at a line of a file, which is given by its number.
 pub(crate) fn fault_at(file: u32, line: u32, kind: TreeKind) -> TreeFault
     ensures { result ≡ fault_in file line kind }
 {
@@ -27,7 +27,7 @@ pub(crate) fn fault_at(file: u32, line: u32, kind: TreeKind) -> TreeFault
     }
 }
 
-/// A fault at a line of a file, but out of memory has no place.
+/// A fault at a line of a file; if it is out of memory, it has no file and no line.
 pub(crate) fn fault_or_out_of_memory(file: u32, line: u32, kind: TreeKind) -> TreeFault
     ensures memory { kind ≡ OutOfMemory → IsMemory result }
     ensures placed { IsMemory result ⊎ (result ≡ fault_in file line kind) }

@@ -23,7 +23,7 @@ fn is_at_block_limit(stack: &[OpenBlock]) -> bool
     open_block_count(stack) >= MAX_OPEN_BLOCKS
 }
 
-/// Appends a menu, within the limit of open blocks.
+/// Appends a menu to the groups read, within the limit of open blocks.
 pub(crate) fn push_menu(
     read: &mut ReaderState,
     file: u32,
@@ -41,7 +41,7 @@ pub(crate) fn push_menu(
     push_block(read, file, line, GroupHead::Menu(place), Block::Menu)
 }
 
-/// Appends an `if`, within the limit of open blocks.
+/// Appends an `if` to the groups read, within the limit of open blocks.
 pub(crate) fn push_if_block(
     read: &mut ReaderState,
     file: u32,
@@ -58,7 +58,7 @@ pub(crate) fn push_if_block(
     push_block(read, file, line, GroupHead::Condition(id), Block::If)
 }
 
-/// Appends a choice, within the limits of open blocks and of choices.
+/// Appends a choice to the groups read, within the limits of open blocks and of choices.
 pub(crate) fn push_choice(read: &mut ReaderState, file: u32, line: u32) -> Result<(), TreeKind>
     ensures { (r : FileSource) (before : List Placed) → Describes r read.old before → AppendsHead r file line before choice read.new result }
 {
@@ -71,7 +71,7 @@ pub(crate) fn push_choice(read: &mut ReaderState, file: u32, line: u32) -> Resul
     push_choice_group(read, file, line)
 }
 
-/// Appends a comment.
+/// Appends a `comment` with its title to the groups read.
 pub(crate) fn push_comment(
     read: &mut ReaderState,
     file: u32,
@@ -86,14 +86,14 @@ pub(crate) fn push_comment(
     push_plain(read, file, line, GroupHead::Comment(place))
 }
 
-/// Appends a `mainmenu`.
+/// Appends a `mainmenu` to the groups read, without its title.
 pub(crate) fn push_mainmenu(read: &mut ReaderState, file: u32, line: u32) -> Result<(), TreeKind>
     ensures { (r : FileSource) (before : List Placed) → Describes r read.old before → AppendsHead r file line before mainmenu read.new result }
 {
     push_plain(read, file, line, GroupHead::Mainmenu)
 }
 
-/// Appends the end of a block.
+/// Appends the end of a menu, an `if` or a choice to the groups read.
 pub(crate) fn push_block_end(
     read: &mut ReaderState,
     file: u32,
@@ -105,7 +105,7 @@ pub(crate) fn push_block_end(
     push_end(read, file, line, GroupHead::Ends(block))
 }
 
-/// Appends a definition of a symbol, within the limits of names and symbols.
+/// Appends a definition of a symbol to the groups read, within the limits of the length of names and the number of symbols.
 pub(crate) fn push_config(
     read: &mut ReaderState,
     file: u32,

@@ -1,5 +1,4 @@
-//! From the bytes of a tree's files to their statements: lines, help texts, sourced files, and the first fault that
-//! reading meets.
+//! From the bytes of a tree's files to their statements: lines, help texts, sourced files, and the first fault of reading.
 #![tactic(auto)]
 
 mod append;
@@ -10,8 +9,8 @@ mod line;
 mod listing;
 mod open_blocks;
 mod placement;
-mod read;
 mod reader;
+mod root_reader;
 mod sources;
 mod state;
 mod statements;
@@ -19,4 +18,4 @@ mod symbol_table;
 mod text;
 
 pub use listing::{Group, GroupHead, Line, Listing, SymbolTable};
-pub use read::{read_files, read_files_leniently};
+pub use root_reader::{read_files, read_files_leniently};

@@ -73,7 +73,7 @@ fn read_tokens(
     read_form(read, language, file, line, keyword, rest)
 }
 
-/// Reads a line that isn't of a help text, with a list of tokens that is kept from line to line.
+/// Reads a logical line that isn't of a help text. `found` is emptied and takes its tokens, so that lines can share it.
 pub(crate) fn read_line<'a>(
     read: &mut ReaderState,
     from: SourceFiles<'_>,
@@ -110,7 +110,7 @@ fn read_joined(
     read_line(read, from, file, line, bytes, &mut found)
 }
 
-/// Reads a logical line that isn't of a help text.
+/// Reads a logical line that isn't of a help text, whether it is one line of the file or joined of several.
 pub(crate) fn read_logical<'a>(
     read: &mut ReaderState,
     from: SourceFiles<'_>,

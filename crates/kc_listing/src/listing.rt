@@ -4,8 +4,8 @@ use kc_statements::Attribute;
 use kc_tree_model::Block;
 use kc_value::Text;
 
-/// A statement that closes the open entry, or the end of a sourced file. A symbol is given by its number in order of
-/// first definition, a title or a path by its place among the texts.
+/// A statement other than an attribute, or the end of a sourced file. A symbol is given by its number in order of
+/// first definition, a title or a path by its index among the texts of the listing.
 #[derive(Clone, Copy)]
 pub enum GroupHead {
     Config(u32),
@@ -19,7 +19,8 @@ pub enum GroupHead {
     FileEnd,
 }
 
-/// A statement, its place, and where its attributes begin; they reach up to those of the next group.
+/// A statement other than an attribute, or the end of a sourced file, with its file and line, and the index of its
+/// first attribute among `lines`; its attributes reach up to those of the next group.
 #[derive(Clone, Copy)]
 pub struct Group {
     pub file: u32,
@@ -28,7 +29,7 @@ pub struct Group {
     pub attributes: usize,
 }
 
-/// An attribute and its line.
+/// An attribute of a statement, such as a default, and its line.
 #[derive(Clone, Copy)]
 pub struct Line {
     pub number: u32,
@@ -38,7 +39,7 @@ pub struct Line {
 /// The names of symbols in an arena.
 ///
 /// `symbols` has the name of each symbol. `numbers` has for a name of the arena one more than the number of its
-/// symbol, and 0 where no entry defines it; names after its end are no symbol's.
+/// symbol, and 0 where no entry defines the name; a name past the end of `numbers` has no symbol.
 #[derive(Drop)]
 pub struct SymbolTable {
     pub arena: Arena,
@@ -46,7 +47,7 @@ pub struct SymbolTable {
     pub numbers: Vec<u32>,
 }
 
-/// All that was read, in reading order.
+/// All statements that were read from a tree's files, in reading order, with the names of the symbols and the texts.
 #[derive(Drop)]
 pub struct Listing {
     pub names: SymbolTable,

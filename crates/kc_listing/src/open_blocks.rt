@@ -65,7 +65,7 @@ pub(crate) fn is_path_open(stack: &[OpenBlock], texts: &[Text], path: &str) -> b
     stack.iter().any(|o| is_of(o, texts, path))
 }
 
-/// The innermost open block of the file that is read, and its line.
+/// The innermost open block of the file that is being read, and its line; `None` if no block is open in that file.
 pub(crate) fn innermost(stack: &[OpenBlock]) -> Option<(Block, u32)>
     ensures { result ≡ block_kept stack.now }
 {

@@ -15,7 +15,7 @@ use kc_expr::{Language, Token};
 use kc_statements::{allows_attribute, is_left_out};
 use kc_tree_model::{Block, Keyword, OpenEntry, TreeKind};
 
-/// Where a line is allowed.
+/// The place in a file where a line is allowed, by its keyword.
 #[derive(Clone, Copy)]
 pub(crate) enum Place {
     Anywhere,
@@ -107,8 +107,8 @@ fn is_stray(read: &ReaderState, keyword: Keyword) -> bool
     }
 }
 
-/// The fault of a line with this keyword in this language that comes before those of its form, by the tokens after its first: it is
-/// left out, it is misplaced, or it ends no open block.
+/// The fault of a line, by its keyword and the tokens after it, that comes before the faults of the statement's form:
+/// the statement is left out of the language, is misplaced, or ends no open block.
 pub(crate) fn fault_before_form(
     read: &ReaderState,
     language: Language,

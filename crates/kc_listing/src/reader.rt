@@ -112,7 +112,8 @@ fn read_statement<'a>(
     }
 }
 
-/// Reads a file after the groups so far; `depth` is the number of files that may be open within each other.
+/// Reads a file and all that it sources, and appends their statements to the listing; `depth` is the number of files that
+/// may be open within each other, this one among them.
 #[cycle(files)]
 pub(crate) fn read_open_file(
     read: &mut ReaderState,

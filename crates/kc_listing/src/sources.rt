@@ -14,7 +14,8 @@ use super::state::{ReaderState, SourceFile, SourceFiles};
 use kc_tree_model::{TreeFault, TreeKind};
 use kc_value::{MAX_FILES, MAX_OPEN_FILES, MAX_TREE_BYTES, Text};
 
-/// The file of a path. A file whose number doesn't fit is out of memory.
+/// The file of a path. An absent file is `MissingFile` or read as empty; a file whose number doesn't fit 32 bits is
+/// out of memory.
 pub(crate) fn file_of<'a>(from: SourceFiles<'a>, path: &str) -> Result<SourceFile<'a>, TreeKind>
     ensures { FileFound (file_source_of from.entry) path.now result }
 {
@@ -64,7 +65,7 @@ fn sourced<'a>(
     Ok(file)
 }
 
-/// Appends a `source`, and returns its file.
+/// Appends a `source`, and returns the file of its path, or the fault of the `source`.
 pub(crate) fn open_source<'a>(
     read: &mut ReaderState,
     from: SourceFiles<'a>,
@@ -106,7 +107,7 @@ pub(crate) fn close_source(
     }
 }
 
-/// At a file's end a block that is open in it isn't closed.
+/// Checks the end of a file: `Unclosed`, at the line of the innermost open block, if a block is still open in the file.
 pub(crate) fn end_of_file(
     read: &ReaderState,
     from: SourceFiles<'_>,

@@ -14,7 +14,8 @@ pub(crate) enum OpenBlock {
     Source(usize),
 }
 
-/// The listing so far, the open blocks and files with the innermost last, and the counts of choices, files and bytes.
+/// The state of the reader: the listing so far, the open blocks and files with the innermost last, and the counts of
+/// choices, files and bytes.
 #[derive(Drop)]
 pub(crate) struct ReaderState {
     pub alloc: Global,
@@ -28,7 +29,7 @@ pub(crate) struct ReaderState {
     ghost few_bytes: { bytes ≤ MAX_TREE_BYTES },
 }
 
-/// Where the bytes of paths come from.
+/// The files that a reader may read, the path of the first one, and whether an absent file is read as an empty one.
 #[derive(Clone, Copy)]
 pub(crate) struct SourceFiles<'a> {
     pub texts: &'a Texts,
@@ -36,7 +37,7 @@ pub(crate) struct SourceFiles<'a> {
     pub absent_is_empty: bool,
 }
 
-/// A file: its number, and its bytes.
+/// A file of a Kconfig tree: its number, and its bytes.
 #[derive(Clone, Copy)]
 pub(crate) struct SourceFile<'a> {
     pub number: u32,

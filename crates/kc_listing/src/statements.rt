@@ -49,7 +49,7 @@ fn push_head(
     }
 }
 
-/// Appends the statement of a line; of a `source` only the path is returned, and nothing appended yet.
+/// Appends the statement of a line; a `source` isn't appended yet, and its path is returned instead.
 pub(crate) fn push_statement(
     read: &mut ReaderState,
     file: u32,

@@ -36,7 +36,7 @@ fn pad_with_zeros(numbers: &mut Vec<u32>, count: usize) -> Result<(), AllocError
 }
 
 impl SymbolTable {
-    /// The number of the symbol of a name, if an entry defines it.
+    /// The number of the symbol of a name, in order of first definition from 0; `None` if no entry defines it.
     pub fn number_of(&self, name: &str) -> Option<u32>
         ensures { result ≡ number_in self.now.arena.names self.now.numbers.items name.now }
     {

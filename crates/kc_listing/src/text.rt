@@ -4,7 +4,7 @@ ghost use Rattle.kc_listing.specs.checker.Steps.{IsText};
 use kc_tree_model::TreeKind;
 use kc_value::MAX_LINE_BYTES;
 
-/// The text of a logical line, unless it is too long or isn't UTF-8.
+/// The text of a logical line; `LineTooLong` or `NotUtf8` if its bytes aren't a valid line.
 pub(crate) fn text_of(bytes: &[u8]) -> Result<&str, TreeKind>
     ensures { IsText bytes.now result }
 {

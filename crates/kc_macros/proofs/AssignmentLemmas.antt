@@ -37,7 +37,7 @@ module _ (s t : RunState) (at : Place) (value : Value) (v : Variable) where
       (then_runs s t (stored_bytes at (value_length value)) (λ u. returns v) (tt {0}) t (ends (returned v)) a (runs_nothing t v))
 
 module _ (s t u : RunState) (at : Place) (b : Bindings) (text : List ℕ) where
-  -- a value, and the variable that is stored with it
+  -- the program that expands a text and stores its value as a simple variable runs if its two parts run one after the other
   pub value_stored : (f : Value → Value) (x : Value) (e : RunEnd Variable) → Runs s t (text_value at b text) (ends (returned x))
       → Runs t u (stored_simple at (f x)) e
       → Runs s u (text_value at b text >>= (λ v. stored_simple at (f v))) e
@@ -48,7 +48,7 @@ module _ (s t u : RunState) (at : Place) (b : Bindings) (text : List ℕ) where
   value_unstored f stop a = stops_early s t (text_value at b text) (λ v. stored_simple at (f v)) stop a
 
 module _ (s t : RunState) (p : Program Variable) (name : List ℕ) (b after : Bindings) (v : Variable) where
-  -- a variable that is bound
+  -- an assignment whose variable is found gives the bindings in which the name has this variable
   pub bound_after : after ≡ with_variable name v b → Runs s t p (ends (returned v)) → Runs s t (p >>= (λ x. returns (with_variable name x b)))
       (ends (returned after))
   bound_after h a =

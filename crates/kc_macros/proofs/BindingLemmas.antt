@@ -21,7 +21,7 @@ found_by : (b : Bool) (v : CodeVariable) (o : Option CodeVariable) → cond b (S
 found_by true v o = refl
 found_by false v o = refl
 
--- a look-up by the bytes of a name
+-- the variable of a name is what a look-up of the name's bytes in the code's table finds
 pub find_variable : (name : List ℕ) (es : List Entry) → bindings_of (map entry_of es) name ≡ option_map variable_of
     (lookup (λ (k : Vec ℕ Global). bytes_eq name k.items) es)
 find_variable name [] = refl
@@ -30,13 +30,13 @@ find_variable name (e ∷ es) =
     ∙ ap (λ o. cond (bytes_eq name e.0.items) (Some (variable_of e.1)) o) (find_variable name es)
     ∙ found_by (bytes_eq name e.0.items) e.1 (lookup (λ (k : Vec ℕ Global). bytes_eq name k.items) es)
 
--- a variable more, in place of one of that name
+-- a variable that is inserted in the code's table is bound to its name, in place of an earlier one of that name
 pub variable_bound : (es : List Entry) (k : Vec ℕ Global) (v : CodeVariable)
     → bindings_of (map entry_of (insert_entry (λ (a b : Vec ℕ Global). bytes_eq a.items b.items) es k v))
     ≡ with_variable k.items (variable_of v) (bindings_of (map entry_of es))
 variable_bound es k v = fun_ext (λ other. inserted_at variable_of k v other es)
 
--- a variable that is lent
+-- a borrowed variable and a copy of it are the same variable of `kc_macros_model`
 pub copied_variable : (o : Option (Bor CodeVariable)) → option_map (λ (v : Bor CodeVariable). variable_of v.now) o ≡ option_map variable_of (option_copied o)
 copied_variable None = refl
 copied_variable (Some v) = refl

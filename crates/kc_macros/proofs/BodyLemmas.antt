@@ -57,7 +57,7 @@ module _ (at : Place) (b : Bindings) (quote : ℕ) where
     abbrev at_first : Program WrittenBody
     at_first = bodies_left at b quote a (items true 0 text)
 
-    -- an item that is written as it is
+    -- an item between quotes that is written without an event leads to writing the items after it
     pub item_written : (i : Item) (f a2 : WrittenBody) (more : List Item) → items true 0 text ≡ i ∷ more → written_item at b quote i ≡ returns f
         → a2 ≡ joined_bodies a f → Leads s at_first s (bodies_left at b quote a2 more)
     item_written i f a2 more h k e =
@@ -65,7 +65,7 @@ module _ (at : Place) (b : Bindings) (quote : ℕ) where
         (ap (bodies_left at b quote a) h ∙ body_left a i more ∙ ap (λ p. p >>= (λ x. bodies_left at b quote (joined_bodies a x) more)) k
         ∙ ap (λ x. bodies_left at b quote x more) (sym e))
 
-    -- an item that is a fault
+    -- an item between quotes that is a fault stops the program that writes the items
     pub item_fails : (i : Item) (more : List Item) (g : Fault) (stop : Stop) → items true 0 text ≡ i ∷ more → written_item at b quote i ≡ fails g
         → FailsWith g stop → Runs s s at_first (end_of_stop stop)
     item_fails i more g stop h k w =
@@ -96,7 +96,7 @@ module _ (at : Place) (b : Bindings) (quote : ℕ) where
           (leads_on s t (text_value at b whole) with_value v r)
           (leads_same t (with_value v) (bodies_left at b quote a2 more) (ap (λ x. bodies_left at b quote x more) (sym k))))
 
--- nothing is written yet
+-- if no bytes between quotes are written yet and they have no meaning yet, they are the empty body
 pub nothing_written : (bytes meaning : List ℕ) → bytes ≡ [] → meaning ≡ [] → (let a : WrittenBody = record { bytes = bytes; meaning = Some meaning } in
     a ≡ body_of [] [])
 nothing_written bytes meaning h k = same_body bytes [] (Some meaning) (Some []) h (ap Some k)

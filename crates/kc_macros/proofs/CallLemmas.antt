@@ -58,7 +58,7 @@ module _ (sub : Expander) (at : Place) (b : Bindings) (names : List (List ℕ)) 
       (pieces 0 inside) >>= call_value sub at b names
   few_pieces h k = ap (reference_value sub at b names args inside) h ∙ ap by_count (le-leb (length (pieces 0 inside)) max_pieces k)
 
--- the front of a row
+-- a list that isn't empty is its first element and the elements after it
 pub first_and_rest : {A : Type 0} (xs : List A) (x : A) → 0 < length xs → x ≡ get_or xs 0 x → xs ≡ x ∷ take (length xs - 1) (drop 1 xs)
 first_and_rest [] x h e = absurd (omega arith)
 first_and_rest (y ∷ ys) x h e = ap (λ z. z ∷ ys) (sym e) ∙ ap (λ zs. x ∷ zs) (sym (take_all (length (y ∷ ys) - 1) ys (omega arith)))
@@ -79,7 +79,7 @@ any_of_texts : (name : List ℕ) (names : List (Bor (List ℕ))) → list_any (�
 any_of_texts name [] = refl
 any_of_texts name (n ∷ ns) = ap (λ b. bytes_eq name n.now || b) (any_of_texts name ns)
 
--- a variable without arguments, by the names that are open
+-- a reference without arguments is a recursion if its name is among those that are being expanded
 pub recursion_by : (names : List (Bor (List ℕ))) (name : List ℕ) (args : List Value) (b : Bool) → length args ≡ 0
     → b ≡ list_any (λ (n : Bor (List ℕ)). bytes_eq name n.now) names → b ≡ is_recursion (texts_of names) name args
 recursion_by names name [] b h e = e ∙ any_of_texts name names
@@ -94,7 +94,7 @@ texts_length [] = refl
 texts_length (t ∷ ts) = ap suc (texts_length ts)
 
 module _ (expand : List ℕ → Program Value) (first s : RunState) (whole : Program (List Value)) (vs : List Value) where
-  -- a piece whose value isn't found
+  -- if the expansion of a piece of a reference stops, so does the program for the values of all its pieces
   pub piece_stopped : (t : RunState) (p : List ℕ) (ps : List (List ℕ)) (stop : Stop) → Leads first whole s (pieces_left expand vs (p ∷ ps))
       → Runs s t (expand p) (end_of_stop stop) → Runs first t whole (end_of_stop stop)
   piece_stopped t p ps stop a b =
@@ -102,7 +102,7 @@ module _ (expand : List ℕ → Program Value) (first s : RunState) (whole : Pro
       (piece_left expand vs p ps)
       (stops_early s t (expand p) (λ v. pieces_left expand (vs ++ v ∷ []) ps) stop b))
 
-  -- a value more
+  -- the value of a piece of a reference leads to the pieces after it
   pub piece_found : (t : RunState) (p : List ℕ) (ps : List (List ℕ)) (v : Value) (more : List Value) → more ≡ vs ++ v ∷ []
       → Leads first whole s (pieces_left expand vs (p ∷ ps)) → Runs s t (expand p) (ends (returned v))
       → Leads first whole t (pieces_left expand more ps)
@@ -114,12 +114,12 @@ module _ (expand : List ℕ → Program Value) (first s : RunState) (whole : Pro
       (leads_on s t (expand p) (λ x. pieces_left expand (vs ++ x ∷ []) ps) v b)
       (leads_same t (pieces_left expand (vs ++ v ∷ []) ps) (pieces_left expand more ps) (ap (λ xs. pieces_left expand xs ps) (sym h)))))
 
-  -- all values
+  -- if no piece of a reference is left, the program for the values of its pieces returns those that were found
   pub pieces_found : (ps : List (List ℕ)) → ps ≡ [] → Leads first whole s (pieces_left expand vs ps) → Runs first s whole (ends (returned vs))
   pieces_found ps h a = a.leads s (ends (returned vs)) (runs_same s s (pieces_left expand vs ps) (returns vs) (ends (returned vs))
       (ap (pieces_left expand vs) h ∙ no_piece_left expand vs) (runs_nothing s vs))
 
--- the first of the pieces that are left
+-- a program that leads to the pieces of a reference from index `i` on leads to piece `i` and those after it
 pub piece_front : (expand : List ℕ → Program Value) (first s : RunState) (whole : Program (List Value)) (vs : List Value) (ps : List (Bor (List ℕ))) (i : ℕ)
     (d : Bor (List ℕ)) → i < length ps
     → Leads first whole s (pieces_left expand vs (texts_of (drop i ps)))

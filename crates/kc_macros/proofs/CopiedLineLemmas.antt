@@ -26,7 +26,7 @@ use Rattle.kc_macros.specs.checker.QuietLines.{is_acting_word, HasNoWordNext, Is
 use Rattle.kc_macros.proofs.WrittenTokenLemmas.{run_is_word}
 use Rattle.kc_macros.proofs.LineTokenLemmas.{row_of_tokens, tokens_skip, any_token}
 
--- a text without `$`
+-- whether a text has a `$`
 abbrev pub has_dollar : List ℕ → Bool
 has_dollar s = list_any (λ c. c == 36) s
 
@@ -46,7 +46,7 @@ take_plain zero s h = refl
 take_plain (suc n) [] h = refl
 take_plain (suc n) (c ∷ s) h = ap (λ b. b || has_dollar (take n s)) (first_plain c s h) ∙ take_plain n s (rest_plain c s h)
 
--- the first item of a text without `$`
+-- the first item of a text that doesn't begin with `$`: in quotes an escaped byte after a backslash, otherwise a byte
 pub first_is : (q : Bool) (c d : ℕ) (s : List ℕ) → (c == 36) ≡ false → first_item q c (d ∷ s) ≡ cond (q && (c == 92)) (escaped d) (byte c)
 first_is q c d s e = ap (λ b. cond (b && (d == 40)) (reference_of s (inside_length 0 s)) (cond (q && (c == 92)) (escaped d) (byte c))) e
 
@@ -457,7 +457,7 @@ white_dropped c s e = ap (λ b. drop (cond b (1 + prefix_len is_white_byte s) 0)
 pub ink_stays : (c : ℕ) (s : List ℕ) → is_white_byte c ≡ false → without_front is_white_byte (c ∷ s) ≡ c ∷ s
 ink_stays c s e = ap (λ b. drop (cond b (1 + prefix_len is_white_byte s) 0) (c ∷ s)) e
 
--- white at the front changes nothing
+-- a line is quiet, as `IsQuiet` defines, if it is without the white bytes at its front
 pub quiet_front : (text : List ℕ) → IsQuiet (line_tokens 0 (without_front is_white_byte text)) → IsQuiet (line_tokens 0 text)
 quiet_front [] q = q
 quiet_front (c ∷ s) q = by_test (λ k. quiet_front s k) (is_white_byte c) refl
@@ -467,7 +467,7 @@ quiet_front (c ∷ s) q = by_test (λ k. quiet_front s k) (is_white_byte c) refl
     by_test ih true e = subst IsQuiet (sym (white_first c s e)) (ih (subst (λ x. IsQuiet (line_tokens 0 x)) (white_dropped c s e) q))
     by_test ih false e = subst (λ x. IsQuiet (line_tokens 0 x)) (ink_stays c s e) q
 
--- a line whose first token, after white, is this one
+-- a line whose tokens, without the white bytes at its front, are these ones is quiet if they are
 pub quiet_by : (text rest : List ℕ) (t : LineToken) (ts : List LineToken) → rest ≡ without_front is_white_byte text → line_tokens 0 rest ≡ t ∷ ts
     → IsQuiet (t ∷ ts) → IsQuiet (line_tokens 0 text)
 quiet_by text rest t ts e f q = quiet_front text (subst (λ x. IsQuiet (line_tokens 0 x)) e (subst IsQuiet (sym f) q))

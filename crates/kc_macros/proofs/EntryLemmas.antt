@@ -1,4 +1,4 @@
--- An entry of a map that takes the place of one with its key, entry_view through the values.
+-- A map after the insertion of an entry, which takes the place of one with its key, as views of its values show it.
 use Rattle.std.proofs.Common.{◌≡◌, ℕ, Bool, true, false, cond, List, [], ◌∷◌, map, Option, Some, None, refl, sym, ap, ◌∙◌}
 use Rattle.std.specs.Prelude.{Vec, bytes_eq}
 use Rattle.std.specs.declared.alloc.Global.{Global}
@@ -48,7 +48,8 @@ module _ {V W : Type 0} (view : V → W) (k : Vec ℕ Global) (v : V) (other : L
   absent e rest h false true t u = refl
   absent e rest h false false t u = refl
 
-  -- what a look-up finds afterwards
+  -- after the insertion of an entry in a map, the look-up of a key finds the new value for the entry's key, and for others what
+  -- it found before
   pub inserted_at : (es : List (Vec ℕ Global × V)) → found_in (inserted es) ≡ cond (bytes_eq other k.items) (Some (view v)) (found_in es)
   inserted_at [] = ap (λ b. cond b (Some (view v)) None) (bytes_eq_turned k.items other)
   inserted_at (e ∷ es) = by_test (bytes_eq k.items e.0.items) refl (inserted_at es)

@@ -22,14 +22,14 @@ use Rattle.kc_macros.proofs.RunLemmas.{RunsIn, in_each_world, runs_fault}
 stays : (s : RunState) → s ≡ record s { notices = s.notices ++ [] }
 stays s = ap (λ ns. let t : RunState = record s { notices = ns } in t) (sym (append-nil s.notices))
 
--- a program that comes to a fault stops with it
+-- a program that ends with a fault ends with a stop of the code that is this fault, or means that memory ran out
 pub fails_by : {A : Type 0} (s : RunState) (p : Program A) (f : Fault) (stop : Stop) → FailsWith f stop → Runs s s p (ends (failed f))
     → Runs s s p (end_of_stop stop)
 fails_by s p f (kinds.Fault g) h r = subst (λ x. Runs s s p (ends (failed x))) (sym h) r
 fails_by s p f kinds.Unanswered h r = absurd h
 fails_by s p f kinds.OutOfMemory h r = cut_short
 
--- a fault stops a run
+-- the program that only fails ends with a stop of the code that is its fault, or means that memory ran out
 pub runs_failed : {A : Type 0} (s : RunState) (f : Fault) (stop : Stop) → FailsWith f stop → Runs {A = A} s s (fails f) (end_of_stop stop)
 runs_failed {A = A} s f stop h = fails_by {A = A} s (fails f) f stop h (runs_fault s f)
 
@@ -65,7 +65,7 @@ module _ (s : RunState) (at : Place) (work : ℕ) where
       let t : RunState = record s { left = s.left - work } in
       in_each_world s t (spent at work) (returned (tt {0})) (λ w a. in_world_spent w false (le-ltb s.left work h) t (returned (tt {0})) (stays t) refl)
 
--- a notice
+-- the program that reports a notice appends it to those of the run, and returns an empty value
 pub reports : (s : RunState) (at : Place) (kind : MacroNoticeKind) (text : List ℕ)
     → Runs s (record s { notices = s.notices ++ record { at = at; kind = kind; text = text } ∷ [] }) (reported at kind text) (ends (returned (Some [])))
 reports s at kind text =

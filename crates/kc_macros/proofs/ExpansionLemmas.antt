@@ -21,22 +21,22 @@ use Rattle.kc_macros.proofs.EventLemmas.{runs_failed}
 use Rattle.kc_macros.proofs.ProgramLemmas.{runs_same, leads_same, leads_then, leads_on}
 use Rattle.kc_macros.proofs.PartialValueLemmas.{fits, fits_not, all_left, none_left, one_left, text_left, text_left_out}
 
--- a program that fails
+-- a program that equals a failing one ends with a stop of the code that is its fault, or means that memory ran out
 pub fails_so : {A : Type 0} (s : RunState) (p : Program A) (f : Fault) (stop : Stop) → p ≡ fails f → FailsWith f stop → Runs s s p (end_of_stop stop)
 fails_so s p f stop h k = runs_same s s p (fails f) (end_of_stop stop) h (runs_failed s f stop k)
 
--- where a stop comes only if a fact holds
+-- a program that fails if a fact holds ends with each stop of the code that `FailsIf` allows for this fact
 pub fails_where : {A : Type 0} (s : RunState) (p : Program A) (P : Type 0) (f : Fault) (stop : Stop) → (P → p ≡ fails f) → FailsIf P f stop
     → Runs s s p (end_of_stop stop)
 fails_where s p P f (kinds.Fault g) h k = fails_so s p f (kinds.Fault g) (h k.0) k.1
 fails_where s p P f kinds.Unanswered h k = absurd k
 fails_where s p P f kinds.OutOfMemory h k = cut_short
 
--- a value that is returned
+-- a program that equals one that only returns a value returns it, and leaves the run as it is
 pub returns_so : {A : Type 0} (s : RunState) (p : Program A) (x : A) → p ≡ returns x → Runs s s p (ends (returned x))
 returns_so s p x h = runs_same s s p (returns x) (ends (returned x)) h (runs_nothing s x)
 
--- the rest of an expansion, whose value costs its length
+-- the program that spends the length of a value as work, and then returns the value
 abbrev pub paid : Place → Value → Program Value
 paid at v = spends at (value_length v) (returns v)
 
@@ -81,13 +81,13 @@ module _ (at : Place) (more : ℕ) (b : Bindings) (names : List (List ℕ)) (arg
         (then_runs u v (spent at (value_length x)) (λ w. returns x) (tt {0}) v (ends (returned x)) paid_so (runs_nothing v x)))
 
 module _ (at : Place) (value : Item → Program Value) (s : RunState) (known : Bool) (bytes : List ℕ) where
-  -- the value of a text, before its first item
+  -- the program for the values of all items of a text leads to the one for the items left, if none is expanded yet
   pub begins_all : (is : List Item) → known ≡ true → bytes ≡ [] → Leads s (item_values at value 0 is) s (values_left at value known bytes is)
   begins_all is h k =
       leads_same s (item_values at value 0 is) (values_left at value known bytes is)
       (all_left at value true [] is ∙ ap (λ b. values_left at value b [] is) (sym h) ∙ ap (λ b. values_left at value known b is) (sym k))
 
-  -- no item is left
+  -- if no item of a text is left to expand, the program for its value returns the joined values of its items
   pub ends_all : (first : RunState) (p : Program Value) (is : List Item) (v : Value) → is ≡ [] → v ≡ value_if_known known bytes
       → Leads first p s (values_left at value known bytes is) → Runs first s p (ends (returned v))
   ends_all first p is v h k a =
@@ -100,7 +100,7 @@ module _ (at : Place) (value : Item → Program Value) (bytes_stay : (c : ℕ) �
   abbrev at_first : Program Value
   at_first = values_left at value known bytes (items false 0 text)
 
-  -- bytes that are too many
+  -- if the plain bytes before the next reference make the value of a text too long, its program stops with that fault
   pub plain_too_long : (stop : Stop) → FailsIf (max_text_bytes < length bytes + length plain) (too_long at) stop → Runs s s at_first (end_of_stop stop)
   plain_too_long stop h =
       fails_where s at_first (max_text_bytes < length bytes + length plain) (too_long at) stop
@@ -113,11 +113,11 @@ module _ (at : Place) (value : Item → Program Value) (bytes_stay : (c : ℕ) �
         ap (values_left at value known bytes) cut ∙ text_left at value bytes_stay known plain bytes later short
         ∙ ap (λ b. values_left at value b (bytes ++ plain) later) (sym same_known) ∙ ap (λ b. values_left at value known2 b later) (sym same_bytes)
 
-    -- bytes alone
+    -- the plain bytes before the next reference lead to the value of the items after them
     pub plain_leads : (is : List Item) → later ≡ is → Leads s at_first s (values_left at value known2 bytes2 is)
     plain_leads is h = leads_same s at_first (values_left at value known2 bytes2 is) (after_plain ∙ ap (values_left at value known2 bytes2) h)
 
-    -- a `$(` without its `)`
+    -- if a `$(` without its `)` follows the plain bytes of a text, the program for its value stops with that fault
     pub plain_unterminated : (i : Item) (more : List Item) (f : Fault) (stop : Stop) → later ≡ i ∷ more → value i ≡ fails f → FailsWith f stop
         → Runs s s at_first (end_of_stop stop)
     plain_unterminated i more f stop h k w =
@@ -133,11 +133,11 @@ module _ (at : Place) (value : Item → Program Value) (bytes_stay : (c : ℕ) �
       to_item : at_first ≡ value i >>= rest_after
       to_item = after_plain ∙ ap (values_left at value known2 bytes2) front ∙ one_left at value known2 bytes2 i more
 
-      -- an item whose value isn't found
+      -- if the program for the value of an item stops, so does the program for the value of the text
       pub item_stopped : (t : RunState) (stop : Stop) → Runs s t (value i) (end_of_stop stop) → Runs s t at_first (end_of_stop stop)
       item_stopped t stop a = runs_same s t at_first (value i >>= rest_after) (end_of_stop stop) to_item (stops_early s t (value i) rest_after stop a)
 
-      -- a value that is too long
+      -- if the value of an item makes the value of a text too long, the program for that value stops with this fault
       pub item_too_long : (t : RunState) (v : Value) (stop : Stop) → Runs s t (value i) (ends (returned v))
           → FailsIf (max_text_bytes < length bytes2 + value_length v) (too_long at) stop → Runs s t at_first (end_of_stop stop)
       item_too_long t v stop a h =
@@ -146,7 +146,7 @@ module _ (at : Place) (value : Item → Program Value) (bytes_stay : (c : ℕ) �
           (fails_where t (rest_after v) (max_text_bytes < length bytes2 + value_length v) (too_long at) stop
           (λ l. fits_not at (length bytes2 + value_length v) (values_left at value (known2 && is_some v) (bytes2 ++ known_bytes v) more) l) h))
 
-      -- a value that fits
+      -- the value of an item that doesn't make the value of a text too long leads to the items after it
       pub item_leads : (t : RunState) (v : Value) (known3 : Bool) (bytes3 : List ℕ) → Runs s t (value i) (ends (returned v))
           → length bytes2 + value_length v ≤ max_text_bytes
           → known3 ≡ (known2 && is_some v) → bytes3 ≡ bytes2 ++ known_bytes v → Leads s at_first t (values_left at value known3 bytes3 more)

@@ -26,7 +26,7 @@ module _ (name after : List ℕ) where
       sym (ap (λ b. cond b None (option_map without_blanks (operator_at (without_front is_white_byte (bytes_of_tokens (line_tokens 0 after)))))) e
       ∙ ap (λ t. option_map without_blanks (operator_at (without_front is_white_byte t))) (row_of_tokens 0 after) ∙ ap (option_map without_blanks) (sym h))
 
-  -- without an operator nothing is assigned
+  -- a name without an operator after it, white aside, isn't the name of an assignment
   pub assigns_nothing : None ≡ operator_at (without_front is_white_byte after) → None ≡ assignment_to (run name) (line_tokens 0 after)
   assigns_nothing h = by_test (is_keyword name) refl
     where
@@ -34,7 +34,7 @@ module _ (name after : List ℕ) where
       by_test true e = keyword_assigns_not e
       by_test false e = assigns_by e None h
 
--- a token that is no gap is at the front of a line without white
+-- a line has a token that is no gap if its first byte that isn't white, if there is one, isn't `#`
 pub token_by_front : (s : List ℕ) → has_token s ≡ not (get_or (without_front is_white_byte s) 0 35 == 35)
 token_by_front [] = refl
 token_by_front (c ∷ s) = by_test (token_by_front s) (is_white_byte c)
@@ -63,7 +63,7 @@ module _ (s rest : List ℕ) (e : rest ≡ without_front is_white_byte s) where
       no_byte [] k = refl
       no_byte (c ∷ r) k = absurd (omega arith)
 
--- whether the line may be another one without a token
+-- if a line may assign and its first token is unknown, it is undecided whether it assigns if a token that is no gap follows
 pub open_so : (may : Bool) (w : WrittenToken) (after : List ℕ) (r : Bool) → may ≡ true → is_unknown w ≡ true → r ≡ has_token after
     → r ≡ is_open_front may w (line_tokens 0 after)
 open_so may w after r h k e =

@@ -32,12 +32,12 @@ with_more : (before : List WrittenToken) (t : WrittenToken) (c : LineContent) �
 with_more before t (tokens ts) = ap tokens (sym (append_assoc before (t ∷ []) ts))
 with_more before t (assigns name a) = refl
 
--- a token more, as the code has it
+-- a token that is appended to the code's written tokens is appended to those of `kc_macros_model`
 pub tokens_pushed : (before after : List CodeToken) (t : CodeToken) → after ≡ before ++ t ∷ [] → tokens_of after ≡ tokens_of before ++ token_of t ∷ []
 tokens_pushed before after t h = ap tokens_of h ∙ map-append token_of before (t ∷ [])
 
 module _ (at : Place) (b : Bindings) where
-  -- no token is written yet
+  -- the program for the content of a line leads to the one for the tokens left, if none is written yet
   pub content_begins : (s : RunState) (before : List WrittenToken) (ts : List LineToken) → before ≡ []
       → Leads s (line_content at b true ts) s (content_left at b before true ts)
   content_begins s before ts h =
@@ -45,7 +45,7 @@ module _ (at : Place) (b : Bindings) where
       (sym (ap (λ x. content_left at b x true ts) h ∙ then_same (line_content at b true ts) (λ c. returns (with_tokens [] c)) returns
       (λ c. ap returns (with_none c)) ∙ then_returns (line_content at b true ts)))
 
-  -- no token is left
+  -- if no token of a line is left, the program for its content returns the written tokens
   pub content_ends : (first s : RunState) (p : Program LineContent) (before : List WrittenToken) (may_assign : Bool) (ts : List LineToken) → ts ≡ []
       → Leads first p s (content_left at b before may_assign ts)
       → Runs first s p (ends (returned (tokens before)))
@@ -99,7 +99,7 @@ module _ (at : Place) (b : Bindings) where
         (stops_early s u (written_token at b t) next stop a)
 
     module _ (u : RunState) (w : WrittenToken) (a : Runs s u (written_token at b t) (ends (returned w))) where
-      -- it isn't known what the line is
+      -- if a written token leaves open what the line is, the program for the content of the line stops
       pub token_open : is_open_front may_assign w ts ≡ true → Runs s u at_token (ends stopped)
       token_open e =
           runs_same s u at_token (written_token at b t >>= next) (ends stopped) to_written
@@ -145,7 +145,7 @@ module _ (at : Place) (b : Bindings) where
         (stops_early s u (run_value at b name) named stop r)
 
     module _ (u : RunState) (v : Value) (r : Runs s u (run_value at b name) (ends (returned v))) where
-      -- the name isn't known
+      -- if the value of the name of an assignment is unknown, the program for the content of the line stops
       pub name_unknown : v ≡ None → Runs s u at_name (ends stopped)
       name_unknown e =
           runs_same s u at_name (run_value at b name >>= named) (ends stopped) to_name
@@ -156,7 +156,7 @@ module _ (at : Place) (b : Bindings) where
           leads_then s s u at_name (run_value at b name >>= named) p (leads_same s at_name (run_value at b name >>= named) to_name)
           (leads_then s u u (run_value at b name >>= named) (named v) p (leads_on s u (run_value at b name) named v r) (leads_same u (named v) p e))
 
-      -- the name is empty
+      -- if the name of an assignment has an empty value, it is written as a gap, and the tokens after it are read
       pub name_empty : (x : List ℕ) → v ≡ Some x → length x ≡ 0 → (after : List WrittenToken) → after ≡ before ++ token_of_text [] ∷ []
           → Leads s at_name u (content_left at b after may_assign ts)
       name_empty (c ∷ x) e k after l = absurd (omega arith)
@@ -169,18 +169,18 @@ module _ (at : Place) (b : Bindings) where
       name_assigned [] e k y l = absurd (omega arith)
       name_assigned (c ∷ x) e k y l = after_name (returns (assigns (c ∷ x) y)) (ap named e ∙ ap (λ z. returns (assigns (c ∷ x) z)) (sym l))
 
--- a token that was found to be the name of an assignment
+-- a run that is the name of an assignment where one may come is the name of this assignment to the run
 pub found_assigned : (may_assign : Bool) (t : LineToken) (ts : List LineToken) (name : List ℕ) (a : Assigned) → may_assign ≡ true → t ≡ run name
     → Some a ≡ assignment_at may_assign t ts → assignment_to (run name) ts ≡ Some a
 found_assigned may_assign t ts name a may e h = sym (h ∙ ap (λ m. assignment_at m t ts) may ∙ ap (λ x. assignment_to x ts) e)
 
--- a step of the same program under another name
+-- a step through a program is one through each program that equals it
 pub steps_same : {A X : Type 0} (s t : RunState) (p q : Program A) (next : X → Program A) (r : Result X Stop) → p ≡ q → Steps s t q next r → Steps s t p next r
 steps_same s t p q next r e a = subst (λ x. Steps s t x next r) (sym e) a
 
 module _ (at : Place) (b : Bindings) (first s t : RunState) (p q : Program LineContent) (l : Leads first p s q) (front : LineFront) (step : LineStep)
     (k : Leads s q t (step_left at b front step)) where
-  -- a step that finds an assignment
+  -- if the next step along a line finds an assignment, the program for the content of the line returns it
   pub content_assigned : (a : Assignment) → step ≡ steps.Assigns a → Runs first t p
       (ends (returned (assigns a.name (assigned (operator_of a.operator) a.text))))
   content_assigned a e =
@@ -189,7 +189,7 @@ module _ (at : Place) (b : Bindings) (first s t : RunState) (p q : Program LineC
       (leads_then first s t p q end l last).leads t (ends (returned (assigns a.name (assigned (operator_of a.operator) a.text))))
       (runs_nothing t (assigns a.name (assigned (operator_of a.operator) a.text)))
 
-  -- a step that goes on
+  -- if the next step along a line gives the bytes after a token, the program for the content of the line leads to their tokens
   pub content_goes_on : (after : Bor (List ℕ)) → step ≡ steps.Rest after → Leads first p t (front_left at b front (line_tokens 0 after.now))
   content_goes_on after e = leads_then first s t p q (front_left at b front (line_tokens 0 after.now)) l (subst (λ x. Leads s q t (step_left at b front x)) e k)
 

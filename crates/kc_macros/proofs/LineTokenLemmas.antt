@@ -83,7 +83,7 @@ first_is c s = by_tests (is_white_byte c) (c == 35) (is_run_byte c) refl (c == 3
     by_tests false false false e true = quoted_first c s
     by_tests false false false e false = record { row = refl; some = refl }
 
--- the bytes of the tokens of a line
+-- the bytes of the tokens of a line are the bytes of the line
 pub row_of_tokens : (skip : ℕ) (s : List ℕ) → bytes_of_tokens (line_tokens skip s) ≡ drop skip s
 row_of_tokens zero [] = refl
 row_of_tokens (suc skip) [] = refl
@@ -98,7 +98,7 @@ tokens_skip (suc n) [] = refl
 tokens_skip (suc n) (c ∷ s) = tokens_skip n s
 
 module _ (s : List ℕ) (n : ℕ) (some : 0 < length s) (len : n ≡ length (token_bytes (first_token_of s))) where
-  -- the tokens of a line, and those after the first
+  -- the tokens of a line are its first token and the tokens of the bytes after it
   pub tokens_first : line_tokens 0 s ≡ first_token_of s ∷ line_tokens 0 (take (length s - n) (drop n s))
   tokens_first = by_front s some len ∙ ap (λ x. first_token_of s ∷ line_tokens 0 x) (sym (rest_is s n))
     where
@@ -108,7 +108,7 @@ module _ (s : List ℕ) (n : ℕ) (some : 0 < length s) (len : n ≡ length (tok
           let t = first_token c s in
           ap (λ ts. t ∷ ts) (tokens_skip (pred (length (token_bytes t))) s ∙ ap (λ k. line_tokens 0 (drop k (c ∷ s))) (sym (e ∙ (first_is c s).some)))
 
--- a token has bytes, all of them of its text
+-- the first token of a text that isn't empty has at least one byte, and at most those of the text
 pub token_fits : (s : List ℕ) → 0 < length s → (0 < length (token_bytes (first_token_of s))) × (length (token_bytes (first_token_of s)) ≤ length s)
 token_fits [] h = absurd (omega arith)
 token_fits (c ∷ s) h =
@@ -116,7 +116,7 @@ token_fits (c ∷ s) h =
     let t = first_token c s in
     (omega (arith, f.some), omega (arith, ap length f.row, length-append (token_bytes t) (drop (pred (length (token_bytes t))) s)))
 
--- whether a line has a token that is no gap
+-- a line has a token that is no gap if `has_token` finds one
 pub any_token : (s : List ℕ) → list_any (λ t. not (is_gap_token t)) (line_tokens 0 s) ≡ has_token s
 any_token [] = refl
 any_token (c ∷ s) = by_tests (any_token s) (is_white_byte c) (c == 35) (is_run_byte c) (c == 34 || (c == 39))

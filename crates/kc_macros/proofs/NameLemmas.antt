@@ -81,7 +81,7 @@ module _ (at : Place) (name : List ℕ) (args : List Value) where
       (fails (record { at = at; kind = Undefined; text = name })))) n
       ∙ ap (λ b. cond b (asked_value at name) (fails (record { at = at; kind = Undefined; text = name }))) e
 
--- another count of arguments
+-- a built-in function that is called with another count of arguments than it takes fails with `Arguments`
 pub wrong_count : (at : Place) (name : List ℕ) (f : BuiltIn) (args : List Value) → length args ≢ arity_of f
     → built_in_value at name f args ≡ fails (record { at = at; kind = Arguments; text = name })
 wrong_count at name filename [] h = absurd (h refl)

@@ -26,7 +26,7 @@ second_of_both true c e = e
 second_of_both false c e = absurd (let z : ⊥ = cc in z)
 
 module _ (p : ℕ → Bool) where
-  -- one element more passes
+  -- if the first `i` elements of a list pass a test and so does element `i`, counted from 0, the first `i + 1` do
   pub all_more : (xs : List ℕ) (i : ℕ) → i < length xs → list_all p (take i xs) ≡ true → p (get_or xs i 0) ≡ true → list_all p (take (i + 1) xs) ≡ true
   all_more [] i h all here = absurd (omega arith)
   all_more (x ∷ xs) zero h all here = both_so (p x) true here refl
@@ -34,13 +34,13 @@ module _ (p : ℕ → Bool) where
       ap (λ n. list_all p (take n (x ∷ xs))) (let e : suc i + 1 ≡ suc (i + 1) = omega arith in e) ∙ both_so (p x) (list_all p (take (i + 1) xs))
       (first_of_both (p x) (list_all p (take i xs)) all) (all_more xs i (omega (arith, h)) (second_of_both (p x) (list_all p (take i xs)) all) here)
 
-  -- an element fails
+  -- if an element of a list fails a test, not all elements pass it
   pub all_fails : (xs : List ℕ) (i : ℕ) → i < length xs → p (get_or xs i 0) ≡ false → list_all p xs ≡ false
   all_fails [] i h here = absurd (omega arith)
   all_fails (x ∷ xs) zero h here = ap (λ b. b && list_all p xs) here
   all_fails (x ∷ xs) (suc i) h here = one_fails (p x) (list_all p xs) (all_fails xs i (omega (arith, h)) here)
 
--- what it means that a text is no number up to a limit
+-- a text isn't a number from 1 to a limit: it isn't all digits, or its number is 0 or past the limit
 abbrev pub IsNoNumber : List ℕ → ℕ → Type 0
 IsNoNumber text limit = (is_number text ≡ false) ⊎ ((digits_value 10 text ≡ 0) ⊎ (limit < digits_value 10 text))
 

@@ -50,16 +50,16 @@ long_then {A = A} {B = B} at n p f = by_test (nat_le n max_text_bytes)
     by_test false = refl
 
 module _ (at : Place) (value : Item → Program Value) (known : Bool) (bytes : List ℕ) where
-  -- all values of a row of items
+  -- the program for the values of all items of a text is the one for the items left before the first one is expanded
   pub all_left : (is : List Item) → item_values at value 0 is ≡ values_left at value true [] is
   all_left is = sym (then_same (item_values at value 0 is) (λ rest. returns (joined_values (Some []) rest)) returns (λ v. ap returns (joined_nothing v))
       ∙ then_returns (item_values at value 0 is))
 
-  -- no items are left
+  -- the program for the value of a text returns the joined values of its items if no item is left
   pub none_left : values_left at value known bytes [] ≡ returns (value_if_known known bytes)
   none_left = ap returns (nothing_joined (value_if_known known bytes))
 
-  -- a value more
+  -- the program for the value of a text expands its next item, and joins its value to those before, unless that gets too long
   pub one_left : (i : Item) (is : List Item) → values_left at value known bytes (i ∷ is)
       ≡ value i >>= (λ v. unless_too_long at (length bytes + value_length v) (values_left at value (known && is_some v) (bytes ++ known_bytes v) is))
   one_left i is =
@@ -100,7 +100,7 @@ module _ (at : Place) (value : Item → Program Value) (bytes_stay : (c : ℕ) �
       (bytes_stay c)
       ∙ ap (λ b. unless_too_long at (length bytes + 1) (values_left at value b (bytes ++ c ∷ []) is)) (always known)
 
-  -- bytes that fit
+  -- plain bytes of a text that don't make its value too long are appended to the values of the items before them
   pub text_left : (text bytes : List ℕ) (is : List Item) → length bytes + length text ≤ max_text_bytes
       → values_left at value known bytes (map byte text ++ is) ≡ values_left at value known (bytes ++ text) is
   text_left [] bytes is h = ap (λ b. values_left at value known b is) (sym (append-nil bytes))
@@ -110,7 +110,7 @@ module _ (at : Place) (value : Item → Program Value) (bytes_stay : (c : ℕ) �
       ∙ text_left text (bytes ++ c ∷ []) is (omega (arith, h, length-append bytes (c ∷ [])))
       ∙ ap (λ b. values_left at value known b is) (append_assoc bytes (c ∷ []) text)
 
-  -- bytes that don't
+  -- plain bytes of a text that make its value too long are a fault
   pub text_left_out : (text bytes : List ℕ) (is : List Item) → length bytes ≤ max_text_bytes → max_text_bytes < length bytes + length text
       → values_left at value known bytes (map byte text ++ is) ≡ fails (too_long at)
   text_left_out [] bytes is h k = absurd (omega (arith, h, k))

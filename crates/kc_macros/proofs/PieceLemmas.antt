@@ -13,7 +13,7 @@ use Rattle.std.proofs.lemmas.Grind.{common_steps}
 use Rattle.std.specs.Borrow.{Bor}
 use Rattle.kc_macros.specs.checker.Texts.{texts_of, pieces_from}
 
--- a place after this many bytes
+-- a place, if there is one, moved on by a count of bytes
 abbrev pub after : ℕ → Option ℕ → Option ℕ
 after i o = option_map (λ k. i + k) o
 
@@ -45,12 +45,12 @@ module _ (text : List ℕ) (i open_count : ℕ) (h : i < length text) where
       (onto_first here (pieces (open_after here open_count) (drop (i + 1) text)))
   piece_step = at_drop_more (pieces open_count) text i 0 h
 
--- no `)` closes
+-- a text that was searched to its end without finding the `)` of its reference has none
 pub inside_never : (text : List ℕ) (i open_count : ℕ) → length text ≤ i → inside_length 0 text ≡ after i (inside_length open_count (drop i text))
     → inside_length 0 text ≡ None
 inside_never text i open_count h same = same ∙ ap (after i) (at_drop_all (inside_length open_count) text i h)
 
--- bytes before the first of some texts
+-- a list of texts of which the first has these bytes before its own
 abbrev pub front_onto : List ℕ → List (List ℕ) → List (List ℕ)
 front_onto [] parts = parts
 front_onto (c ∷ s) parts = onto_first c (front_onto s parts)
@@ -98,11 +98,11 @@ piece_last text i open_count h same =
     ∙ ap (λ s. s ∷ []) (append-nil (take i text) ∙ take_all i text h)
     ∙ sym (ap (λ b. cond b (take (length text) text ∷ pieces 0 (drop (length text + 1) text)) (text ∷ [])) (le-ltb (length text) (length text) (omega arith)))
 
--- bytes outside references
+-- bytes outside references as items of a text, one for each byte
 pub plain_bytes : List ℕ → List Item
 plain_bytes s = map byte s
 
--- items before a place
+-- if no reference begins at index `i` of a text and its items before `i` are bytes, so are those before `i + 1`
 pub items_later : (text : List ℕ) (i : ℕ) → i < length text → begins_reference (drop i text) ≡ false
     → items false 0 text ≡ map byte (take i text) ++ items false 0 (drop i text)
     → items false 0 text ≡ map byte (take (i + 1) text) ++ items false 0 (drop (i + 1) text)
@@ -130,7 +130,7 @@ front_of (c ∷ d ∷ s) e =
     let paren : d ≡ 40 = eqb-true d 40 (second_so (c == 36) (d == 40) e) in
     record { rest = s; whole = ap (λ x. x ∷ d ∷ s) dollar ∙ ap (λ y. 36 ∷ y ∷ s) paren }
 
--- the items of a text that begins with a reference
+-- the items of a text that begins with a reference are this reference and the items of the bytes after its `)`
 pub items_at_reference : (q : Bool) (text : List ℕ) (n : ℕ) → begins_reference text ≡ true → inside_length 0 (drop 2 text) ≡ Some n
     → items q 0 text ≡ reference (take n (drop 2 text)) ∷ items q 0 (drop (n + 1) (drop 2 text))
 items_at_reference q text n begins ends =
@@ -159,7 +159,7 @@ items_at_unterminated q text begins never =
       ap (items q 0) whole ∙ ap (λ r. let i = reference_of (drop 2 text) r in i ∷ items q (pred (length (item_bytes i))) (40 ∷ drop 2 text)) never,
     )
 
--- a piece more
+-- the pieces of a reference are those found so far, the next one up to its comma, and those after the comma
 pub pieces_more : (before : List (List ℕ)) (rest : List ℕ) (n : ℕ) (whole : List (List ℕ)) → n < length rest → whole ≡ before ++ pieces 0 rest
     → pieces 0 rest ≡ pieces_from n rest
     → whole ≡ (before ++ take n rest ∷ []) ++ pieces 0 (drop (n + 1) rest)
@@ -185,7 +185,7 @@ texts_push : (ts : List (Bor (List ℕ))) (t : Bor (List ℕ)) → texts_of (ts 
 texts_push [] t = refl
 texts_push (s ∷ ts) t = ap (λ xs. s.now ∷ xs) (texts_push ts t)
 
--- a slice more, which is a piece
+-- the code's slice of the next piece, appended to those of the pieces so far, leaves the pieces after its comma
 pub pieces_kept : (before after : List (Bor (List ℕ))) (piece : Bor (List ℕ)) (rest : List ℕ) (n : ℕ) (whole : List (List ℕ)) → n < length rest
     → piece.now ≡ take n rest → after ≡ before ++ piece ∷ []
     → whole ≡ texts_of before ++ pieces 0 rest → pieces 0 rest ≡ pieces_from n rest → (next : List ℕ)
@@ -197,7 +197,7 @@ pieces_kept before after piece rest n whole h text pushed same cut next is =
     ∙ ap (λ ts. ts ++ pieces 0 (drop (n + 1) rest)) (sym (ap texts_of pushed ∙ texts_push before piece))
     ∙ ap (λ s. texts_of after ++ pieces 0 s) (sym (is ∙ rest_is (take (length rest - n) (drop n rest)) 1 ∙ ap (drop 1) (rest_is rest n) ∙ drop_one rest n))
 
--- the last piece
+-- the code's slice of the last piece, appended to those of the pieces so far, makes them all pieces of the reference
 pub pieces_done : (before after : List (Bor (List ℕ))) (piece : Bor (List ℕ)) (rest : List ℕ) (n : ℕ) (whole : List (List ℕ)) → n ≡ length rest
     → piece.now ≡ take n rest → after ≡ before ++ piece ∷ []
     → whole ≡ texts_of before ++ pieces 0 rest → pieces 0 rest ≡ pieces_from n rest → texts_of after ≡ whole
@@ -205,7 +205,7 @@ pieces_done before after piece rest n whole h text pushed same cut =
     ap texts_of pushed ∙ texts_push before piece ∙ ap (λ t. texts_of before ++ t ∷ []) (text ∙ take_all n rest (omega (arith, h)))
     ∙ sym (pieces_all (texts_of before) rest n whole h same cut)
 
--- a reference at the front, as the code cuts it
+-- the items of a text that begins with a reference, given the slices that the code cuts from the text
 pub front_cut : (text : List ℕ) (n : ℕ) → begins_reference text ≡ true → inside_length 0 (take (length text - 2) (drop 2 text)) ≡ Some n → (q : Bool)
     → (let s = take (length text - 2) (drop 2 text) in items q 0 text ≡ reference (take n s) ∷ items q 0 (take (length s - (n + 1)) (drop (n + 1) s)))
 front_cut text n begins ends q =
@@ -239,7 +239,7 @@ module _ (text : List ℕ) (n : ℕ) (begins : begins_reference text ≡ true) (
   whole_is : text ≡ 36 ∷ 40 ∷ (found.inside ++ 41 ∷ found.rest)
   whole_is = let f = front_of text begins in f.whole ∙ ap (λ s. 36 ∷ 40 ∷ s) (sym (ap (drop 2) f.whole) ∙ found.whole)
 
-  -- the bytes of a reference at the front
+  -- the front of a text that begins with a reference is `$(`, the bytes between the parentheses, and `)`
   pub front_whole : take (length (take n later) + 3) text ≡ item_bytes (reference (take n later))
   front_whole =
       ap (λ x. take (length x + 3) text) inside_taken ∙ ap (λ t. take (length found.inside + 3) t) whole_is

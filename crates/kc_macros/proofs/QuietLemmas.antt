@@ -105,7 +105,7 @@ dropped_plain (suc n) (c ∷ s) h = dropped_plain n s (rest_plain c s h)
 pub rest_without_dollar : (text rest : List ℕ) → rest ≡ without_front is_white_byte text → has_dollar text ≡ false → has_dollar rest ≡ false
 rest_without_dollar text rest e h = ap has_dollar e ∙ dropped_plain _ text h
 
--- a line without `$` whose first word is quiet
+-- a line without `$` whose first word is quiet, with the tokens after it, is quiet, as `IsQuiet` defines
 pub quiet_word : (text rest : List ℕ) (n : ℕ) (word after : List ℕ) → rest ≡ without_front is_white_byte text → has_dollar text ≡ false
     → n ≡ length (take_while is_run_byte rest) → n ≢ 0 → (get_or rest 0 0 == 35) ≡ false
     → word ≡ take n rest → after ≡ drop n rest → IsQuiet (run word ∷ line_tokens 0 after) → IsQuiet (line_tokens 0 text)
@@ -146,7 +146,7 @@ turned_word P v w h k = by_test (bytes_eq w v) refl
     by_test true e = absurd (let z : true ≡ false = sym h ∙ ap P (sym ((bytes_eq-Decides w v).0 e)) ∙ k in let y : ⊥ = cc in y)
     by_test false e = refl
 
--- nothing acts on a word that ends otherwise
+-- a word without the last byte of an acting word, such as `source` or `help`, isn't one
 pub acts_not : (w : List ℕ) → ends_acting w ≡ false → is_acting_word w ≡ false
 acts_not w h =
     ap (λ x. x || is_in_list w help_words || bytes_eq w (codes "choice") || bytes_eq w (codes "option")) (not_among ends_acting w source_words refl h)
@@ -154,11 +154,11 @@ acts_not w h =
     ∙ ap (λ x. x || bytes_eq w (codes "option")) (turned_word ends_acting (codes "choice") w refl h)
     ∙ turned_word ends_acting (codes "option") w refl h
 
--- no prompt follows a word that begins otherwise
+-- a prompt doesn't follow a word without the first and last byte of one that a prompt follows
 pub prompts_not : (w : List ℕ) → may_begin_prompt w ≡ false → is_in_list w prompt_words ≡ false
 prompts_not w h = not_among may_begin_prompt w prompt_words refl h
 
--- a text without `$` that is ASCII
+-- a text that has neither a `$` nor a byte that isn't ASCII has no `$`
 pub no_dollar_in : (text : List ℕ) → has_dollar_or_wide text ≡ false → has_dollar text ≡ false
 no_dollar_in [] h = refl
 no_dollar_in (c ∷ s) h =

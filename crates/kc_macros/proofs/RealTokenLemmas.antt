@@ -14,11 +14,11 @@ use Rattle.kc_macros.specs.between.WrittenTokens.{token_of}
 use Rattle.kc_macros.specs.between.LineContents.{tokens_of}
 use Rattle.kc_macros.specs.checker.RealTokens.{gap_count, real_tokens, is_empty_line, is_decisive_word, form_by}
 
--- the rest of a slice
+-- the last `length xs - n` elements of a list are all but its first `n`
 pub slice_rest : {A : Type 0} (xs : List A) (n : ℕ) → take (length xs - n) (drop n xs) ≡ drop n xs
 slice_rest xs n = take_all (length xs - n) (drop n xs) (omega (arith, length-drop n xs))
 
--- a gap more
+-- if the first `i` tokens of a line are gaps and so is token `i`, counted from 0, the first `i + 1` are
 pub gap_later : (ts : List CodeToken) (i : ℕ) (t : CodeToken) → i < length ts → t ≡ get_or ts i t → is_gap (token_of t) ≡ true
     → gap_count ts ≡ i + gap_count (drop i ts) → gap_count ts ≡ (i + 1) + gap_count (drop (i + 1) ts)
 gap_later ts i t h e g same =
@@ -27,7 +27,7 @@ gap_later ts i t h e g same =
     ∙ ap (λ b. cond b (suc (gap_count (drop (i + 1) ts))) 0) g in
     omega (arith, same, step)
 
--- a token that is no gap
+-- if the first `i` tokens of a line are gaps and token `i`, counted from 0, is none, the line has `i` gaps at its front
 pub gap_stops : (ts : List CodeToken) (i : ℕ) (t : CodeToken) → i < length ts → t ≡ get_or ts i t → is_gap (token_of t) ≡ false
     → gap_count ts ≡ i + gap_count (drop i ts) → i ≡ gap_count ts
 gap_stops ts i t h e g same =
@@ -39,7 +39,7 @@ gap_stops ts i t h e g same =
 pub gap_ends : (ts : List CodeToken) (i : ℕ) → length ts ≤ i → i ≤ length ts → gap_count ts ≡ i + gap_count (drop i ts) → length ts ≡ gap_count ts
 gap_ends ts i h k same = let step : gap_count (drop i ts) ≡ 0 = at_drop_all gap_count ts i h in omega (arith, same, step)
 
--- a line of gaps alone
+-- a line of gaps alone has no other tokens
 pub real_none : (ts : List CodeToken) → length ts ≤ gap_count ts → real_tokens ts ≡ []
 real_none [] h = refl
 real_none (t ∷ ts) h = by_test (λ k. real_none ts k) (is_gap (token_of t)) h
@@ -70,7 +70,7 @@ real_some ts n t e h i =
     ∙ ap (λ k. token_of t ∷ real_tokens (drop k ts)) (let m : suc n ≡ n + 1 = omega arith in m)
     ∙ ap (λ xs. token_of t ∷ real_tokens xs) (sym (slice_rest ts (n + 1)))
 
--- a form by the first two tokens
+-- the form of a line whose first token is a word is the one by this word, the second token, and whether no third one follows
 pub form_is : (ts : List WrittenToken) (t u : WrittenToken) (more rest : List WrittenToken) → ts ≡ t ∷ more → more ≡ u ∷ rest → is_word t ≡ true
     → form_by t.bytes u (is_empty_line rest) ≡ form_of ts
 form_is ts t u more rest h k w = by_rest rest ∙ sym (ap form_of (h ∙ ap (λ xs. t ∷ xs) k) ∙ ap (λ b. cond b (form_by_word t.bytes u rest) plain) w)
@@ -83,7 +83,7 @@ pub form_of_no_word : (ts : List WrittenToken) (t u : WrittenToken) (more rest :
     → plain ≡ form_of ts
 form_of_no_word ts t u more rest h k w = sym (ap form_of (h ∙ ap (λ xs. t ∷ xs) k) ∙ ap (λ b. cond b (form_by_word t.bytes u rest) plain) w)
 
--- a help text by the first token, where it is alone and where it isn't
+-- a help text follows a line of one token if this is a help word
 pub help_alone : (ts : List WrittenToken) (t : WrittenToken) (more : List WrittenToken) (b : Bool) → ts ≡ t ∷ more → b ≡ is_empty_line more → b ≡ true
     → (is_word t && is_in_list t.bytes help_words) ≡ is_help_line ts
 help_alone ts t [] b h e k = sym (ap is_help_line h)
@@ -94,7 +94,7 @@ pub help_not : (ts : List WrittenToken) (t : WrittenToken) (more : List WrittenT
 help_not ts t [] b h e k = absurd (let z : false ≡ true = sym k ∙ e in let y : ⊥ = cc in y)
 help_not ts t (u ∷ us) b h e k = sym (ap is_help_line h)
 
--- whether a line is undecided, by its first token and those after it
+-- a line is undecided if its first token begins a `source` line or a help text and one after it is unknown
 pub undecided_is : (ts : List WrittenToken) (t : WrittenToken) (more : List WrittenToken) (d u : Bool) → ts ≡ t ∷ more
     → d ≡ (is_word t && is_decisive_word t.bytes) → u ≡ list_any is_unknown more → cond d u false ≡ is_undecided ts
 undecided_is ts t more d u h e f =
@@ -117,12 +117,12 @@ unknown_first t ts = by_sort t.sort t.bytes t.meaning
     by_sort an_other bytes meaning = refl
     by_sort an_unknown bytes meaning = refl
 
--- tokens that depend on a question are no gaps
+-- a line has a token that depends on a question if one of its tokens that are no gaps does
 pub unknown_real : (ts : List CodeToken) → list_any (λ (t : CodeToken). is_unknown (token_of t)) ts ≡ list_any is_unknown (real_tokens ts)
 unknown_real [] = refl
 unknown_real (t ∷ ts) = ap (λ b. is_unknown (token_of t) || b) (unknown_real ts) ∙ unknown_first (token_of t) (real_tokens ts)
 
--- the bytes of tokens
+-- the bytes of the code's written tokens, one token after the other
 abbrev pub bytes_of : List CodeToken → List ℕ
 bytes_of ts = line_bytes (tokens_of ts)
 
@@ -137,7 +137,7 @@ bytes_later ts i t h e first before after text b k same =
 pub bytes_end : (ts : List CodeToken) (i : ℕ) → length ts ≤ i → (first out : List ℕ) → first ≡ out ++ bytes_of (drop i ts) → out ≡ first
 bytes_end ts i h first out same = sym (same ∙ ap (λ x. out ++ x) (at_drop_all bytes_of ts i h) ∙ append-nil out)
 
--- a line with another first token
+-- the bytes of a line with another token in place of its first one, gaps aside
 abbrev pub with_first : WrittenToken → List CodeToken → List ℕ
 with_first new ts = line_bytes (with_nth_token 0 new (tokens_of ts))
 
@@ -191,7 +191,7 @@ next_some new (t ∷ ts) h = by_test (λ k. next_some new ts k) (is_gap (token_o
         ∙ sym (append_assoc t.bytes (bytes_of (take (suc (gap_count ts)) ts)) (with_first new (drop (suc (gap_count ts)) ts)))
     by_test ih false k = ap (λ x. x ++ with_first new ts) (sym (append-nil t.bytes))
 
--- a line with another first token and another second one
+-- the bytes of a line with other tokens in place of its first and its second one, gaps aside
 abbrev pub with_both : (first second : WrittenToken) → List CodeToken → List ℕ
 with_both first second ts = line_bytes (with_nth_token 1 second (with_nth_token 0 first (tokens_of ts)))
 
@@ -247,7 +247,8 @@ module _ (ts : List CodeToken) (n : ℕ) (e : n ≡ gap_count ts) (out one : Lis
   two_more : (gaps text : List ℕ) → out ++ (gaps ++ text) ≡ (out ++ gaps) ++ text
   two_more gaps text = sym (append_assoc out gaps text)
 
-  -- `one`, `two` and `three` are the bytes after the gaps, after the new token, and after the tokens that follow it
+  -- a line's gaps, a new token in place of its first other one, and the tokens after that, appended one by one, are the line with
+  -- the new token; `one`, `two` and `three` are the bytes after each step
   pub first_pushed : (new : WrittenToken) (text two three : List ℕ) → new.bytes ≡ text → n < length ts → one ≡ out ++ bytes_of (take n ts) → two ≡ one ++ text
       → three ≡ two ++ bytes_of later → three ≡ out ++ with_first new ts
   first_pushed new text two three b h f g k =
@@ -293,7 +294,7 @@ module _ (ts : List CodeToken) (n : ℕ) (e : n ≡ gap_count ts) (out one : Lis
   replaced_so new two none f k =
       k ∙ ap (λ x. x ++ new) (f ∙ ap (λ x. x ++ bytes_of (take n ts)) none) ∙ ap (λ j. bytes_of (take j ts) ++ new) e ∙ sym (replaced new ts)
 
--- a prompt in quotes, of a quote, its text and a quote
+-- a double quote, a text and a double quote, appended one by one, are the prompt in quotes
 pub prompt_is : (text none quote words whole : List ℕ) → none ≡ [] → quote ≡ none ++ 34 ∷ [] → words ≡ quote ++ text → whole ≡ words ++ 34 ∷ []
     → whole ≡ 34 ∷ (text ++ 34 ∷ [])
 prompt_is text none quote words whole a b d e = e ∙ ap (λ x. x ++ 34 ∷ []) (d ∙ ap (λ x. x ++ text) (b ∙ ap (λ x. x ++ 34 ∷ []) a))

@@ -11,7 +11,7 @@ use Rattle.kc_macros_model.specs.Variables.{without_white_end}
 use Rattle.kc_macros_model.specs.AnswerFiles.{Recorded, LinesSoFar, fault_at, fault_of_line, meaning_of_line, with_meaning, with_line, FileEnd, complete, cut_by, and_then, recorded_from}
 use Rattle.kc_macros.specs.checker.LinesView.{last_line}
 
--- a line without a fault of its own is recorded by its meaning
+-- a line of a file of answers that has no fault of size or encoding is recorded by its meaning
 pub line_recorded : (lines : LinesSoFar) (line : List ℕ) → fault_of_line lines.count line ≡ None → with_line lines line
     ≡ with_meaning lines (meaning_of_line lines.waiting (without_white_end line))
 line_recorded lines line e =
@@ -48,7 +48,7 @@ pub first_line_split : (rest : List ℕ) (at : ℕ) → IsFirstByte (is_byte 10)
     ≡ record { text = take at rest; ended = true } ∷ split_at_newlines (drop (at + 1) rest)
 first_line_split rest at first = split_line rest at first.0.high first.1 (λ k less is. first.0.before k (omega arith) less is)
 
--- bytes without a newline are one line that none ends, or none
+-- bytes without a newline are one line without a newline at its end, or no line if there are none
 pub last_line_split : (rest : List ℕ) → IsFirstByte (is_byte 10) rest None → split_at_newlines rest ≡ last_line rest
 last_line_split [] none = refl
 last_line_split (b ∷ rest) none =
@@ -61,13 +61,13 @@ last_line_split (b ∷ rest) none =
     one_line [] = refl
     one_line (c ∷ rest) = refl
 
--- the lines after one that a newline ends
+-- a file whose first line ends with a newline is recorded as this line and then the lines after it
 pub after_line : (end : FileEnd) (lines : LinesSoFar) (text : List ℕ) (ls : List PhysicalLine) → recorded_from end lines
     (record { text = text; ended = true } ∷ ls) ≡ and_then (with_line lines text) (λ more. recorded_from end more ls)
 after_line complete lines text ls = refl
 after_line (cut_by kind) lines text ls = refl
 
--- a longer table that begins with one begins with what that begins with
+-- a list that begins with a second one begins with each list that the second one begins with
 pub begins_with : {A : Type 0} (xs ys zs : List A) → take (length ys) zs ≡ ys → take (length xs) ys ≡ xs → take (length xs) zs ≡ xs
 begins_with [] ys zs h k = refl
 begins_with (x ∷ xs) [] zs h k = absurd (let z : ⊥ = cc in z)
@@ -88,7 +88,7 @@ module _ (end : FileEnd) (lines : LinesSoFar) (rest : List ℕ) (at : ℕ) (firs
       (λ more. recorded_from end more (split_at_newlines (drop (at + 1) rest)))
   line_first = ap (recorded_from end lines) (first_line_split rest at first) ∙ after_line end lines (take at rest) (split_at_newlines (drop (at + 1) rest))
 
-  -- a line was recorded
+  -- after a line of a file of answers was recorded, the result of the file is that of the lines after it
   pub one_recorded : (result : Result Recorded AnswersFault) (next : LinesSoFar) → result ≡ recorded_from end lines (split_at_newlines rest)
       → with_line lines (take at rest) ≡ Ok next
       → result ≡ recorded_from end next (split_at_newlines (take (length rest - (at + 1)) (drop (at + 1) rest)))
@@ -96,7 +96,7 @@ module _ (end : FileEnd) (lines : LinesSoFar) (rest : List ℕ) (at : ℕ) (firs
       e ∙ line_first ∙ ap (λ r. and_then r (λ more. recorded_from end more (split_at_newlines (drop (at + 1) rest)))) h
       ∙ ap (λ bytes. recorded_from end next (split_at_newlines bytes)) (sym (rest_is rest (at + 1)))
 
-  -- a line was refused
+  -- if a line of a file of answers is refused, the file is refused with the fault of the line
   pub one_refused : (result : Result Recorded AnswersFault) (f : AnswersFault) → result ≡ recorded_from end lines (split_at_newlines rest)
       → with_line lines (take at rest) ≡ Err f → result ≡ Err f
   one_refused result f e h = e ∙ line_first ∙ ap (λ r. and_then r (λ more. recorded_from end more (split_at_newlines (drop (at + 1) rest)))) h

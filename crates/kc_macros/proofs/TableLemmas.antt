@@ -21,7 +21,7 @@ bytes_eq_turned x y = by_tests (bytes_eq x y) (bytes_eq y x) refl refl
     by_tests true false e f = let z : true ≡ false = sym ((bytes_eq-Decides y x).1 (sym ((bytes_eq-Decides x y).0 e))) ∙ f in cc
     by_tests false true e f = let z : true ≡ false = sym ((bytes_eq-Decides x y).1 (sym ((bytes_eq-Decides y x).0 f))) ∙ e in cc
 
--- an entry of the map
+-- an entry of the code's table of answers: the bytes of a question, and its answer, `None` for a name that isn't set
 abbrev pub Entry : Type 0
 Entry = Vec ℕ Global × Option (Vec ℕ Global)
 
@@ -33,7 +33,7 @@ found_by : (b : Bool) (e : Entry) (o : Option (Option (Vec ℕ Global))) → con
 found_by true e o = refl
 found_by false e o = refl
 
--- a look-up by the bytes of a question
+-- the answer to a question is what a look-up of its bytes in the code's table of answers finds
 pub find_answer : (question : List ℕ) (es : List Entry) → keyword_in_table (map answer_of_entry es) question
     ≡ option_map answer_items (lookup (λ (k : Vec ℕ Global). bytes_eq question k.items) es)
 find_answer question [] = refl
@@ -42,7 +42,7 @@ find_answer question (e ∷ es) =
     ∙ ap (λ o. cond (bytes_eq question e.0.items) (Some (answer_items e.1)) o) (find_answer question es)
     ∙ found_by (bytes_eq question e.0.items) e (lookup (λ (k : Vec ℕ Global). bytes_eq question k.items) es)
 
--- a question that isn't there goes last
+-- a question that a table of answers doesn't have is inserted at its end
 pub insert_absent : (es : List Entry) (k : Vec ℕ Global) (v : Option (Vec ℕ Global)) → keyword_in_table (map answer_of_entry es) k.items ≡ None
     → map answer_of_entry (insert_entry (λ (a b : Vec ℕ Global). bytes_eq a.items b.items) es k v) ≡ map answer_of_entry es ++ (k.items, answer_items v) ∷ []
 insert_absent [] k v h = refl
@@ -67,7 +67,7 @@ pub length_entries : (es : List Entry) → length (map answer_of_entry es) ≡ l
 length_entries [] = refl
 length_entries (e ∷ es) = ap suc (length_entries es)
 
--- a question is in a table where it has an entry
+-- a question is among those of a table of answers if the table has an answer to it
 pub listed_is_found : (es : Recorded) (question : List ℕ) → is_in_list question (questions_of es) ≡ is_some (keyword_in_table es question)
 listed_is_found [] question = refl
 listed_is_found (e ∷ es) question = by_test (bytes_eq e.0 question) (listed_is_found es question)
@@ -81,7 +81,7 @@ pub is_some_map : {A B : Type 0} (f : A → B) (o : Option A) → is_some (optio
 is_some_map f None = refl
 is_some_map f (Some x) = refl
 
--- the questions of a table with one more, by whether it is there
+-- the questions of a table of answers after noting one: the same if the table has it, otherwise those and the new one
 pub noted : {A : Type 0} (es : Recorded) (question : List ℕ) (f : A → Answer) (found : Option A) (b : Bool) → option_map f found ≡ keyword_in_table es question
     → is_some found ≡ b
     → with_question (questions_of es) question ≡ cond b (questions_of es) (questions_of es ++ question ∷ [])
@@ -96,7 +96,7 @@ questions_of_keys : (es : List Entry) → map (λ (q : Vec ℕ Global). q.items)
 questions_of_keys [] = refl
 questions_of_keys (e ∷ es) = ap (λ xs. e.0.items ∷ xs) (questions_of_keys es)
 
--- the keys of the map, collected
+-- the keys of the code's table of answers, collected in a vector, are the questions of the table
 pub questions_collected : {E : Type 0} (r : Result (Vec (Vec ℕ Global) Global) E) (es : List Entry) (table : Recorded) → map answer_of_entry es ≡ table
     → IfOk r (λ qs. qs.items ≡ keys_of es)
     → IfOk r (λ qs. map (λ (q : Vec ℕ Global). q.items) qs.items ≡ questions_of table)

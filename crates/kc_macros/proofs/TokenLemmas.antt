@@ -28,7 +28,7 @@ some_bytes (escaped c) = refl
 some_bytes (reference inside) = refl
 some_bytes (unterminated rest) = refl
 
--- the items of a text, and those after its first one
+-- the items of a text that isn't empty are its first item and the items of the bytes after it
 pub items_first : (q : Bool) (s : List ℕ) (n : ℕ) → 0 < length s → n ≡ length (item_bytes (first_item_of q s))
     → items q 0 s ≡ first_item_of q s ∷ items q 0 (drop n s)
 items_first q [] n h e = absurd (omega arith)
@@ -36,7 +36,7 @@ items_first q (c ∷ s) n h e =
     let i = first_item q c s in
     ap (λ is. i ∷ is) (items_skip q (pred (length (item_bytes i))) s ∙ ap (λ k. items q 0 (drop k (c ∷ s))) (sym (e ∙ some_bytes i)))
 
--- the extent of a text whose first item doesn't end it
+-- if the first item of a text doesn't end its extent, the extent is the item's length and the extent of the bytes after it
 pub extent_first : (q : Bool) (ends : ℕ → Bool) (s : List ℕ) (n : ℕ) → 0 < length s → n ≡ length (item_bytes (first_item_of q s)) → n ≤ length s
     → ends (get_or s 0 0) ≡ false
     → extent q ends 0 s ≡ n + extent q ends 0 (drop n s)
@@ -96,7 +96,7 @@ and_true : (b : Bool) → (b && true) ≡ b
 and_true true = refl
 and_true false = refl
 
--- the length of an item that is no reference, and that it ends
+-- an item that is no reference has two bytes if it is a backslash with its byte in quotes, and one byte otherwise
 pub plain_item : (q : Bool) (s : List ℕ) (b : Bool) → 0 < length s → begins_reference s ≡ false → b ≡ (q && (get_or s 0 0 == 92) && nat_lt 1 (length s))
     → length (item_bytes (first_item_of q s)) ≡ cond b 2 1
 plain_item q [] b h p e = absurd (omega arith)
@@ -120,7 +120,7 @@ plain_ends q (c ∷ d ∷ s) h p = ap (λ t. is_unterminated (cond t (reference_
     by_test true = refl
     by_test false = refl
 
--- whether an item doesn't end, by the first and those after it
+-- if the first item of a text isn't an unterminated reference, the text has one if the bytes after the item have one
 pub unterminated_later : (q : Bool) (s : List ℕ) (n : ℕ) → 0 < length s → n ≡ length (item_bytes (first_item_of q s))
     → is_unterminated (first_item_of q s) ≡ false
     → list_any is_unterminated (items q 0 s) ≡ list_any is_unterminated (items q 0 (drop n s))
@@ -147,11 +147,12 @@ two_of_pair p n h = by_order (cases_lt 1 n)
     by_order (inl l) = l
     by_order (inr l) = absurd (let z : false ≡ true = sym (ap (λ t. p && t) (le-ltb 1 n l) ∙ and_false p) ∙ h in let w : ⊥ = cc in w)
 
--- a run by whether all its references end
+-- a run token is broken if one of its references has no `)`
 pub run_by : (s : List ℕ) (b : Bool) → list_any is_unterminated (items false 0 s) ≡ b → run_token s ≡ cond b (broken s) (run s)
 run_by s b h = ap (λ t. cond t (broken s) (run s)) h
 
--- a quoted token by whether all its references end, and whether it does
+-- a text that begins with a quote is a broken token if one of its references has no `)`, a quoted token if its closing quote is
+-- there, and other bytes if not
 pub quoted_by : (n quote : ℕ) (s : List ℕ) (b d : Bool) → list_any is_unterminated (items true 0 (take n s)) ≡ b → nat_lt n (length s) ≡ d
     → quoted_token n quote s ≡ cond b (broken (quote ∷ s)) (cond d (quoted quote (take n s)) (other (quote ∷ s)))
 quoted_by n quote s b d h k = ap (λ t. cond t (broken (quote ∷ s)) (cond (nat_lt n (length s)) (quoted quote (take n s)) (other (quote ∷ s)))) h
@@ -202,7 +203,7 @@ by_front : (s : List ℕ) (b : Bool) → begins_reference s ≡ b → (p : Item 
     → p (first_item_of false s) ≡ false
 by_front s b e p h t = ap p (first_reference false s (e ∙ t)) ∙ h (inside_length 0 (drop 2 s))
 
--- a reference at the front is no plain `$`
+-- the first item of a text that begins with a reference is no `$` outside references
 pub reference_is_no_dollar : (s : List ℕ) → begins_reference s ≡ true → is_plain_dollar (first_item_of false s) ≡ false
 reference_is_no_dollar s h = by_front s true h is_plain_dollar by_case refl
   where
@@ -229,7 +230,7 @@ reference_by s begins o e = ap is_reference (first_reference false s begins ∙ 
     by_case None = refl
     by_case (Some n) = refl
 
--- a pair at the front, and a byte
+-- the items in quotes of a text that begins with a backslash and another byte are this escaped byte and the items after it
 pub pair_front : (s : List ℕ) → 0 < length s → begins_reference s ≡ false → (true && (get_or s 0 0 == 92) && nat_lt 1 (length s)) ≡ true
     → items true 0 s ≡ escaped (get_or s 1 0) ∷ items true 0 (take (length s - 2) (drop 2 s))
 pair_front [] h p e = absurd (omega arith)

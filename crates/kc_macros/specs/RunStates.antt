@@ -6,7 +6,8 @@ use Rattle.kc_macros_model.specs.Programs.{Notice, Answer}
 use Rattle.kc_macros_model.specs.AnswerFiles.{Recorded}
 use Rattle.kc_macros_model.specs.Worlds.{Outcome}
 
--- the state of a run: the answers, whether each question must have one, the work that is left, the notices so far, and the questions without an answer so far
+-- the state of a run of the expansion: the answers, whether each question must have an answer, the work that is left, the notices
+-- so far, and the questions without an answer so far
 pub record RunState : Type 0 where
   pub answers : Recorded
   pub all_answered : Bool
@@ -14,23 +15,23 @@ pub record RunState : Type 0 where
   pub notices : List Notice
   pub questions : List (List ℕ)
 
--- the questions of recorded answers
+-- the questions that recorded answers answer, in their order
 abbrev pub questions_of : Recorded → List (List ℕ)
 questions_of es = map (λ (e : List ℕ × Answer). e.0) es
 
--- the state of a run at its start
+-- the state of a run of the expansion at its start: no work is spent, and there are no notices and no open questions
 abbrev pub run_at_start : Recorded → Bool → RunState
 run_at_start answers all_answered = record { answers = answers; all_answered = all_answered; left = max_work; notices = []; questions = [] }
 
--- questions, each once in order of first sight, and one more
+-- a list of questions with this question at its end, unless the list has it already
 abbrev pub with_question : List (List ℕ) → List ℕ → List (List ℕ)
 with_question questions question = if is_in_list question questions then questions else questions ++ question ∷ []
 
--- questions, each once in order of first sight, and more
+-- a list of questions with all questions of another list at its end, in order, but for those that it has already
 abbrev pub with_questions : List (List ℕ) → List (List ℕ) → List (List ℕ)
 with_questions questions [] = questions
 with_questions questions (question ∷ more) = with_questions (with_question questions question) more
 
--- the state of a run after a program with this outcome
+-- the state of a run of the expansion after a program with this outcome, given the state before
 abbrev pub after_outcome : {A : Type 0} → RunState → Outcome A → RunState
 after_outcome s o = record s { left = o.left; notices = s.notices ++ o.notices; questions = with_questions s.questions o.questions }

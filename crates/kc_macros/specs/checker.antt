@@ -1,3 +1,4 @@
+pub mod AnswerFaults
 pub mod Bodies
 pub mod LineTexts
 pub mod LineFronts

@@ -10,20 +10,20 @@ ghost use Rattle.kc_macros.specs.checker.LineView.{line_view};
 /// The meaning of a line of a file of answers, white at its end aside.
 #[derive(Clone, Copy, Debug, PartialEq, Eq)]
 pub(crate) enum AnswerLine<'a> {
-    /// Empty, or a comment.
+    /// An empty line, or a comment.
     Comment,
-    /// The answer to a question; a name that isn't set has none.
+    /// A question and its answer, which is `None` for a name that isn't set.
     Answer {
         question: &'a [u8],
         answer: Option<&'a [u8]>,
     },
-    /// The question of a command, whose answer comes on the next line.
+    /// The question of a shell command, whose answer comes on the next line.
     Command(&'a [u8]),
-    /// A line of none of these forms.
+    /// A line that is neither empty nor a comment, an answer or a command.
     Malformed,
 }
 
-/// A white byte: a tab, a vertical tab, a form feed, a carriage return or a space.
+/// Whether a byte is white: a tab, a vertical tab, a form feed, a carriage return or a space.
 pub(crate) fn is_white(byte: u8) -> bool
     ensures { result ≡ is_white_byte byte }
 {
@@ -55,7 +55,7 @@ fn are_name_bytes(text: &[u8]) -> bool
     text.iter().all(|&byte| is_name_byte(byte))
 }
 
-/// Whether an environment may have this name.
+/// Whether an environment variable may have this name: letters, digits and `_`, of which the first is no digit.
 pub(crate) fn is_environment_name(text: &[u8]) -> bool
     ensures { result ≡ is_environment_name text.now }
 {
@@ -65,7 +65,7 @@ pub(crate) fn is_environment_name(text: &[u8]) -> bool
     !first.is_ascii_digit() && are_name_bytes(text)
 }
 
-/// The byte at a place of a line, and 0 after its end.
+/// The byte of a line at a place, which is counted from 0; 0 if the line ends before it.
 pub(crate) fn byte_at(line: &[u8], at: usize) -> u8
     ensures { result ≡ slice_index line.now at }
 {
@@ -153,7 +153,8 @@ fn line_alone(line: &[u8]) -> AnswerLine<'_>
     }
 }
 
-/// The meaning of a line without white at its end; `waiting` is the question of a command on the line before it.
+/// The meaning of a line of a file of answers, without white at its end; `waiting` is the question of a command on the line
+/// before.
 pub(crate) fn meaning_of_line<'a>(waiting: Option<&'a [u8]>, line: &'a [u8]) -> AnswerLine<'a>
     ensures { line_view result ≡ meaning_of_line (option_map (λ q. q.now) waiting.entry) line.now }
 {

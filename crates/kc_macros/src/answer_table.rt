@@ -38,7 +38,7 @@ fn copy_of_answer(alloc: Global, answer: Option<&[u8]>) -> Result<Option<Vec<u8>
 }
 
 impl AnswerTable {
-    /// A table without questions, which `seed` will hash.
+    /// A table of answers without questions; `seed` seeds the hashes of its questions.
     pub(crate) fn new(alloc: Global, seed: Seed) -> AnswerTable
         ensures { result ≡ [] }
     {
@@ -48,7 +48,7 @@ impl AnswerTable {
         }
     }
 
-    /// The answer to a question, if the table has the question.
+    /// The answer to a question, if the table has the question; `Some(None)` for a name that isn't set.
     pub(crate) fn get(&self, question: &[u8]) -> Option<Option<&[u8]>>
         ensures { option_map (λ a. option_map (λ t. t.now) a) result ≡ keyword_in_table self.now question.now }
     {
@@ -58,7 +58,7 @@ impl AnswerTable {
         }
     }
 
-    /// Appends a question that the table doesn't have, with its answer; both are copy_of_answer.
+    /// Appends a question that the table doesn't have, with its answer; both are copied.
     ///
     /// # Errors
     ///
@@ -78,7 +78,7 @@ impl AnswerTable {
         Ok(())
     }
 
-    /// Gives a question this answer, in place of one that it has; both are copy_of_answer.
+    /// Gives a question this answer, in place of an earlier one; both are copied.
     ///
     /// # Errors
     ///
@@ -107,7 +107,7 @@ impl AnswerTable {
         Ok(())
     }
 
-    /// The questions, in order of insertion.
+    /// The questions of the table, in order of insertion.
     pub(crate) fn into_questions(self) -> Result<Vec<Vec<u8>>, AllocError>
         ensures { IfOk result (λ qs. map (λ (q : Vec ℕ Global). q.items) qs.items ≡ questions_of self) }
     {
@@ -115,14 +115,14 @@ impl AnswerTable {
         self.entries.into_keys().collect(alloc)
     }
 
-    /// The number of questions.
+    /// The number of questions of the table.
     pub(crate) fn len(&self) -> usize
         ensures { result ≡ length self.now }
     {
         self.entries.len()
     }
 
-    /// Drops the questions after the first `len`.
+    /// Drops the questions of the table after the first `len`, with their answers.
     pub(crate) fn truncate(&mut self, len: usize)
         ensures { self.new ≡ take len self.old }
     {

@@ -7,6 +7,7 @@ ghost use Rattle.kc_macros.specs.ReadAnswers.{ReadsToEnd, AreRecorded, IsRefused
 use super::answer_table::AnswerTable;
 use super::file_records::record_lines;
 use super::limits::MAX_ANSWER_BYTES;
+use super::line_records::out_of_memory;
 use kc_macros_model::{AnswersFault, AnswersKind};
 use kc_value::{ReadBytes, ReadEnd, Seed, Source, read_up_to};
 use std::alloc::{AllocError, Global};
@@ -58,7 +59,7 @@ impl Model for Answers {
 }
 
 impl Answers {
-    /// Answers to no question; `seed` will hash the questions.
+    /// Answers to no question yet; `seed` seeds the hashes of the questions.
     pub fn new(alloc: Global, seed: Seed) -> Answers
         ensures { result ≡ [] }
     {
@@ -83,7 +84,7 @@ impl Answers {
         self.answer(question).is_some()
     }
 
-    /// Gives a question this answer, in place of one that it has: a text, or that a name isn't set. Both are copied.
+    /// Gives a question this answer, in place of an earlier one: a text, or `None` for a name that isn't set. Both are copied.
     ///
     /// # Errors
     ///
@@ -95,26 +96,24 @@ impl Answers {
         self.table.set(question, answer)
     }
 
-    /// Reads a file of answers to its end, at most 8,192 bytes at once, and records what it has after the files before it.
+    /// Reads a file of answers to its end, at most 8,192 bytes at once, and adds its answers to those of earlier files.
     ///
     /// # Errors
     ///
     /// The first fault with its line, after which nothing is changed: `TooManyLines` at the first byte of line 1,048,577,
     /// `LineTooLong` at the first byte of a line past 65,536, `NotUtf8`, `Malformed` and `TwoAnswers` at a line's end (a
-    /// command without its answer on the next line is malformed at its own), `Read` where the reader failed after lines
-    /// without a fault, `TooLarge` at the first byte past 67,108,864. `OutOfMemory` means that memory ran out, and nothing
-    /// of the file. A refused reader is left at an unstated place.
+    /// command without its answer on the next line is malformed at its own line), `Read` where the reader failed after lines
+    /// without a fault, `TooLarge` at the first byte past 67,108,864. `OutOfMemory` means that memory ran out, has
+    /// the line 0, and says nothing of the file. How far the reader has read after a fault isn't stated.
     pub fn read<R: Source>(&mut self, source: &mut R) -> Result<(), AnswersFault>
         ensures ok { OnOk result (AreRecorded (R.left source.old) (R.left source.new) self.old self.new) }
         ensures unfailed { OnOk result (R.failures source.new ≡ R.failures source.old) }
         ensures fault { IfErr result (λ f. (f.kind ≡ AnswersKind.OutOfMemory) ⊎ IsRefused (R.left source.old) (R.left source.new) (R.failures source.old) (R.failures source.new) self.old f) }
+        ensures no_memory { IfErr result (λ f. f.kind ≡ AnswersKind.OutOfMemory → f.line ≡ 0) }
         ensures err { OnErr result (self.new ≡ self.old) }
     {
         let Ok((bytes, cut)) = read_whole(self.alloc, source) else {
-            return Err(AnswersFault {
-                line: 0,
-                kind: AnswersKind::OutOfMemory,
-            });
+            return Err(out_of_memory());
         };
         let before = self.table.len();
         match record_lines(&mut self.table, within_size(bytes.as_slice()), cut) {

@@ -12,7 +12,7 @@ use super::assignments::Operator;
 use super::keywords::is_keyword;
 use super::line_tokens::LineToken;
 
-/// An assignment as a line has it: its name before expansion, its operator, and the text after that.
+/// An assignment as a line has it: its name before expansion, its operator, and the text after the operator.
 #[derive(Clone, Copy)]
 pub(crate) struct FoundAssignment<'t> {
     pub(crate) name: &'t [u8],
@@ -71,7 +71,7 @@ fn operator_at(text: &[u8]) -> Option<(Operator, &[u8])>
     None
 }
 
-/// The assignment to a token as its name, if that is no keyword and an operator comes after it.
+/// The assignment to `name`, if `name` is no keyword and an operator is at the front of `after`, white aside.
 pub(crate) fn assignment_to<'t>(name: &'t [u8], after: &'t [u8]) -> Option<FoundAssignment<'t>>
     ensures value { option_map assigned_of result ≡ assignment_to (name_token name.now) (line_tokens 0 after.now) }
     ensures name { IfSome result (λ f. f.name ≡ name.entry) }
@@ -87,7 +87,8 @@ pub(crate) fn assignment_to<'t>(name: &'t [u8], after: &'t [u8]) -> Option<Found
     })
 }
 
-/// The assignment to a token as its name, if `may_assign` allows one here and an operator comes after the token.
+/// The assignment that has `token` as its name, if `may_assign` allows one, the token is a run but no keyword, and an operator is
+/// at the front of `after`, white aside.
 pub(crate) fn assignment_at<'t>(
     may_assign: bool,
     token: LineToken<'t>,

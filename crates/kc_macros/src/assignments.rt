@@ -19,7 +19,8 @@ use super::variable::Variable;
 use kc_macros_model::MacroKind;
 use std::alloc::{AllocError, Global};
 
-/// The operators of assignments: `:=` stores the value of its text, `+=` appends, `=` stores a text that each use expands.
+/// The operators of assignments: `:=` stores the value of its text, `+=` appends its text, `=` stores a text that each use
+/// expands.
 #[derive(Clone, Copy, Debug, PartialEq, Eq)]
 pub enum Operator {
     SetsNow,
@@ -27,7 +28,7 @@ pub enum Operator {
     Sets,
 }
 
-/// An assignment: its name, which is expanded, its operator, and its text, which isn't.
+/// An assignment to a variable: its name, which is expanded already, its operator, and its text, which isn't expanded.
 #[derive(Drop)]
 pub struct Assignment {
     pub name: Bytes,
@@ -132,7 +133,7 @@ fn variable_assigned(
     }
 }
 
-/// Binds the name of an assignment to its variable.
+/// Carries out an assignment: binds its name to the variable that its operator makes of its text.
 ///
 /// # Errors
 ///

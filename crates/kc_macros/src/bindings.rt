@@ -29,7 +29,7 @@ impl Model for Bindings {
 }
 
 impl Bindings {
-    /// Bindings of no name; `seed` will hash the names.
+    /// Bindings without variables; `seed` seeds the hashes of their names.
     pub fn new(alloc: Global, seed: Seed) -> Bindings
         ensures { bindings_of result ≡ no_bindings }
     {
@@ -46,7 +46,7 @@ impl Bindings {
         self.entries.get(name)
     }
 
-    /// Binds a name to a variable, in place of an earlier one.
+    /// Binds a name to a variable, in place of the variable that it had.
     ///
     /// # Errors
     ///

@@ -4,7 +4,7 @@ ghost use Rattle.kc_tree_model.specs.Keywords.{keyword_in_table};
 ghost use Rattle.kc_macros_model.specs.Variables.{built_ins};
 ghost use Rattle.kc_macros.specs.checker.BuiltIns.{built_in_of, arity_of};
 
-/// A function that every tree has without defining it.
+/// A built-in function of the macro language, which a tree can call without defining it.
 #[derive(Clone, Copy)]
 pub(crate) enum BuiltIn {
     Filename,
@@ -22,7 +22,7 @@ pub(crate) fn is_text(text: &[u8], other: &[u8]) -> bool
     text == other
 }
 
-/// The function of a name, if it is built in.
+/// The built-in function of this name, if there is one.
 pub(crate) fn built_in(name: &[u8]) -> Option<BuiltIn>
     ensures { option_map built_in_of result ≡ keyword_in_table built_ins name.now }
 {

@@ -19,14 +19,14 @@ impl Model for Bytes {
 }
 
 impl Bytes {
-    /// Takes the bytes of a vector.
+    /// The bytes of a vector, which is taken, not copied.
     pub fn from_vec(bytes: Vec<u8>) -> Bytes
         ensures { result ≡ bytes.items }
     {
         Bytes { bytes }
     }
 
-    /// A copy of a slice.
+    /// A copy of the bytes of a slice.
     ///
     /// # Errors
     ///

@@ -30,7 +30,7 @@ fn new_fault(
     })
 }
 
-/// Stops an expansion by a fault, or by running out of memory where the fault can't be copied.
+/// The stop of an expansion by a fault, or by running out of memory where the texts of the fault can't be copied.
 pub(crate) fn fault(alloc: Global, at: Place<'_>, kind: MacroKind, text: &[u8]) -> Stop
     ensures { FailsWith (record { at = place_of at.entry; kind = kind; text = text.now }) result }
 {
@@ -57,7 +57,7 @@ fn new_notice(
     })
 }
 
-/// Does work, or fails with `TooMany` where less is left.
+/// Takes this much work from what the run has left, or fails with `TooMany` if less is left.
 pub(crate) fn spend(run: &mut Run<'_>, at: Place<'_>, work: usize) -> Result<(), Stop>
     ensures { Runs run.old run.new (spent (place_of at.entry) work) (end_of (λ u. u) result) }
 {
@@ -68,7 +68,7 @@ pub(crate) fn spend(run: &mut Run<'_>, at: Place<'_>, work: usize) -> Result<(),
     Ok(())
 }
 
-/// Reports a notice; the reference that asks for it has an empty value.
+/// Adds a notice to those of the run, and returns an empty value for the reference that reports it.
 pub(crate) fn report(
     run: &mut Run<'_>,
     at: Place<'_>,
@@ -108,7 +108,8 @@ fn unanswered_value(
     Ok(None)
 }
 
-/// The value of a question, by its answer.
+/// The text of the answer to a question, empty for a name that isn't set. Without an answer it is `None`, or a fault where each
+/// question must have an answer.
 pub(crate) fn ask(run: &mut Run<'_>, at: Place<'_>, question: &[u8]) -> Result<Option<Bytes>, Stop>
     ensures { Runs run.old run.new (asked_value (place_of at.entry) question.now) (end_of (λ v. v) result) }
 {

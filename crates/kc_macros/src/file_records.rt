@@ -3,6 +3,7 @@ ghost use Rattle.std.specs.Prelude.{◌≡◌, ◌⊎◌, ℕ, ◌≤◌, List, 
 ghost use Rattle.kc_tree_model.specs.LogicalLines.{split_at_newlines};
 ghost use Rattle.kc_macros_model.specs.AnswerFiles.{Recorded, first_line, recorded_at_end, cut_line, recorded_from};
 ghost use Rattle.kc_macros.specs.ReadAnswers.{end_of_file};
+ghost use Rattle.kc_macros.specs.checker.AnswerFaults.{no_memory};
 ghost use Rattle.kc_macros.specs.checker.LinesView.{bytes_of, lines_view, last_line};
 
 use super::answer_table::AnswerTable;
@@ -51,7 +52,7 @@ fn record_last<'a>(
 ) -> Result<(), AnswersFault>
     requires few { count ≤ MAX_ANSWER_LINES }
     ensures ok { OnOk result (recorded_from (end_of_file cut) (lines_view count (bytes_of waiting.entry) table.old) (last_line rest.now) ≡ Ok table.new) }
-    ensures err { IfErr result (λ f. (f.kind ≡ AnswersKind.OutOfMemory) ⊎ (recorded_from (end_of_file cut) (lines_view count (bytes_of waiting.entry) table.old) (last_line rest.now) ≡ Err f)) }
+    ensures err { IfErr result (λ f. (f ≡ no_memory) ⊎ (recorded_from (end_of_file cut) (lines_view count (bytes_of waiting.entry) table.old) (last_line rest.now) ≡ Err f)) }
     ensures extends { take (length table.old) table.new ≡ table.old }
 {
     if rest.is_empty() {
@@ -64,14 +65,14 @@ fn record_last<'a>(
     end_of_lines(count + 1, waiting, None)
 }
 
-/// Records the lines of a file; `cut` is the fault that ended its bytes early, if one did.
+/// Records the answers of all lines of a file of answers; `cut` is the fault that ended the bytes of the file early, if one did.
 pub(crate) fn record_lines(
     table: &mut AnswerTable,
     bytes: &[u8],
     cut: Option<AnswersKind>,
 ) -> Result<(), AnswersFault>
     ensures ok { OnOk result (recorded_from (end_of_file cut) (first_line table.old) (split_at_newlines bytes.now) ≡ Ok table.new) }
-    ensures err { IfErr result (λ f. (f.kind ≡ AnswersKind.OutOfMemory) ⊎ (recorded_from (end_of_file cut) (first_line table.old) (split_at_newlines bytes.now) ≡ Err f)) }
+    ensures err { IfErr result (λ f. (f ≡ no_memory) ⊎ (recorded_from (end_of_file cut) (first_line table.old) (split_at_newlines bytes.now) ≡ Err f)) }
     ensures extends { take (length table.old) table.new ≡ table.old }
 {
     let mut rest = bytes;

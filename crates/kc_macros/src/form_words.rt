@@ -33,42 +33,42 @@ static HELP_WORDS: [&[u8]; 2] = [b"help", b"---help---"];
 /// Words that aren't a prompt where they follow a type or `prompt`.
 static CONDITION_WORDS: [&[u8]; 2] = [b"if", b"on"];
 
-/// Whether a prompt or a title follows a word.
+/// Whether a prompt or a title follows a word, as it does for `bool` and `menu`.
 pub(crate) fn is_prompt_word(word: &[u8]) -> bool
     ensures { result ≡ is_in_list word.now prompt_words }
 {
     is_among(&PROMPT_WORDS, word)
 }
 
-/// Whether a path of files to be read follows a word.
+/// Whether the path of files to be read follows a word: `source`, `rsource`, `osource` or `orsource`.
 pub(crate) fn is_source_word(word: &[u8]) -> bool
     ensures { result ≡ is_in_list word.now source_words }
 {
     is_among(&SOURCE_WORDS, word)
 }
 
-/// Whether the path of a `source` with this word begins in the folder of the file.
+/// Whether this word of a `source` line means that its path is relative to the folder of the file with the line.
 pub(crate) fn is_relative_source(word: &[u8]) -> bool
     ensures { result ≡ is_in_list word.now (codes "rsource" ∷ codes "orsource" ∷ []) }
 {
     is_among(&RELATIVE_SOURCES, word)
 }
 
-/// Whether the files of a `source` with this word may be missing.
+/// Whether this word of a `source` line means that the files of its path may be missing.
 pub(crate) fn is_optional_source(word: &[u8]) -> bool
     ensures { result ≡ is_in_list word.now (codes "osource" ∷ codes "orsource" ∷ []) }
 {
     is_among(&OPTIONAL_SOURCES, word)
 }
 
-/// Whether a help text begins after a word.
+/// Whether a help text begins after a word: `help` or `---help---`.
 pub(crate) fn is_help_word(word: &[u8]) -> bool
     ensures { result ≡ is_in_list word.now help_words }
 {
     is_among(&HELP_WORDS, word)
 }
 
-/// Whether a word isn't a prompt where it follows a type or `prompt`.
+/// Whether a word isn't a prompt where it follows a type or `prompt`: `if` or `on`.
 pub(crate) fn is_condition_word(word: &[u8]) -> bool
     ensures { result ≡ is_in_list word.now (codes "if" ∷ codes "on" ∷ []) }
 {

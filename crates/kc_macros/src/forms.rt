@@ -17,15 +17,16 @@ use super::real_tokens::{is_empty_line, next_real};
 use super::token_sorts::{is_bare_prompt, is_path, is_unknown, is_word};
 use super::written_tokens::WrittenToken;
 
-/// The sort of a `source`: whether its path begins in the folder of the file, and whether its files may be missing.
+/// The sort of a `source` line: whether its path is relative to the folder of the file with the line, and whether its files may
+/// be missing.
 #[derive(Clone, Copy, Debug, PartialEq, Eq)]
 pub struct SourceSort {
     pub relative: bool,
     pub optional: bool,
 }
 
-/// The form of a line: it stays; its second token is a prompt without quotes; from its first token on it is replaced; it
-/// gives a choice a name; it sources the files of a path, if the path is known.
+/// How a line departs from plain Kconfig: not at all; its second token is a prompt without quotes; this text replaces all from
+/// its first token on; it gives a choice a name; it sources the files of a path, if the path is known.
 #[derive(Clone, Copy)]
 pub enum LineForm<'t> {
     Plain,
@@ -88,7 +89,7 @@ fn form_by<'t>(word: &[u8], token: &'t WrittenToken, alone: bool) -> LineForm<'t
     LineForm::Plain
 }
 
-/// The form of a line by its tokens.
+/// How a line departs from plain Kconfig, by its written tokens.
 pub fn line_form(tokens: &[WrittenToken]) -> LineForm<'_>
     ensures { form_view result ≡ form_of (without_gaps (tokens_of tokens.now)) }
 {
@@ -111,7 +112,8 @@ fn is_help_token(token: &WrittenToken) -> bool
     is_word(token) && is_help_word(token.bytes.as_slice())
 }
 
-/// Whether a help text follows a line: its one token is `help` or `---help---`.
+/// Whether a help text follows a line, by its written tokens: apart from white, comments and tokens with an empty value, the
+/// line is only the word `help` or `---help---`.
 pub fn is_help_line(tokens: &[WrittenToken]) -> bool
     ensures { result ≡ is_help_line (without_gaps (tokens_of tokens.now)) }
 {
@@ -145,8 +147,8 @@ fn has_unknown(tokens: &[WrittenToken]) -> bool
     tokens.iter().any(|token| is_unknown(token))
 }
 
-/// Whether the form of a line isn't known: it begins with a `source` or help word, and a later token may be gone, since it
-/// depends on a question without an answer.
+/// Whether the form of a line isn't known: it begins with a `source` or help word, and a later token depends on a question
+/// without an answer, so that its value may be empty.
 pub fn is_undecided(tokens: &[WrittenToken]) -> bool
     ensures { result ≡ is_undecided (without_gaps (tokens_of tokens.now)) }
 {

@@ -28,7 +28,7 @@ fn is_open(names: &[&[u8]], name: &[u8]) -> bool
     names.iter().any(|other| is_text(name, other))
 }
 
-/// Whether the value of a variable without arguments is being expanded already.
+/// Whether a reference without arguments is to a variable whose value is being expanded already.
 pub(crate) fn is_recursion(names: &[&[u8]], name: &[u8], args: &[Option<Bytes>]) -> bool
     ensures { result ≡ is_recursion (texts_of names.now) name.now args.now }
 {
@@ -38,7 +38,7 @@ pub(crate) fn is_recursion(names: &[&[u8]], name: &[u8], args: &[Option<Bytes>])
     false
 }
 
-/// Names with one more at their front.
+/// The names of the variables whose values are being expanded, with one more at their front.
 pub(crate) fn with_name<'a>(
     alloc: Global,
     name: &'a [u8],

@@ -50,7 +50,7 @@ static LINE_KEYWORDS: [&[u8]; 37] = [
 /// Words with a meaning inside a statement.
 static INNER_KEYWORDS: [&[u8]; 4] = [b"on", b"env", b"defconfig_list", b"allnoconfig_y"];
 
-/// Whether a word is among others.
+/// Whether a word is among `words`.
 pub(crate) fn is_among(words: &[&[u8]], word: &[u8]) -> bool
     ensures { result ≡ list_any (λ w. bytes_eq w.now word.now) words.now }
 {
@@ -71,7 +71,7 @@ fn is_inner_keyword(word: &[u8]) -> bool
     INNER_KEYWORDS.iter().any(|keyword| is_text(word, keyword))
 }
 
-/// Whether the language gives a word a meaning.
+/// Whether a word is a keyword of Kconfig.
 pub(crate) fn is_keyword(word: &[u8]) -> bool
     ensures { result ≡ is_keyword word.now }
 {

@@ -9,8 +9,8 @@ pub const MAX_OPEN_EXPANSIONS: u32 = 64;
 /// The most pieces of a reference: a name and 15 arguments.
 pub const MAX_PIECES: usize = 16;
 
-/// The most work over a tree: of each expanded text its bytes, one, and the bytes that it becomes; of each assignment the
-/// bytes that it stores.
+/// The most work of the expansion of a tree. An expanded text costs 1, its length, and the length of its value; an assignment
+/// costs the number of bytes that it stores.
 pub const MAX_WORK: usize = 67_108_864;
 
 /// The most bytes of a file of answers.

@@ -22,7 +22,7 @@ use super::token_sorts::{is_gap, is_unknown};
 use super::token_values::run_value;
 use super::written_tokens::{WrittenToken, token_of_text};
 
-/// The content of a line: an assignment, or written tokens.
+/// The content of a logical line: an assignment to a variable, or written tokens.
 #[derive(Drop)]
 pub enum LineContent {
     Assigns(Assignment),
@@ -36,7 +36,7 @@ pub(crate) struct LineFront {
     pub(crate) may_assign: bool,
 }
 
-/// A step along a line: to the bytes after a token, or to the assignment that the line is.
+/// What the reading of a token of a line gives: the bytes after the token, or the assignment that the line is.
 #[derive(Drop)]
 pub(crate) enum LineStep<'t> {
     Rest(&'t [u8]),
@@ -57,7 +57,7 @@ fn token_length(token: LineToken<'_>) -> usize
     }
 }
 
-/// The token at the front of a text, and the bytes after it.
+/// The token at the front of the text of a line, which isn't empty, and the bytes after the token.
 pub(crate) fn front_token(text: &[u8]) -> (LineToken<'_>, &[u8])
     requires not_empty { 0 < length text.now }
     ensures tokens { line_tokens 0 text.now ≡ token_view result.0 ∷ line_tokens 0 result.1.now }

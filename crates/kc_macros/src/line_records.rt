@@ -3,6 +3,7 @@ ghost use Rattle.std.specs.Prelude.{◌≡◌, ◌⊎◌, ◌+◌, ◌<◌, ◌�
 ghost use Rattle.std.specs.Str.{is_utf8};
 ghost use Rattle.kc_tree_model.specs.Keywords.{keyword_in_table};
 ghost use Rattle.kc_macros_model.specs.AnswerFiles.{fault_at, malformed_line, fault_of_size, fault_of_line, is_same_answer, with_answer, with_meaning, with_line};
+ghost use Rattle.kc_macros.specs.checker.AnswerFaults.{no_memory};
 ghost use Rattle.kc_macros.specs.checker.LineView.{line_view};
 ghost use Rattle.kc_macros.specs.checker.LinesView.{bytes_of, lines_view};
 
@@ -11,7 +12,17 @@ use super::answer_table::AnswerTable;
 use super::limits::{MAX_ANSWER_LINE_BYTES, MAX_ANSWER_LINES};
 use kc_macros_model::{AnswersFault, AnswersKind};
 
-/// A fault at the line after the first `count`.
+/// The fault of a file of answers when memory runs out, which has the line 0.
+pub(crate) fn out_of_memory() -> AnswersFault
+    ensures { result ≡ no_memory }
+{
+    AnswersFault {
+        line: 0,
+        kind: AnswersKind::OutOfMemory,
+    }
+}
+
+/// A fault at line `count + 1` of a file of answers.
 pub(crate) fn fault_on_next_line(count: u32, kind: AnswersKind) -> AnswersFault
     requires few { count ≤ MAX_ANSWER_LINES }
     ensures value { result ≡ fault_at (count + 1) kind }
@@ -22,7 +33,8 @@ pub(crate) fn fault_on_next_line(count: u32, kind: AnswersKind) -> AnswersFault
     }
 }
 
-/// The fault of a malformed line after the first `count`; where a command waits for its answer, it is at the command.
+/// The fault of line `count + 1` of a file of answers, which is malformed; where a command waits for its answer, the fault is at
+/// the line of the command.
 pub(crate) fn malformed_line(count: u32, waiting: Option<&[u8]>) -> AnswersFault
     requires few { count ≤ MAX_ANSWER_LINES }
     ensures value { result ≡ malformed_line count (bytes_of waiting.entry) }
@@ -36,7 +48,7 @@ pub(crate) fn malformed_line(count: u32, waiting: Option<&[u8]>) -> AnswersFault
     }
 }
 
-/// The fault of the line after the first `count` that its first bytes show: a line too many, or too long.
+/// The fault of the size of line `count + 1` of a file of answers, if its first bytes show one: a line too many, or one too long.
 pub(crate) fn fault_of_size(count: u32, line: &[u8]) -> Option<AnswersKind>
     ensures value { result ≡ fault_of_size count line.now }
     ensures few { result ≡ None → count < MAX_ANSWER_LINES }
@@ -92,7 +104,7 @@ fn record_answer(
 ) -> Result<(), AnswersFault>
     requires few { count < MAX_ANSWER_LINES }
     ensures ok { OnOk result (with_answer (lines_view count None table.old) question.now (bytes_of answer.entry) (keyword_in_table table.old question.now) ≡ Ok (lines_view (count + 1) None table.new)) }
-    ensures err { IfErr result (λ f. (f.kind ≡ AnswersKind.OutOfMemory) ⊎ (with_answer (lines_view count None table.old) question.now (bytes_of answer.entry) (keyword_in_table table.old question.now) ≡ Err f)) }
+    ensures err { IfErr result (λ f. (f ≡ no_memory) ⊎ (with_answer (lines_view count None table.old) question.now (bytes_of answer.entry) (keyword_in_table table.old question.now) ≡ Err f)) }
     ensures extends { take (length table.old) table.new ≡ table.old }
 {
     if let Some(earlier) = table.get(question) {
@@ -101,7 +113,7 @@ fn record_answer(
         }
         return Err(fault_on_next_line(count, AnswersKind::TwoAnswers));
     }
-    let memory = fault_on_next_line(count, AnswersKind::OutOfMemory);
+    let memory = out_of_memory();
     table.insert(question, answer).map_err(|_| memory)
 }
 
@@ -114,7 +126,7 @@ fn record_meaning<'a>(
 ) -> Result<Option<&'a [u8]>, AnswersFault>
     requires few { count < MAX_ANSWER_LINES }
     ensures ok { IfOk result (λ next. with_meaning (lines_view count (bytes_of waiting.entry) table.old) (line_view meaning.entry) ≡ Ok (lines_view (count + 1) (bytes_of next) table.new)) }
-    ensures err { IfErr result (λ f. (f.kind ≡ AnswersKind.OutOfMemory) ⊎ (with_meaning (lines_view count (bytes_of waiting.entry) table.old) (line_view meaning.entry) ≡ Err f)) }
+    ensures err { IfErr result (λ f. (f ≡ no_memory) ⊎ (with_meaning (lines_view count (bytes_of waiting.entry) table.old) (line_view meaning.entry) ≡ Err f)) }
     ensures extends { take (length table.old) table.new ≡ table.old }
 {
     match meaning {
@@ -128,8 +140,8 @@ fn record_meaning<'a>(
     }
 }
 
-/// Records the line after the first `count`, without its newline. Returns the question of a command that waits for its
-/// answer after it.
+/// Records the answer that line `count + 1` of a file of answers gives; `line` is without its newline. Returns the question of a
+/// command on the line, whose answer must come on the next one.
 pub(crate) fn record_line<'a>(
     table: &mut AnswerTable,
     count: u32,
@@ -139,7 +151,7 @@ pub(crate) fn record_line<'a>(
     requires few { count ≤ MAX_ANSWER_LINES }
     ensures ok { IfOk result (λ next. with_line (lines_view count (bytes_of waiting.entry) table.old) line.now ≡ Ok (lines_view (count + 1) (bytes_of next) table.new)) }
     ensures few { OnOk result (count < MAX_ANSWER_LINES) }
-    ensures err { IfErr result (λ f. (f.kind ≡ AnswersKind.OutOfMemory) ⊎ (with_line (lines_view count (bytes_of waiting.entry) table.old) line.now ≡ Err f)) }
+    ensures err { IfErr result (λ f. (f ≡ no_memory) ⊎ (with_line (lines_view count (bytes_of waiting.entry) table.old) line.now ≡ Err f)) }
     ensures extends { take (length table.old) table.new ≡ table.old }
 {
     if let Some(kind) = fault_of_line(count, line) {

@@ -20,7 +20,7 @@ fn push_tokens(out: &mut Vec<u8>, tokens: &[WrittenToken]) -> Result<(), AllocEr
     Ok(())
 }
 
-/// Appends the bytes of tokens to a text, with `bytes` in place of the first token that is no gap.
+/// Appends the bytes of tokens to a text, with `bytes` in place of the first token that isn't white, a comment or empty in value.
 fn push_with_first(
     out: &mut Vec<u8>,
     tokens: &[WrittenToken],
@@ -38,7 +38,7 @@ fn push_with_first(
     Ok(())
 }
 
-/// The bytes of tokens, with `bytes` in place of the second token that is no gap.
+/// The bytes of tokens, with `bytes` in place of the second token that isn't white, a comment or empty in value.
 fn with_second(alloc: Global, tokens: &[WrittenToken], bytes: &[u8]) -> Result<Vec<u8>, AllocError>
     ensures { IfOk result (λ t. t.items ≡ line_bytes (with_nth_token 1 (written_as a_word bytes.now []) (tokens_of tokens.now))) }
 {
@@ -53,7 +53,7 @@ fn with_second(alloc: Global, tokens: &[WrittenToken], bytes: &[u8]) -> Result<V
     Ok(text)
 }
 
-/// The bytes of a line, by its tokens.
+/// The bytes of a line, by its written tokens.
 ///
 /// # Errors
 ///
@@ -66,7 +66,8 @@ pub fn line_bytes(alloc: Global, tokens: &[WrittenToken]) -> Result<Vec<u8>, All
     Ok(text)
 }
 
-/// A line with this prompt in double quotes in place of its second token.
+/// The bytes of a line with the prompt `text` in double quotes in place of its second token, not counting gaps (white, comments
+/// and tokens with an empty value).
 ///
 /// # Errors
 ///
@@ -85,7 +86,8 @@ pub fn with_bare_prompt(
     with_second(alloc, tokens, prompt.as_slice())
 }
 
-/// A line that is `text` from its first token on.
+/// The bytes of a line with `text` in place of its first token that isn't white, a comment or empty in value, and of all tokens
+/// after that one.
 ///
 /// # Errors
 ///
@@ -103,7 +105,7 @@ pub fn with_replacement(
     Ok(line)
 }
 
-/// A line without its second token, the name of a choice.
+/// The bytes of a line without the name of a choice, its second token that isn't white, a comment or empty in value.
 ///
 /// # Errors
 ///
@@ -114,8 +116,8 @@ pub fn without_choice_name(alloc: Global, tokens: &[WrittenToken]) -> Result<Vec
     with_second(alloc, tokens, b"")
 }
 
-/// A line with the keyword `source`, and with the key of what it sources in place of its path; a path that is the key stays
-/// as it is written.
+/// The bytes of a `source` line with `source` as its first word, and with `key` in double quotes in place of its path; where the
+/// path `given` on the line is the key, the path stays as it is written.
 ///
 /// # Errors
 ///

@@ -21,7 +21,7 @@ pub(crate) enum LineToken<'a> {
     Broken(&'a [u8]),
 }
 
-/// A letter, a digit, `_`, `-`, `.`, `/` or `$`.
+/// Whether a byte may be part of a run: a letter, a digit, `_`, `-`, `.`, `/` or `$`.
 pub(crate) fn is_run_byte(byte: u8) -> bool
     ensures { result ≡ is_run_byte byte }
 {
@@ -54,7 +54,7 @@ fn reference_length(text: &[u8]) -> usize
     }
 }
 
-/// Whether a text in quotes begins with a backslash and another byte.
+/// Whether a text begins with an escaped byte: a backslash and another byte, which counts only in quotes.
 pub(crate) fn is_pair(text: &[u8], in_quotes: bool) -> bool
     requires not_empty { 0 < length text.now }
     ensures value { result ≡ (in_quotes && (slice_index text.now 0 == 92) && nat_lt 1 (length text.now)) }
@@ -62,7 +62,7 @@ pub(crate) fn is_pair(text: &[u8], in_quotes: bool) -> bool
     in_quotes && text[0] == b'\\' && text.len() > 1
 }
 
-/// How many bytes the first item of a text has: a reference, a backslash with its byte, or one byte.
+/// How many bytes the first item of a text has: a reference, in quotes a backslash with its byte, or one byte.
 pub(crate) fn item_length(text: &[u8], in_quotes: bool) -> usize
     requires not_empty { 0 < length text.now }
     ensures value { result ≡ length (item_bytes (first_item_of in_quotes text.now)) }
@@ -148,7 +148,7 @@ fn quoted_token(text: &[u8], quote: u8) -> LineToken<'_>
     }
 }
 
-/// The token at the front of a text.
+/// The token at the front of the text of a logical line, which isn't empty.
 pub(crate) fn first_token(text: &[u8]) -> LineToken<'_>
     requires not_empty { 0 < length text.now }
     ensures value { token_view result ≡ first_token_of text.now }

@@ -162,7 +162,8 @@ fn other_value(
     Err(fault(run.alloc(), at, MacroKind::Undefined, name))
 }
 
-/// The value of a name that is no variable, called with these arguments.
+/// The value of a reference to a name that is no variable, with these arguments: that of a built-in function, of a parameter that
+/// wasn't given, or of a name of the environment.
 pub(crate) fn unbound_value(
     run: &mut Run<'_>,
     at: Place<'_>,

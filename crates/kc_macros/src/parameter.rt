@@ -58,7 +58,8 @@ fn number_within(text: &[u8], limit: usize) -> Option<usize>
     if number == 0 { None } else { Some(number) }
 }
 
-/// The argument that a reference means by its number, if there is one.
+/// The argument that a reference such as `$(1)` means, if there is one; arguments are counted from 1, and `inside` are the bytes
+/// between the parentheses.
 pub(crate) fn argument_of<'a>(args: &'a [Option<Bytes>], inside: &[u8]) -> Option<&'a Option<Bytes>>
     ensures { option_map (λ a. a.now) result ≡ argument_of args.now inside.now }
 {

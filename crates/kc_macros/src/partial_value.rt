@@ -13,14 +13,14 @@ use super::stop::{Place, Stop};
 use kc_macros_model::MacroKind;
 use std::alloc::{AllocError, Global};
 
-/// The values of the first items of a text, one after the other; unknown where one of them is.
+/// The joined values of the first items of a text, which are unknown if that of one item is.
 #[derive(Drop)]
 pub(crate) struct PartialValue {
     bytes: Vec<u8>,
     known: bool,
 }
 
-/// The value of no items.
+/// The value of a text before its first item is expanded: known and empty.
 pub(crate) fn empty_value(alloc: Global) -> PartialValue
     ensures bytes { result.bytes.items ≡ [] }
     ensures known { result.known ≡ true }
@@ -31,7 +31,7 @@ pub(crate) fn empty_value(alloc: Global) -> PartialValue
     }
 }
 
-/// Appends a text to a value.
+/// Appends plain bytes of a text to the joined values of the items before them.
 ///
 /// # Errors
 ///
@@ -55,7 +55,7 @@ pub(crate) fn push_text(
     Ok(())
 }
 
-/// Appends the value of an item.
+/// Appends the value of an item of a text to the joined values of the items before it.
 ///
 /// # Errors
 ///
@@ -81,7 +81,7 @@ pub(crate) fn push_value(
     }
 }
 
-/// The value of all items, which is unknown where that of one is.
+/// The joined values of all items of a text; `None` if that of one item is unknown.
 pub(crate) fn value_if_known(out: PartialValue) -> Option<Bytes>
     ensures { result ≡ value_if_known out.known out.bytes.items }
 {
@@ -92,7 +92,7 @@ pub(crate) fn value_if_known(out: PartialValue) -> Option<Bytes>
     }
 }
 
-/// A copy of a value.
+/// A copy of a value, which is `None` if it is unknown.
 pub(crate) fn copied_value(
     alloc: Global,
     value: &Option<Bytes>,
@@ -105,7 +105,7 @@ pub(crate) fn copied_value(
     }
 }
 
-/// The length of a value, as far as it is known.
+/// The number of bytes of a value; 0 if the value is unknown.
 pub(crate) fn value_length(value: &Option<Bytes>) -> usize
     ensures { result ≡ value_length value.now }
 {

@@ -156,7 +156,7 @@ fn written_quoted(
     Ok(token_of_body(run.alloc(), quote, body)?)
 }
 
-/// A token of a line as it is written.
+/// A token of a line as the expansion writes it, with the values of its references.
 pub(crate) fn written_token(
     run: &mut Run<'_>,
     at: Place<'_>,

@@ -6,7 +6,7 @@ ghost use Rattle.kc_macros.specs.checker.RealTokens.{gap_count, real_tokens, is_
 use super::token_sorts::is_gap;
 use super::written_tokens::WrittenToken;
 
-/// How many gaps come before the first token that is none.
+/// How many gaps (white, comments and tokens with an empty value) come before the first other token of a line.
 pub(crate) fn gap_count(tokens: &[WrittenToken]) -> usize
     ensures value { result ≡ gap_count tokens.now }
     ensures within { result ≤ length tokens.now }
@@ -19,7 +19,7 @@ pub(crate) fn gap_count(tokens: &[WrittenToken]) -> usize
     tokens.len()
 }
 
-/// The first token that is no gap, and the tokens after it.
+/// The first token of a line that is no gap, and the tokens after it; `None` if all are gaps.
 pub(crate) fn next_real(tokens: &[WrittenToken]) -> Option<(&WrittenToken, &[WrittenToken])>
     ensures some { IfSome result (λ r. real_tokens tokens.now ≡ token_of r.0.now ∷ real_tokens r.1.now) }
     ensures none { IfNone result (real_tokens tokens.now ≡ []) }
@@ -31,7 +31,7 @@ pub(crate) fn next_real(tokens: &[WrittenToken]) -> Option<(&WrittenToken, &[Wri
     Some((&tokens[place], &tokens[place + 1..]))
 }
 
-/// Whether a line has gaps alone.
+/// Whether all tokens of a line are gaps: white, comments and tokens with an empty value.
 pub(crate) fn is_empty_line(tokens: &[WrittenToken]) -> bool
     ensures { result ≡ is_empty_line (real_tokens tokens.now) }
 {

@@ -26,7 +26,8 @@ fn is_outside(byte: u8, other: u8, depth: usize) -> bool
     byte == other && depth == 0
 }
 
-/// How many bytes a reference has between `$(` and its `)`, which is the first one that closes no `(` among them.
+/// How many bytes a reference has between its parentheses, given the text after its `$(`; `None` if it has no `)` of its own,
+/// which is the first one that closes no `(` of that text.
 pub(crate) fn inside_length(text: &[u8]) -> Option<usize>
     ensures value { result ≡ inside_length 0 text.now }
     ensures within { IfSome result (λ n. n < length text.now) }
@@ -58,7 +59,7 @@ fn piece_length(inside: &[u8]) -> usize
     inside.len()
 }
 
-/// The pieces of a reference, by the bytes between its parentheses: a name and its arguments.
+/// The pieces of a reference, by the bytes between its parentheses: a name and its arguments, separated by commas.
 pub(crate) fn pieces(alloc: Global, inside: &[u8]) -> Result<Vec<&[u8]>, AllocError>
     ensures { IfOk result (λ ps. texts_of ps.items ≡ pieces 0 inside.now) }
 {
@@ -75,7 +76,7 @@ pub(crate) fn pieces(alloc: Global, inside: &[u8]) -> Result<Vec<&[u8]>, AllocEr
     }
 }
 
-/// Whether a reference begins at a place.
+/// Whether a macro reference, `$(`, begins at place `at` of a text, counted from 0.
 pub(crate) fn begins_reference_at(text: &[u8], at: usize) -> bool
     requires there { at < length text.now }
     ensures value { result ≡ begins_reference (drop at text.now) }
@@ -83,7 +84,7 @@ pub(crate) fn begins_reference_at(text: &[u8], at: usize) -> bool
     text[at] == b'$' && at + 1 < text.len() && text[at + 1] == b'('
 }
 
-/// How many bytes come before the first `$(`.
+/// How many bytes come before the first `$(` of a text; all if it has none.
 pub(crate) fn plain_length(text: &[u8]) -> usize
     ensures within { result ≤ length text.now }
     ensures items { items false 0 text.now ≡ map byte (take result text.now) ++ items false 0 (drop result text.now) }
@@ -97,7 +98,7 @@ pub(crate) fn plain_length(text: &[u8]) -> usize
     text.len()
 }
 
-/// The bytes between the parentheses of the reference at the front of a text, and those after it; none where it doesn't end.
+/// The bytes between the parentheses of the reference at the front of a text, and those after it; `None` if its `)` is missing.
 pub(crate) fn reference_at_front(text: &[u8]) -> Option<(&[u8], &[u8])>
     requires begins { begins_reference text.now ≡ true }
     ensures reference { IfSome result (λ r. (q : Bool) → items q 0 text.now ≡ reference r.0.now ∷ items q 0 r.1.now) }

@@ -13,8 +13,8 @@ use kc_value::Seed;
 use std::alloc::{AllocError, Global};
 use std::marker::Model;
 
-/// The state of a run: the answers, whether all questions must be answered, the work that is left, the notices and the
-/// questions without an answer so far, each once in order of first sight.
+/// The state of a run of the expansion: the answers, whether each question must have an answer, the work that is left, the
+/// notices so far, and the questions without an answer so far, each once in order of first sight.
 #[derive(Drop)]
 pub struct Run<'a> {
     alloc: Global,
@@ -36,7 +36,7 @@ impl<'a> Model for Run<'a> {
 }
 
 impl<'a> Run<'a> {
-    /// A run at its start; with `all_answered` a question without an answer is a fault.
+    /// A run of the expansion at its start; with `all_answered` a question without an answer is a fault.
     pub fn new(alloc: Global, seed: Seed, answers: &'a Answers, all_answered: bool) -> Run<'a>
         ensures { result ≡ run_at_start answers.now all_answered }
     {
@@ -55,21 +55,21 @@ impl<'a> Run<'a> {
         self.alloc
     }
 
-    /// Whether each question must have an answer.
+    /// Whether a question without an answer is a fault of the run.
     pub fn all_answered(&self) -> bool
         ensures { result ≡ self.now.all_answered }
     {
         self.all_answered
     }
 
-    /// The notices so far.
+    /// The notices of the run so far, in order.
     pub fn notices(&self) -> &[MacroNotice]
         ensures { map notice_of result.now ≡ self.now.notices }
     {
         self.notices.as_slice()
     }
 
-    /// The notices of a run that is over.
+    /// The notices of a run that is over, in order.
     pub fn into_notices(self) -> Vec<MacroNotice>
         ensures { map notice_of result.items ≡ self.entry.notices }
     {
@@ -87,21 +87,21 @@ impl<'a> Run<'a> {
         self.questions.into_questions()
     }
 
-    /// The work that is left.
+    /// The work that the run may still spend.
     pub(crate) fn left(&self) -> usize
         ensures { result ≡ self.now.left }
     {
         self.left
     }
 
-    /// The answer to a question.
+    /// The answer to a question, if the run has one; `Some(None)` for a name that isn't set.
     pub(crate) fn answer(&self, question: &[u8]) -> Option<Option<&[u8]>>
         ensures { option_map (λ a. option_map (λ t. t.now) a) result ≡ keyword_in_table self.now.answers question.now }
     {
         self.answers.answer(question)
     }
 
-    /// Takes work from what is left.
+    /// Takes this much work from what the run may still spend.
     pub(crate) fn take_work(&mut self, work: usize)
         requires fits { work ≤ self.old.left }
         ensures state { self.new ≡ record self.old { left = self.old.left - work } }
@@ -109,7 +109,7 @@ impl<'a> Run<'a> {
         self.left -= work;
     }
 
-    /// Appends a notice.
+    /// Appends a notice to those of the run.
     pub(crate) fn push_notice(&mut self, notice: MacroNotice) -> Result<(), AllocError>
         ensures { OnOk result (self.new ≡ record self.old { notices = self.old.notices ++ notice_of notice ∷ [] }) }
     {
@@ -117,7 +117,7 @@ impl<'a> Run<'a> {
         Ok(())
     }
 
-    /// Appends a question without an answer, unless it was met before.
+    /// Appends a question without an answer to those of the run, unless it is among them.
     pub(crate) fn note_question(&mut self, question: &[u8]) -> Result<(), AllocError>
         ensures { OnOk result (self.new ≡ record self.old { questions = with_question self.old.questions question.now }) }
     {

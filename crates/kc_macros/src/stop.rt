@@ -3,14 +3,14 @@ use super::bytes::Bytes;
 use kc_macros_model::{MacroKind, MacroNoticeKind};
 use std::alloc::{AllocError, AllocFailed};
 
-/// A line of a file, by the file's path.
+/// A line of a file: the path of the file and the number of the line, which is 0 for the file as a whole.
 #[derive(Clone, Copy)]
 pub struct Place<'a> {
     pub file: &'a [u8],
     pub line: u32,
 }
 
-/// Why a tree can't be expanded, and where.
+/// Why a tree can't be expanded, with the file and the line, which is 0 for the file as a whole.
 #[derive(Drop)]
 pub struct MacroFault {
     pub file: Bytes,
@@ -19,7 +19,7 @@ pub struct MacroFault {
     pub text: Bytes,
 }
 
-/// A message of a tree that refuses nothing, and where it comes from.
+/// A message of a tree by `info` or `warning-if`, with its file and line. It refuses nothing.
 #[derive(Drop)]
 pub struct MacroNotice {
     pub file: Bytes,
@@ -33,7 +33,7 @@ pub struct MacroNotice {
 pub enum Stop {
     /// A fault of the tree.
     Fault(MacroFault),
-    /// All the rest depends on a question without an answer.
+    /// How to go on depends on a question without an answer.
     Unanswered,
     /// Memory ran out.
     OutOfMemory,

@@ -7,28 +7,28 @@ ghost use Rattle.kc_macros.specs.between.WrittenTokens.{token_of};
 use super::form_words::is_condition_word;
 use super::written_tokens::{TokenSort, WrittenToken};
 
-/// Whether a token is white, a comment or gone.
+/// Whether a written token is a gap: white, a comment, or a token with an empty value.
 pub(crate) fn is_gap(token: &WrittenToken) -> bool
     ensures { result ≡ is_gap (token_of token.now) }
 {
     matches!(token.sort, TokenSort::Gap)
 }
 
-/// Whether a token depends on a question without an answer.
+/// Whether a written token depends on a question without an answer.
 pub(crate) fn is_unknown(token: &WrittenToken) -> bool
     ensures { result ≡ is_unknown (token_of token.now) }
 {
     matches!(token.sort, TokenSort::Unknown)
 }
 
-/// Whether a token is a word.
+/// Whether a written token is a word, which has no quotes.
 pub(crate) fn is_word(token: &WrittenToken) -> bool
     ensures { result ≡ is_word (token_of token.now) }
 {
     matches!(token.sort, TokenSort::Word)
 }
 
-/// Whether a token is a word, a quoted token, or one that may become either.
+/// Whether a written token may be a path: a word, a quoted token, or one that depends on a question without an answer.
 pub(crate) fn is_path(token: &WrittenToken) -> bool
     ensures { result ≡ is_path (token_of token.now) }
 {
@@ -38,7 +38,7 @@ pub(crate) fn is_path(token: &WrittenToken) -> bool
     )
 }
 
-/// Whether a token is a word that may be a prompt.
+/// Whether a written token may be a prompt without quotes: a word other than `if` and `on`.
 pub(crate) fn is_bare_prompt(token: &WrittenToken) -> bool
     ensures { result ≡ is_bare_prompt (token_of token.now) }
 {

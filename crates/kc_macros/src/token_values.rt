@@ -26,7 +26,7 @@ pub(crate) fn has_dollar(text: &[u8]) -> bool
     text.iter().any(|&byte| byte == b'$')
 }
 
-/// The value of a run, which is its own text if it has no `$`.
+/// The value of a run, a token of word bytes and references; it is its own text if it has no `$`.
 pub(crate) fn run_value(
     run: &mut Run<'_>,
     at: Place<'_>,
@@ -91,7 +91,8 @@ fn has_plain_dollar(text: &[u8]) -> bool
     false
 }
 
-/// A run as it is written: its value as one token. A run with a `$` that begins no reference stays, for the reader to refuse.
+/// A run, a token of word bytes and references, as the expansion writes it: its value as one token. A run with a `$` that begins
+/// no reference is kept, so that the reader of the written line refuses it.
 pub(crate) fn written_run(
     run: &mut Run<'_>,
     at: Place<'_>,
@@ -110,7 +111,7 @@ pub(crate) fn written_run(
     Ok(new_token(run.alloc(), TokenSort::Word, text, text)?)
 }
 
-/// Bytes between quotes so far, and the text that they mean, if it is known.
+/// The bytes that are written between two quotes so far, and the text that they mean, if it is known.
 #[derive(Drop)]
 pub(crate) struct Body {
     pub(crate) bytes: Vec<u8>,
@@ -118,7 +119,7 @@ pub(crate) struct Body {
     pub(crate) known: bool,
 }
 
-/// Appends a byte between quotes; a `$` gets a backslash.
+/// Appends a byte to those written between two quotes; a `$` gets a backslash.
 pub(crate) fn push_byte(out: &mut Body, byte: u8) -> Result<(), AllocError>
     ensures { OnOk result (body_of_code out.new ≡ joined_bodies (body_of_code out.old) (body_of (if byte == 36 then 92 ∷ byte ∷ [] else byte ∷ []) (byte ∷ []))) }
 {
@@ -130,7 +131,7 @@ pub(crate) fn push_byte(out: &mut Body, byte: u8) -> Result<(), AllocError>
     Ok(())
 }
 
-/// Appends a backslash and another byte between quotes.
+/// Appends a backslash and another byte to those written between two quotes.
 pub(crate) fn push_pair(out: &mut Body, byte: u8) -> Result<(), AllocError>
     ensures { OnOk result (body_of_code out.new ≡ joined_bodies (body_of_code out.old) (body_of (92 ∷ byte ∷ []) (byte ∷ []))) }
 {
@@ -140,7 +141,7 @@ pub(crate) fn push_pair(out: &mut Body, byte: u8) -> Result<(), AllocError>
     Ok(())
 }
 
-/// Appends the value of a reference between quotes, with backslashes where it needs them.
+/// Appends the value of a reference to the bytes written between two quotes, with backslashes where they are needed.
 pub(crate) fn push_reference(
     out: &mut Body,
     quote: u8,

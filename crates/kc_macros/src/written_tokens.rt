@@ -9,7 +9,8 @@ use super::bytes::Bytes;
 use super::keywords::is_keyword;
 use std::alloc::{AllocError, Global};
 
-/// The sort of a token as it is written; one that depends on a question without an answer isn't written yet.
+/// The sort of a token as the expansion writes it. A gap is white, a comment or a token with an empty value; an unknown token
+/// depends on a question without an answer, and isn't written yet.
 #[derive(Clone, Copy, Debug, PartialEq, Eq)]
 pub enum TokenSort {
     Gap,
@@ -19,7 +20,7 @@ pub enum TokenSort {
     Unknown,
 }
 
-/// A token as it is written, and the text that it means to the reader, if it is known.
+/// A token as the expansion writes it: its sort, its bytes, and the text that they mean, if it is known.
 #[derive(Drop)]
 pub struct WrittenToken {
     pub sort: TokenSort,
@@ -27,7 +28,7 @@ pub struct WrittenToken {
     pub meaning: Option<Bytes>,
 }
 
-/// A token with copies of these bytes and of this meaning.
+/// A written token with copies of these bytes and of this meaning.
 pub(crate) fn new_token(
     alloc: Global,
     sort: TokenSort,
@@ -64,7 +65,7 @@ fn is_escaped(byte: u8, quote: u8) -> bool
     byte == b'\\' || byte == b'$' || byte == quote
 }
 
-/// Appends a text, with a backslash before each backslash, each `$` and each quote of this sort.
+/// Appends a text, with a backslash before each backslash, each `$` and each byte that is `quote`.
 pub(crate) fn push_escaped(out: &mut Vec<u8>, quote: u8, text: &[u8]) -> Result<(), AllocError>
     ensures { OnOk result (out.new.items ≡ out.old.items ++ escaped_text quote text.now) }
 {
@@ -89,7 +90,7 @@ fn in_quotes(alloc: Global, quote: u8, text: &[u8]) -> Result<Bytes, AllocError>
     Ok(Bytes::from_vec(bytes))
 }
 
-/// A text as a token in double quotes.
+/// A text as a written token in double quotes.
 pub fn quoted_text_token(alloc: Global, text: &[u8]) -> Result<WrittenToken, AllocError>
     ensures { IfOk result (λ t. token_of t ≡ quoted_text_token text.now) }
 {
@@ -100,7 +101,8 @@ pub fn quoted_text_token(alloc: Global, text: &[u8]) -> Result<WrittenToken, All
     })
 }
 
-/// A text as one token: a space if it is empty, a word if it is bare and no keyword, else in quotes.
+/// A text as one written token: a space if it is empty; a word if it has only letters, digits, `_` and `-` and is no keyword;
+/// otherwise a quoted token.
 pub(crate) fn token_of_text(alloc: Global, text: &[u8]) -> Result<WrittenToken, AllocError>
     ensures { IfOk result (λ t. token_of t ≡ token_of_text text.now) }
 {
@@ -120,7 +122,7 @@ fn is_bare_word(text: &[u8]) -> bool
     is_bare(text) && !is_keyword(text)
 }
 
-/// The value of a run as one token.
+/// The value of a run (a token of word bytes and references) as one written token; an unknown value has the sort `Unknown`.
 pub(crate) fn token_of_value(
     alloc: Global,
     value: &Option<Bytes>,

@@ -5,7 +5,7 @@ use Rattle.kc_macros_model.specs.declared.fault.MacroKind.TheVariants.{TooMany}
 use Rattle.kc_macros_model.specs.Programs.{Place, Answer, spend, report, ask, read_file, list_folder, Program, returns, fails, stops, does, ◌>>=◌}
 use Rattle.kc_macros_model.specs.Worlds.{World, reply, open_question, if_unanswered, unless_unanswered, stopped, Outcome, after_event, unless_fault, outcome}
 
--- a program doesn't stop where no question is open, and what it returns has a fact
+-- along a run in which no question is open, a program doesn't stop, and the fact holds of the value that it returns, if any
 abbrev pub NeverStops : {A : Type 0} → World → (A → Type 0) → Program A → Type 0
 NeverStops w P (returns x) = P x
 NeverStops w P (fails f) = Unit {0}
@@ -25,7 +25,7 @@ never_both w P (fails g) f h = tt
 never_both w P stops f h = absurd h
 never_both w P (does e k) f h = λ n. never_both w P (k (reply w e)) f (h n)
 
--- one program after another, of which the second never stops after a value with a fact that the first gives
+-- two programs in sequence never stop if the first never stops, and the second doesn't after any value that the first may return
 pub never_then : {A B : Type 0} (w : World) (Q : A → Type 0) (P : B → Type 0) (p : Program A) (f : A → Program B)
     → NeverStops w Q p → ((x : A) → Q x → NeverStops w P (f x)) → NeverStops w P (p >>= f)
 never_then w Q P p f h k = never_both w P p f (never_mono w Q (λ x. NeverStops w P (f x)) k p h)
@@ -56,7 +56,7 @@ module _ {A : Type 0} (w : World) (P : A → Type 0) where
       by_answer None h e = let z : ⊥ = cc in z
       by_answer (Some a) h e = ih (Some a) (h refl) e
 
-  -- a job that must have all answers doesn't stop
+  -- the outcome of a program that never stops doesn't stop where each open question is a fault
   pub job_never_stops : (left : ℕ) (p : Program A) → NeverStops w P p → Stopped (outcome true w left p) → ⊥
   job_never_stops left (returns x) h e = let z : ⊥ = cc in z
   job_never_stops left (fails f) h e = let z : ⊥ = cc in z

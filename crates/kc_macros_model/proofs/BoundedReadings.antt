@@ -20,7 +20,7 @@ use Rattle.kc_macros_model.proofs.Keys.{IsFreeKey, key_is_free}
 use Rattle.kc_macros_model.proofs.ReadingInvariants.{AnyEvent, IsKept, lines_keep, source_keeps}
 use Rattle.kc_macros_model.proofs.WantedQuestions.{job_succeeds}
 
--- what holds along a program holds of what it comes to
+-- a fact that holds along the run of a program holds of the value that the program returns
 pub fact_of_ending : {A : Type 0} (w : World) (P : A → Type 0) (p : Program A) (x : A) → Along w AnyEvent P p → ending_in w p ≡ returned x → P x
 fact_of_ending w P (returns y) x h e = let q : y ≡ x = cc in subst P q h
 fact_of_ending w P (fails f) x h e = absurd (let z : ⊥ = cc in z)

@@ -46,7 +46,7 @@ items_clean q (suc skip) [] h = no_items
 items_clean q (suc skip) (c ∷ s) h = items_clean q skip s (clean_rest h)
 items_clean q zero (c ∷ s) h = next_item (first_item_clean q c s h) (items_clean q (pred (length (item_bytes (first_item q c s)))) s (clean_rest h))
 
--- the bytes of tokens have no newline
+-- no token of a logical line has a newline among its bytes
 pub data AreCleanTokens : List LineToken → Type 0 where
   no_tokens : AreCleanTokens []
   next_token : {t : LineToken} {ts : List LineToken} → IsClean (token_bytes t) → AreCleanTokens ts → AreCleanTokens (t ∷ ts)
@@ -107,7 +107,7 @@ escaped_clean quote (c ∷ s) h = clean_append (cond (c == 92 || (c == 36) || (c
 pub in_quotes_clean : (quote : ℕ) (s : List ℕ) → (quote == 10) ≡ false → IsClean s → IsClean (in_quotes_of quote s)
 in_quotes_clean quote s e h = clean_cons e (clean_append (escaped_text quote s) (quote ∷ []) (escaped_clean quote s h) (clean_cons e clean_none))
 
--- a token as written, and its meaning
+-- a written token has no newline in its bytes and in its meaning
 pub record IsCleanToken (t : WrittenToken) : Type 0 where
   pub bytes : IsClean t.bytes
   pub meaning : IsCleanValue t.meaning

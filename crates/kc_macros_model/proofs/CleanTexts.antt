@@ -98,7 +98,7 @@ pub clean_decimal : (n : ℕ) → IsClean (decimal n)
 unfolding digits
 clean_decimal n = digits_clean 64 n [] clean_none
 
--- a value without newlines
+-- a value is unknown or has no newline
 pub data IsCleanValue : Value → Type 0 where
   unknown_clean : IsCleanValue None
   text_clean : {s : List ℕ} → IsClean s → IsCleanValue (Some s)
@@ -123,11 +123,11 @@ joined_clean (text_clean {s = s} h) (text_clean {s = t} k) = text_clean (clean_a
 pub record CleanBindings (b : Bindings) : Type 0 where
   pub each : (name : List ℕ) (x : Variable) → b name ≡ Some x → IsCleanVariable x
 
--- a world whose answers have no newlines
+-- no answer of the world has a newline
 pub record CleanAnswers (w : World) : Type 0 where
   pub each : (question : List ℕ) (text : List ℕ) → w.answer question ≡ Some (Some text) → IsClean text
 
--- what a program returns, by what it comes to
+-- what holds of each value with which a program may end in a world holds along the program's run
 pub along_ending : {A : Type 0} (w : World) (P : A → Type 0) (p : Program A) → ((x : A) → ending_in w p ≡ returned x → P x) → Along w (λ e. Unit {0}) P p
 along_ending w P (returns x) h = h x refl
 along_ending w P (fails f) h = tt
@@ -245,7 +245,7 @@ module _ (w : World) (answers : CleanAnswers w) (at : Place) (file : IsClean at.
       means_clean (recursive_variable {name = name} {s = s} e r) a = expands_clean r a (text_of_recursive (bindings.each name (recursive s) e))
       means_clean (unbound {given = given} {name = name} {u = u} e r) a = unbound_clean name given (keyword_in_table built_ins name) u r
 
-    -- the value of a text without newlines has none
+    -- the value to which a text without newlines expands has no newline
     pub text_value_clean : (s : List ℕ) → IsClean s → Along w (λ e. Unit {0}) IsCleanValue (text_value at b s)
     unfolding text_value
     text_value_clean s h = along_ending w IsCleanValue (text_value at b s)

@@ -1,4 +1,4 @@
--- The expansion of a text and its rules agree.
+-- The expansion of a text returns only values that the rules of expansion give.
 use Rattle.std.proofs.Common.{◌≡◌, ℕ, zero, suc, ◌+◌, ◌≤◌, Bool, true, false, List, [], ◌∷◌, ◌++◌, length, Option, Some, None, refl, sym, ◌∙◌, subst}
 use Rattle.std.specs.Prelude.{nat_le}
 use Rattle.std.proofs.lemmas.Bool.{leb-true}
@@ -13,7 +13,7 @@ use Rattle.kc_macros_model.specs.ExpansionRules.{ending_in, Expands, done, byte 
 use Rattle.kc_macros_model.specs.ExpansionLaws.{ExpansionKeepsTheRules}
 use Rattle.kc_macros_model.proofs.TextItems.{IsRow, no_items, then_byte, then_reference, then_unterminated, is_row}
 
--- an end, and where it returned a value the end of the rest
+-- the end of two programs in sequence: that of the second if the first returned a value, else that of the first
 abbrev pub then_end : {A B : Type 0} → Ending A → (A → Ending B) → Ending B
 then_end (returned x) rest = rest x
 then_end (failed f) rest = failed f
@@ -31,7 +31,7 @@ returned_by_both (returned x) rest y e = (x, refl, e)
 returned_by_both (failed g) rest y e = absurd (let z : ⊥ = cc in z)
 returned_by_both stopped rest y e = absurd (let z : ⊥ = cc in z)
 
--- what both return, the first returned a value for
+-- where two programs in sequence return a value, the first returned a value, with which the second returns that result
 pub split_return : {A B : Type 0} (w : World) (p : Program A) (f : A → Program B) (y : B) → ending_in w (p >>= f) ≡ returned y
     → (x : A) × (ending_in w p ≡ returned x) × (ending_in w (f x) ≡ returned y)
 split_return w p f y e = returned_by_both (ending_in w p) (λ x. ending_in w (f x)) y (sym (end_of_both w p f) ∙ e)

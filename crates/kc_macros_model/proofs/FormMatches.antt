@@ -1,4 +1,4 @@
--- The forms of a line where a question is open, and of the one where more is answered.
+-- The form of a line where a question is open, compared with the form of the line where more is answered.
 use Rattle.std.proofs.Common.{◌≡◌, ℕ, Bool, true, false, ◌&&◌, ◌||◌, cond, List, [], ◌∷◌, Some, None, refl, sym, ap, ◌∙◌, subst}
 use Rattle.std.specs.Prelude.{not, bytes_eq, codes}
 use Rattle.std.specs.List.{list_any, list_all}
@@ -18,12 +18,12 @@ is_source (bare_prompt s) = false
 is_source (replaced_by s) = false
 is_source (named_choice s) = false
 
--- neither form sources files, or both do by a path that is no less known
+-- of two forms of lines neither sources files, or both do so in the same way and the second by a path that is no less known
 pub data FormNoLess : LineForm → LineForm → Type 0 where
   no_source : {f g : LineForm} → is_source f ≡ false → is_source g ≡ false → FormNoLess f g
   same_source : (sort : SourceSort) {v u : Value} → NoLess v u → FormNoLess (sources sort v) (sources sort u)
 
--- the forms of two lines, and whether help texts follow them
+-- of two lines the second has a form that is no less known, and a help text follows both or neither
 pub record SameEffect (ts us : List WrittenToken) : Type 0 where
   pub form : FormNoLess (form_of ts) (form_of us)
   pub help : is_help_line us ≡ is_help_line ts
@@ -197,7 +197,7 @@ value_alone (Some (c ∷ s)) = by_tests (list_all is_bare_byte (c ∷ s)) (is_ke
     by_tests true false e = record { form = no_source refl refl; help = keyword_help (c ∷ s) e }
     by_tests false k e = record { form = no_source refl refl; help = refl }
 
--- a line whose tokens are decided has the same effect where more is answered
+-- a line whose form is known where a question is open has the same effect where more is answered
 pub same_effect : {ts us : List WrittenToken} → LineNoLess ts us → is_undecided (without_gaps ts) ≡ false → SameEffect (without_gaps ts) (without_gaps us)
 same_effect empty_line e = record { form = no_source refl refl; help = refl }
 same_effect (gap_first {t = t} {ts = ts} {us = us} g r) e =

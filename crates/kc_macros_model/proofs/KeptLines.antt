@@ -537,7 +537,7 @@ module _ (w : World) (answers : CleanAnswers w) where
           (All-cons (HasItsLines w) (record { key = root; path = root; text = p.text }) [] (of_file bytes e (x.count ∙ ap newline_count (split_bytes bytes)))
           (All-nil (HasItsLines w))))
 
-  -- what the reading of a tree returns are files with their lines
+  -- the reading of a tree returns only files that have the newlines of their files, or are lists of files
   pub tree_good : (root : List ℕ) → IsClean root → Along w (λ e. Unit {0}) (All (HasItsLines w)) (tree_read root)
   unfolding tree_read
   tree_good root h = (

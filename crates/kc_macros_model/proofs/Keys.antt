@@ -1,4 +1,4 @@
--- The keys of a path are free in turn.
+-- The keys that are tried for an expanded file: one of them is free.
 use Rattle.std.proofs.Common.{◌≡◌, ℕ, zero, suc, ◌+◌, ◌<◌, ◌≤◌, Bool, true, false, ◌&&◌, ◌||◌, List, [], ◌∷◌, ◌++◌, length, map, refl, sym, ap, ◌∙◌, subst, arith, length-append, inl, inr, ◌⊎◌}
 use Rattle.std.specs.Prelude.{not, bytes_eq, decimal}
 use Rattle.std.specs.List.{list_any, IsDistinct, AllByRecursion}
@@ -118,7 +118,7 @@ module _ (root : List ℕ) (files : List ExpandedFile) (path text : List ℕ) wh
       let few = length-le_from_is_member nat_list_eq_equiv (first_keys path n) keys (first_keys_differ path n b) (taken_keys n h) in
       omega (arith, few, first_keys_count path n, length-map files (λ (f : ExpandedFile). f.key))
 
-  -- a key of the path that isn't taken
+  -- the key isn't taken, and is the path of the expanded text or that path with `#` and a number
   pub record IsFreeKey (key : List ℕ) : Type 0 where
     pub free : is_taken root files text key ≡ false
     pub of_path : IsKeyOf path key
@@ -158,6 +158,6 @@ module _ (root : List ℕ) (files : List ExpandedFile) (path text : List ℕ) wh
       by_test ih true t = ih t
       by_test ih false t = record { free = t; of_path = subst (λ x. IsKeyOf path x) (sym k) (key_is i (omega (arith, c, b))) }
 
-  -- the key of an expanded text is one of its path, and isn't taken
+  -- the key that `key_of` gives to an expanded text isn't taken, and is the text's path or that path with `#` and a number
   pub key_is_free : length files + 2 ≤ max_files → IsFreeKey (key_of root files path text)
   key_is_free b = found_free (suc (length files)) 0 2 path refl refl (omega arith) b (λ j l. absurd (omega (arith, l)))

@@ -13,7 +13,7 @@ use Rattle.kc_macros_model.specs.Worlds.{World}
 use Rattle.kc_macros_model.proofs.AnsweredPrograms.{NeverStops, never_then}
 use Rattle.kc_macros_model.proofs.KnownTexts.{IsKnown, known, IsKnownVariable, known_simple, known_recursive, KnownBindings, joined_known, value_of_simple, unless_long_known, text_value_known}
 
--- a token that is known, and its meaning
+-- a written token isn't unknown, and its meaning is known
 pub record IsKnownToken (t : WrittenToken) : Type 0 where
   pub sort : is_unknown t ≡ false
   pub meaning : IsKnown t.meaning

@@ -13,7 +13,7 @@ use Rattle.kc_macros_model.specs.Expansion.{fault, spends, asked_value, reported
 use Rattle.kc_macros_model.specs.Worlds.{World, if_unanswered}
 use Rattle.kc_macros_model.proofs.AnsweredPrograms.{NeverStops, never_then}
 
--- a value that isn't unknown
+-- a value is known: it depends on no open question
 pub data IsKnown : Value → Type 0 where
   known : {s : List ℕ} → IsKnown (Some s)
 
@@ -158,7 +158,7 @@ module _ (w : World) (at : Place) where
         λ n. never_then w IsKnown IsKnown (item_values at f 0 (items false 0 text)) (λ v. spends at (value_length v) (returns v))
         (items_known f (item_known (expanded more at b) (expanded_known more) open_names h) 0 (items false 0 text)) (λ v k m. k)
 
-    -- the value of a text is known
+    -- the expansion of a text never stops where each question has an answer, and returns a known value
     pub text_value_known : (text : List ℕ) → NeverStops w IsKnown (text_value at b text)
     unfolding text_value
     text_value_known text = expanded_known max_open_expansions [] [] text none_known

@@ -24,7 +24,7 @@ use Rattle.kc_macros_model.proofs.AnsweredPrograms.{NeverStops, never_then, job_
 use Rattle.kc_macros_model.proofs.KnownTexts.{IsKnown, known, IsKnownVariable, KnownBindings}
 use Rattle.kc_macros_model.proofs.KnownLines.{IsKnownToken, AreKnownTokens, no_known_tokens, next_known_token, IsKnownContent, known_assignment, known_tokens, content_known, variable_known}
 
--- tokens without gaps are known, and the form of a line of known tokens has known paths
+-- where all written tokens of a line are known, so are those that are no gaps
 pub gaps_gone_known : {ts : List WrittenToken} → AreKnownTokens ts → AreKnownTokens (without_gaps ts)
 gaps_gone_known no_known_tokens = no_known_tokens
 gaps_gone_known (next_known_token {t = t} {ts = ts} h r) = by_test (gaps_gone_known r) (not (is_gap t))
@@ -318,7 +318,7 @@ module _ (w : World) where
           (λ p. returns (p.state.expanded ++ record { key = root; path = root; text = p.text } ∷ []))
           (lines_go_on sub (source_goes_on max_open_files root (root ∷ [])) root 0 1 (split_at_newlines bytes) (counted (length bytes) s) g) (λ p x. tt)
 
-  -- the reading of a tree never stops
+  -- the reading of a tree never stops where each question has an answer
   pub tree_goes_on : (root : List ℕ) → NeverStops w (λ files. Unit {0}) (tree_read root)
   unfolding tree_read
   tree_goes_on root = λ e. root_goes_on root initial_state (record { each = λ name x e. absurd (let z : ⊥ = cc in z) }) (w.bytes root)

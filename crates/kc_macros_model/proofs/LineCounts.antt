@@ -1,4 +1,4 @@
--- The newlines of a file and of what is written for its lines.
+-- The newlines of a file and of the text that is written for its lines.
 use Rattle.std.proofs.Common.{◌≡◌, ℕ, zero, suc, ◌+◌, Bool, true, false, ◌&&◌, cond, List, [], ◌∷◌, ◌++◌, length, take, drop, map, refl, sym, ap, ◌∙◌, append_assoc, zero-add, arith}
 use Rattle.std.specs.Prelude.{◌==◌, ◌-◌, bytes_eq}
 use Rattle.std.proofs.Math.Nat.{suc-add}
@@ -17,7 +17,7 @@ count_clean [] h = refl
 count_clean (c ∷ s) h = let first : newline_count (c ∷ []) ≡ 0 = ap (λ b. 0 + cond b 1 0) (clean_first h) in
     omega (arith, first, count_both (c ∷ []) s, count_clean s (clean_rest h))
 
--- physical lines whose texts have no newlines
+-- no text of a physical line in the list has a newline
 pub data AreCleanLines : List PhysicalLine → Type 0 where
   no_lines : AreCleanLines []
   next_line : {l : PhysicalLine} {ls : List PhysicalLine} → IsClean l.text → AreCleanLines ls → AreCleanLines (l ∷ ls)
@@ -43,7 +43,7 @@ first_byte_bytes c (l ∷ ls) = by_test l.ended
     by_test true = refl
     by_test false = refl
 
--- the lines of a file are its bytes
+-- the physical lines of a file, one after the other, are its bytes
 pub split_bytes : (s : List ℕ) → bytes_of_lines (split_at_newlines s) ≡ s
 split_bytes [] = refl
 split_bytes (c ∷ s) = by_test (split_bytes s) (c == 10) refl
@@ -79,7 +79,7 @@ taken_clean zero ls h = no_lines
 taken_clean (suc n) [] h = h
 taken_clean (suc n) (l ∷ ls) (next_line h r) = next_line h (taken_clean n ls r)
 
--- what is written for lines has their newlines
+-- the text that is written for physical lines has as many newlines as the lines
 pub written_count : (ls : List PhysicalLine) (text new : List ℕ) → AreCleanLines ls → IsClean new → newline_count (lines_written ls text new)
     ≡ newline_count (bytes_of_lines ls)
 written_count ls text new h k = by_test (bytes_eq new text)

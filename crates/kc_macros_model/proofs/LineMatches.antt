@@ -1,4 +1,4 @@
--- A line where a question is open, beside one where more is answered.
+-- The tokens and the content of a line where a question is open, compared with those where more is answered.
 use Rattle.std.proofs.Common.{◌≡◌, ℕ, Bool, true, false, ◌&&◌, cond, List, [], ◌∷◌, ◌++◌, Option, Some, None, refl, sym, ap, ◌∙◌, subst}
 use Rattle.std.specs.Prelude.{not, bytes_eq, ◌==◌}
 use Rattle.std.specs.List.{list_any, list_all}
@@ -16,18 +16,18 @@ use Rattle.kc_macros_model.specs.ProgramLaws.{Extends}
 use Rattle.kc_macros_model.proofs.ProgramMatches.{Matches, match_return, match_fault, match_stop, match_then, match_spend, match_unless_long}
 use Rattle.kc_macros_model.proofs.TextMatches.{NoLess, unknown, same, VariableNoLess, not_set, simple_both, recursive_both, BindingsNoLess, joined_no_less, text_matches}
 
--- a token is the same, or quoted by the same quotes with no less a meaning, or not known
+-- of two written tokens the second is the same, or has the same quotes and no less known a meaning, or the first is unknown
 pub data TokenNoLess : WrittenToken → WrittenToken → Type 0 where
   same_token : {t : WrittenToken} → is_unknown t ≡ false → TokenNoLess t t
   quoted_tokens : (quote : ℕ) (x y : WrittenBody) → NoLess x.meaning y.meaning → TokenNoLess (token_of_body quote x) (token_of_body quote y)
   unknown_token : (v : Value) → TokenNoLess (token_of_value None) (token_of_value v)
 
--- tokens after the first
+-- of two lists of written tokens of one length, each token of the second is no less known than that of the first
 pub data RestNoLess : List WrittenToken → List WrittenToken → Type 0 where
   no_more : RestNoLess [] []
   one_more : {t u : WrittenToken} {ts us : List WrittenToken} → TokenNoLess t u → RestNoLess ts us → RestNoLess (t ∷ ts) (u ∷ us)
 
--- the tokens of a line: an unknown first one is alone
+-- of the written tokens of two lines the second are no less known than the first; an unknown first token has only gaps after it
 pub data LineNoLess : List WrittenToken → List WrittenToken → Type 0 where
   empty_line : LineNoLess [] []
   gap_first : {t : WrittenToken} {ts us : List WrittenToken} → is_gap t ≡ true → LineNoLess ts us → LineNoLess (t ∷ ts) (t ∷ us)
@@ -271,12 +271,12 @@ module _ (w more : World) (ext : Extends w more) (question : List ℕ) (unanswer
       match_then w more ext question unanswered TokenNoLess ContentNoLess (written_token at b t) (written_token at c t) (λ x. after_token b x ts)
       (λ x. after_token c x ts) (token_matches t) (λ x y r. token_then ts ih r)
 
-  -- the content of a line
+  -- the content of a line where a question is open is no less known where more is answered
   pub content_matches : (ts : List LineToken) → M ContentNoLess (line_content at b true ts) (line_content at c true ts)
   content_matches [] = match_return w more ext question unanswered ContentNoLess (tokens []) (tokens []) (line_tokens empty_line)
   content_matches (t ∷ ts) = by_assignment t ts (content_matches ts) (assignment_at true t ts)
 
-  -- a new variable
+  -- of two variables the second is of the same sort as the first and has a value that is no less known
   abbrev pub VariablesNoLess : Variable → Variable → Type 0
   VariablesNoLess x y = VariableNoLess (Some x) (Some y)
 

@@ -1,4 +1,4 @@
--- Outcomes of programs.
+-- Outcomes of programs: with more answers, with no open question, and in sequence.
 use Rattle.std.proofs.Common.{◌≡◌, ℕ, Bool, true, false, cond, List, [], ◌++◌, Option, Some, None, Result, Ok, Err, refl, sym, ap, ◌∙◌, append_assoc}
 use Rattle.std.specs.Prelude.{nat_lt, ◌-◌}
 use Rattle.kc_macros_model.specs.declared.fault.MacroKind.TheVariants.{TooMany}
@@ -7,7 +7,7 @@ use Rattle.kc_macros_model.specs.Worlds.{World, reply, notices_of, open_question
 use Rattle.kc_macros_model.specs.ProgramLaws.{Extends, is_unanswered}
 
 module _ {A : Type 0} (w more : World) (ext : Extends w more) where
-  -- where the first is answered, the second is the same
+  -- the second outcome is the same as the first, unless the first fails for want of an answer
   abbrev SameIf : Outcome A → Outcome A → Type 0
   SameIf o m = is_unanswered o.ending ≡ false → m ≡ o
 
@@ -38,7 +38,7 @@ module _ {A : Type 0} (w more : World) (ext : Extends w more) where
       by_answer (Some a) e h = ap (asked more) (ext.answers question a e) ∙ ap (after_event (record w { answer = λ q. Some a }) (ask at question))
           (ih (Some a) h)
 
-  -- answers that aren't asked for change nothing
+  -- a program that doesn't fail for want of an answer has the same outcome in a world with more answers
   pub same_if_answered : (left : ℕ) (p : Program A) → SameIf (outcome true w left p) (outcome true more left p)
   same_if_answered left (returns x) h = refl
   same_if_answered left (fails f) h = refl
@@ -54,7 +54,7 @@ module _ {A : Type 0} (w more : World) (ext : Extends w more) where
   same_if_answered left (does (ask at question) k) h = same_answered left at question k (λ r. same_if_answered left (k r)) h
 
 module _ {A : Type 0} (w : World) where
-  -- no question was open
+  -- the second outcome is the same as the first, if the first has no open questions
   abbrev Agree : Outcome A → Outcome A → Type 0
   Agree o m = o.questions ≡ [] → m ≡ o
 
@@ -84,7 +84,7 @@ module _ {A : Type 0} (w : World) where
       by_answer None h = absurd (let z : ⊥ = cc in z)
       by_answer (Some a) h = ap (after (Some a)) (ih (Some a) h)
 
-  -- where no question is open, a job comes to what the search for questions comes to
+  -- a program that finds no open question has the same outcome whether or not open questions are faults
   pub same_if_none_open : (left : ℕ) (p : Program A) → Agree (outcome false w left p) (outcome true w left p)
   same_if_none_open left (returns x) h = refl
   same_if_none_open left (fails f) h = refl
@@ -95,7 +95,7 @@ module _ {A : Type 0} (w : World) where
   same_if_none_open left (does (spend at work) k) h = agree_spent left at work k (λ n. same_if_none_open n (k (tt {0}))) h
   same_if_none_open left (does (ask at question) k) h = agree_asked left at question k (λ r. same_if_none_open left (k r)) h
 
--- an outcome, and where it returned a value the outcome of the rest after it
+-- the outcome of two programs in sequence: an outcome, followed by that of the rest if it returned a value
 abbrev pub continued_by : {A B : Type 0} → Outcome A → Ending A → (ℕ → A → Outcome B) → Outcome B
 continued_by o (returned x) rest = let r = rest o.left x in record {
   notices = o.notices ++ r.notices;
@@ -106,7 +106,7 @@ continued_by o (returned x) rest = let r = rest o.left x in record {
 continued_by o (failed f) rest = record { notices = o.notices; questions = o.questions; left = o.left; ending = failed f }
 continued_by o stopped rest = record { notices = o.notices; questions = o.questions; left = o.left; ending = stopped }
 
--- one program after another comes to what the first comes to, and then the second
+-- the outcome of two programs in sequence is the outcome of the first, continued by that of the second
 abbrev pub ProgramsCompose : {A B : Type 0} → (all_answered : Bool) → World → ℕ → Program A → (A → Program B) → Type 0
 ProgramsCompose all w left p f = let o = outcome all w left p in outcome all w left (p >>= f) ≡ continued_by o o.ending (λ more x. outcome all w more (f x))
 
@@ -133,7 +133,7 @@ module _ {A B : Type 0} (all : Bool) (w : World) (f : A → Program B) where
       by_result (Err g) = refl
       by_result (Ok n) = let o = outcome all w n (k (reply w e)) in ap (after_event w e) (ih n (reply w e)) ∙ after_continued e o o.ending
 
-  -- the outcome of one program after another
+  -- the outcome of two programs in sequence is that of the first, continued by that of the second with the work that is left
   pub composed : (left : ℕ) (p : Program A) → ProgramsCompose all w left p f
   composed left (returns x) = refl
   composed left (fails g) = refl

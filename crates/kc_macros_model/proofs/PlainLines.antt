@@ -1,4 +1,4 @@
--- Lines on which nothing acts are written as they are.
+-- Lines that have nothing to expand, assign or rewrite are written as they are.
 use Rattle.std.proofs.Common.{◌≡◌, ℕ, zero, suc, ◌+◌, Bool, true, false, ◌&&◌, ◌||◌, cond, List, [], ◌∷◌, ◌++◌, length, take, drop, map, Option, Some, None, refl, sym, ap, ◌∙◌}
 use Rattle.std.specs.Prelude.{not, nat_lt, bytes_eq, codes, ◌==◌}
 use Rattle.std.specs.List.{list_all, list_any}
@@ -26,14 +26,14 @@ use Rattle.kc_macros_model.proofs.PlainTokens.{not_so, bytes_as_they_are, known_
 use Rattle.kc_macros_model.proofs.TokensOfLines.{tokens_are_line}
 use Rattle.std.proofs.lemmas.Cmp.{nat_list_eq_equiv}
 
--- the written tokens of a line
+-- the written tokens of a line that has nothing to expand, gaps among them
 abbrev pub own_tokens : List ℕ → List WrittenToken
 own_tokens text = map token_as_it_is (line_tokens 0 text)
 
 pub own_bytes : (text : List ℕ) → line_bytes (own_tokens text) ≡ text
 own_bytes text = bytes_as_they_are (line_tokens 0 text) ∙ tokens_are_line text
 
--- a line that has nothing to expand and is no assignment, by its form
+-- a line that has nothing to expand and is no assignment is written by the form of its own tokens
 pub line_by_form : (sub : SourceReader) (at : Place) (continued : Bool) (text : List ℕ) (s : ReadingState) (f : LineForm)
     → list_all is_kept_token (line_tokens 0 text) ≡ true → is_assignment (line_tokens 0 text) ≡ false
     → form_of (tokens_as_they_are text) ≡ f
@@ -56,7 +56,7 @@ line_by_form sub at continued text s f free no_name form =
     either_way true = refl
     either_way false = refl
 
--- a text that isn't too long, as a line
+-- a text of at most `max_text_bytes` bytes is an expanded line without fault
 pub short_stays : (at : Place) (help : Bool) (text new : List ℕ) (s : ReadingState) → new ≡ text → nat_lt max_text_bytes (length text) ≡ false
     → short_line at help (progress new s) ≡ returns (written_line text help s)
 short_stays at help text new s e h =
@@ -72,7 +72,7 @@ plain_form_is (replaced_by text) e = let z : ⊥ = cc in absurd z
 plain_form_is (named_choice name) e = let z : ⊥ = cc in absurd z
 plain_form_is (sources sort path) e = let z : ⊥ = cc in absurd z
 
--- a plain line that sources nothing
+-- a plain line that sources nothing and isn't too long is written as it is
 pub plain_line_stays : (sub : SourceReader) (at : Place) (continued : Bool) (text : List ℕ) (s : ReadingState)
     → list_all is_kept_token (line_tokens 0 text) ≡ true → is_assignment (line_tokens 0 text) ≡ false
     → is_plain_form (form_of (tokens_as_they_are text)) ≡ true → nat_lt max_text_bytes (length text) ≡ false
@@ -123,7 +123,7 @@ plain_lines_stay sub at continued text s e = by_test (is_copied text) refl e
         (no_other (is_plain_form (form_of real)) (is_one_of no_paths (plain_path real)) (none_of_none (plain_path real)) (second_so no_name form rest))
         (neither_first (nat_lt max_text_bytes (length text)) (not (is_utf8 text)) c)
 
--- physical lines with their help text and those after it are all the lines
+-- the physical lines of a logical line, those of its help text, and the remaining ones are all the lines
 pub whole_lines : (l : PhysicalLine) (ls : List PhysicalLine) (more help : ℕ) (text : List ℕ)
     → lines_written (l ∷ take more ls) text text ++ (bytes_of_lines (take help (drop more ls)) ++ bytes_of_lines (drop (more + help) ls))
     ≡ bytes_of_lines (l ∷ ls)
@@ -161,11 +161,11 @@ lines_stay sub file zero n (l ∷ ls) s e =
 pub plain_files_stay : PlainFilesStay
 plain_files_stay sub file bytes s e = lines_stay sub file 0 1 (split_at_newlines bytes) s e ∙ ap (λ x. returns (progress x s)) (split_bytes bytes)
 
--- a `source` of one file
+-- the sort of the keyword `source`: its path isn't relative to the file's folder, and its file must be there
 abbrev pub one_source : SourceSort
 one_source = record { relative = false; optional = false }
 
--- the first token that is no gap is the word `source`
+-- the first written token of a line that is no gap is the word `source`
 pub record BeginsWithSource (ts : List WrittenToken) : Type 0 where
   pub first : WrittenToken
   pub rest : List WrittenToken
@@ -178,7 +178,7 @@ source_word = written_as a_word (codes "source") []
 same_head : (x y : WrittenToken) (xs ys : List WrittenToken) → x ∷ xs ≡ y ∷ ys → x ≡ y
 same_head x y xs ys e = cc
 
--- the word `source` in place of itself
+-- putting the word `source` in place of a first token that is that word leaves the bytes of a line
 source_stays : (ts : List WrittenToken) (first : WrittenToken) (rest : List WrittenToken) → without_gaps ts ≡ first ∷ rest → first.bytes ≡ codes "source"
     → line_bytes (with_nth_token 0 source_word ts) ≡ line_bytes ts
 source_stays [] first rest e b = let z : ⊥ = cc in absurd z
@@ -193,7 +193,7 @@ source_stays (t ∷ ts) first rest e b = by_test (λ h. source_stays ts first re
 pub source_word_stays : {ts : List WrittenToken} → BeginsWithSource ts → line_bytes (with_nth_token 0 source_word ts) ≡ line_bytes ts
 source_word_stays {ts = ts} h = source_stays ts h.first h.rest h.parts h.bytes
 
--- the tokens of a line `source PATH`
+-- the written tokens without gaps of a line are those of `source PATH` with this path
 pub record IsSource (real : List WrittenToken) (path : List ℕ) : Type 0 where
   pub form : form_of real ≡ sources one_source (Some path)
   pub first : WrittenToken

@@ -1,4 +1,4 @@
--- Lines on which nothing acts, and others, computed.
+-- Examples of lines that have nothing to expand, assign or rewrite, and of sources that aren't among them, computed.
 use Rattle.std.proofs.Common.{◌≡◌, ℕ, Bool, true, false, List, [], ◌∷◌, map, refl}
 use Rattle.std.specs.Prelude.{codes, bytes_eq}
 use Rattle.std.specs.Str.{is_utf8, chars}
@@ -13,13 +13,6 @@ plain_lines : plain_ones no_paths (codes "config A_B" ∷ codes "\tdefault y if 
     ∷ codes "\tdefault $X" ∷ codes "\tprompt \"a = b\"" ∷ []) ≡ true ∷ true ∷ true ∷ true ∷ true ∷ true ∷ true ∷ []
 unfolding next_token is_utf8 chars lib.Utf8.encode
 plain_lines = refl
-
--- a reference, a `$` in quotes, assignments, prompts without quotes, a name of a choice, options, and sources of no file of the tree
-other_lines : plain_ones no_paths (codes "if $(A)" ∷ codes "\tdefault \"$b\"" ∷ codes "A = 1" ∷ codes " A := 1" ∷ codes "A+=1" ∷ codes "\tbool word"
-    ∷ codes "choice a" ∷ codes "\toption allnoconfig_y" ∷ codes "source \"a\"" ∷ []) ≡ false ∷ false ∷ false ∷ false ∷ false ∷ false ∷ false ∷ false
-    ∷ false ∷ []
-unfolding next_token is_utf8 chars lib.Utf8.encode
-other_lines = refl
 
 source_lines : plain_ones (bytes_eq (codes "a/b")) (codes "source \"a/b\"" ∷ codes " source a/b # b" ∷ codes "source \"a/c\"" ∷ codes "rsource \"a/b\""
     ∷ codes "osource \"a/b\"" ∷ []) ≡ true ∷ true ∷ false ∷ false ∷ false ∷ []

@@ -24,7 +24,7 @@ pub not_so : (b : Bool) → not b ≡ true → b ≡ false
 not_so true e = absurd (let z : ⊥ = cc in z)
 not_so false e = refl
 
--- items that are bytes and escaped bytes alone
+-- the items of a text are only bytes other than `$`, and backslashes with the byte after them
 pub data ArePlainItems : List ℕ → List Item → Type 0 where
   plain_none : ArePlainItems [] []
   plain_byte : {c : ℕ} {s : List ℕ} {is : List Item} → (c == 36) ≡ false → ArePlainItems s is → ArePlainItems (c ∷ s) (byte c ∷ is)
@@ -56,11 +56,11 @@ items_within (suc n) q (c ∷ d ∷ s) h e =
     by_escape r1 r2 true e2 = subst (λ p. ArePlainItems (c ∷ d ∷ s) (plain_from p)) (sym e2) (plain_escaped (eqb-true c 92 (second_so q (c == 92) e2)) r2)
     by_escape r1 r2 false e2 = subst (λ p. ArePlainItems (c ∷ d ∷ s) (plain_from p)) (sym e2) (plain_byte (neither_first (c == 36) (has_dollar (d ∷ s)) e) r1)
 
--- a text without `$` is a row of bytes and escaped bytes
+-- the items of a text without `$` are only bytes, and backslashes with the byte after them
 pub plain_items : (q : Bool) (s : List ℕ) → has_dollar s ≡ false → ArePlainItems s (items q 0 s)
 plain_items q s e = items_within (length s) q s (omega arith) e
 
--- so is one between quotes of which each item is kept
+-- the items of a text between quotes that are all kept are only bytes other than `$`, and backslashes with the byte after them
 kept_within : (n : ℕ) (s : List ℕ) → length s ≤ n → list_all is_kept_item (items true 0 s) ≡ true → ArePlainItems s (items true 0 s)
 kept_within n [] h e = plain_none
 kept_within zero (c ∷ s) h e = absurd (omega (arith, h))
@@ -108,7 +108,7 @@ all_kept plain_none = refl
 all_kept (plain_byte {is = is} e r) = ap (λ b. not b && list_all is_kept_item is) e ∙ all_kept r
 all_kept (plain_escaped e r) = all_kept r
 
--- a run without `$` has nothing to expand, and so has a quoted text
+-- a run without `$` has nothing to expand
 pub run_kept : (s : List ℕ) → has_dollar s ≡ false → is_kept_token (run s) ≡ true
 run_kept s e =
     let p = plain_items false s e in
@@ -166,7 +166,7 @@ kept_in_row (next_token {c = c} {s = s} {rest = rest} {ts = ts} more begins part
 pub lines_without_dollars : LinesWithoutDollars
 lines_without_dollars text e = kept_in_row (is_in_tokens text) e
 
--- tokens as they are, in a row
+-- the bytes of the written tokens of a line that has nothing to expand are the bytes of the line's tokens
 pub bytes_as_they_are : (ts : List LineToken) → line_bytes (map token_as_it_is ts) ≡ bytes_of_tokens ts
 bytes_as_they_are [] = refl
 bytes_as_they_are (gap s ∷ ts) = ap (λ x. s ++ x) (bytes_as_they_are ts)
@@ -217,7 +217,7 @@ module _ (at : Place) (b : Bindings) where
   run_stays s false false e = refl
   run_stays s false true e = let z : ⊥ = cc in absurd z
 
-  -- a token that has nothing to expand is written as it is
+  -- a token that has nothing to expand is written with its own bytes
   pub token_stays : (t : LineToken) → is_kept_token t ≡ true → written_token at b t ≡ returns (token_as_it_is t)
   token_stays (gap s) e = refl
   token_stays (run s) e = run_stays s (list_any is_plain_dollar (items false 0 s)) (list_any is_reference (items false 0 s)) e
@@ -263,7 +263,7 @@ module _ (at : Place) (b : Bindings) where
       ∙ ap (λ (p : Program LineContent). p >>= λ rest. returns (with_token (token_as_it_is t) rest))
       (tokens_stay_inside ts (second_so (is_kept_token t) (list_all is_kept_token ts) e))
 
-  -- a line that has nothing to expand and is no assignment has its own tokens
+  -- the content of a line that has nothing to expand and is no assignment is the line's own tokens
   pub tokens_stay : (ts : List LineToken) → list_all is_kept_token ts ≡ true → is_assignment ts ≡ false
       → line_content at b true ts ≡ returns (tokens (map token_as_it_is ts))
   tokens_stay [] e n = refl

@@ -1,4 +1,4 @@
--- Trees of lines on which nothing acts keep their bytes.
+-- Trees of lines that have nothing to expand, assign or rewrite keep their bytes.
 use Rattle.std.proofs.Common.{◌≡◌, ℕ, zero, suc, ◌+◌, ◌<◌, ◌≤◌, Bool, true, false, ◌&&◌, ◌||◌, cond, List, [], ◌∷◌, ◌++◌, length, take, drop, map, Option, Some, None, refl, sym, ap, ◌∙◌, subst, arith}
 use Rattle.std.specs.Prelude.{not, nat_lt, nat_le, bytes_eq, codes, decimal, ◌==◌}
 use Rattle.std.specs.List.{All, list_all, list_any}
@@ -51,7 +51,8 @@ only_both w Q P (does (report notice) n) f h k = absurd h
 only_both w Q P (does (ask at question) n) f h k = absurd h
 only_both w Q P (does (list_folder folder) n) f h k = absurd h
 
--- what such a program comes to
+-- the outcome of a program that only reads files: no notices, no questions, and a value with the fact `P` or a fault of sourcing
+-- files
 record IsQuiet {A : Type 0} (P : A → Type 0) (o : Outcome A) : Type 0 where
   notices : o.notices ≡ []
   questions : o.questions ≡ []
@@ -87,7 +88,7 @@ module _ {A : Type 0} (w : World) (P : A → Type 0) where
   quiet_outcome left (does (ask at question) k) h = absurd h
   quiet_outcome left (does (list_folder folder) k) h = absurd h
 
-  -- it is the same under any answers
+  -- the outcome of a program that only reads files is the same under any answers
   same_outcome : (answer : List ℕ → Option Answer) (left : ℕ) (p : Program A) → OnlyReads w P p → outcome true (record w { answer = answer }) left p
       ≡ outcome true w left p
   same_outcome answer left (returns x) h = refl

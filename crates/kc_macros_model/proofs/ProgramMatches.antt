@@ -1,4 +1,4 @@
--- A program where a question is open, beside one where more is answered and none is.
+-- A program in a world where a question is open, compared with one where more is answered and no question is open.
 use Rattle.std.proofs.Common.{◌≡◌, ℕ, Bool, true, false, List, [], Option, Some, None, refl, sym, ap, ◌∙◌, subst}
 use Rattle.std.specs.Prelude.{nat_le}
 use Rattle.kc_macros_model.specs.declared.fault.MacroKind.TheVariants.{LineTooLong}
@@ -11,7 +11,7 @@ use Rattle.kc_macros_model.proofs.RunInvariants.{Along, along_then, Succeeds, su
 
 -- Two worlds of the same files, of which the second answers more, but not this question.
 module _ (w more : World) (ext : Extends w more) (question : List ℕ) (unanswered : more.answer question ≡ None) where
-  -- this question isn't asked, or has an answer
+  -- an event doesn't ask the question `question` in a world that leaves it open
   abbrev pub Spares : Event → Type 0
   Spares (ask at other) = w.answer other ≡ None → other ≡ question → ⊥
   Spares (spend at work) = Unit {0}
@@ -19,7 +19,7 @@ module _ (w more : World) (ext : Extends w more) (question : List ℕ) (unanswer
   Spares (read_file path) = Unit {0}
   Spares (list_folder folder) = Unit {0}
 
-  -- where the second program succeeds, the first spares the question and returns only what is related
+  -- where the second program succeeds with more answers, the first never asks `question` in vain, and returns only related values
   abbrev pub Matches : {A : Type 0} → (A → A → Type 0) → Program A → Program A → Type 0
   Matches {A = A} R p m = (y : A) → Succeeds more y m → Along w Spares (λ x. R x y) p
 
@@ -57,7 +57,7 @@ module _ (w more : World) (ext : Extends w more) (question : List ℕ) (unanswer
       → Matches R (does (list_folder folder) p) (does (list_folder folder) m)
   match_folder R folder p m h z s = (tt, h (w.names folder) z (subst (λ b. Succeeds more z (m b)) (ext.names folder) s.1))
 
-  -- what the replies to one question may be: an open one has any answer in the second world
+  -- of two answers to one question the second is the same as the first, or the first is missing
   pub data AnswerMatches : Option Answer → Option Answer → Type 0 where
     open_one : {r : Option Answer} → AnswerMatches None r
     given : {a : Answer} → AnswerMatches (Some a) (Some a)

@@ -18,7 +18,7 @@ use Rattle.kc_macros_model.proofs.ExpansionByRules.{split_return, same_return}
 use Rattle.kc_macros_model.proofs.PlainTokens.{ArePlainItems, plain_none, plain_byte, plain_escaped, and_false}
 use Rattle.kc_macros_model.proofs.TextItems.{IsInside as IsReferenceInside, inside_found, items_of_reference}
 
--- each `$`, backslash and quote follows a backslash
+-- each `$`, backslash and quote `q` in the bytes follows a backslash
 pub data IsQuotedBody (q : ℕ) : List ℕ → Type 0 where
   body_none : IsQuotedBody q []
   body_byte : {c : ℕ} {s : List ℕ} → (c == q) ≡ false → (c == 92) ≡ false → (c == 36) ≡ false → IsQuotedBody q s → IsQuotedBody q (c ∷ s)
@@ -40,7 +40,7 @@ escaped_is_body q (c ∷ s) = by_test (escaped_is_body q s) (c == 92 || (c == 36
         let l : (c == 92 || (c == 36)) ≡ false = neither_first (c == 92 || (c == 36)) (c == q) e in
         body_byte (neither_second (c == 92 || (c == 36)) (c == q) e) (neither_first (c == 92) (c == 36) l) (neither_second (c == 92) (c == 36) l) ih
 
--- a byte that is neither `$` nor a backslash is an item
+-- a byte that is no `$`, and between quotes no backslash, is an item of its own
 pub byte_first : (q : Bool) (c : ℕ) (s : List ℕ) → (c == 36) ≡ false → (q && (c == 92)) ≡ false → first_item q c s ≡ byte c
 byte_first q c [] e f = refl
 byte_first q c (d ∷ s) e f = ap (λ x. cond x (reference_of s (inside_length 0 s)) (cond (q && (c == 92)) (escaped d) (byte c)))
@@ -49,13 +49,13 @@ byte_first q c (d ∷ s) e f = ap (λ x. cond x (reference_of s (inside_length 0
 byte_items : (c : ℕ) (s : List ℕ) → (c == 36) ≡ false → (c == 92) ≡ false → items true 0 (c ∷ s) ≡ byte c ∷ items true 0 s
 byte_items c s e f = ap (λ i. i ∷ items true (pred (length (item_bytes i))) s) (byte_first true c s e f)
 
--- such bytes are a row of bytes and escaped bytes
+-- the items of bytes in which each `$`, backslash and quote follows a backslash are only bytes and backslashes with a byte
 pub body_items : {q : ℕ} {s : List ℕ} → IsQuotedBody q s → ArePlainItems s (items true 0 s)
 body_items body_none = plain_none
 body_items (body_byte {c = c} {s = s} a b e r) = subst (λ is. ArePlainItems (c ∷ s) is) (sym (byte_items c s e b)) (plain_byte e (body_items r))
 body_items (body_pair r) = plain_escaped refl (body_items r)
 
--- they reach up to the quote
+-- bytes in which each `$`, backslash and quote follows a backslash reach up to the quote after them
 pub body_extent : (q : ℕ) → (q == q) ≡ true → (92 == q) ≡ false → {s : List ℕ} → IsQuotedBody q s → (y : List ℕ)
     → extent true (λ d. d == q) 0 (s ++ q ∷ y) ≡ length s
 body_extent q same other body_none y = ap (λ b. cond b 0 (suc (extent true (λ d. d == q) (pred (length (item_bytes (first_item true q y)))) y))) same
@@ -66,7 +66,7 @@ body_extent q same other (body_byte {c = c} {s = s} a b e r) y =
 body_extent q same other (body_pair {c = c} {s = s} r) y =
     ap (λ x. cond x 0 (suc (suc (extent true (λ d. d == q) 0 (s ++ q ∷ y))))) other ∙ ap (λ n. suc (suc n)) (body_extent q same other r y)
 
--- the inside of a quoted token: no item of it is the quote, a lone backslash or unterminated
+-- bytes between two quotes `q` have these items, none of which is the quote, a lone backslash or an unterminated `$(`
 pub data IsQuotedInside (q : ℕ) : List ℕ → List Item → Type 0 where
   inside_none : IsQuotedInside q [] []
   inside_byte : {c : ℕ} {s : List ℕ} {is : List Item} → (c == q) ≡ false → (c == 92) ≡ false → IsQuotedInside q s is → IsQuotedInside q (c ∷ s) (byte c ∷ is)
@@ -82,7 +82,7 @@ module _ (w : World) (at : Place) (b : Bindings) where
   byte_body q c e f true h = body_pair body_none
   byte_body q c e f false h = body_byte e f h body_none
 
-  -- what is written of an inside
+  -- in the written bytes of the items between quotes each `$`, backslash and quote follows a backslash
   pub inside_written : (q : ℕ) {s : List ℕ} {is : List Item} → IsQuotedInside q s is → (x : WrittenBody) → ending_in w (written_items at b q is) ≡ returned x
       → IsQuotedBody q x.bytes
   inside_written q inside_none x e = subst (λ (z : WrittenBody). IsQuotedBody q z.bytes) (same_return (body_of [] []) x e) body_none
@@ -223,7 +223,7 @@ module _ (q : ℕ) where
       by_end [] ih h false e = λ lt. absurd (omega (arith, lt))
       by_end (d ∷ s) ih h false e = two_reached n c d s ih h e (c == 36 && (d == 40)) (c == 92) refl refl
 
-  -- the bytes up to the quote
+  -- the bytes before the next quote are bytes between quotes: no item of them is the quote, a lone backslash or unterminated
   pub up_to_quote : (s : List ℕ) → extent true (λ d. d == q) 0 s < length s → IsQuotedInside q (take (extent true (λ d. d == q) 0 s) s)
       (items true 0 (take (extent true (λ d. d == q) 0 s) s))
   up_to_quote s lt = reached_within (length s) s (omega arith) lt

@@ -22,11 +22,11 @@ use Rattle.kc_macros_model.specs.TreeExpansion.{place, Sourced, one_file, file_l
 use Rattle.kc_macros_model.specs.Worlds.{World, reply}
 use Rattle.kc_macros_model.proofs.RunInvariants.{Along, along_then}
 
--- nothing is asked of an event
+-- the fact of events that holds of each event
 abbrev pub AnyEvent : Event → Type 0
 AnyEvent e = Unit {0}
 
--- a fact that leaves open what a program returns
+-- along the run of any program holds a fact that says nothing of events and of the value that the program returns
 pub anything : {A : Type 0} (w : World) (p : Program A) → Along w AnyEvent (λ x. Unit {0}) p
 anything w (returns x) = tt
 anything w (fails f) = tt
@@ -81,7 +81,7 @@ module _ (w : World) where
       (λ f g. along_then w AnyEvent (λ x. Unit {0}) IsListed (readable_paths f.paths) (λ paths. returns (found (sorted paths) f.listed))
       (anything w (readable_paths f.paths)) (λ paths k. g))
 
--- a fact of a state where this many files are open besides the first, and that each step keeps
+-- each step of a reading keeps a fact of its state and of how many more files are open in it than the first
 pub record IsKept (root : List ℕ) (I : ℕ → ReadingState → Type 0) : Type 0 where
   pub binds : (k : ℕ) (name : List ℕ) (v : Variable) (s : ReadingState) → I k s → I k (bound name v s)
   pub chooses : (k : ℕ) (name : List ℕ) (s : ReadingState) → I k s → I k (with_choice name s)

@@ -1,5 +1,5 @@
 -- Worked rows, computed.
-use Rattle.std.proofs.Common.{◌≡◌, ℕ, List, [], ◌∷◌, Some, None, Result, Ok, Err, refl, true, map, drop, length}
+use Rattle.std.proofs.Common.{◌≡◌, ℕ, List, [], ◌∷◌, Some, Result, Ok, Err, refl, true, map, drop, length}
 use Rattle.std.specs.Prelude.{codes, filter, ◌==◌, not, take_while, bytes_eq}
 use Rattle.std.specs.Fmt.{digits}
 use Rattle.std.specs.Str.{is_utf8, chars}
@@ -15,8 +15,8 @@ use Rattle.kc_macros_model.specs.Programs.{Fault}
 use Rattle.kc_macros_model.specs.Expansion.{text_value}
 use Rattle.kc_macros_model.specs.ReadingStates.{ExpandedFile}
 use Rattle.kc_macros_model.specs.TreeExpansion.{place, tree_read}
-use Rattle.kc_macros_model.specs.Worlds.{World, Ending, returned, failed, stopped, outcome, expansion, wanted}
-use Rattle.kc_macros_model.specs.AnswerFiles.{Recorded, complete, cut_by, answers_read}
+use Rattle.kc_macros_model.specs.Worlds.{World, Ending, returned, failed, stopped, outcome, expansion}
+use Rattle.kc_macros_model.specs.AnswerFiles.{Recorded, cut_by, answers_read}
 
 -- the names in a folder, by the paths of files
 abbrev names_in : List (List ℕ × List ℕ) → List ℕ → List (List ℕ)
@@ -52,21 +52,6 @@ recursive_and_simple : expanded_texts (one_file (codes "R = $(X)\nS := $(X)\nX =
     ≡ one_text (codes "\n\n\nif 2\n")
 unfolding tree_read text_value expansion next_token is_utf8 chars digits lib.Utf8.encode
 recursive_and_simple = refl
-
--- a simple variable keeps the value of its text at the assignment
-simple_keeps_its_value : expanded_texts (one_file (codes "S := $(X)\nX = 2\nif $(S)\n") ((codes "X", Some (codes "1")) ∷ [])) ≡ one_text (codes "\n\nif 1\n")
-unfolding tree_read text_value expansion next_token is_utf8 chars digits lib.Utf8.encode
-simple_keeps_its_value = refl
-
--- what a reference gives is not expanded again, and in quotes a `$` is written with a backslash
-not_expanded_again : expanded_texts (one_file (codes "D := $\nif \"$(D)(A)\"\n") []) ≡ one_text (codes "\nif \"\\$(A)\"\n")
-unfolding tree_read text_value expansion next_token is_utf8 chars digits lib.Utf8.encode
-not_expanded_again = refl
-
--- arguments are cut at commas outside parentheses, and white around them is part of them
-arguments : expanded_texts (one_file (codes "f = <$(1)|$(2)>\nif \"$(f, (a,b) ,c)\"\n") []) ≡ one_text (codes "\nif \"< (a,b) |c>\"\n")
-unfolding tree_read text_value expansion next_token is_utf8 chars digits lib.Utf8.encode
-arguments = refl
 
 -- the value of a token is one token, and no keyword; an empty one leaves a space
 one_token : expanded_texts (one_file (codes "K := if\nT := a b\nE :=\nif $(K) $(T)$(T) $(E) A$(E)\n") []) ≡ one_text (codes "\n\n\nif \"if\" \"a ba b\"   A\n")
@@ -105,17 +90,6 @@ too_much_work : texts_of (outcome true (one_file (codes "if $(A)\n") ((codes "A"
     ≡ Err (fault_of 1 TooMany [])
 unfolding tree_read text_value next_token is_utf8 chars digits lib.Utf8.encode
 too_much_work = refl
-
--- the search ends where it isn't known what a line is: without `$(A)` the first is an assignment of `X`
-undecided_line : wanted (one_file (codes "$(A) X := $(B)\nif $(X)\n") []) (codes "Kconfig") ≡ Ok (codes "A" ∷ [])
-unfolding tree_read text_value wanted next_token is_utf8 chars digits lib.Utf8.encode
-undecided_line = refl
-
--- a file of answers: a name with its value, one that isn't set, a command with its answer; white at a line's end is dropped
-answers : answers_read complete (codes "# a comment\nA=x=y \n!B\n$ c d\n> e\n") []
-    ≡ Ok ((codes "A", Some (codes "x=y")) ∷ (codes "B", None) ∷ (codes "$ c d", Some (codes "e")) ∷ [])
-unfolding answers_read is_utf8 chars lib.Utf8.encode
-answers = refl
 
 -- a line that a failed read cuts is not judged
 cut_line : answers_read (cut_by Read) (codes "A=1\nB") [] ≡ Err (record { line = 2; kind = Read })

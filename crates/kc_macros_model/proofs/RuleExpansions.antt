@@ -1,4 +1,4 @@
--- A text expands to each value that the rules give, unless a bound is met; and a text without references to itself.
+-- The expansion of a text returns each value that the rules give, unless it fails at a limit; a text without references stays.
 use Rattle.std.proofs.Common.{◌≡◌, ℕ, zero, suc, ◌+◌, ◌≤◌, Bool, true, false, ◌||◌, List, [], ◌∷◌, length, Some, None, refl, sym, ap, ◌∙◌, subst, arith}
 use Rattle.std.specs.Prelude.{nat_le}
 use Rattle.std.proofs.lemmas.Bool.{le-leb}

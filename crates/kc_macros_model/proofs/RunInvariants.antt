@@ -3,7 +3,7 @@ use Rattle.std.proofs.Common.{◌≡◌, [], refl, subst}
 use Rattle.kc_macros_model.specs.Programs.{Event, Program, returns, fails, stops, does, ◌>>=◌}
 use Rattle.kc_macros_model.specs.Worlds.{World, reply, open_question}
 
--- a fact of each event, and of what the program returns, if it does
+-- along the run of a program in a world, a fact holds of each event, and another of the value that the program returns, if any
 abbrev pub Along : {A : Type 0} → World → (Event → Type 0) → (A → Type 0) → Program A → Type 0
 Along w E P (returns x) = P x
 Along w E P (fails f) = Unit {0}
@@ -23,12 +23,12 @@ along_both w E P (fails g) f h = tt
 along_both w E P stops f h = tt
 along_both w E P (does e k) f h = (h.0, along_both w E P (k (reply w e)) f h.1)
 
--- one program after another, of which the second has a fact wherever the first returns a value with one
+-- facts hold along two programs in sequence if they hold along the first, and along the second after each value of the first
 pub along_then : {A B : Type 0} (w : World) (E : Event → Type 0) (Q : A → Type 0) (P : B → Type 0) (p : Program A) (f : A → Program B)
     → Along w E Q p → ((x : A) → Q x → Along w E P (f x)) → Along w E P (p >>= f)
 along_then w E Q P p f h k = along_both w E P p f (along_mono w E Q (λ x. Along w E P (f x)) k p h)
 
--- a program returns this value, and no question is open
+-- a program returns this value in the world, and asks no question that is open in it
 abbrev pub Succeeds : {A : Type 0} → World → A → Program A → Type 0
 Succeeds w y (returns x) = x ≡ y
 Succeeds w y (fails f) = ⊥
@@ -42,7 +42,7 @@ success_of_both w z (fails g) f h = absurd h
 success_of_both w z stops f h = absurd h
 success_of_both w z (does e k) f h = let (y, s, t) = success_of_both w z (k (reply w e)) f h.1 in (y, (h.0, s), t)
 
--- what holds along a program holds of the value with which it succeeds
+-- a fact that holds along the run of a program holds of the value with which the program succeeds
 pub fact_of_success : {A : Type 0} (w : World) (E : Event → Type 0) (P : A → Type 0) (y : A) (p : Program A) → Succeeds w y p → Along w E P p → P y
 fact_of_success w E P y (returns x) s h = subst P s h
 fact_of_success w E P y (fails f) s h = absurd s

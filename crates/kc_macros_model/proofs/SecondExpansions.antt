@@ -32,7 +32,7 @@ use Rattle.kc_macros_model.proofs.TokensOfLines.{tokens_passed}
 abbrev IsKept : List ℕ → Type 0
 IsKept s = list_all is_kept_token (line_tokens 0 s) ≡ true
 
--- a token in front of such a text
+-- a text has nothing to expand if its first token hasn't and the text after that token hasn't
 kept_front : (c : ℕ) (s more y : List ℕ) (t : LineToken) → first_token c s ≡ t → token_bytes t ≡ c ∷ more → s ≡ more ++ y → is_kept_token t ≡ true → IsKept y
     → IsKept (c ∷ s)
 kept_front c s more y t first bytes parts kept h =

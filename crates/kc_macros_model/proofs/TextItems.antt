@@ -1,4 +1,4 @@
--- A text as a row of items.
+-- A text and the items into which it is cut.
 use Rattle.std.proofs.Common.{◌≡◌, ℕ, zero, suc, ◌≤◌, Bool, true, false, ◌&&◌, cond, List, [], ◌∷◌, ◌++◌, length, Option, Some, None, refl, sym, ap, ◌∙◌, subst, append_assoc, arith, length-append}
 use Rattle.std.specs.Prelude.{◌==◌, option_map, pred}
 use Rattle.std.proofs.Math.Seq.{take-append_seam}
@@ -7,7 +7,7 @@ use Rattle.std.specs.Cmp.{first_so, second_so}
 use Rattle.kc_macros_model.specs.References.{open_after, inside_length, Item, byte, reference, unterminated, item_bytes, reference_of, items}
 use Rattle.kc_macros_model.specs.ExpansionRules.{begins_reference}
 
--- bytes up to a `)` at this place, and those after it
+-- a text has a `)` after its first `n` bytes: it is those bytes, the `)`, and the rest
 pub record IsInside (s : List ℕ) (n : ℕ) : Type 0 where
   pub inside : List ℕ
   pub rest : List ℕ
@@ -34,12 +34,12 @@ pub items_passed : (q : Bool) (xs ys : List ℕ) → items q (length xs) (xs ++ 
 items_passed q [] ys = refl
 items_passed q (x ∷ xs) ys = items_passed q xs ys
 
--- the items of a text that begins with a byte outside references
+-- the items of a text that doesn't begin with `$(` are its first byte and the items of the rest
 pub items_of_byte : (c : ℕ) (s : List ℕ) → begins_reference (c ∷ s) ≡ false → items false 0 (c ∷ s) ≡ byte c ∷ items false 0 s
 items_of_byte c [] e = refl
 items_of_byte c (d ∷ s) e = ap (λ b. let i = cond b (reference_of s (inside_length 0 s)) (byte c) in i ∷ items false (pred (length (item_bytes i))) (d ∷ s)) e
 
--- the items of a text that begins with a reference
+-- the items of a text that begins with a macro reference are the reference and the items of the text after it
 pub items_of_reference : (q : Bool) (inside s : List ℕ) → inside_length 0 (inside ++ 41 ∷ s) ≡ Some (length inside)
     → items q 0 (36 ∷ 40 ∷ (inside ++ 41 ∷ s)) ≡ reference inside ∷ items q 0 s
 items_of_reference q inside s e =
@@ -48,7 +48,7 @@ items_of_reference q inside s e =
     ∙ ap (λ x. reference inside ∷ items q (length (inside ++ 41 ∷ [])) x) (sym (append_assoc inside (41 ∷ []) s))
     ∙ ap (λ x. reference inside ∷ x) (items_passed q (inside ++ 41 ∷ []) s)
 
--- a text is a row of items
+-- a text outside quotes is a row of these items: bytes, macro references, and perhaps a last unterminated `$(`
 pub data IsRow : List ℕ → List Item → Type 0 where
   no_items : IsRow [] []
   then_byte : {c : ℕ} {s : List ℕ} {is : List Item} → begins_reference (c ∷ s) ≡ false → IsRow s is → IsRow (c ∷ s) (byte c ∷ is)

@@ -1,4 +1,4 @@
--- The expansion of a text where a question is open, beside one where more is answered.
+-- The expansion of a text where a question is open, compared with the expansion where more is answered.
 use Rattle.std.proofs.Common.{◌≡◌, ℕ, zero, suc, ◌+◌, Bool, true, false, ◌&&◌, cond, List, [], ◌∷◌, length, Option, Some, None, refl, sym, subst}
 use Rattle.std.specs.Prelude.{nat_le, nat_lt, slice_get, ◌-◌, bytes_eq, codes, decimal}
 use Rattle.std.specs.Str.Parse.{digits_value}
@@ -16,7 +16,7 @@ use Rattle.kc_macros_model.specs.Worlds.{World}
 use Rattle.kc_macros_model.specs.ProgramLaws.{Extends}
 use Rattle.kc_macros_model.proofs.ProgramMatches.{Matches, match_return, match_fault, match_then, match_spend, match_report, AnswerMatches, open_one, given, match_ask, match_unless_long}
 
--- a known value is the same in the second world, an unknown one may be any
+-- of two values the second is the same as the first, or the first is unknown
 pub data NoLess : Value → Value → Type 0 where
   unknown : {v : Value} → NoLess None v
   same : {s : List ℕ} → NoLess (Some s) (Some s)
@@ -25,7 +25,7 @@ pub data EachNoLess : List Value → List Value → Type 0 where
   none : EachNoLess [] []
   next : {v u : Value} {vs us : List Value} → NoLess v u → EachNoLess vs us → EachNoLess (v ∷ vs) (u ∷ us)
 
--- a variable is of the same sort in the second world
+-- of two variables of a name, the second is missing or recursive just as the first is, or simple with a value no less known
 pub data VariableNoLess : Option Variable → Option Variable → Type 0 where
   not_set : VariableNoLess None None
   simple_both : {v u : Value} → NoLess v u → VariableNoLess (Some (simple v)) (Some (simple u))
@@ -34,7 +34,7 @@ pub data VariableNoLess : Option Variable → Option Variable → Type 0 where
 pub record BindingsNoLess (b c : Bindings) : Type 0 where
   pub each : (name : List ℕ) → VariableNoLess (b name) (c name)
 
--- an argument is there in both
+-- of two arguments both are missing, or the second is no less known than the first
 pub data ArgumentNoLess : Option Value → Option Value → Type 0 where
   neither : ArgumentNoLess None None
   either : {v u : Value} → NoLess v u → ArgumentNoLess (Some v) (Some u)
@@ -267,7 +267,7 @@ module _ (w more : World) (ext : Extends w more) (question : List ℕ) (unanswer
           (λ v u n. match_spend w more ext question unanswered NoLess at (value_length v) (value_length u) (returns v) (returns u)
           (match_return w more ext question unanswered NoLess v u n)))
 
-      -- the value of a text of a line
+      -- the value of a text where a question is open is no less known where more is answered
       pub text_matches : (s : List ℕ) → M NoLess (text_value at b s) (text_value at c s)
       unfolding text_value
       text_matches s = expanded_matches max_open_expansions [] s [] [] none

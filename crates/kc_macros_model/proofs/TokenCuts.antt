@@ -15,12 +15,12 @@ use Rattle.kc_macros_model.proofs.TokensOfLines.{tokens_passed, extent_ends}
 abbrev pub ends_run : ℕ → Bool
 ends_run d = not (is_run_byte d)
 
--- whether a text begins with a byte of a run
+-- whether a text begins with a byte of a run: a byte of a word, or `$`
 abbrev pub begins_with_run : List ℕ → Bool
 begins_with_run [] = false
 begins_with_run (c ∷ s) = is_run_byte c
 
--- bytes of runs, none of them `$`
+-- all bytes are bytes of words, none of them a `$`
 pub data AreWordBytes : List ℕ → Type 0 where
   no_word_bytes : AreWordBytes []
   next_word_byte : {c : ℕ} {s : List ℕ} → is_run_byte c ≡ true → (c == 36) ≡ false → AreWordBytes s → AreWordBytes (c ∷ s)
@@ -29,7 +29,7 @@ pub data IsQuote : ℕ → Type 0 where
   double_quote : IsQuote 34
   single_quote : IsQuote 39
 
--- the token at the front of a byte and those after it, and the bytes after the token
+-- this token is the first of a line that begins with byte `c` and then `s`, and these are the bytes after the token
 pub data IsCut (c : ℕ) (s : List ℕ) : LineToken → List ℕ → Type 0 where
   cut_white : is_white_byte c ≡ true → IsCut c s (gap (c ∷ [])) s
   cut_comment : first_token c s ≡ gap (c ∷ s) → IsCut c s (gap (c ∷ s)) []
@@ -40,7 +40,7 @@ pub data IsCut (c : ℕ) (s : List ℕ) : LineToken → List ℕ → Type 0 wher
   cut_open : first_token c s ≡ other (c ∷ s) → IsCut c s (other (c ∷ s)) []
   cut_other : is_white_byte c ≡ false → (c == 35) ≡ false → is_run_byte c ≡ false → (c == 34 || (c == 39)) ≡ false → IsCut c s (other (c ∷ [])) s
 
--- a token at the front, with its bytes and those after it
+-- this token is the first of a line that begins with byte `c` and then `s`, as the bytes of the token and those after it show
 pub record IsCutAt (c : ℕ) (s : List ℕ) (t : LineToken) : Type 0 where
   pub more : List ℕ
   pub rest : List ℕ
@@ -172,7 +172,7 @@ cut_at c s = by_tests (is_white_byte c) (c == 35) (is_run_byte c) (c == 34 || (c
     by_tests false false false true hx hy hz hu f = quoted_cut_at c s (is_quote c hu) f
     by_tests false false false false hx hy hz hu f = record { more = []; rest = s; begins = refl; parts = refl; cut = cut_other hx hy hz hu }
 
--- bytes, cut into tokens
+-- the bytes are cut one after the other into these tokens of a logical line
 pub data AreCuts : List ℕ → List LineToken → Type 0 where
   no_cuts : AreCuts [] []
   next_cut : {c : ℕ} {s rest : List ℕ} {t : LineToken} {ts : List LineToken} → IsCut c s t rest → AreCuts rest ts → AreCuts (c ∷ s) (t ∷ ts)
@@ -188,6 +188,6 @@ cuts_within (suc n) (c ∷ s) h =
     ap (λ m. line_tokens (pred (length m)) s) f.begins ∙ ap (λ x. line_tokens (length f.more) x) f.parts ∙ tokens_passed f.more f.rest in
     subst (λ ts. AreCuts (c ∷ s) (t ∷ ts)) (sym e) (next_cut f.cut (cuts_within n f.rest le))
 
--- a line is cut into its tokens
+-- the tokens of a line are those into which it is cut one after the other
 pub cuts_of : (s : List ℕ) → AreCuts s (line_tokens 0 s)
 cuts_of s = cuts_within (length s) s (omega arith)

@@ -12,7 +12,7 @@ pub tokens_passed : (xs ys : List ℕ) → line_tokens (length xs) (xs ++ ys) �
 tokens_passed [] ys = refl
 tokens_passed (c ∷ xs) ys = tokens_passed xs ys
 
--- bytes at the front of a byte and those after it
+-- the bytes are a front, of at least one byte, of the text that begins with byte `c` and then `s`
 pub record IsFront (bytes : List ℕ) (c : ℕ) (s : List ℕ) : Type 0 where
   pub more : List ℕ
   pub rest : List ℕ
@@ -28,7 +28,7 @@ front_one c s = record { more = []; rest = s; begins = refl; parts = refl }
 front_take : (n c : ℕ) (s : List ℕ) → IsFront (take (suc n) (c ∷ s)) c s
 front_take n c s = record { more = take n s; rest = drop n s; begins = refl; parts = sym (take-append-drop n s) }
 
--- where an extent ends before the text does, the next byte ends it
+-- where the extent of bytes before an end byte is shorter than the text, the byte after it is an end byte
 pub extent_ends : (q : Bool) (ends : ℕ → Bool) (k : ℕ) (s : List ℕ) → extent q ends k s < length s
     → (c : ℕ) × (ends c ≡ true) × (s ≡ take (extent q ends k s) s ++ c ∷ drop (suc (extent q ends k s)) s)
 extent_ends q ends k [] h = absurd (omega (arith, h))
@@ -93,7 +93,7 @@ token_front c s = by_tests (is_white_byte c) (c == 35) (is_run_byte c) (c == 34 
     by_tests false false false true e = quoted_front c s
     by_tests false false false false e = front_one c s
 
--- bytes, cut into tokens
+-- the bytes are a row of these tokens, each of which is the first token of the bytes from it on
 pub data IsInTokens : List ℕ → List LineToken → Type 0 where
   no_bytes : IsInTokens [] []
   next_token : {c : ℕ} {s rest : List ℕ} {ts : List LineToken} (more : List ℕ) → token_bytes (first_token c s) ≡ c ∷ more → s ≡ more ++ rest
@@ -110,7 +110,7 @@ tokens_within (suc n) (c ∷ s) h =
     ap (λ m. line_tokens (pred (length m)) s) f.begins ∙ ap (λ x. line_tokens (length f.more) x) f.parts ∙ tokens_passed f.more f.rest in
     subst (λ ts. IsInTokens (c ∷ s) (t ∷ ts)) (sym e) (next_token f.more f.begins f.parts (tokens_within n f.rest le))
 
--- a line is in its tokens
+-- a logical line is a row of its tokens, each of which is the first token of the bytes from it on
 pub is_in_tokens : (s : List ℕ) → IsInTokens s (line_tokens 0 s)
 is_in_tokens s = tokens_within (length s) s (omega arith)
 
@@ -119,6 +119,6 @@ in_a_row no_bytes = refl
 in_a_row (next_token {c = c} {s = s} {rest = rest} {ts = ts} more begins parts r) =
     ap (λ x. token_bytes (first_token c s) ++ x) (in_a_row r) ∙ ap (λ x. x ++ rest) begins ∙ ap (λ x. c ∷ x) (sym parts)
 
--- a line is its tokens in a row
+-- the bytes of the tokens of a line, one after the other, are the line
 pub tokens_are_line : (s : List ℕ) → bytes_of_tokens (line_tokens 0 s) ≡ s
 tokens_are_line s = in_a_row (is_in_tokens s)

@@ -1,4 +1,4 @@
--- The reading of a tree where a question is open, beside one where more is answered.
+-- The reading of a tree where a question is open, compared with the reading where more is answered.
 use Rattle.std.proofs.Common.{◌≡◌, ℕ, zero, suc, ◌+◌, Bool, true, false, ◌||◌, cond, List, [], ◌∷◌, ◌++◌, length, take, drop, map, Option, Some, None, refl, sym, ap, ◌∙◌, subst}
 use Rattle.std.specs.Prelude.{not, nat_lt, filter, is_some, codes, ◌==◌}
 use Rattle.std.specs.List.{list_any}
@@ -51,7 +51,7 @@ module _ (w more : World) (ext : Extends w more) (question : List ℕ) (unanswer
   by_fault_tests R at kind p m false true h = match_fault w more ext question unanswered R p (record { at = at; kind = kind; text = [] })
   by_fault_tests R at kind p m false false h = h
 
-  -- the same paths
+  -- two searches for a path pattern found the same paths
   abbrev SamePaths : FoundPaths → FoundPaths → Type 0
   SamePaths f g = f.paths ≡ g.paths
 
@@ -417,7 +417,7 @@ module _ (w more : World) (ext : Extends w more) (question : List ℕ) (unanswer
           (λ p q n. match_return w more ext question unanswered Any (p.state.expanded ++ record { key = root; path = root; text = p.text } ∷ [])
           (q.state.expanded ++ record { key = root; path = root; text = q.text } ∷ []) tt)
 
-  -- where the expansion of a tree succeeds, the search for questions spares this one
+  -- where the reading of a tree succeeds with more answers but not that to `question`, it never asks `question` in vain
   pub tree_matches : (root : List ℕ) → M Any (tree_read root) (tree_read root)
   unfolding tree_read
   tree_matches root = match_file w more ext question unanswered Any root (root_read root initial_state) (root_read root initial_state)

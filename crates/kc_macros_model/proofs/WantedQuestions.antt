@@ -42,7 +42,7 @@ module _ {A : Type 0} (w : World) (y : A) where
       by_answer None e = absurd (let z : ⊥ = cc in z)
       by_answer (Some a) e = (refl, ih (Some a) e)
 
-  -- a job that returned a value succeeded
+  -- a program that returned a value where open questions are faults succeeded: no question was open
   pub job_succeeds : (left : ℕ) (p : Program A) → Returned (outcome true w left p) → Succeeds w y p
   job_succeeds left (returns x) e = let z : x ≡ y = cc in z
   job_succeeds left (fails f) e = let z : ⊥ = cc in z

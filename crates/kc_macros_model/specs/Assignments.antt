@@ -1,4 +1,4 @@
--- Assignments of variables, and a line as an assignment or as written tokens.
+-- Assignments of macro variables, and a line as an assignment or as written tokens.
 use Rattle.std.specs.Prelude.{ℕ, Bool, true, false, not, ◌&&◌, ◌||◌, ◌==◌, List, [], ◌∷◌, ◌++◌, drop, Option, Some, None, option_map, if◌then◌else◌}
 use Rattle.std.specs.List.{list_any, prefix_len}
 use Rattle.kc_expr.specs.Token.{is_white_byte}
@@ -8,18 +8,18 @@ use Rattle.kc_macros_model.specs.Expansion.{spends, unless_too_long, text_value}
 use Rattle.kc_macros_model.specs.LineTokens.{LineToken, gap, run, token_bytes, bytes_of_tokens}
 use Rattle.kc_macros_model.specs.WrittenTokens.{is_keyword, WrittenToken, a_gap, an_unknown, token_of_text, run_value, written_token}
 
--- the operators of assignments: `:=`, `+=` and `=`
+-- the operators of macro assignments: `:=`, `+=` and `=`
 pub data Operator : Type 0 where
   sets_now : Operator
   appends : Operator
   sets : Operator
 
--- the operator of an assignment and the text after it
+-- the operator of a macro assignment and the text after it
 pub record Assigned : Type 0 where
   pub operator : Operator
   pub text : List ℕ
 
--- an operator with a text
+-- a macro assignment's operator with the text after it
 abbrev pub assigned : Operator → List ℕ → Assigned
 assigned operator text = record { operator = operator; text = text }
 
@@ -27,11 +27,11 @@ assigned operator text = record { operator = operator; text = text }
 abbrev pub without_front : (ℕ → Bool) → List ℕ → List ℕ
 without_front p s = drop (prefix_len p s) s
 
--- a space or a tab
+-- whether a byte is a space or a tab
 abbrev pub is_blank_byte : ℕ → Bool
 is_blank_byte c = c == 32 || (c == 9)
 
--- the assignment operator at the front of a text, and the bytes after it
+-- the assignment operator at the front of a text, and the bytes after it; `None` if the text begins with no operator
 abbrev pub operator_at : List ℕ → Option Assigned
 operator_at [] = None
 operator_at (c ∷ []) = if c == 61 then Some (assigned sets []) else None
@@ -41,22 +41,23 @@ operator_at (c ∷ d ∷ s) =
     else if c == 43 && (d == 61) then Some (assigned appends s)
     else None
 
--- the assignment to this token as its name, if it is one: a run that is no keyword, then an operator; blanks before the value are dropped
+-- the assignment that has this token as its name, if any: the token is a run but no keyword, and the tokens after it begin with
+-- an operator; blanks after the operator are dropped
 abbrev pub assignment_to : LineToken → List LineToken → Option Assigned
 assignment_to (run s) ts = if is_keyword s then None else option_map (λ (a : Assigned). assigned a.operator (without_front is_blank_byte a.text)) (operator_at (without_front is_white_byte (bytes_of_tokens ts)))
 assignment_to t ts = None
 
--- the assignment to a token as its name, where one may come: before the first token whose value isn't empty
+-- the assignment that has this token as its name, if any; `may_assign` if only white, comments and empty tokens precede it
 abbrev pub assignment_at : (may_assign : Bool) → LineToken → List LineToken → Option Assigned
 assignment_at true t ts = assignment_to t ts
 assignment_at false t ts = None
 
--- the content of a line: an assignment of a text to a name, or written tokens
+-- the content of a logical line: an assignment of a text to a name, or written tokens
 pub data LineContent : Type 0 where
   assigns : (name : List ℕ) → Assigned → LineContent
   tokens : List WrittenToken → LineContent
 
--- a content with a token before its tokens
+-- the content of a line with one more token before its written tokens; an assignment stays as it is
 abbrev pub with_token : WrittenToken → LineContent → LineContent
 with_token t (tokens ts) = tokens (t ∷ ts)
 with_token t (assigns name a) = assigns name a
@@ -65,26 +66,26 @@ with_token t (assigns name a) = assigns name a
 abbrev pub is_gap : WrittenToken → Bool
 is_gap t = elim t.sort [ a_gap ↦ true | _ ↦ false ]
 
--- whether a token depends on a question without an answer
+-- whether a written token depends on a question without an answer
 abbrev pub is_unknown : WrittenToken → Bool
 is_unknown t = elim t.sort [ an_unknown ↦ true | _ ↦ false ]
 
--- whether a token is white or a comment
+-- whether a token of a logical line is white or a comment
 abbrev pub is_gap_token : LineToken → Bool
 is_gap_token (gap s) = true
 is_gap_token t = false
 
--- whether a first token may be gone and tokens follow it, so that it isn't known whether these are an assignment
+-- whether a token is unknown, with only gaps before it and other tokens after it: the line may turn out to be an assignment
 abbrev pub is_open_front : (may_assign : Bool) → WrittenToken → List LineToken → Bool
 is_open_front may_assign w ts = may_assign && is_unknown w && list_any (λ t. not (is_gap_token t)) ts
 
--- an assignment by the value of its name: an empty name is a gap, and where the value isn't known the reading ends
+-- a line's content by the value of an assignment's name: for an empty name the given content; an unknown name stops the reading
 abbrev pub assignment_or : Program LineContent → Assigned → Value → Program LineContent
 assignment_or rest a None = stops
 assignment_or rest a (Some []) = rest
 assignment_or rest a (Some (c ∷ name)) = returns (assigns (c ∷ name) a)
 
--- the content of a line from its first tokens on; the reading ends where it isn't known whether the line is an assignment
+-- the content of a line, given its tokens; the reading stops where it isn't known whether the line is an assignment
 abbrev pub line_content : Place → Bindings → (may_assign : Bool) → List LineToken → Program LineContent
 line_content at b may_assign [] = returns (tokens [])
 line_content at b may_assign (t ∷ ts) =
@@ -94,7 +95,7 @@ line_content at b may_assign (t ∷ ts) =
           elim (is_open_front may_assign w ts) [ true ↦ stops | false ↦ line_content at b (may_assign && is_gap w) ts >>= λ rest. returns (with_token w rest) ]
     ]
 
--- stores a variable with this value or text: a fault where that is too long, else work for its bytes
+-- stores a variable whose value or unexpanded text is `value`: a fault if it is too long, else each of its bytes counts as work
 abbrev pub stored : Place → Value → Variable → Program Variable
 stored at value v = unless_too_long at (value_length value) (spends at (value_length value) (returns v))
 
@@ -106,7 +107,7 @@ stored_simple at value = stored at value (simple value)
 abbrev pub stored_recursive : Place → List ℕ → Program Variable
 stored_recursive at text = stored at (Some text) (recursive text)
 
--- the variable that an assignment makes for a name, which may have an earlier one; `+=` keeps the flavour of that
+-- the variable of a name after an assignment, given its earlier variable, if any; `+=` keeps a variable simple or recursive
 abbrev pub variable_assigned : Place → Bindings → Operator → List ℕ → Option Variable → Program Variable
 variable_assigned at b sets_now text before = text_value at b text >>= stored_simple at
 variable_assigned at b appends text (Some (simple value)) = text_value at b text >>= λ more. stored_simple at (joined_values value (joined_values (Some (32 ∷ [])) more))

@@ -10,21 +10,21 @@ use Rattle.kc_macros_model.specs.Assignments.{Operator, variable_assigned}
 use Rattle.kc_macros_model.specs.Worlds.{World, Ending, returned, failed}
 use Rattle.kc_macros_model.specs.ExpansionRules.{ending_in, begins_reference, Expands}
 
--- a text expands only to the value that the rules give
+-- the expansion of a text returns only values that the rules of expansion give
 abbrev pub ExpansionKeepsTheRules : Type 0
 ExpansionKeepsTheRules = (w : World) (at : Place) (b : Bindings) (more : ℕ) (open_names : List (List ℕ)) (args : List Value) (text : List ℕ) (v : Value)
     → ending_in w (expanded more at b open_names args text) ≡ returned v → Expands w at b args text v
 
--- faults that the rules don't know: the limits, and a variable that needs itself
+-- whether a fault is one that the rules of expansion don't have: a limit is exceeded, or a variable needs its own value
 abbrev pub is_bound : MacroKind → Bool
 is_bound k = elim k [ TooDeep ↦ true | LineTooLong ↦ true | Recursion ↦ true | _ ↦ false ]
 
--- a program returns a value, or meets a bound
+-- a program returned this value, or failed since a limit was exceeded or a variable needs its own value
 pub data IsValueOrBound {A : Type 0} (v : A) : Ending A → Type 0 where
   value : IsValueOrBound v (returned v)
   bound : {f : Fault} → is_bound f.kind ≡ true → IsValueOrBound v (failed f)
 
--- a text expands to each value that the rules give, unless a bound is met
+-- the expansion of a text returns each value that the rules of expansion give, or fails by a limit or `Recursion`
 abbrev pub RulesAreExpanded : Type 0
 RulesAreExpanded = (w : World) (at : Place) (b : Bindings) (args : List Value) (text : List ℕ) (v : Value) → Expands w at b args text v
     → (more : ℕ) (open_names : List (List ℕ)) → IsValueOrBound v (ending_in w (expanded more at b open_names args text))
@@ -34,13 +34,13 @@ abbrev pub has_reference : List ℕ → Bool
 has_reference [] = false
 has_reference (c ∷ s) = begins_reference (c ∷ s) || has_reference s
 
--- a text without references expands to itself, with work for its bytes and one, and for its bytes
+-- a text of at most `max_text_bytes` bytes without `$(` expands to itself; the work is one more than twice its length
 abbrev pub PlainTextsStay : Type 0
 PlainTextsStay = (at : Place) (b : Bindings) (more : ℕ) (open_names : List (List ℕ)) (args : List Value) (text : List ℕ)
     → has_reference text ≡ false → length text ≤ max_text_bytes
     → expanded (suc more) at b open_names args text ≡ spends at (length text + 1) (spends at (length text) (returns (Some text)))
 
--- no value of a text has more bytes than a text may have
+-- no value to which a text expands has more than `max_text_bytes` bytes
 abbrev pub ValuesAreBounded : Type 0
 ValuesAreBounded = (w : World) (at : Place) (b : Bindings) (more : ℕ) (open_names : List (List ℕ)) (args : List Value) (text : List ℕ) (v : Value)
     → ending_in w (expanded more at b open_names args text) ≡ returned v → value_length v ≤ max_text_bytes
@@ -50,7 +50,7 @@ abbrev pub stored_length : Variable → ℕ
 stored_length (simple v) = value_length v
 stored_length (recursive text) = length text
 
--- no variable stores more bytes than a text may have, however it is appended to
+-- no variable stores more than `max_text_bytes` bytes after an assignment, `+=` included
 abbrev pub VariablesAreBounded : Type 0
 VariablesAreBounded = (w : World) (at : Place) (b : Bindings) (operator : Operator) (text : List ℕ) (before : Option Variable) (x : Variable)
     → ending_in w (variable_assigned at b operator text before) ≡ returned x → stored_length x ≤ max_text_bytes

@@ -8,7 +8,7 @@ use Rattle.kc_macros_model.specs.Variables.{Value, joined_values, simple, recurs
 use Rattle.kc_macros_model.specs.Expansion.{unbound_value}
 use Rattle.kc_macros_model.specs.Worlds.{World, reply, Ending, returned, failed, stopped}
 
--- the end of a program in a world where work has no limit and questions may be open
+-- how a program ends in a world where work has no limit and questions may be open
 abbrev pub ending_in : {A : Type 0} → World → Program A → Ending A
 ending_in w (returns x) = returned x
 ending_in w (fails f) = failed f
@@ -21,7 +21,7 @@ begins_reference [] = false
 begins_reference (c ∷ []) = false
 begins_reference (c ∷ d ∷ s) = c == 36 && (d == 40)
 
--- Under arguments a text expands to a value: a text, or none where it depends on an open question.
+-- Under the arguments of a call a text expands to this value, which is unknown where it depends on an open question.
 mutual
   pub data Expands (w : World) (at : Place) (b : Bindings) : List Value → List ℕ → Value → Type 0 where
     done : {args : List Value} → Expands w at b args [] (Some [])
@@ -30,7 +30,7 @@ mutual
     reference : {args : List Value} {inside s : List ℕ} {u v : Value} → inside_length 0 (inside ++ 41 ∷ s) ≡ Some (length inside)
         → Refers w at b args inside u → Expands w at b args s v → Expands w at b args (36 ∷ 40 ∷ (inside ++ 41 ∷ s)) (joined_values u v)
 
-  -- a reference with these bytes between its parentheses has a value
+  -- under the arguments of a call, a macro reference with these bytes between its parentheses has this value
   pub data Refers (w : World) (at : Place) (b : Bindings) : List Value → List ℕ → Value → Type 0 where
     parameter : {args : List Value} {inside : List ℕ} {u : Value} → argument_of args inside ≡ Some u → Refers w at b args inside u
     call : {args given : List Value} {inside name : List ℕ} {u : Value} → argument_of args inside ≡ None → length (pieces 0 inside) ≤ max_pieces
@@ -38,13 +38,13 @@ mutual
     unknown_name : {args given : List Value} {inside : List ℕ} → argument_of args inside ≡ None → length (pieces 0 inside) ≤ max_pieces
         → ExpandEach w at b args (pieces 0 inside) (None ∷ given) → Refers w at b args inside None
 
-  -- pieces expand to values
+  -- under the arguments of a call, each of these pieces of a macro reference expands to its value in the list
   pub data ExpandEach (w : World) (at : Place) (b : Bindings) : List Value → List (List ℕ) → List Value → Type 0 where
     no_pieces : {args : List Value} → ExpandEach w at b args [] []
     piece : {args : List Value} {p : List ℕ} {v : Value} {ps : List (List ℕ)} {vs : List Value}
         → Expands w at b args p v → ExpandEach w at b args ps vs → ExpandEach w at b args (p ∷ ps) (v ∷ vs)
 
-  -- a name with these arguments has a value
+  -- a macro name that is called with these arguments has this value
   pub data Means (w : World) (at : Place) (b : Bindings) : List Value → List ℕ → Value → Type 0 where
     simple_variable : {given : List Value} {name : List ℕ} {u : Value} → b name ≡ Some (simple u) → Means w at b given name u
     recursive_variable : {given : List Value} {name s : List ℕ} {u : Value} → b name ≡ Some (recursive s)

@@ -1,3 +1,4 @@
+pub mod FaultNames
 pub mod Limits
 pub mod Programs
 pub mod References

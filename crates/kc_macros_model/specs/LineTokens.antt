@@ -4,7 +4,8 @@ use Rattle.std.specs.List.{list_any}
 use Rattle.kc_expr.specs.Token.{is_white_byte, is_word_byte}
 use Rattle.kc_macros_model.specs.References.{item_bytes, first_item, items, is_unterminated}
 
--- a token: white or a comment; a run of word bytes, references and `$`; bytes between two quotes; other bytes; the rest of a line that has a `$(` without its `)`
+-- a token of a logical line: white or a comment; a run of word bytes, macro references and `$`; bytes between two quotes; other
+-- bytes; the rest of a line that has a `$(` without its `)`
 pub data LineToken : Type 0 where
   gap : List ℕ → LineToken
   run : List ℕ → LineToken
@@ -12,7 +13,7 @@ pub data LineToken : Type 0 where
   other : List ℕ → LineToken
   broken : List ℕ → LineToken
 
--- the bytes of a token, its quotes among them
+-- the bytes of a token of a logical line, its quotes among them
 abbrev pub token_bytes : LineToken → List ℕ
 token_bytes (gap s) = s
 token_bytes (run s) = s
@@ -20,28 +21,28 @@ token_bytes (quoted quote s) = quote ∷ (s ++ quote ∷ [])
 token_bytes (other s) = s
 token_bytes (broken s) = s
 
--- how many bytes come before the first item whose first byte passes a test; `skip` counts the remaining bytes of the item before
+-- how many bytes come before the first item whose first byte passes `ends`; the first `skip` bytes belong to an earlier item
 abbrev pub extent : (in_quotes : Bool) (ends : ℕ → Bool) (skip : ℕ) → List ℕ → ℕ
 extent q ends skip [] = 0
 extent q ends (suc skip) (c ∷ s) = suc (extent q ends skip s)
 extent q ends zero (c ∷ s) = if ends c then 0 else suc (extent q ends (pred (length (item_bytes (first_item q c s)))) s)
 
--- whether a byte may be in a run: a byte of a word, or `$`
+-- whether a byte may be in a run outside its macro references: a byte of a word, or `$`
 abbrev pub is_run_byte : ℕ → Bool
 is_run_byte c = is_word_byte c || (c == 36)
 
--- a run of bytes as a token; one with a `$(` without its `)` is broken
+-- a run of word bytes, macro references and `$` as a token; it is `broken` if it has a `$(` without its `)`
 abbrev pub run_token : List ℕ → LineToken
 run_token s = if list_any is_unterminated (items false 0 s) then broken s else run s
 
--- the token of an opening quote and the bytes after it, of which `n` come before the closing quote; other bytes where none closes it
+-- the token of an opening quote, given how many of the bytes after it precede the closing quote; other bytes if none closes it
 abbrev pub quoted_token : ℕ → ℕ → List ℕ → LineToken
 quoted_token n quote s =
     if list_any is_unterminated (items true 0 (take n s)) then broken (quote ∷ s)
     else if nat_lt n (length s) then quoted quote (take n s)
     else other (quote ∷ s)
 
--- the token at the front of a byte and the bytes after it
+-- the first token of the rest of a line, given its first byte and the bytes after that
 abbrev pub first_token : ℕ → List ℕ → LineToken
 first_token c s =
     if is_white_byte c then gap (c ∷ [])
@@ -50,12 +51,12 @@ first_token c s =
     else if c == 34 || (c == 39) then quoted_token (extent true (λ d. d == c) 0 s) c s
     else other (c ∷ [])
 
--- the tokens of a line; `skip` counts the remaining bytes of the token before
+-- the tokens of a logical line; the first `skip` bytes belong to an earlier token
 abbrev pub line_tokens : (skip : ℕ) → List ℕ → List LineToken
 line_tokens skip [] = []
 line_tokens (suc skip) (c ∷ s) = line_tokens skip s
 line_tokens zero (c ∷ s) = let t = first_token c s in t ∷ line_tokens (pred (length (token_bytes t))) s
 
--- the bytes of tokens, one after the other
+-- the bytes of the tokens of a logical line, one after the other
 abbrev pub bytes_of_tokens : List LineToken → List ℕ
 bytes_of_tokens ts = flat_map token_bytes ts

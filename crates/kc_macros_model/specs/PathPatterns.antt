@@ -16,26 +16,26 @@ is_wildcard c = c == 42 || (c == 63)
 abbrev pub is_pattern : List ℕ → Bool
 is_pattern path = list_any is_wildcard path
 
--- whether some end of a text, which may be all of it or empty, passes a test
+-- whether some suffix of a text, all of it and the empty one among them, passes a test
 abbrev pub some_end_matches : (List ℕ → Bool) → List ℕ → Bool
 some_end_matches test [] = test []
 some_end_matches test (c ∷ s) = test (c ∷ s) || some_end_matches test s
 
--- whether the first byte matches one of a pattern, and the rest passes a test
+-- whether the first byte of a text is the given pattern byte, or any byte if that is `?`, and the rest of the text passes a test
 abbrev pub first_byte_matches : ℕ → (List ℕ → Bool) → List ℕ → Bool
 first_byte_matches c test [] = false
 first_byte_matches c test (d ∷ s) = (c == d || (c == 63)) && test s
 
--- whether a name matches a piece: `*` any bytes, `?` one byte
+-- whether a file name matches a piece of a path pattern: `*` matches any bytes, `?` one byte
 abbrev pub matches : List ℕ → List ℕ → Bool
 matches [] name = nat_le (length name) 0
 matches (c ∷ piece) name = elim (c == 42) [ true ↦ some_end_matches (matches piece) name | false ↦ first_byte_matches c (matches piece) name ]
 
--- whether a line can have a name: it is UTF-8 and has no newline
+-- whether a file name can be written in a line: it is UTF-8 and has no newline
 abbrev pub is_writable_name : List ℕ → Bool
 is_writable_name name = is_utf8 name && not (has_newline name)
 
--- whether a name in a folder matches a piece; one that begins with `.` matches only a piece that does
+-- whether a file name can be written in a line and matches a piece of a path pattern, which must begin with `.` if the name does
 abbrev pub matches_name : List ℕ → List ℕ → Bool
 matches_name piece name = is_writable_name name && (not (slice_index name 0 == 46 && not (slice_index piece 0 == 46)) && matches piece name)
 
@@ -44,61 +44,61 @@ abbrev pub path_pieces : List ℕ → List (List ℕ)
 path_pieces [] = [] ∷ []
 path_pieces (c ∷ s) = if c == 47 then [] ∷ path_pieces s else onto_first c (path_pieces s)
 
--- whether a text comes before another in order of their bytes, or is the same
+-- whether a text comes before another in the order of their bytes, or is the same
 abbrev pub is_in_order : List ℕ → List ℕ → Bool
 is_in_order [] t = true
 is_in_order (c ∷ s) [] = false
 is_in_order (c ∷ s) (d ∷ t) = nat_lt c d || (c == d && is_in_order s t)
 
--- a text inserted into texts in ascending order
+-- a list of texts in ascending order with one more text inserted at its place
 abbrev pub inserted : List ℕ → List (List ℕ) → List (List ℕ)
 inserted s [] = s ∷ []
 inserted s (t ∷ ts) = if is_in_order s t then s ∷ t ∷ ts else t ∷ inserted s ts
 
--- texts in ascending order of their bytes
+-- a list of texts sorted in ascending order of their bytes
 abbrev pub sorted : List (List ℕ) → List (List ℕ)
 sorted [] = []
 sorted (s ∷ ss) = inserted s (sorted ss)
 
--- the paths that were found, and how many names were listed for the tree so far
+-- the paths that were found for a path pattern, and how many names in folders were listed for the tree so far
 pub record FoundPaths : Type 0 where
   pub paths : List (List ℕ)
   pub listed : ℕ
 
--- paths with a count of listed names
+-- found paths with the count of names in folders listed so far
 abbrev pub found : List (List ℕ) → ℕ → FoundPaths
 found paths listed = record { paths = paths; listed = listed }
 
--- the names of a folder that match a piece, as paths; too many names are a fault
+-- the names of a folder that match a piece of a path pattern, as paths; a fault if too many names are listed for the tree
 abbrev pub matching_names : Place → (piece folder : List ℕ) → ℕ → List (List ℕ) → Program FoundPaths
 matching_names at piece folder listed names =
     if nat_lt max_listed_names (listed + length names) then fault at TooMany []
     else returns (found (map (λ name. folder ++ name) (filter (matches_name piece) names)) (listed + length names))
 
--- the paths that a piece matches in a folder, which is empty or ends in a slash; a piece that is no pattern matches itself
+-- the paths that a pattern's piece matches in a folder (empty, or ending in `/`); a piece without wildcards matches itself
 abbrev pub paths_in_folder : Place → (piece folder : List ℕ) → ℕ → Program FoundPaths
 paths_in_folder at piece folder listed =
     elim (is_pattern piece) [ true ↦ does (list_folder folder) (matching_names at piece folder listed) | false ↦ returns (found ((folder ++ piece) ∷ []) listed) ]
 
--- the paths that a piece matches in some folders
+-- the paths that a piece of a path pattern matches in a list of folders, folder by folder
 abbrev pub paths_in_folders : Place → List ℕ → List (List ℕ) → ℕ → Program FoundPaths
 paths_in_folders at piece [] listed = returns (found [] listed)
 paths_in_folders at piece (folder ∷ folders) listed =
     paths_in_folder at piece folder listed >>= λ first. paths_in_folders at piece folders first.listed >>= λ rest. returns (found (first.paths ++ rest.paths) rest.listed)
 
--- the paths that match pieces below some folders, the last of them in the folders that match those before it
+-- the paths below a list of folders that match the pieces of a path pattern, one level of folders for each piece
 abbrev pub paths_below : Place → List (List ℕ) → List (List ℕ) → ℕ → Program FoundPaths
 paths_below at [] folders listed = returns (found folders listed)
 paths_below at (piece ∷ []) folders listed = paths_in_folders at piece folders listed
 paths_below at (piece ∷ next ∷ pieces) folders listed =
     paths_in_folders at piece folders listed >>= λ f. paths_below at (next ∷ pieces) (map (λ path. path ++ 47 ∷ []) f.paths) f.listed
 
--- the paths of a list whose files can be read
+-- the paths of a list whose files can be read, in the same order
 abbrev pub readable_paths : List (List ℕ) → Program (List (List ℕ))
 readable_paths [] = returns []
 readable_paths (path ∷ paths) = does (read_file path) (λ bytes. readable_paths paths >>= λ rest. returns (if is_some bytes then path ∷ rest else rest))
 
--- the files of a pattern: the paths that match it and can be read, in ascending order
+-- the paths that match a path pattern and whose files can be read, in ascending order
 abbrev pub files_of_pattern : Place → List ℕ → ℕ → Program FoundPaths
 files_of_pattern at pattern listed =
     paths_below at (path_pieces pattern) ([] ∷ []) listed >>= λ f. readable_paths f.paths >>= λ paths. returns (found (sorted paths) f.listed)

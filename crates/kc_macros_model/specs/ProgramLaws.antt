@@ -5,13 +5,13 @@ use Rattle.kc_macros_model.specs.declared.fault.MacroKind.TheVariants.{Unanswere
 use Rattle.kc_macros_model.specs.Programs.{Answer}
 use Rattle.kc_macros_model.specs.Worlds.{World, Ending, returned, failed, stopped}
 
--- a world has the files of another, and all its answers or more
+-- the world `more` has the files and folders of the world `w`, and all its answers or more
 pub record Extends (w more : World) : Type 0 where
   pub answers : (question : List ℕ) (a : Answer) → w.answer question ≡ Some a → more.answer question ≡ Some a
   pub bytes : (path : List ℕ) → more.bytes path ≡ w.bytes path
   pub names : (folder : List ℕ) → more.names folder ≡ w.names folder
 
--- whether a fault is of the kind Unanswered
+-- whether the kind of a fault is `Unanswered`: a question has no answer
 abbrev pub is_unanswered_kind : MacroKind → Bool
 is_unanswered_kind k = elim k [ Unanswered ↦ true | _ ↦ false ]
 

@@ -9,48 +9,48 @@ use Rattle.kc_macros_model.specs.TreeExpansion.{Sourced, source_read, lines_read
 use Rattle.kc_macros_model.specs.Worlds.{World, reply, returned, expansion}
 use Rattle.kc_macros_model.specs.ExpansionRules.{ending_in}
 
--- a state whose counts are within the limits
+-- the counts of files, bytes and listed names of a state of a reading are within the limits
 pub record IsWithinLimits (s : ReadingState) : Type 0 where
   pub files : s.files ≤ max_files
   pub bytes : s.bytes ≤ max_bytes
   pub listed : s.listed ≤ max_listed_names
 
--- a file or a list of files that is read in a state within the limits leaves a state within the limits
+-- reading a sourced file or list of files leads from a state within the limits to a state within the limits
 abbrev pub CountsAreBounded : Type 0
 CountsAreBounded = (w : World) (more : ℕ) (root : List ℕ) (open_files : List (List ℕ)) (at : Place) (what : Sourced) (s : ReadingState) (p : Progress)
     → IsWithinLimits s → ending_in w (source_read more root open_files at what s) ≡ returned p → IsWithinLimits p.state
 
--- the first file leaves a state within the limits, with all that its lines source
+-- reading the first file of a tree, with all that its lines source, ends in a state within the limits
 abbrev pub TreeCountsAreBounded : Type 0
 TreeCountsAreBounded = (w : World) (root bytes : List ℕ) (p : Progress) → length bytes ≤ max_bytes
     → ending_in w (lines_read (source_read max_open_files root (root ∷ [])) root 0 1 (split_at_newlines bytes) (counted (length bytes) initial_state))
     ≡ returned p → IsWithinLimits p.state
 
--- a key is one of a path: the path, or the path with `#` and a number
+-- a key is possible for an expanded file of this path: it is the path, or the path with `#` and a number from 2 on
 pub data IsKeyOf (path : List ℕ) : List ℕ → Type 0 where
   the_path : IsKeyOf path path
   numbered : {n : ℕ} → 2 ≤ n → n ≤ max_files → IsKeyOf path (path ++ 35 ∷ decimal n)
 
--- each expanded file has a key of its path
+-- the key of each expanded file of a tree is its path, or its path with `#` and a number
 abbrev pub KeysAreBounded : Type 0
 KeysAreBounded = (w : World) (root : List ℕ) (files : List ExpandedFile) → (expansion w root).ending ≡ returned files
     → All (λ (f : ExpandedFile). IsKeyOf f.path f.key) files
 
--- no two expanded files have one key
+-- no two expanded files of a tree have the same key
 abbrev pub KeysDiffer : Type 0
 KeysDiffer = (w : World) (root : List ℕ) (files : List ExpandedFile) → (expansion w root).ending ≡ returned files
     → IsDistinct bytes_eq (map (λ (f : ExpandedFile). f.key) files)
 
--- the key that takes the place of a source is that of an expanded file
+-- the key that reading a sourced file or list of files returns is that of an expanded file
 abbrev pub SourceKeysHaveFiles : Type 0
 SourceKeysHaveFiles = (w : World) (more : ℕ) (root : List ℕ) (open_files : List (List ℕ)) (at : Place) (what : Sourced) (s : ReadingState) (p : Progress)
     → ending_in w (source_read (suc more) root open_files at what s) ≡ returned p → has_key p.state.expanded p.text ≡ true
 
--- no tree has more expanded files than files may be read
+-- no tree has more expanded files than `max_files`, the most files that may be read
 abbrev pub FilesAreBounded : Type 0
 FilesAreBounded = (w : World) (root : List ℕ) (files : List ExpandedFile) → (expansion w root).ending ≡ returned files → length files ≤ max_files
 
--- the work that a program does in a world
+-- the work that a program does in a world, from its first event to its end
 abbrev pub work_in : {A : Type 0} → World → Program A → ℕ
 work_in w (returns x) = 0
 work_in w (fails f) = 0
@@ -58,7 +58,7 @@ work_in w stops = 0
 work_in w (does (spend at work) k) = work + work_in w (k (tt {0}))
 work_in w (does e k) = work_in w (k (reply w e))
 
--- the work of an expansion that returns files, with the work that is left, is the most work over a tree
+-- where an expansion returns files, its work and the work that is left add up to `max_work`
 abbrev pub WorkIsBounded : Type 0
 WorkIsBounded = (w : World) (root : List ℕ) (files : List ExpandedFile) → (expansion w root).ending ≡ returned files
     → work_in w (tree_read root) + (expansion w root).left ≡ max_work

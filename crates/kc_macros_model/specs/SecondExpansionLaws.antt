@@ -13,17 +13,17 @@ use Rattle.kc_macros_model.specs.Worlds.{World, returned}
 use Rattle.kc_macros_model.specs.ExpansionRules.{ending_in}
 use Rattle.kc_macros_model.specs.PlainLines.{has_dollar, is_kept_token, is_assignment, is_plain_form, tokens_as_they_are, is_before_help}
 
--- a token with a `$` that is neither in quotes nor in a comment, which the reader refuses
+-- whether a written token has a `$` that is neither in quotes nor in a comment, which the reader refuses
 abbrev pub is_left_with_dollar : WrittenToken → Bool
 is_left_with_dollar t = elim t.sort [ an_other ↦ has_dollar t.bytes | _ ↦ false ]
 
--- the written tokens of a line, read again, have nothing to expand, whatever values its references had
+-- the written tokens of an expanded line, read again, have nothing to expand, unless one is unknown or has a `$` outside quotes
 abbrev pub NothingIsLeftToExpand : Type 0
 NothingIsLeftToExpand = (w : World) (at : Place) (b : Bindings) (text : List ℕ) (ts : List WrittenToken)
     → ending_in w (line_content at b true (line_tokens 0 text)) ≡ returned (tokens ts)
     → list_any is_unknown ts ≡ false → list_any is_left_with_dollar ts ≡ false → list_all is_kept_token (line_tokens 0 (line_bytes ts)) ≡ true
 
--- the written tokens of a line stay when they are expanded again, where they are no assignment and of no form that is written anew
+-- an expanded line without unknown tokens or a bare `$` stays when expanded again, unless it is an assignment or is rewritten
 abbrev pub WrittenLinesStay : Type 0
 WrittenLinesStay = (w : World) (at : Place) (b : Bindings) (text : List ℕ) (ts : List WrittenToken)
     → ending_in w (line_content at b true (line_tokens 0 text)) ≡ returned (tokens ts)

@@ -7,35 +7,35 @@ use Rattle.kc_expr.specs.Token.{is_white_byte}
 use Rattle.kc_tree_model.specs.TreeLookup.{is_name_byte}
 use Rattle.kc_macros_model.specs.Programs.{Answer}
 
--- the value of a text: a text, or none where it depends on a question without an answer
+-- the value of an expanded text: its bytes, or `None` where it depends on a question without an answer
 abbrev pub Value : Type 0
 Value = Option (List ℕ)
 
--- the length of a value, as far as it is known
+-- the length of a value in bytes; 0 where the value is unknown
 abbrev pub value_length : Value → ℕ
 value_length None = 0
 value_length (Some text) = length text
 
--- two values one after the other; unknown where one of them is
+-- one value followed by another; unknown where one of them is
 abbrev pub joined_values : Value → Value → Value
 joined_values (Some s) (Some t) = Some (s ++ t)
 joined_values (Some s) None = None
 joined_values None t = None
 
--- a simple variable has a value, a recursive one a text that is expanded at each use
+-- a macro variable: a simple one has a value, a recursive one a text that is expanded at each use
 pub data Variable : Type 0 where
   simple : Value → Variable
   recursive : List ℕ → Variable
 
--- bindings: the variables by their names
+-- the macro variables by their names; `None` for a name without a variable
 abbrev pub Bindings : Type 0
 Bindings = List ℕ → Option Variable
 
--- no name has a variable
+-- the bindings in which no name has a variable
 abbrev pub no_bindings : Bindings
 no_bindings name = None
 
--- bindings of a name to a variable, in place of an earlier one
+-- bindings with a variable for a name, in place of its earlier variable
 abbrev pub with_variable : List ℕ → Variable → Bindings → Bindings
 with_variable name v b other = if bytes_eq other name then Some v else b other
 
@@ -43,7 +43,7 @@ with_variable name v b other = if bytes_eq other name then Some v else b other
 abbrev pub is_number : List ℕ → Bool
 is_number s = nat_lt 0 (length s) && list_all (λ c. is_digit c 10) s
 
--- a name that an environment may have: a letter or `_`, then letters, digits and `_`
+-- whether a name may be that of an environment variable: a letter or `_`, then letters, digits and `_`
 abbrev pub is_environment_name : List ℕ → Bool
 is_environment_name [] = false
 is_environment_name (c ∷ s) = not (is_digit c 10) && list_all is_name_byte (c ∷ s)
@@ -52,15 +52,15 @@ is_environment_name (c ∷ s) = not (is_digit c 10) && list_all is_name_byte (c 
 abbrev pub without_white_end : List ℕ → List ℕ
 without_white_end s = take (length s - suffix_len is_white_byte s) s
 
--- the question of a command: `$ ` and the command without white at its end
+-- the question that a shell command asks: `$ ` and the command without white at its end
 abbrev pub command_question : List ℕ → List ℕ
 command_question command = 36 ∷ 32 ∷ without_white_end command
 
--- the argument that a reference means by its number, from 1 to the count of arguments
+-- the argument of a call whose number, counted from 1, is the inside of a reference; `None` if it is no number or too large
 abbrev pub argument_of : List Value → List ℕ → Option Value
 argument_of args inside = if is_number inside && nat_lt 0 (digits_value 10 inside) then slice_get args (digits_value 10 inside - 1) else None
 
--- the functions that every tree has without defining them
+-- the built-in macro functions, which every tree may call without defining them
 pub data BuiltIn : Type 0 where
   filename : BuiltIn
   lineno : BuiltIn
@@ -69,11 +69,11 @@ pub data BuiltIn : Type 0 where
   warning_if : BuiltIn
   error_if : BuiltIn
 
--- the built-in functions by their names
+-- the built-in macro functions with their names
 abbrev pub built_ins : List (List ℕ × BuiltIn)
 built_ins = (codes "filename", filename) ∷ (codes "lineno", lineno) ∷ (codes "shell", shell) ∷ (codes "info", info) ∷ (codes "warning-if", warning_if) ∷ (codes "error-if", error_if) ∷ []
 
--- the value that an answer gives: that of a name that isn't set is empty
+-- the value of an answer to a question: empty for an environment variable that isn't set, unknown without an answer
 abbrev pub value_of_answer : Option Answer → Value
 value_of_answer None = None
 value_of_answer (Some None) = Some []

@@ -7,13 +7,13 @@ use Rattle.kc_macros_model.specs.Programs.{Place, Fault, Notice, Answer, Event, 
 use Rattle.kc_macros_model.specs.ReadingStates.{ExpandedFile}
 use Rattle.kc_macros_model.specs.TreeExpansion.{tree_read}
 
--- a world: its answers to questions, the bytes of paths, the names in folders; the path of a folder is empty or ends in a slash
+-- the outside of a reading: answers to questions, the bytes of paths, the names in folders (whose paths are empty or end in `/`)
 pub record World : Type 0 where
   pub answer : List ℕ → Option Answer
   pub bytes : List ℕ → Option (List ℕ)
   pub names : List ℕ → List (List ℕ)
 
--- the reply of a world to an event
+-- the reply of a world, with its answers, files and folders, to an event of a program
 abbrev pub reply : World → (event : Event) → Reply event
 reply w (spend at work) = tt {0}
 reply w (report notice) = tt {0}
@@ -21,34 +21,34 @@ reply w (ask at question) = w.answer question
 reply w (read_file path) = w.bytes path
 reply w (list_folder folder) = w.names folder
 
--- the notice that an event reports, if it does
+-- the notice that an event of a program reports, or none
 abbrev pub notices_of : Event → List Notice
 notices_of (report notice) = notice ∷ []
 notices_of e = []
 
--- the question of an event that this answer, or none, leaves open
+-- the open questions that a question with this answer leaves: the question itself if it has no answer, else no question
 abbrev pub if_unanswered : List ℕ → Option Answer → List (List ℕ)
 if_unanswered question None = question ∷ []
 if_unanswered question (Some a) = []
 
--- the question that an event asks in vain, if it does
+-- the question that an event of a program asks without getting an answer from the world, or none
 abbrev pub open_question : World → Event → List (List ℕ)
 open_question w (ask at question) = if_unanswered question (w.answer question)
 open_question w e = []
 
--- the work that is left after a question; a question without an answer is a fault
+-- the work that is left, or the fault `Unanswered` where the question has no answer
 abbrev pub unless_unanswered : Place → List ℕ → ℕ → Option Answer → Result ℕ Fault
 unless_unanswered at question left None = Err (record { at = at; kind = Unanswered; text = question })
 unless_unanswered at question left (Some a) = Ok left
 
--- the work that is left after an event, or its fault: more work than is left, and where all must be answered an open question
+-- the work that is left after an event, or its fault: more work than is left, or an open question where all must be answered
 abbrev pub left_after : (all_answered : Bool) → World → ℕ → Event → Result ℕ Fault
 left_after all w left (spend at work) = if nat_lt left work then Err (record { at = at; kind = TooMany; text = [] }) else Ok (left - work)
 left_after true w left (ask at question) = unless_unanswered at question left (w.answer question)
 left_after false w left (ask at question) = Ok left
 left_after all w left e = Ok left
 
--- the end of a program
+-- how a program ends: it returns a value, fails, or stops since the rest depends on an open question
 pub data Ending (A : Type 0) : Type 0 where
   returned : A → Ending A
   failed : Fault → Ending A
@@ -61,37 +61,37 @@ pub record Outcome (A : Type 0) : Type 0 where
   pub left : ℕ
   pub ending : Ending A
 
--- the outcome of a program that ends at once
+-- the outcome of a program that ends at once, without notices and questions, with this much work left
 abbrev pub ended : {A : Type 0} → ℕ → Ending A → Outcome A
 ended left e = record { notices = []; questions = []; left = left; ending = e }
 
--- an outcome after an event
+-- the outcome of a program that begins with an event, given the outcome of the rest of the program
 abbrev pub after_event : {A : Type 0} → World → Event → Outcome A → Outcome A
 after_event w e o = record { notices = notices_of e ++ o.notices; questions = open_question w e ++ o.questions; left = o.left; ending = o.ending }
 
--- an outcome that goes on with the work that is left, unless there is a fault
+-- the outcome of a program that goes on with the work that is left, or that ends at once with the fault, if there is one
 abbrev pub unless_fault : {A : Type 0} → ℕ → Result ℕ Fault → (ℕ → Outcome A) → Outcome A
 unless_fault left (Err f) rest = ended left (failed f)
 unless_fault left (Ok more) rest = rest more
 
--- the outcome of a program with this much work to spend
+-- the outcome of a program in a world with this much work to spend; with `all_answered` an open question is a fault
 abbrev pub outcome : {A : Type 0} → (all_answered : Bool) → World → ℕ → Program A → Outcome A
 outcome all w left (returns x) = ended left (returned x)
 outcome all w left (fails f) = ended left (failed f)
 outcome all w left stops = ended left stopped
 outcome all w left (does e k) = unless_fault left (left_after all w left e) (λ more. after_event w e (outcome all w more (k (reply w e))))
 
--- the expansion of a tree, all of whose questions must be answered
+-- the outcome of the expansion of a tree by the path of its first file, where each question must be answered
 unfoldable pub expansion : World → List ℕ → Outcome (List ExpandedFile)
 expansion w root = outcome true w max_work (tree_read root)
 
--- questions, or if there are none the fault of the reading
+-- the open questions of a reading; if there are none, the fault of the reading, or no questions if it has no fault
 abbrev pub questions_or_fault : {A : Type 0} → List (List ℕ) → Ending A → Result (List (List ℕ)) Fault
 questions_or_fault [] (failed f) = Err f
 questions_or_fault [] (returned x) = Ok []
 questions_or_fault [] stopped = Ok []
 questions_or_fault (q ∷ qs) e = Ok (q ∷ qs)
 
--- the questions without an answer that the reading meets, each once, in order of first sight
+-- the open questions of the reading of a tree, each once, in the order first asked; if there are none, the fault of the reading
 unfoldable pub wanted : World → List ℕ → Result (List (List ℕ)) Fault
 wanted w root = let o = outcome false w max_work (tree_read root) in questions_or_fault (without_repeats (reverse o.questions)) o.ending

@@ -1,4 +1,4 @@
--- How each token of a line is written once its references have values.
+-- How each token of a line is written once its macro references have values.
 use Rattle.std.specs.Prelude.{ℕ, Bool, true, false, not, ◌&&◌, ◌||◌, ◌==◌, List, [], ◌∷◌, ◌++◌, flat_map, Some, None, codes, bytes_eq, if◌then◌else◌}
 use Rattle.std.specs.List.{list_all, list_any}
 use Rattle.kc_expr.specs.Token.{is_word_byte}
@@ -11,27 +11,27 @@ use Rattle.kc_macros_model.specs.Variables.{Value, joined_values, Bindings}
 use Rattle.kc_macros_model.specs.Expansion.{fault, text_value}
 use Rattle.kc_macros_model.specs.LineTokens.{LineToken, gap, run, quoted, other, broken}
 
--- words with a meaning inside a statement
+-- words with a meaning inside a Kconfig statement that aren't in the table of keywords
 abbrev pub inner_keywords : List (List ℕ)
 inner_keywords = codes "on" ∷ codes "env" ∷ codes "defconfig_list" ∷ codes "allnoconfig_y" ∷ []
 
--- whether a word has a meaning in the language of trees
+-- whether a word has a meaning in the Kconfig language
 abbrev pub is_keyword : List ℕ → Bool
 is_keyword s = list_any (λ (e : List ℕ × Keyword). bytes_eq e.0 s) keywords || list_any (bytes_eq s) inner_keywords
 
--- whether a byte needs no quotes: a letter, a digit, `_` or `-`
+-- whether a byte of a value needs no quotes: a letter, a digit, `_` or `-`
 abbrev pub is_bare_byte : ℕ → Bool
 is_bare_byte c = is_word_byte c && not (c == 46 || (c == 47))
 
--- a text with a backslash before each backslash, each `$` and each quote of this sort
+-- a text with a backslash before each backslash, each `$` and each byte `quote`
 abbrev pub escaped_text : (quote : ℕ) → List ℕ → List ℕ
 escaped_text quote s = flat_map (λ c. if c == 92 || (c == 36) || (c == quote) then 92 ∷ c ∷ [] else c ∷ []) s
 
--- a text in quotes
+-- a text between two bytes `quote`, with the backslashes that it needs
 abbrev pub in_quotes_of : (quote : ℕ) → List ℕ → List ℕ
 in_quotes_of quote s = quote ∷ (escaped_text quote s ++ quote ∷ [])
 
--- the sort of a token as it is written; one that depends on a question without an answer isn't written yet
+-- the sort of a written token, which is unknown where the token depends on a question without an answer
 pub data TokenSort : Type 0 where
   a_gap : TokenSort
   a_word : TokenSort
@@ -39,67 +39,67 @@ pub data TokenSort : Type 0 where
   an_other : TokenSort
   an_unknown : TokenSort
 
--- a token as it is written, and the text that it means to the reader
+-- a token of an expanded line: its sort, its bytes, and the text that it means to the reader of the line
 pub record WrittenToken : Type 0 where
   pub sort : TokenSort
   pub bytes : List ℕ
   pub meaning : Value
 
--- a token with these bytes and this meaning
+-- a written token of this sort, with these bytes and this known meaning
 abbrev pub written_as : TokenSort → List ℕ → List ℕ → WrittenToken
 written_as sort bytes meaning = record { sort = sort; bytes = bytes; meaning = Some meaning }
 
--- the value of a run as one token: a space if it is empty, a word if it is bare and no keyword, else in quotes
+-- the written token of a text to which a run expands: a space if empty, a word if it needs no quotes, else in quotes
 abbrev pub token_of_text : List ℕ → WrittenToken
 token_of_text [] = written_as a_gap (32 ∷ []) []
 token_of_text (c ∷ s) =
     if list_all is_bare_byte (c ∷ s) && not (is_keyword (c ∷ s)) then written_as a_word (c ∷ s) (c ∷ s)
     else written_as a_quoted (in_quotes_of 34 (c ∷ s)) (c ∷ s)
 
--- the value of a run as one token, which may be unknown
+-- the written token of the value to which a run of word bytes and macro references expands, which may be unknown
 abbrev pub token_of_value : Value → WrittenToken
 token_of_value None = record { sort = an_unknown; bytes = []; meaning = None }
 token_of_value (Some text) = token_of_text text
 
--- bytes between quotes, and the text that they mean
+-- written bytes between the quotes of a token, and the text that they mean
 pub record WrittenBody : Type 0 where
   pub bytes : List ℕ
   pub meaning : Value
 
--- bytes between quotes with this meaning
+-- the body of a quoted token: these bytes between its quotes, and the known text that they mean
 abbrev pub body_of : List ℕ → List ℕ → WrittenBody
 body_of bytes meaning = record { bytes = bytes; meaning = Some meaning }
 
--- the value of a reference between quotes, with the backslashes that it needs
+-- the value of a macro reference as written between quotes, with the backslashes that it needs
 abbrev pub body_of_value : (quote : ℕ) → Value → WrittenBody
 body_of_value quote None = record { bytes = []; meaning = None }
 body_of_value quote (Some text) = body_of (escaped_text quote text) text
 
--- bytes between quotes one after the other
+-- written bytes between quotes followed by others, with their joined meaning
 abbrev pub joined_bodies : WrittenBody → WrittenBody → WrittenBody
 joined_bodies a b = record { bytes = a.bytes ++ b.bytes; meaning = joined_values a.meaning b.meaning }
 
--- an item between quotes: a reference becomes its value, a `$` that begins none is escaped
+-- an item between quotes as it is written: a macro reference becomes its value, a `$` that begins no reference is escaped
 abbrev pub written_item : Place → Bindings → (quote : ℕ) → Item → Program WrittenBody
 written_item at b quote (byte c) = returns (body_of (if c == 36 then 92 ∷ c ∷ [] else c ∷ []) (c ∷ []))
 written_item at b quote (escaped c) = returns (body_of (92 ∷ c ∷ []) (c ∷ []))
 written_item at b quote (reference inside) = text_value at b (item_bytes (reference inside)) >>= λ v. returns (body_of_value quote v)
 written_item at b quote (unterminated rest) = fault at Unterminated []
 
--- the items between quotes as they are written
+-- the items between the quotes of a token as they are written, one after the other
 abbrev pub written_items : Place → Bindings → (quote : ℕ) → List Item → Program WrittenBody
 written_items at b quote [] = returns (body_of [] [])
 written_items at b quote (i ∷ is) = written_item at b quote i >>= λ first. written_items at b quote is >>= λ rest. returns (joined_bodies first rest)
 
--- bytes between quotes as a token
+-- written bytes between quotes as a token, with its quotes
 abbrev pub token_of_body : (quote : ℕ) → WrittenBody → WrittenToken
 token_of_body quote body = record { sort = a_quoted; bytes = quote ∷ (body.bytes ++ quote ∷ []); meaning = body.meaning }
 
--- the value of a run, which is its own text if it has no `$`
+-- the value of a run of word bytes, macro references and `$`; a run without `$` is its own value
 abbrev pub run_value : Place → Bindings → List ℕ → Program Value
 run_value at b s = elim (list_any (λ c. c == 36) s) [ true ↦ text_value at b s | false ↦ returns (Some s) ]
 
--- a run as it is written: its value as one token; a run with a `$` that begins no reference stays, for the reader to refuse
+-- a run as it is written: its value as one token; a run with a `$` that begins no macro reference stays, for the reader to refuse
 abbrev pub written_run : Place → Bindings → List ℕ → Program WrittenToken
 written_run at b s =
     elim (list_any is_plain_dollar (items false 0 s)) [
@@ -107,7 +107,7 @@ written_run at b s =
       | false ↦ elim (list_any is_reference (items false 0 s)) [ true ↦ text_value at b s >>= λ v. returns (token_of_value v) | false ↦ returns (written_as a_word s s) ]
     ]
 
--- a token as it is written
+-- a token of a logical line as it is written once its macro references have values
 abbrev pub written_token : Place → Bindings → LineToken → Program WrittenToken
 written_token at b (gap s) = returns (written_as a_gap s [])
 written_token at b (run s) = written_run at b s

@@ -1,87 +1,153 @@
 //! Faults and notices of the expansion, and faults of files of answers.
-use std::fmt;
 use thiserror::Error;
 
-/// Why a tree can't be expanded; the text of a kind is its name.
+/// Why the macros of a Kconfig tree can't be expanded. A kind is displayed as its name.
 #[derive(Clone, Copy, Debug, PartialEq, Eq, Error)]
 pub enum MacroKind {
-    /// A `$(` has no `)` in its text.
+    /// A macro reference `$(` has no closing `)` in the same text.
+    #[error("Unterminated")]
     Unterminated,
-    /// A call of a function that isn't defined, or a name that no environment can have.
+    /// A macro reference calls a function that isn't defined, or has a name that no environment variable can have.
+    #[error("Undefined")]
     Undefined,
-    /// The value of a variable that is used without arguments needs the variable itself.
+    /// A variable that is used without arguments needs its own value to be expanded.
+    #[error("Recursion")]
     Recursion,
-    /// A built-in function has another count of arguments, or a reference more than 16 pieces.
+    /// A built-in function is called with a wrong number of arguments, or a macro reference has more than 16 pieces.
+    #[error("Arguments")]
     Arguments,
-    /// `error-if` has a condition that holds.
+    /// A call of `error-if` has a condition that is `y`.
+    #[error("Error")]
     Error,
-    /// A question has no answer.
+    /// A question that the expansion asks, an environment variable or a shell command, has no answer.
+    #[error("Unanswered")]
     Unanswered,
-    /// The line of an assignment is continued by a backslash.
+    /// The line of a variable's assignment is continued by a backslash.
+    #[error("JoinedAssignment")]
     JoinedAssignment,
-    /// A file that is sourced, or the first of the tree, isn't there.
+    /// The first file of the tree or a sourced file can't be found, or the path pattern of a `source` matches no file.
+    #[error("MissingFile")]
     MissingFile,
-    /// A file is sourced while it is open: by itself, or by one that it sources.
+    /// A file is sourced while it is still being read: by itself, or by a file that it sources, directly or through others.
+    #[error("SourceLoop")]
     SourceLoop,
-    /// Too many files or expansions are open within each other.
+    /// More than 32 files or lists of files, or more than 64 expansions, would be open within each other.
+    #[error("TooDeep")]
     TooDeep,
-    /// The tree needs too many files, bytes or names of folders, or too much work.
+    /// The tree needs more files, bytes, listed folder names or expansion work than the limits allow.
+    #[error("TooMany")]
     TooMany,
-    /// A value, an expanded text or a written line has more than 65,536 bytes.
+    /// A variable's value, an expanded text or an expanded line has more than 65,536 bytes.
+    #[error("LineTooLong")]
     LineTooLong,
     /// Memory ran out.
+    #[error("OutOfMemory")]
     OutOfMemory,
 }
 
-impl fmt::Display for MacroKind {
-    fn fmt<W: fmt::Write>(&self, f: &mut fmt::Formatter<W>) -> fmt::Result {
-        fmt::Debug::fmt(self, f)
+impl MacroKind {
+    ghost use Rattle.std.specs.Prelude.{◌≡◌};
+    ghost use Rattle.kc_macros_model.specs.FaultNames.{macro_kind_name};
+
+    /// The name of a kind of fault: that of its variant, which `Display` writes.
+    pub fn name(self) -> &'static str
+        ensures { result.now ≡ macro_kind_name self }
+    {
+        match self {
+            MacroKind::Unterminated => "Unterminated",
+            MacroKind::Undefined => "Undefined",
+            MacroKind::Recursion => "Recursion",
+            MacroKind::Arguments => "Arguments",
+            MacroKind::Error => "Error",
+            MacroKind::Unanswered => "Unanswered",
+            MacroKind::JoinedAssignment => "JoinedAssignment",
+            MacroKind::MissingFile => "MissingFile",
+            MacroKind::SourceLoop => "SourceLoop",
+            MacroKind::TooDeep => "TooDeep",
+            MacroKind::TooMany => "TooMany",
+            MacroKind::LineTooLong => "LineTooLong",
+            MacroKind::OutOfMemory => "OutOfMemory",
+        }
     }
 }
 
-/// Messages of a tree that refuse nothing; the text of a kind is its name.
+/// The messages of a tree's macros that don't make the expansion fail. A kind is displayed as its name.
 #[derive(Clone, Copy, Debug, PartialEq, Eq, Error)]
 pub enum MacroNoticeKind {
-    /// The text of `info`.
+    /// A message of the built-in function `info`.
+    #[error("Info")]
     Info,
-    /// The text of a `warning-if` whose condition holds.
+    /// A message of the built-in function `warning-if`, whose condition is `y`.
+    #[error("Warning")]
     Warning,
 }
 
-impl fmt::Display for MacroNoticeKind {
-    fn fmt<W: fmt::Write>(&self, f: &mut fmt::Formatter<W>) -> fmt::Result {
-        fmt::Debug::fmt(self, f)
+impl MacroNoticeKind {
+    ghost use Rattle.std.specs.Prelude.{◌≡◌};
+    ghost use Rattle.kc_macros_model.specs.FaultNames.{macro_notice_name};
+
+    /// The name of a kind of message: that of its variant, which `Display` writes.
+    pub fn name(self) -> &'static str
+        ensures { result.now ≡ macro_notice_name self }
+    {
+        match self {
+            MacroNoticeKind::Info => "Info",
+            MacroNoticeKind::Warning => "Warning",
+        }
     }
 }
 
-/// Why a file of answers is refused; the text of a kind is its name.
+/// Why a file of answers to macro questions is refused. A kind is displayed as its name.
 #[derive(Clone, Copy, Debug, PartialEq, Eq, Error)]
 pub enum AnswersKind {
-    /// A line has none of the forms, or a command has no answer on the next line.
+    /// A line is no comment, `NAME=TEXT`, `!NAME` or `$ COMMAND`, or a command has no answer `> TEXT` on the next line.
+    #[error("Malformed")]
     Malformed,
-    /// A question has another answer already.
+    /// A line answers a question that has a different answer already, from an earlier line or file.
+    #[error("TwoAnswers")]
     TwoAnswers,
-    /// A line isn't UTF-8.
+    /// A line of the file isn't UTF-8.
+    #[error("NotUtf8")]
     NotUtf8,
-    /// A line of more than 65,536 bytes without its newline.
+    /// A line has more than 65,536 bytes without its newline.
+    #[error("LineTooLong")]
     LineTooLong,
-    /// More than 1,048,576 lines.
+    /// The file has more than 1,048,576 lines.
+    #[error("TooManyLines")]
     TooManyLines,
-    /// More than 67,108,864 bytes.
+    /// The file has more than 67,108,864 bytes.
+    #[error("TooLarge")]
     TooLarge,
-    /// A read failed.
+    /// A read of the file failed.
+    #[error("Read")]
     Read,
     /// Memory ran out.
+    #[error("OutOfMemory")]
     OutOfMemory,
 }
 
-impl fmt::Display for AnswersKind {
-    fn fmt<W: fmt::Write>(&self, f: &mut fmt::Formatter<W>) -> fmt::Result {
-        fmt::Debug::fmt(self, f)
+impl AnswersKind {
+    ghost use Rattle.std.specs.Prelude.{◌≡◌};
+    ghost use Rattle.kc_macros_model.specs.FaultNames.{answers_kind_name};
+
+    /// The name of a kind of fault: that of its variant, which `Display` writes.
+    pub fn name(self) -> &'static str
+        ensures { result.now ≡ answers_kind_name self }
+    {
+        match self {
+            AnswersKind::Malformed => "Malformed",
+            AnswersKind::TwoAnswers => "TwoAnswers",
+            AnswersKind::NotUtf8 => "NotUtf8",
+            AnswersKind::LineTooLong => "LineTooLong",
+            AnswersKind::TooManyLines => "TooManyLines",
+            AnswersKind::TooLarge => "TooLarge",
+            AnswersKind::Read => "Read",
+            AnswersKind::OutOfMemory => "OutOfMemory",
+        }
     }
 }
 
-/// Why a file of answers is refused, and at which line, counted from 1.
+/// Why a file of answers to macro questions is refused, and at which line, counted from 1.
 #[derive(Clone, Copy, Debug, PartialEq, Eq, Error)]
 #[error("{kind} at line {line}")]
 pub struct AnswersFault {

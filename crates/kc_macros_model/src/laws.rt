@@ -5,25 +5,26 @@ ghost use Rattle.kc_macros_model.specs.PlainLines.{LinesWithoutDollars, PlainLin
 ghost use Rattle.kc_macros_model.specs.ReadingLaws.{CountsAreBounded, TreeCountsAreBounded, KeysAreBounded, SourceKeysHaveFiles, KeysDiffer, FilesAreBounded, WorkIsBounded};
 ghost use Rattle.kc_macros_model.specs.TreeLaws.{AnswersNotAskedChangeNothing, ExpansionNeverStops, NothingWantedIsExpanded, NothingWantedReturnsFiles, WantedIsNeeded, LinesAreKept};
 
-/// The function that expands a text agrees with the rules of expansion: it returns only values that the rules give, and each
-/// of them, unless a limit or a variable that needs itself is met.
+/// The expansion of a text agrees with the rules of macro expansion: it returns only values that the rules give, and each of
+/// them, unless it exceeds a limit or a variable needs its own value.
 pub fn expansion_follows_rules()
     ensures only { ExpansionKeepsTheRules }
     ensures each { RulesAreExpanded }
 {}
 
-/// A text without references is its own value: no question is asked, and work is done only for its bytes.
+/// A text of at most 65,536 bytes without macro references expands to itself: no question is asked, and the work depends on its
+/// length alone.
 pub fn plain_texts_stay()
     ensures { PlainTextsStay }
 {}
 
-/// No value of a text and no variable has more than 65,536 bytes.
+/// No expanded text and no stored variable has more than 65,536 bytes.
 pub fn values_are_bounded()
     ensures texts { ValuesAreBounded }
     ensures variables { VariablesAreBounded }
 {}
 
-/// The expansion of a tree depends on its files and on the answers that it asks for, and on nothing else.
+/// The expansion of a tree depends only on its files and on the answers to the questions that it asks.
 pub fn answers_not_asked_change_nothing()
     ensures { AnswersNotAskedChangeNothing }
 {}
@@ -33,25 +34,27 @@ pub fn expansion_never_stops()
     ensures { ExpansionNeverStops }
 {}
 
-/// Where no question is wanted and no fault was met, the tree is expanded.
+/// Where the search for open questions finds neither a question nor a fault, the expansion of the tree returns its files.
 pub fn nothing_wanted_is_expanded()
     ensures no_fault { NothingWantedIsExpanded }
     ensures files { NothingWantedReturnsFiles }
 {}
 
-/// Each question that is wanted is needed: no expansion succeeds without its answer, whatever else is answered.
+/// Each question that the search for open questions finds is needed: no expansion of the tree succeeds without its answer,
+/// whatever else is answered.
 pub fn wanted_is_needed()
     ensures { WantedIsNeeded }
 {}
 
-/// An expanded file has as many newlines as the file that was read for it, so that each line keeps its number. Any other
-/// file of an expanded tree is the list of the files of one line.
+/// Where neither an answer nor the first file's path has a newline, an expanded file has as many newlines as the file that was
+/// read for it, so that each line keeps its number. Any other file of an expanded tree is the list of the files of one `source`
+/// line.
 pub fn lines_are_kept()
     ensures { LinesAreKept }
 {}
 
-/// A reading keeps its counts of files, bytes and listed names within their limits, a tree has no more expanded files
-/// than files may be read, and its expansion does no more work than is allowed.
+/// The reading of a tree keeps its counts of files, bytes and listed folder names within their limits, the tree has no more
+/// expanded files than files may be read, and its expansion does no more work than is allowed.
 pub fn readings_are_bounded()
     ensures sources { CountsAreBounded }
     ensures trees { TreeCountsAreBounded }
@@ -59,16 +62,16 @@ pub fn readings_are_bounded()
     ensures work { WorkIsBounded }
 {}
 
-/// The key of an expanded file is its path, or its path with `#` and a number, no two files have one key, and the key
-/// that takes the place of a source is that of an expanded file.
+/// The key of an expanded file is its path, or its path with `#` and a number; no two expanded files have the same key; and the
+/// key that an expanded `source` line has as its path is that of an expanded file.
 pub fn keys_are_bounded()
     ensures paths { KeysAreBounded }
     ensures differ { KeysDiffer }
     ensures keys { SourceKeysHaveFiles }
 {}
 
-/// Where nothing acts on the lines of a file it keeps its bytes, and so do the files of a tree of such lines, under
-/// their paths, without notices and questions and whatever the answers.
+/// A file whose lines have nothing to expand, assign or rewrite keeps its bytes. A tree of such files, which may source one
+/// another, keeps their bytes and paths or fails at a `source` line, whatever the answers, without notices and questions.
 pub fn plain_trees_stay()
     ensures tokens { LinesWithoutDollars }
     ensures lines { PlainLinesStay }
@@ -76,7 +79,8 @@ pub fn plain_trees_stay()
     ensures trees { PlainTreesStay }
 {}
 
-/// The tokens written for a line have nothing left to expand, and stay when the line is expanded again.
+/// An expanded line without unknown tokens or a bare `$` has nothing left to expand, and stays when it is expanded again, unless
+/// it is an assignment or is rewritten.
 pub fn nothing_is_left_to_expand()
     ensures tokens { NothingIsLeftToExpand }
     ensures lines { WrittenLinesStay }

@@ -33,7 +33,7 @@ compared law l r solved other tree profile found is format valid =
     let both = law format (profile_of l.system) (tree_in l) l.users r.users l.values r.values valid solved.settled solved.fits fits solved.gives gives in
     (λ none. both.0 (no_difference (differences (tree_in l) l.values r.values) (sym is ∙ none)), λ same. is ∙ ap (map difference_view) (both.1 same))
 
--- the differences of equal trees and values
+-- the differences found for a settled tree and two lists of values are those for an equal tree and equal values
 pub compared_as : (s t : Settled) (v v_held w w_held : List UnitValue) → s ≡ t → v ≡ v_held → w ≡ w_held → (found : List DifferenceOfCode)
     → found ≡ map difference_view (differences (tree_of_settled s) v w) → found ≡ map difference_view (differences (tree_of_settled t) v_held w_held)
 compared_as s t v v_held w w_held es ev ew found is =

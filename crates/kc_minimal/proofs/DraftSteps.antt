@@ -18,7 +18,8 @@ use Rattle.kc_minimal.specs.declared.full.Draft.{Draft}
 use Rattle.kc_minimal.specs.checker.Drafts.{IsDraft}
 use Rattle.kc_dotconfig_model.specs.Formats.{FileFormat}
 
--- what is written where it is shown, with whether an end line came last
+-- a text that an entry adds if it is shown, with the text of the entries after it, is the same whether it is joined before or
+-- after the test
 shown_or_not : (shown : Bool) (added : List ℕ) (rest : Bool → List ℕ) (behind before : Bool)
     → cond shown (added ++ rest behind) (rest before) ≡ cond shown added [] ++ rest (cond shown behind before)
 shown_or_not true added rest behind before = refl
@@ -67,12 +68,12 @@ module _ (format : FileFormat) (tree : Tree) (values : List UnitValue) (left : L
       (entry_texts format tree values seen old.gap left))
       e))
 
--- a choice writes nothing
+-- the beginning of a choice adds nothing to a draft of a full file
 pub choice_passed : (format : FileFormat) (tree : Tree) (values : List UnitValue) (left : List Entry) (draft : Draft) (c : ℕ)
     → IsDraft format tree values (choice_begins c ∷ left) draft → IsDraft format tree values left draft
 choice_passed format tree values left draft c d = record { seen = d.seen; marked = d.marked; whole = d.whole }
 
--- one symbol more is marked
+-- marking a symbol makes the marks those of the symbols seen with this one more
 marked_more : (n : ℕ) (xs : List Bool) (seen : List ℕ) (s : ℕ) → s < length xs → ((t : ℕ) → t < n → slice_index_or xs t false ≡ list_any (nat_eq t) seen)
     → (t : ℕ) → t < n → slice_index_or (slice_set xs s true) t false ≡ list_any (nat_eq t) (s ∷ seen)
 marked_more n xs seen s below marks t within = elim (cases_Bool (nat_eq t s)) [
@@ -128,14 +129,14 @@ module _ (format : FileFormat) (tree : Tree) (values : List UnitValue) (left : L
             ∙ sym (ap (λ p. old.text.items ++ p) (definition_pieces d true e)) ∙ d.whole;
       }
 
--- the entries from one on
+-- the entries of a tree from place `i` on are the entry at `i` and the entries from the next place on
 pub next_left : (entries : List Entry) (i : ℕ) (entry : Entry) → slice_get entries i ≡ Some entry → drop i entries ≡ entry ∷ drop (i + 1) entries
 next_left entries i entry at =
     let next : suc i ≡ i + 1 = omega arith in
     drop-cons entries i entry (slice_get_within entries i entry at) ∙ ap (λ e. e ∷ drop (suc i) entries)
     (sym (unwrap_or-slice_get entries i entry) ∙ ap (λ o. unwrap_or o entry) at) ∙ ap (λ k. entry ∷ drop k entries) next
 
--- nothing is written before the first entry
+-- an empty text with no symbol marked is the draft of the full file to which all entries are left
 pub begun : (format : FileFormat) (tree : Tree) (values : List UnitValue) (draft : Draft) → draft.text.items ≡ []
     → draft.defined.items ≡ replicate (length tree.symbols) false → draft.gap ≡ false → IsDraft format tree values tree.entries draft
 begun format tree values draft text defined gap = record {
@@ -145,7 +146,7 @@ begun format tree values draft text defined gap = record {
       ∙ sym (full_file_by_entry format tree values);
 }
 
--- and all after the last
+-- the text of a draft to which no entry is left is the full file
 pub written : (format : FileFormat) (tree : Tree) (values : List UnitValue) (draft : Draft) (left : List Entry) → left ≡ []
     → IsDraft format tree values left draft
     → draft.text.items ≡ full_file format tree values

@@ -1,4 +1,4 @@
--- The texts of what a configuration holds.
+-- The minimal and the full file of the values that a configuration has.
 use Rattle.std.proofs.Common.{◌≡◌, ◌≤◌, ℕ, true, List, length, sym, ◌∙◌, ap, subst}
 use Rattle.kc_rules_model.specs.declared.values.UnitValue.{UnitValue}
 use Rattle.kc_rules.specs.declared.rules.Settled.{Settled}
@@ -10,7 +10,7 @@ use Rattle.kc_value.specs.declared.limits.TheConstants.{MAX_CONFIG_BYTES, MAX_CO
 use Rattle.kc_dotconfig.specs.ConfigStates.{Configured, tree_in, IsSolved}
 use Rattle.kc_minimal_model.specs.FileLimits.{ReadFilesAreAccepted}
 use Rattle.kc_minimal_model.specs.FullFile.{full_file}
-use Rattle.kc_minimal_model.specs.FullFilesBack.{FullFilesLeadBack, IsUnlifted}
+use Rattle.kc_minimal_model.specs.FullFileLaws.{FullFilesLeadBack, IsUnlifted}
 use Rattle.kc_minimal_model.specs.FileValues.{ReadsTo, Loads, has_short_lines}
 use Rattle.kc_minimal_model.specs.MinimalFile.{minimal_file}
 use Rattle.kc_minimal_model.specs.CanonicalText.{IsCanonicalText, MinimalTextsAreCanonical}

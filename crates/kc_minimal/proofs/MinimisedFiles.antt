@@ -26,12 +26,12 @@ module _ (format : FileFormat) (valid : is_prefix format.prefix ≡ true) (profi
     reads = record {
       utf8 = accepted_utf8 format tree read.known valid read.accepted;
       meanings = read.meanings;
-      says = read.says;
+      has_meaning = read.has_meaning;
       gives = subst (λ users. UniquelySolves (length tree.units) (rule profile tree) users values) read.users gives;
     };
   }
 
-  -- written whole
+  -- a configuration file is minimised where the writer took the whole text of its minimal file
   pub minimised : (taken taken_after : Option (List ℕ)) → Appends taken taken_after text
       → IsMinimised format profile tree before after taken taken_after f.notices.items
   minimised taken taken_after written = record {
@@ -46,7 +46,7 @@ module _ (format : FileFormat) (valid : is_prefix format.prefix ≡ true) (profi
     canonical = canonical;
   }
 
-  -- and in part
+  -- the minimising of a configuration file is cut off where the writer took only a part of the text of its minimal file
   pub cut_off : (taken taken_after : Option (List ℕ)) (failed failed_after written : ℕ) → written < length text → Appends taken taken_after (take written text)
       → (failed < 2 ^ 64 - 1 → failed < failed_after)
       → IsCutOff format profile tree before after taken taken_after failed failed_after written

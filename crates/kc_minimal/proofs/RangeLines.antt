@@ -18,7 +18,8 @@ range_next n =
     let z : 0 + n ≡ n = omega arith in
     ap (range_with_len 0) e ∙ range_more n 0 ∙ ap (λ m. range_with_len 0 n ++ m ∷ []) z
 
--- one line more
+-- a text of the lines of those numbers below `n` that pass a test, with the line of `n` after it if it passes, is the text for
+-- the numbers below `n + 1`
 pub line_more : (p : ℕ → Bool) (f : ℕ → List ℕ) (n : ℕ) (text new : List ℕ) → text ≡ flat_map f (filter p (range_with_len 0 n))
     → new ≡ text ++ cond (p n) (f n) [] → new ≡ flat_map f (filter p (range_with_len 0 (n + 1)))
 line_more p f n text new is more =
@@ -34,7 +35,8 @@ one_given : {A : Type 0} (o : Option A) → option_to_list o ≡ cons_option o [
 one_given None = refl
 one_given (Some x) = refl
 
--- one symbol more
+-- the list of what is found for the numbers below `n`, with what is found for `n` after it, is the list for the numbers below `n
+-- + 1`
 pub found_more : {A B : Type 0} (t : A → B) (f : ℕ → Option A) (n : ℕ) (found new : List B) → found ≡ map t (filter_map f (range_with_len 0 n))
     → new ≡ found ++ map t (option_to_list (f n)) → new ≡ map t (filter_map f (range_with_len 0 (n + 1)))
 found_more t f n found new is more =

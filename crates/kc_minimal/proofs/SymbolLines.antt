@@ -1,4 +1,4 @@
--- The line of a symbol that is there.
+-- The line of a symbol that a tree has.
 use Rattle.std.proofs.Common.{◌≡◌, ℕ, List, Option, Some, None, ap, ◌∙◌}
 use Rattle.std.specs.Prelude.{slice_get}
 use Rattle.std.specs.Option.{option_map}

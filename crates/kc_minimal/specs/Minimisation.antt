@@ -15,24 +15,26 @@ use Rattle.kc_minimal_model.specs.MinimalFile.{minimal_file}
 use Rattle.kc_minimal_model.specs.CanonicalText.{IsCanonicalText}
 use Rattle.kc_minimal_model.specs.FileValues.{Loads}
 
--- The bytes of a reader are minimised to a writer.
+-- A configuration file is read to its end and accepted, and a writer takes the minimal file of its values: `before` and `after`
+-- are the bytes that the reader has left, `taken` and `taken_after` those that the writer has taken, where known.
 pub record IsMinimised (format : FileFormat) (profile : Profile) (tree : Tree) (before after taken taken_after : Option (List ℕ)) (notices : List Notice) : Type 0 where
-  -- the bytes that the reader supplied, to its end
+  -- the configuration file: the bytes that the reader supplied, to its end
   pub known : List ℕ
   pub consumed : Consumes before after known
   pub ended : IsAtEnd after
-  -- they are an accepted file, which gives these values and no others
+  -- the values of the tree's units: the configuration file is accepted and gives these values and no others
   pub values : List UnitValue
   pub loads : Loads format profile tree known values
-  -- the notices of its lines
+  -- the returned notices are those of the lines of the configuration file
   pub noted : map notice_pair notices ≡ notices_from 1 loads.reads.meanings
-  -- the writer took this text and nothing else
+  -- the text that the writer took, and nothing else
   pub text : List ℕ
   pub written : Appends taken taken_after text
-  -- it is the canonical file of the values
+  -- the text that the writer took is the canonical file of the values
   pub canonical : IsCanonicalText format profile tree values text
 
--- A write failed after a part of the minimal file of an accepted file.
+-- A configuration file was read to its end and accepted, but a write failed or took nothing after the first `written` bytes of
+-- its minimal file, which has more bytes.
 pub record IsCutOff (format : FileFormat) (profile : Profile) (tree : Tree) (before after taken taken_after : Option (List ℕ)) (failed failed_after written : ℕ) : Type 0 where
   pub known : List ℕ
   pub consumed : Consumes before after known
@@ -43,7 +45,8 @@ pub record IsCutOff (format : FileFormat) (profile : Profile) (tree : Tree) (bef
   pub took : Appends taken taken_after (take written (minimal_file format profile tree values))
   pub rose : failed < 2 ^ 64 - 1 → failed < failed_after
 
--- what is known of the reader and the writer where a file isn't minimised
+-- what holds of the reader and the writer where the minimising of a configuration file ends in this fault: a write fault leaves a
+-- part of the minimal file written, any other fault nothing
 abbrev pub FailsWith : FileFormat → Profile → Tree → (before after : Option (List ℕ)) → (failed failed_after : ℕ) → (taken taken_after : Option (List ℕ)) → (writes_failed writes_failed_after : ℕ) → RunFault → Type 0
 FailsWith format profile tree before after failed failed_after taken taken_after writes_failed writes_failed_after (Load fault) =
     ReportsFault format tree before after failed failed_after fault.kind fault.line × Keeps taken taken_after

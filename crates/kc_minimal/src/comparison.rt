@@ -13,8 +13,8 @@ use kc_dotconfig::Config;
 use kc_minimal_model::differences_decide_minimal_files;
 use std::alloc::{AllocError, Global};
 
-/// The symbols whose values differ, in order of first definition, each with both values: none exactly if the minimal
-/// files are equal byte for byte, whatever the format. An `Err` means out of memory. The caller owes that both
+/// The symbols whose values differ between two configurations, in order of first definition, each with both values: none exactly
+/// if the minimal files are equal byte for byte, whatever the format. An `Err` means out of memory. The caller owes that both
 /// configurations are over the same tree, in the same profile.
 pub fn compare(
     alloc: Global,

@@ -12,7 +12,8 @@ use kc_tree::Sym;
 use kc_value::{Kind, Text, Value};
 use std::alloc::{AllocError, Global};
 
-/// A symbol whose values differ, with both: of a bool or tristate a tristate, else a text.
+/// A symbol whose values differ between two configurations, with both values: tristates for a bool or tristate, texts for any
+/// other type.
 #[derive(Drop)]
 pub struct Difference {
     pub symbol: Sym,
@@ -27,7 +28,7 @@ fn is_same(a: &Looked<'_>, b: &Looked<'_>) -> bool
     a.tri == b.tri && a.text.as_bytes() == b.text.as_bytes()
 }
 
-/// A copy of a value.
+/// A copy of a symbol's value: a tristate for a bool or tristate, a text for any other type.
 fn value_of(alloc: Global, seen: &Looked<'_>) -> Result<Value, AllocError>
     ensures { IfOk result (λ value. value ≡ value_view (symbol_value_of seen.now)) }
 {
@@ -40,7 +41,7 @@ fn value_of(alloc: Global, seen: &Looked<'_>) -> Result<Value, AllocError>
     }
 }
 
-/// Appends a symbol with its values, if they differ.
+/// Appends a symbol with its left and its right value, if they differ.
 fn push_if_differing(
     found: &mut Vec<Difference>,
     alloc: Global,
@@ -67,7 +68,7 @@ fn push_if_differing(
     Ok(())
 }
 
-/// The symbols whose values differ, in order of first definition.
+/// The symbols whose values differ between `left` and `right`, in order of first definition. An `Err` means out of memory.
 pub(crate) fn differing(
     alloc: Global,
     settled: &Settled,

@@ -18,8 +18,8 @@ use kc_rules::{Settled, UnitValue};
 use kc_tree::{Entry, Sym};
 use std::alloc::{AllocError, Global};
 
-/// A full file so far: its bytes, which symbols were defined, and whether an end line came last and no
-/// heading or symbol since.
+/// The part of a full file that is written so far: its bytes, for each symbol whether it was defined, and whether the last line
+/// that was written ends a menu (`gap`).
 #[derive(Drop)]
 pub(crate) struct Draft {
     text: Vec<u8>,
@@ -41,7 +41,7 @@ fn push_heading(out: &mut Vec<u8>, prefix: &Prefix, title: &str) -> Result<(), A
     Ok(())
 }
 
-/// Appends the line after a menu.
+/// Appends the line that ends a menu, which has its title.
 fn push_end(out: &mut Vec<u8>, title: &str) -> Result<(), AllocError>
     ensures { OnOk result (out.new.items ≡ out.old.items ++ end_line title.now) }
 {
@@ -80,7 +80,7 @@ fn mark(defined: &mut Vec<bool>, s: Sym) -> bool
     fresh
 }
 
-/// Appends the line of a symbol, after an end line after an empty line.
+/// Appends the line of a symbol; an empty line comes before it if the last line ends a menu (`gap`).
 fn push_spaced_line(
     out: &mut Vec<u8>,
     gap: bool,
@@ -210,7 +210,8 @@ fn push_entry(
     }
 }
 
-/// The full file of some values.
+/// The full configuration file, with a line for each symbol that is written, of a settled tree with these values of its units. An
+/// `Err` means out of memory.
 pub(crate) fn full_lines(
     alloc: Global,
     settled: &Settled,

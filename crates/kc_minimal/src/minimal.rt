@@ -80,7 +80,8 @@ fn push_if_kept(
     }
 }
 
-/// The minimal file of values, given by these user values. User values save work and decide nothing.
+/// The minimal file of a settled tree under `values`, which the user values `users` give. The user values save work and don't
+/// change the file. An `Err` means out of memory.
 pub(crate) fn minimal_lines(
     alloc: Global,
     settled: &Settled,

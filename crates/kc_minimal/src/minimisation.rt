@@ -17,21 +17,21 @@ use kc_value::{Sink, Source};
 use std::alloc::{AllocError, Global};
 use thiserror::Error;
 
-/// Why a file isn't minimised.
+/// Why a configuration file isn't minimised.
 #[derive(Clone, Copy, Debug, PartialEq, Eq, Error)]
 pub enum RunFault {
-    /// The file isn't read, and nothing is written.
+    /// The configuration file can't be read or isn't accepted, and nothing is written.
     #[error("{0}")]
     Load(LoadFault),
-    /// Memory was refused, and nothing is written.
+    /// Memory ran out, and nothing is written.
     #[error("OutOfMemory")]
     Memory,
-    /// The text isn't written whole.
+    /// A write failed or took nothing, and the minimal file isn't written whole.
     #[error("{0}")]
     Write(WriteFault),
 }
 
-/// The minimal file of what a fragment alone gives.
+/// The minimal file of the values that a fragment of a configuration gives by itself.
 fn minimal_of(
     alloc: Global,
     settled: &Settled,
@@ -45,12 +45,12 @@ fn minimal_of(
     minimal_text(alloc, &config, format)
 }
 
-/// Reads a configuration file to its end, and writes the minimal file of its values: its canonical form. Answers the
-/// notices of its lines. A file that isn't accepted, and memory that is refused, end this before anything is written.
+/// Reads a configuration file to its end, and writes the minimal file of its values: its canonical form. Returns the notices of
+/// its lines. Where the file isn't accepted or memory runs out, nothing is written.
 ///
-/// Two accepted files over one tree give every symbol the same value exactly if what is written for them is equal byte
-/// for byte. What is written gives the values back, is written again for itself, and gives some symbol another value
-/// without any one of its lines.
+/// Two accepted files over one tree give every symbol the same value exactly if their minimal files are equal byte for byte.
+/// Reading a minimal file gives the values back, its own minimal file is the same, and without any one of its lines some symbol
+/// has another value.
 pub fn minimise<R: Source, W: Sink>(
     alloc: Global,
     settled: &Settled,

@@ -16,7 +16,7 @@ use kc_tree::Sym;
 use kc_value::{Kind, Tri, push_escaped};
 use std::alloc::AllocError;
 
-/// Whether it is `n`.
+/// Whether a tristate is `n`.
 pub(crate) fn is_n(value: Tri) -> bool
     ensures { result ≡ is_n value }
 {
@@ -26,7 +26,7 @@ pub(crate) fn is_n(value: Tri) -> bool
     }
 }
 
-/// Whether values of the type are tristates.
+/// Whether values of a type are tristates: those of bool and tristate.
 fn is_tri_kind(kind: Kind) -> bool
     ensures { result ≡ is_tri_kind kind }
 {
@@ -45,7 +45,7 @@ fn push_name(out: &mut Vec<u8>, prefix: &Prefix, name: &str) -> Result<(), Alloc
     Ok(())
 }
 
-/// Appends an unset line.
+/// Appends the line, with its newline, that says that a symbol is not set.
 fn push_unset(out: &mut Vec<u8>, prefix: &Prefix, name: &str) -> Result<(), AllocError>
     ensures { OnOk result (out.new.items ≡ out.old.items ++ (unset_line (prefix_bytes prefix.now) name.now ++ 10 ∷ [])) }
 {
@@ -78,7 +78,7 @@ fn push_raw(out: &mut Vec<u8>, text: &str) -> Result<(), AllocError>
     Ok(())
 }
 
-/// Appends a string by the form of strings.
+/// Appends a string between quotes, escaped or raw as `strings` says.
 fn push_string(out: &mut Vec<u8>, strings: Strings, text: &str) -> Result<(), AllocError>
     ensures { OnOk result (out.new.items ≡ out.old.items ++ string_spelling strings text.now) }
 {
@@ -88,8 +88,8 @@ fn push_string(out: &mut Vec<u8>, strings: Strings, text: &str) -> Result<(), Al
     }
 }
 
-/// Appends a value as it stands after `=` in a configuration file: a string in quotes, by the form of strings, and any
-/// other value as it is. An `Err` means out of memory, and may leave a part of it.
+/// Appends a value as it is spelled after `=` in a configuration file: a string in quotes, escaped or raw as `strings` says, and
+/// any other value as it is. An `Err` means out of memory, and may leave a part of the value appended.
 pub fn push_spelled(
     out: &mut Vec<u8>,
     strings: Strings,
@@ -104,7 +104,7 @@ pub fn push_spelled(
     }
 }
 
-/// Appends a line that assigns a value.
+/// Appends a line, with its newline, that assigns a value to a name.
 fn push_set(
     out: &mut Vec<u8>,
     format: &Format,
@@ -121,7 +121,7 @@ fn push_set(
     Ok(())
 }
 
-/// Appends the line of a name with a value: a bool or tristate of value `n` isn't set.
+/// Appends the line of a name with a value: `is not set` for a bool or tristate of value `n`, otherwise an assignment.
 fn push_line(
     out: &mut Vec<u8>,
     format: &Format,
@@ -137,7 +137,8 @@ fn push_line(
     }
 }
 
-/// Appends the line of a symbol's value.
+/// Appends the line of a symbol's value, with its newline: `is not set` for a bool or tristate of value `n`, otherwise an
+/// assignment. An `Err` means out of memory.
 pub(crate) fn push_symbol(
     out: &mut Vec<u8>,
     settled: &Settled,

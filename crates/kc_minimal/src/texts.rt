@@ -9,7 +9,7 @@ ghost use Rattle.kc_value.specs.declared.limits.TheConstants.{MAX_CONFIG_BYTES, 
 ghost use Rattle.kc_dotconfig.specs.ConfigStates.{tree_in};
 ghost use Rattle.kc_minimal_model.specs.CanonicalText.{IsCanonicalText};
 ghost use Rattle.kc_minimal_model.specs.FullFile.{full_file};
-ghost use Rattle.kc_minimal_model.specs.FullFilesBack.{IsUnlifted};
+ghost use Rattle.kc_minimal_model.specs.FullFileLaws.{IsUnlifted};
 ghost use Rattle.kc_minimal_model.specs.FileValues.{ReadsTo, Loads, has_short_lines};
 
 use crate::full::full_lines;
@@ -20,14 +20,14 @@ use kc_minimal_model::{
 };
 use std::alloc::{AllocError, Global};
 
-/// The minimal file of a configuration (`make savedefconfig`): a line for each symbol whose value isn't what its rule
-/// gives without a user value, all other values as they are, and of a choice for the selected member alone, in order of
-/// first definition. What the configuration holds plays no part but by its values. An `Err` means out of memory.
+/// The minimal file of a configuration (`make savedefconfig`), in order of first definition: a line for each symbol outside
+/// choices, and for the selected member of each choice, if the rule of the symbol or choice gives another value without a user
+/// value while all other values stay. It depends on the configuration's values alone. An `Err` means out of memory.
 ///
-/// The text is canonical: a file gives every symbol the same value exactly if its minimal file is this text byte for
-/// byte; reading it gives the values back; its own minimal file is the same; without any of its lines some symbol has
-/// another value; and no assignment and no file with the same values assigns less. The values are the one solution of
-/// what is held.
+/// The text is canonical: a file gives every symbol the same value exactly if its minimal file is this text byte for byte;
+/// reading it gives the values back; its own minimal file is the same; without any of its lines some symbol has another value;
+/// and no assignment and no file with the same values assigns less. The values are the only ones that the configuration's user
+/// values give.
 pub fn minimal_text(
     alloc: Global,
     config: &Config<'_>,
@@ -46,10 +46,10 @@ pub fn minimal_text(
     )
 }
 
-/// The full file of a configuration: its symbols that are visible, have a default or are selected, each at its first
+/// The full file of a configuration: its symbols that are visible, have a default, or are selected or implied, each at its first
 /// definition, with the titles of menus and comments. An `Err` means out of memory.
 ///
-/// Where no tristate is above its visibility, reading it gives the values back.
+/// Where no tristate is above its visibility, reading the full file gives the values back.
 pub fn full_text(alloc: Global, config: &Config<'_>, format: &Format) -> Result<Vec<u8>, AllocError>
     ensures text { IfOk result (λ text. text.items ≡ full_file (file_format format.now) (tree_in config.now) config.now.values) }
     ensures back { IfOk result (λ text. IsUnlifted (profile_of config.now.system) (tree_in config.now) config.now.values → ReadsTo (file_format format.now) (profile_of config.now.system) (tree_in config.now) text.items config.now.values) }

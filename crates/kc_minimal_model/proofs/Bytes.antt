@@ -15,14 +15,14 @@ use Rattle.kc_dotconfig_model.specs.ConfigFiles.{file_lines}
 pub all_of_both : (p : ℕ → Bool) (xs ys : List ℕ) → list_all p xs ≡ true → list_all p ys ≡ true → list_all p (xs ++ ys) ≡ true
 all_of_both p xs ys a b = list_all-append p xs ys ∙ and_from (list_all p xs) (list_all p ys) a b
 
--- a byte that a name can't have
+-- a name doesn't contain a byte that isn't a name byte
 pub name_lacks : (k : ℕ) → is_name_byte k ≡ false → (name : List ℕ) → list_all is_name_byte name ≡ true → lacks k name ≡ true
 name_lacks k fails = all_weaker is_name_byte (λ c. not (c == k)) (λ b passes. ap not (isn't is_name_byte k b fails passes))
 
 ink_lacks_newline : (text : List ℕ) → list_all is_ink text ≡ true → lacks 10 text ≡ true
 ink_lacks_newline = all_weaker is_ink (λ c. not (c == 10)) (λ b passes. ap not (isn't is_ink 10 b refl passes))
 
--- a line stays as it is if its last byte isn't white
+-- `without_white_end` leaves a line as it is if the last byte of the line isn't white
 pub ends_in_ink : (front : List ℕ) (b : ℕ) → is_white_byte b ≡ false → without_white_end (front ++ b ∷ []) ≡ front ++ b ∷ []
 ends_in_ink front b ink =
     let turned : reverse (front ++ b ∷ []) ≡ b ∷ reverse front = reverse-append front (b ∷ []) in
@@ -39,7 +39,7 @@ last_ink x (y ∷ xs) all =
 ink_not_white : (b : ℕ) → is_ink b ≡ true → is_white_byte b ≡ false
 ink_not_white b ink = (or_parts (is_white_byte b) (b == 10) (not-true _ ink)).0
 
--- a line that ends in a text of ink
+-- `without_white_end` leaves a line as it is if the line ends in a text of ink bytes (`is_ink`) that isn't empty
 pub keeps_text : (front text : List ℕ) → 0 < length text → list_all is_ink text ≡ true → without_white_end (front ++ text) ≡ front ++ text
 keeps_text front [] some all = absurd (omega arith)
 keeps_text front (x ∷ xs) some all =
@@ -47,7 +47,7 @@ keeps_text front (x ∷ xs) some all =
     let same : front ++ (x ∷ xs) ≡ (front ++ split.0) ++ split.1 ∷ [] = ap (λ l. front ++ l) split.2 ∙ sym (append_assoc front split.0 (split.1 ∷ [])) in
     ap without_white_end same ∙ ends_in_ink (front ++ split.0) split.1 (ink_not_white split.1 split.3) ∙ sym same
 
--- a line without a newline is the first of the file that it begins
+-- the lines of a file that begins with a line and its newline are that line and then the lines of the remaining bytes
 pub first_line : (line rest : List ℕ) → lacks 10 line ≡ true → file_lines (line ++ 10 ∷ rest) ≡ line ∷ file_lines rest
 first_line [] rest all = refl
 first_line (b ∷ line) rest all =

@@ -35,9 +35,9 @@ use Rattle.kc_minimal_model.proofs.MinimalLineList.{lines_are_utf8}
 use Rattle.kc_minimal_model.proofs.KeptUnits.{others_fail}
 use Rattle.kc_minimal_model.proofs.KeptLines.{meant, user_meant, unit_inside}
 use Rattle.kc_minimal_model.proofs.LineUnits.{different_units}
-use Rattle.kc_minimal_model.proofs.LeastFile.{passes_filter, none_held, none_length, after_lines, length_after, lines_say, least_of_lines, reads_as_least}
+use Rattle.kc_minimal_model.proofs.LeastFile.{passes_filter, none_held, none_length, after_lines, length_after, lines_mean, least_of_lines, reads_as_least}
 
--- the lines of some of the symbols that have one
+-- the text of the minimal file with only the lines of the symbols that pass a test
 abbrev pub symbol_lines : (ℕ → Bool) → FileFormat → Profile → Tree → List UnitValue → List ℕ
 symbol_lines keeps format profile tree values =
     flat_map (ended_line format tree values) (filter keeps (minimal_symbols profile tree values))
@@ -55,20 +55,20 @@ Fitting tree users = FitsUsers (length tree.units) (λ u x. IsTrue (user_fits tr
 module _ (format : FileFormat) (valid : is_prefix format.prefix ≡ true) (profile : Profile) (tree : Tree) (settled : IsOrderedTree tree) where
   pub fits_of : (bytes : List ℕ) (meanings : List LineMeaning) → has_utf8_lines bytes ≡ true → FileMeans format tree bytes meanings
       → Fitting tree (file_assignment tree meanings)
-  fits_of bytes meanings utf8 says = file_fits format tree bytes meanings settled.consistent utf8 says
+  fits_of bytes meanings utf8 has_meaning = file_fits format tree bytes meanings settled.consistent utf8 has_meaning
 
-  -- what a file that can be read gives
+  -- a configuration file whose lines are UTF-8 and have meanings gives values, and no others
   pub each : (bytes : List ℕ) (meanings : List LineMeaning) → has_utf8_lines bytes ≡ true → FileMeans format tree bytes meanings
       → (values : List UnitValue) × ReadsTo format profile tree bytes values
-  each bytes meanings utf8 says =
-      let fitting = fits_of bytes meanings utf8 says in
+  each bytes meanings utf8 has_meaning =
+      let fitting = fits_of bytes meanings utf8 has_meaning in
       let found = solving.solution (length tree.units) (dependencies tree) (rule profile tree) (λ u x. IsTrue (user_fits tree u x)) settled.order
       settled.ordered (rules_frame profile tree) (file_assignment tree meanings) fitting.1 in (
         found.0,
         record {
           utf8 = utf8;
           meanings = meanings;
-          says = says;
+          has_meaning = has_meaning;
           gives = solving.gives (length tree.units) (dependencies tree) (rule profile tree)
               (λ u x. IsTrue (user_fits tree u x)) settled.order settled.ordered (rules_frame profile tree) (file_assignment tree meanings) fitting.1 found.0
               found.1;
@@ -82,10 +82,10 @@ module _ (format : FileFormat) (valid : is_prefix format.prefix ≡ true) (profi
 
   pub one : (bytes : List ℕ) (v w : List UnitValue) → ReadsTo format profile tree bytes v → ReadsTo format profile tree bytes w → v ≡ w
   one bytes v w a b =
-      let same = same_sayings bytes a.meanings b.meanings a.says b.says in
+      let same = same_sayings bytes a.meanings b.meanings a.has_meaning b.has_meaning in
       b.gives.only v (subst (λ s. Solves (length tree.units) (rule profile tree) (file_assignment tree s) v) same a.gives.solves)
 
-  -- the minimal file of the values of any fitting assignment gives them back
+  -- reading the minimal file of the values of any fitting assignment gives the values back
   pub reads_back : (users : List (Option UserValue)) (values : List UnitValue) → Fitting tree users → Solves (length tree.units)
       (rule profile tree) users values
       → ReadsTo format profile tree (minimal_file format profile tree values) values
@@ -98,11 +98,11 @@ module _ (format : FileFormat) (valid : is_prefix format.prefix ≡ true) (profi
         utf8 = lines_are_utf8 format valid profile tree settled.consistent users values fitting solved (minimal_symbols profile tree values)
             (passes_filter (has_line profile tree values) (symbol_numbers tree));
         meanings = l.meanings;
-        says = l.says;
+        has_meaning = l.has_meaning;
         gives = given.2;
       }
 
-  -- the values of two fitting assignments are the same exactly if their minimal files are
+  -- the values of two fitting assignments are equal exactly if their minimal files are equal
   pub same_files : (a b : List (Option UserValue)) (v w : List UnitValue) → Fitting tree a → Fitting tree b → Solves (length tree.units) (rule profile tree) a v
       → Solves (length tree.units) (rule profile tree) b w
       → (v ≡ w) ↔ (minimal_file format profile tree v ≡ minimal_file format profile tree w)
@@ -158,9 +158,9 @@ module _ (format : FileFormat) (valid : is_prefix format.prefix ≡ true) (profi
       lines_are_utf8 format valid profile tree settled.consistent users values fitting solved (filter keeps (minimal_symbols profile tree values))
       some_have_lines
 
-  says_some : FileMeans format tree (symbol_lines keeps format profile tree values)
+  some_lines_mean : FileMeans format tree (symbol_lines keeps format profile tree values)
       (map (λ s. meant values (unit_of tree s)) (filter keeps (minimal_symbols profile tree values)))
-  says_some = lines_say format valid profile tree settled.consistent users values fitting solved (filter keeps (minimal_symbols profile tree values))
+  some_lines_mean = lines_mean format valid profile tree settled.consistent users values fitting solved (filter keeps (minimal_symbols profile tree values))
       some_have_lines
 
   user_after : (xs : List ℕ) (u : ℕ) → u < length tree.units → user_of (file_assignment tree (map (λ s. meant values (unit_of tree s)) xs)) u
@@ -189,7 +189,7 @@ module _ (format : FileFormat) (valid : is_prefix format.prefix ≡ true) (profi
         ];
   }
 
-  -- without a line, and others or not, it gives other values
+  -- without the line of a symbol, and with all or some of its other lines, the minimal file gives other values
   pub needed : (s : ℕ) → has_line profile tree values s ≡ true → keeps s ≡ false
       → (others : List UnitValue) × ReadsTo format profile tree (symbol_lines keeps format profile tree values) others × (others ≢ values)
   needed s has dropped =
@@ -217,8 +217,8 @@ module _ (format : FileFormat) (valid : is_prefix format.prefix ≡ true) (profi
         record {
           utf8 = utf8_some;
           meanings = map (λ t. meant values (unit_of tree t)) (filter keeps (minimal_symbols profile tree values));
-          says =
-              says_some;
+          has_meaning =
+              some_lines_mean;
           gives = found.1;
         },
         found.2,

@@ -29,13 +29,13 @@ no_difference : (tree : Tree) (v w : List UnitValue) (s : ℕ) → value_of_symb
     → difference_at s (value_of_symbol tree v s) (value_of_symbol tree w s) ≡ None
 no_difference tree v w s same = ap (difference_at s (value_of_symbol tree v s)) (sym same) ∙ same_as_itself s (value_of_symbol tree v s)
 
--- values are the same where every symbol has the same
+-- two fitting valuations are equal if every symbol has the same value in both
 pub same_values : (tree : Tree) (v w : List UnitValue) → IsConsistent tree → Fits tree v → Fits tree w → HaveSameValues tree v w → v ≡ w
 same_values tree v w sound fits_v fits_w same =
     (differences_are_exact tree v w sound fits_v fits_w).0 (none_left (λ s. difference_at s (value_of_symbol tree v s) (value_of_symbol tree w s))
     (symbol_numbers tree) (λ s. no_difference tree v w s (same s)))
 
--- and differ at a symbol where they aren't the same
+-- two fitting valuations that aren't equal give some symbol different values
 pub differ_somewhere : (tree : Tree) (v w : List UnitValue) → IsConsistent tree → Fits tree v → Fits tree w → v ≢ w → DifferAtASymbol tree v w
 differ_somewhere tree v w sound fits_v fits_w differ = go (differences tree v w) refl where
   go : (ds : List Difference) → differences tree v w ≡ ds → (s : ℕ) × (value_of_symbol tree v s ≢ value_of_symbol tree w s)

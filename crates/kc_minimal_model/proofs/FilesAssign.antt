@@ -99,7 +99,7 @@ comes_from p f q (x ∷ xs) any = go (p x) refl any (comes_from p f q xs) where
 module _ (format : FileFormat) (profile : Profile) (tree : Tree) (settled : IsOrderedTree tree) (bytes : List ℕ) (values : List UnitValue)
     (reads : ReadsTo format profile tree bytes values) where
   fitting : FitsUsers (length tree.units) (λ u x. IsTrue (user_fits tree u x)) (file_assignment tree reads.meanings)
-  fitting = file_fits format tree bytes reads.meanings settled.consistent reads.utf8 reads.says
+  fitting = file_fits format tree bytes reads.meanings settled.consistent reads.utf8 reads.has_meaning
 
   held_each : (s : ℕ) → has_line profile tree values s ≡ true → is_some (user_of (file_assignment tree reads.meanings) (unit_of tree s)) ≡ true
   held_each s has =
@@ -108,18 +108,18 @@ module _ (format : FileFormat) (profile : Profile) (tree : Tree) (settled : IsOr
       let cut : IsCutTo (length tree.units) keeps held held = record { one_each = fitting.0; cut = λ u h. kept_if_some (user_of held u) } in
       (needs_units profile tree held values settled fitting reads.gives.solves held keeps cut).0 reads.gives s has
 
-  -- it assigns to the unit of each line
+  -- a file that gives the values assigns to the unit of each line of their minimal file
   pub assigns_each : HasUnitsOfLines profile tree values (λ u. list_any (eqb u) (assigned_units reads.meanings))
   assigns_each s has = elim (by_a_line reads.meanings (empty_assignment tree) (unit_of tree s) (held_each s has)) [
     | inl before ↦ absurd (false≢true (sym (ap is_some (none_held (length tree.units) (unit_of tree s))) ∙ before))
     | inr line ↦ line
   ]
 
-  -- the members, strings and numbers of the lines
+  -- a file that gives the values assigns the members, strings and numbers that the lines of their minimal file assign
   pub assigns_values : HasValuesOfLines profile tree values (file_assignment tree reads.meanings)
   assigns_values = needs_values profile tree (file_assignment tree reads.meanings) values settled fitting reads.gives.solves
 
-  -- at least as many lines that assign as the minimal file has lines
+  -- a file that gives the values has at least as many lines that assign as their minimal file has lines
   pub assigns_as_many : length (minimal_symbols profile tree values) ≤ length (assigned_units reads.meanings)
   assigns_as_many =
       let p = has_line profile tree values in

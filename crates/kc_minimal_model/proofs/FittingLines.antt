@@ -20,11 +20,11 @@ use Rattle.kc_minimal_model.specs.SymbolLine.{spelled, value_line, unset_line, l
 use Rattle.kc_value.proofs.UnquotedUtf8.{ascii_then, ascii_alone}
 use Rattle.kc_dotconfig_model.proofs.TrimmedLines.{low_utf8, name_utf8}
 
--- a line of a file that is accepted
+-- the line has at most `MAX_LINE_BYTES` bytes and is UTF-8
 abbrev pub IsFitLine : List ℕ → Type 0
 IsFitLine line = (length line ≤ MAX_LINE_BYTES) × IsUtf8 line
 
--- a prefix is UTF-8 of at most `MAX_PREFIX_BYTES` bytes
+-- a valid prefix is UTF-8 and has at most `MAX_PREFIX_BYTES` bytes
 pub prefix_fits : (prefix : List ℕ) → is_prefix prefix ≡ true → (length prefix ≤ MAX_PREFIX_BYTES) × IsUtf8 prefix
 prefix_fits prefix valid =
     let parts = and_parts (nat_lt 0 (length prefix) && nat_le (length prefix) MAX_PREFIX_BYTES) (list_all is_name_byte prefix) valid in (
@@ -41,7 +41,7 @@ letter_fits Y = (omega arith, ascii_alone 121 (omega arith))
 
 module _ (format : FileFormat) (valid : is_prefix format.prefix ≡ true) (name : List ℕ) (short : length name ≤ 256)
     (word : list_all is_name_byte name ≡ true) where
-  -- a value line
+  -- a line `CONFIG_NAME=text` is UTF-8 and short enough, if its text is UTF-8 and its parts together are within the limit
   pub value_fits : (text : List ℕ) → length format.prefix + length name + 1 + length text ≤ MAX_LINE_BYTES → IsUtf8 text
       → IsFitLine (value_line format.prefix name text)
   value_fits text small u =
@@ -50,7 +50,7 @@ module _ (format : FileFormat) (valid : is_prefix format.prefix ≡ true) (name 
         IsUtf8-append format.prefix (name ++ (61 ∷ text)) p.1 (IsUtf8-append name (61 ∷ text) (name_utf8 name word) (ascii_then 61 text (omega arith) u)),
       )
 
-  -- an unset line
+  -- a line `# CONFIG_NAME is not set` is UTF-8 and short enough
   pub unset_fits : IsFitLine (unset_line format.prefix name)
   unset_fits =
       let p = prefix_fits format.prefix valid in
@@ -73,7 +73,7 @@ module _ (format : FileFormat) (valid : is_prefix format.prefix ≡ true) (name 
   either_fits true text small u = unset_fits
   either_fits false text small u = value_fits text small u
 
-  -- the line of a bool or tristate
+  -- the line of a bool's or tristate's value is UTF-8 and short enough
   pub tri_fits_line : (kind : Kind) (t : Tri) → is_tri_kind kind ≡ true → IsFitLine (line_with format name (tri_symbol_value kind t))
   tri_fits_line Boolean t small =
       let p = (prefix_fits format.prefix valid).0 in let l = letter_fits t in let one = l.0 in
@@ -85,7 +85,8 @@ module _ (format : FileFormat) (valid : is_prefix format.prefix ≡ true) (name 
   tri_fits_line Int t small = absurd (false≢true small)
   tri_fits_line Hex t small = absurd (false≢true small)
 
-  -- the line of a text
+  -- the line of a value without a tristate is UTF-8 and short enough, if the spelling of its text is UTF-8 and the
+  -- line's parts together are within the limit
   pub text_fits_line : (kind : Kind) (text : List ℕ) → length format.prefix + length name + 1 + length (spelled format.strings kind text) ≤ MAX_LINE_BYTES
       → IsUtf8 (spelled format.strings kind text)
       → IsFitLine (line_with format name (record { kind = kind; tri = N; text = text }))

@@ -27,21 +27,21 @@ use Rattle.kc_minimal_model.specs.FullFile.{heading_title, heading, end_line, ap
 use Rattle.kc_minimal_model.specs.between.EntryTexts.{entry_texts}
 use Rattle.kc_rules_model.proofs.OrderedTrees.{IsOrderedTree}
 use Rattle.kc_minimal_model.proofs.Bytes.{first_line, all_of_both}
-use Rattle.kc_minimal_model.proofs.HeadingLines.{blank_says, hash_says, heading_says, end_says}
+use Rattle.kc_minimal_model.proofs.HeadingLines.{blank_is_silent, hash_is_silent, heading_is_silent, end_is_silent}
 use Rattle.kc_minimal_model.proofs.KeptLines.{line_reads, read_as_assignment, meant, user_meant, meaning_of_user}
 use Rattle.kc_minimal_model.proofs.LineReads.{IsLine}
 use Rattle.kc_minimal_model.proofs.OwnLines.{IsOwn, own_line}
 
--- whether a line assigns this unit
+-- whether a line of a configuration file assigns to the unit `u`
 abbrev pub is_for : ℕ → LineMeaning → Bool
 is_for u (assigns w x) = nat_eq w u
 is_for u (notice kind) = false
 is_for u silent = false
 
--- bytes whose lines assign each unit its own value or nothing, with a line for each of these symbols
+-- each line of the file assigns a unit its own value or assigns nothing, and some line assigns to the unit of each covered symbol
 pub record HasOwnLines (format : FileFormat) (tree : Tree) (values : List UnitValue) (covered : ℕ → Type 0) (bytes : List ℕ) : Type 0 where
   pub meanings : List LineMeaning
-  pub says : FileMeans format tree bytes meanings
+  pub has_meaning : FileMeans format tree bytes meanings
   pub utf8 : has_utf8_lines bytes ≡ true
   pub own : AllByRecursion (IsOwn values) meanings
   pub covers : (s : ℕ) → covered s → list_any (is_for (unit_of tree s)) meanings ≡ true
@@ -70,9 +70,9 @@ module _ (format : FileFormat) (valid : is_prefix format.prefix ≡ true) (tree 
   own_lines_line : (C D : ℕ → Type 0) (line rest : List ℕ) (meaning : LineMeaning) → lacks 10 line ≡ true → IsUtf8 line
       → Means format tree (without_white_end line) meaning → IsOwn values meaning → HasOwnLines format tree values C rest
       → ((s : ℕ) → D s → (is_for (unit_of tree s) meaning ≡ true) ⊎ C s) → HasOwnLines format tree values D (line ++ 10 ∷ rest)
-  own_lines_line C D line rest meaning one utf8 says own t covers = record {
+  own_lines_line C D line rest meaning one utf8 has_meaning own t covers = record {
     meanings = meaning ∷ t.meanings;
-    says = subst (λ ls. AllZip (λ l x. Means format tree (without_white_end l) x) ls (meaning ∷ t.meanings)) (sym (first_line line rest one)) (says, t.says);
+    has_meaning = subst (λ ls. AllZip (λ l x. Means format tree (without_white_end l) x) ls (meaning ∷ t.meanings)) (sym (first_line line rest one)) (has_meaning, t.has_meaning);
     utf8 = ap (list_all is_utf8) (first_line line rest one) ∙ and_from (is_utf8 line) (list_all is_utf8 (file_lines rest)) (is_utf8-from_IsUtf8 line utf8)
         t.utf8;
     own = (own, t.own);
@@ -85,12 +85,12 @@ module _ (format : FileFormat) (valid : is_prefix format.prefix ≡ true) (tree 
   -- one more line without an assignment
   silent_line : (C : ℕ → Type 0) (line rest : List ℕ) → lacks 10 line ≡ true → IsUtf8 line → Means format tree (without_white_end line) silent
       → HasOwnLines format tree values C rest → HasOwnLines format tree values C (line ++ 10 ∷ rest)
-  silent_line C line rest one utf8 says t = own_lines_line C C line rest silent one utf8 says tt t (λ s c. inr c)
+  silent_line C line rest one utf8 has_meaning t = own_lines_line C C line rest silent one utf8 has_meaning tt t (λ s c. inr c)
 
   -- of fewer symbols
   own_lines_fewer : (C D : ℕ → Type 0) (bytes : List ℕ) → ((s : ℕ) → D s → C s) → HasOwnLines format tree values C bytes
       → HasOwnLines format tree values D bytes
-  own_lines_fewer C D bytes fewer t = record { meanings = t.meanings; says = t.says; utf8 = t.utf8; own = t.own; covers = λ s d. t.covers s (fewer s d) }
+  own_lines_fewer C D bytes fewer t = record { meanings = t.meanings; has_meaning = t.has_meaning; utf8 = t.utf8; own = t.own; covers = λ s d. t.covers s (fewer s d) }
 
   title_lacks : (title : List ℕ) → lacks 10 title ≡ true → lacks 10 (heading_title format.prefix title) ≡ true
   title_lacks title one = go (starts_with nat_eq title format.prefix) where
@@ -112,12 +112,12 @@ module _ (format : FileFormat) (valid : is_prefix format.prefix ≡ true) (tree 
       → HasOwnLines format tree values C (heading format.prefix title ++ rest)
   own_lines_heading C title rest good t =
       let name = heading_title format.prefix title in
-      let last = silent_line C (35 ∷ []) rest refl hash_utf8 (hash_says format tree) t in
+      let last = silent_line C (35 ∷ []) rest refl hash_utf8 (hash_is_silent format tree) t in
       let third = silent_line C (35 ∷ 32 ∷ name) (35 ∷ 10 ∷ rest) (title_lacks title good.one)
-      (ascii_then 35 (32 ∷ name) (omega arith) (ascii_then 32 name (omega arith) (title_utf8 title good.utf8))) (heading_says format tree title valid)
+      (ascii_then 35 (32 ∷ name) (omega arith) (ascii_then 32 name (omega arith) (title_utf8 title good.utf8))) (heading_is_silent format tree title valid)
       last in
-      let second = silent_line C (35 ∷ []) ((35 ∷ 32 ∷ name) ++ 10 ∷ 35 ∷ 10 ∷ rest) refl hash_utf8 (hash_says format tree) third in
-      let first = silent_line C [] (35 ∷ 10 ∷ ((35 ∷ 32 ∷ name) ++ 10 ∷ 35 ∷ 10 ∷ rest)) refl IsUtf8-nil (blank_says format tree) second in
+      let second = silent_line C (35 ∷ []) ((35 ∷ 32 ∷ name) ++ 10 ∷ 35 ∷ 10 ∷ rest) refl hash_utf8 (hash_is_silent format tree) third in
+      let first = silent_line C [] (35 ∷ 10 ∷ ((35 ∷ 32 ∷ name) ++ 10 ∷ 35 ∷ 10 ∷ rest)) refl IsUtf8-nil (blank_is_silent format tree) second in
       let same : heading format.prefix title ++ rest ≡ 10 ∷ 35 ∷ 10 ∷ 35 ∷ 32 ∷ (name ++ 10 ∷ 35 ∷ 10 ∷ rest) = ap (λ l. 10 ∷ 35 ∷ 10 ∷ 35 ∷ 32 ∷ l)
       (append_assoc name (10 ∷ 35 ∷ 10 ∷ []) rest) in
       subst (HasOwnLines format tree values C) (sym same) first
@@ -127,7 +127,7 @@ module _ (format : FileFormat) (valid : is_prefix format.prefix ≡ true) (tree 
       → HasOwnLines format tree values C (end_line title ++ rest)
   own_lines_end C title rest good t =
       let line = silent_line C (codes "# end of " ++ title) rest (all_of_both (λ c. not (c == 10)) (codes "# end of ") title refl good.one)
-      (IsUtf8-append (codes "# end of ") title (low_utf8 (codes "# end of ") refl) good.utf8) (end_says format tree title valid) t in
+      (IsUtf8-append (codes "# end of ") title (low_utf8 (codes "# end of ") refl) good.utf8) (end_is_silent format tree title valid) t in
       let same : end_line title ++ rest ≡ (codes "# end of " ++ title) ++ 10 ∷ rest = ap (λ l. codes "# end of " ++ l) (append_assoc title (10 ∷ []) rest) in
       subst (HasOwnLines format tree values C) (sym same) line
 
@@ -135,7 +135,7 @@ module _ (format : FileFormat) (valid : is_prefix format.prefix ≡ true) (profi
     (users : List (Option UserValue)) (values : List UnitValue)
     (fitting : FitsUsers (length tree.units) (λ u x. IsTrue (user_fits tree u x)) users) (solved : Solves (length tree.units) (rule profile tree) users values)
     (fits : FitsValues (length tree.units) (λ u v. IsTrue (value_fits tree u v)) values) where
-  -- a symbol that is defined by these entries for the first time, is written, and has a line in the minimal file
+  -- the symbol isn't among `seen`, one of the entries defines it, the full file has it, and it has a line in the minimal file
   abbrev pub IsToCome : List ℕ → List Entry → ℕ → Type 0
   IsToCome seen entries s =
       (list_any (defines s) entries ≡ true) × (list_any (nat_eq s) seen ≡ false) × (is_written tree values s ≡ true)
@@ -182,7 +182,7 @@ module _ (format : FileFormat) (valid : is_prefix format.prefix ≡ true) (profi
       let line = symbol_own_line s symbol at in
       let next = own_lines_line format valid tree values (IsToCome (s ∷ seen) entries) (IsToCome seen (definition s ∷ entries))
       (symbol_line format tree values s) rest line.meaning line.reads.one line.reads.utf8
-      (subst (λ l. Means format tree l line.meaning) (sym line.reads.whole) line.reads.says) line.own t (covered line) in
+      (subst (λ l. Means format tree l line.meaning) (sym line.reads.whole) line.reads.has_meaning) line.own t (covered line) in
       let ended = subst (HasOwnLines format tree values (IsToCome seen (definition s ∷ entries)))
       (sym (append_assoc (symbol_line format tree values s) (10 ∷ []) rest)) next in
       go gap ended where
@@ -198,7 +198,7 @@ module _ (format : FileFormat) (valid : is_prefix format.prefix ≡ true) (profi
             → HasOwnLines format tree values (IsToCome seen (definition s ∷ entries))
             (cond g (10 ∷ ended_line format tree values s) (ended_line format tree values s) ++ rest)
         go true ended = silent_line format valid tree values (IsToCome seen (definition s ∷ entries)) [] (ended_line format tree values s ++ rest) refl
-            IsUtf8-nil (blank_says format tree) ended
+            IsUtf8-nil (blank_is_silent format tree) ended
         go false ended = ended
 
   written_there : (s : ℕ) (o : Option Symbol) → slice_get tree.symbols s ≡ o → unwrap_or (option_map (is_written_symbol tree values) o) false ≡ true
@@ -206,10 +206,12 @@ module _ (format : FileFormat) (valid : is_prefix format.prefix ≡ true) (profi
   written_there s None at e = absurd (false≢true e)
   written_there s (Some symbol) at e = (symbol, at)
 
-  -- what all entries write
+  -- in the text of entries in the full file, if no title has a newline, each line assigns a unit its own value or
+  -- assigns nothing, and a line assigns to the unit of each symbol of the minimal file that these entries are the first
+  -- to define
   pub own_lines : (entries : List Entry) (seen : List ℕ) (gap : Bool) → HasPlainTitles entries
       → HasOwnLines format tree values (IsToCome seen entries) (entry_texts format tree values seen gap entries)
-  own_lines [] seen gap plain = record { meanings = []; says = tt; utf8 = refl; own = tt; covers = λ s c. absurd (false≢true c.0) }
+  own_lines [] seen gap plain = record { meanings = []; has_meaning = tt; utf8 = refl; own = tt; covers = λ s c. absurd (false≢true c.0) }
   own_lines (definition s ∷ entries) seen gap plain =
       go (is_written tree values s && not (list_any (nat_eq s) seen)) refl
       (own_lines entries (s ∷ seen) false (λ k entry title at is. plain (suc k) entry title at is))

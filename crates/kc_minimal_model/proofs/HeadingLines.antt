@@ -13,7 +13,7 @@ use Rattle.kc_dotconfig_model.proofs.LineLaws.{line_read}
 use Rattle.kc_dotconfig_model.specs.ConfigLines.{LineMeaning, silent, Means, empty, comment, IsUnsetLine, without_white_end}
 use Rattle.kc_minimal_model.specs.FullFile.{heading_title}
 use Rattle.kc_minimal_model.proofs.Bytes.{name_lacks, all_of_both}
-use Rattle.kc_dotconfig_model.proofs.TrimmedLines.{white_behind}
+use Rattle.kc_dotconfig_model.proofs.TrimmedLines.{white_suffix_begins}
 
 prefix_bytes : (prefix : List ℕ) → is_prefix prefix ≡ true → list_all is_name_byte prefix ≡ true
 prefix_bytes prefix e = (and_parts _ (list_all is_name_byte prefix) e).1
@@ -23,7 +23,7 @@ hash_stays : (line : List ℕ) → (rest : List ℕ) × (without_white_end (35 �
 hash_stays line = elim (cases_lt 0 k) [
   | inl some ↦ taken k some
   | inr none ↦
-      let white = white_behind (35 ∷ line) (omega arith) in
+      let white = white_suffix_begins (35 ∷ line) (omega arith) in
       let first : k ≡ 0 = omega arith in
       absurd (false≢true (ap (λ n. is_white_byte (get_or (35 ∷ line) n 0)) (sym first) ∙ white))
 ] where
@@ -38,21 +38,21 @@ hash_stays line = elim (cases_lt 0 k) [
 front_of : (line : List ℕ) → (rest : List ℕ) × (line ≡ without_white_end line ++ rest)
 front_of line = (drop (length line - suffix_len is_white_byte line) line, sym (take-append-drop (length line - suffix_len is_white_byte line) line))
 
--- a line that begins with `#` is a comment if it is no unset line
-pub says_comment : (format : FileFormat) (tree : Tree) (line : List ℕ) → ((name : List ℕ) → IsUnsetLine format.prefix (without_white_end (35 ∷ line)) name → ⊥)
+-- a line that begins with `#` is a comment, which assigns nothing, if it isn't a line `# CONFIG_NAME is not set`
+pub comment_is_silent : (format : FileFormat) (tree : Tree) (line : List ℕ) → ((name : List ℕ) → IsUnsetLine format.prefix (without_white_end (35 ∷ line)) name → ⊥)
     → Means format tree (without_white_end (35 ∷ line)) silent
-says_comment format tree line none =
+comment_is_silent format tree line none =
     let h = hash_stays line in
     comment (without_white_end (35 ∷ line)) (ap (find (λ b. not (is_white_byte b))) h.1) none
 
--- an empty line
-pub blank_says : (format : FileFormat) (tree : Tree) → Means format tree (without_white_end []) silent
-blank_says format tree = empty
+-- an empty line of a configuration file assigns nothing
+pub blank_is_silent : (format : FileFormat) (tree : Tree) → Means format tree (without_white_end []) silent
+blank_is_silent format tree = empty
 
--- a `#` alone
-pub hash_says : (format : FileFormat) (tree : Tree) → Means format tree (without_white_end (35 ∷ [])) silent
-hash_says format tree =
-    says_comment format tree [] (λ name unset. let front = front_of (35 ∷ []) in let e = unset.2 in two (without_white_end (35 ∷ []))
+-- a line of a configuration file that is only `#` assigns nothing
+pub hash_is_silent : (format : FileFormat) (tree : Tree) → Means format tree (without_white_end (35 ∷ [])) silent
+hash_is_silent format tree =
+    comment_is_silent format tree [] (λ name unset. let front = front_of (35 ∷ []) in let e = unset.2 in two (without_white_end (35 ∷ []))
     (format.prefix ++ (name ++ codes " is not set")) front.0 front.1 e) where
       two : (w x rest : List ℕ) → 35 ∷ [] ≡ w ++ rest → w ≡ 35 ∷ 32 ∷ x → ⊥
       two w x rest whole e = let both : 35 ∷ [] ≡ 35 ∷ 32 ∷ (x ++ rest) = whole ∙ ap (λ l. l ++ rest) e in cc
@@ -77,10 +77,10 @@ heading_begins prefix title rest valid e = go (starts_with nat_eq title prefix) 
   go true starts e = first prefix (some_byte prefix valid) (prefix_bytes prefix valid) e
   go false starts e = false≢true (sym starts ∙ ap (λ t. starts_with nat_eq t prefix) e ∙ starts_own prefix rest)
 
--- the line of a heading's title is a comment
-pub heading_says : (format : FileFormat) (tree : Tree) (title : List ℕ) → is_prefix format.prefix ≡ true
+-- the line with the title in a heading of the full file assigns nothing, whatever the title is
+pub heading_is_silent : (format : FileFormat) (tree : Tree) (title : List ℕ) → is_prefix format.prefix ≡ true
     → Means format tree (without_white_end (35 ∷ 32 ∷ heading_title format.prefix title)) silent
-heading_says format tree title valid = says_comment format tree (32 ∷ heading_title format.prefix title) (λ name unset.
+heading_is_silent format tree title valid = comment_is_silent format tree (32 ∷ heading_title format.prefix title) (λ name unset.
     let front = front_of (35 ∷ 32 ∷ heading_title format.prefix title) in
     let e = unset.2 in
     no_title (heading_title format.prefix title) (without_white_end (35 ∷ 32 ∷ heading_title format.prefix title))
@@ -93,15 +93,15 @@ heading_says format tree title valid = says_comment format tree (32 ∷ heading_
           begins (x ++ rest) (tail ∙ append_assoc format.prefix x rest)
 
 -- the bytes after the first space
-behind_space : (a b x y : List ℕ) → lacks 32 a ≡ true → lacks 32 b ≡ true → a ++ 32 ∷ x ≡ b ++ 32 ∷ y → x ≡ y
-behind_space [] [] x y p q e = cc
-behind_space [] (b ∷ bs) x y p q e =
+rest_after_space : (a b x y : List ℕ) → lacks 32 a ≡ true → lacks 32 b ≡ true → a ++ 32 ∷ x ≡ b ++ 32 ∷ y → x ≡ y
+rest_after_space [] [] x y p q e = cc
+rest_after_space [] (b ∷ bs) x y p q e =
     let same : b ≡ 32 = cc in absurd (false≢true (ap (λ c. not (c == 32)) (sym same) ∙ (and_parts (not (b == 32)) (lacks 32 bs) q).0))
-behind_space (a ∷ aa) [] x y p q e =
+rest_after_space (a ∷ aa) [] x y p q e =
     let same : a ≡ 32 = cc in absurd (false≢true (ap (λ c. not (c == 32)) (sym same) ∙ (and_parts (not (a == 32)) (lacks 32 aa) p).0))
-behind_space (a ∷ aa) (b ∷ bs) x y p q e =
+rest_after_space (a ∷ aa) (b ∷ bs) x y p q e =
     let tail : aa ++ 32 ∷ x ≡ bs ++ 32 ∷ y = cc in
-    behind_space aa bs x y (and_parts (not (a == 32)) (lacks 32 aa) p).1 (and_parts (not (b == 32)) (lacks 32 bs) q).1 tail
+    rest_after_space aa bs x y (and_parts (not (a == 32)) (lacks 32 aa) p).1 (and_parts (not (b == 32)) (lacks 32 bs) q).1 tail
 
 first_same : (a b : ℕ) (x y : List ℕ) → a ∷ x ≡ b ∷ y → a ≡ b
 first_same a b x y e = cc
@@ -109,10 +109,10 @@ first_same a b x y e = cc
 o_is_i : (x y : List ℕ) → 111 ∷ x ≡ 105 ∷ y → ⊥
 o_is_i x y e = omega (arith, first_same 111 105 x y e)
 
--- an end line is a comment
-pub end_says : (format : FileFormat) (tree : Tree) (title : List ℕ) → is_prefix format.prefix ≡ true
+-- the line at a menu's end in the full file assigns nothing, whatever the title of the menu is
+pub end_is_silent : (format : FileFormat) (tree : Tree) (title : List ℕ) → is_prefix format.prefix ≡ true
     → Means format tree (without_white_end (codes "# end of " ++ title)) silent
-end_says format tree title valid = says_comment format tree (32 ∷ 101 ∷ 110 ∷ 100 ∷ 32 ∷ 111 ∷ 102 ∷ 32 ∷ title) (λ name unset.
+end_is_silent format tree title valid = comment_is_silent format tree (32 ∷ 101 ∷ 110 ∷ 100 ∷ 32 ∷ 111 ∷ 102 ∷ 32 ∷ title) (λ name unset.
     let line = 35 ∷ 32 ∷ 101 ∷ 110 ∷ 100 ∷ 32 ∷ 111 ∷ 102 ∷ 32 ∷ title in
     let front = front_of line in
     let e = unset.2 in
@@ -126,16 +126,16 @@ end_says format tree title valid = says_comment format tree (32 ∷ 101 ∷ 110 
           let tail : 101 ∷ 110 ∷ 100 ∷ 32 ∷ 111 ∷ 102 ∷ 32 ∷ title ≡ (format.prefix ++ (name ++ 32 ∷ set)) ++ rest = cc in
           let split : (format.prefix ++ (name ++ 32 ∷ set)) ++ rest ≡ (format.prefix ++ name) ++ 32 ∷ (set ++ rest) = simp append_assoc in
           let after : 111 ∷ 102 ∷ 32 ∷ title ≡ set ++ rest =
-          behind_space (101 ∷ 110 ∷ 100 ∷ []) (format.prefix ++ name) (111 ∷ 102 ∷ 32 ∷ title) (set ++ rest) refl
+          rest_after_space (101 ∷ 110 ∷ 100 ∷ []) (format.prefix ++ name) (111 ∷ 102 ∷ 32 ∷ title) (set ++ rest) refl
           (all_of_both (λ c. not (c == 32)) format.prefix name (name_lacks 32 refl format.prefix (prefix_bytes format.prefix valid)) one) (tail ∙ split) in
           o_is_i (102 ∷ 32 ∷ title) (115 ∷ 32 ∷ 110 ∷ 111 ∷ 116 ∷ 32 ∷ 115 ∷ 101 ∷ 116 ∷ rest) after
 
 some_same : (a b : LineMeaning) → Some a ≡ Some b → a ≡ b
 some_same a b e = cc
 
--- a line without an assignment has no other meaning
-pub says_nothing_else : (format : FileFormat) (tree : Tree) (line : List ℕ) (meaning : LineMeaning) → is_prefix format.prefix ≡ true
+-- a line of a configuration file that assigns nothing and gives no notice has no other meaning
+pub means_nothing_else : (format : FileFormat) (tree : Tree) (line : List ℕ) (meaning : LineMeaning) → is_prefix format.prefix ≡ true
     → Means format tree line silent
     → Means format tree line meaning → meaning ≡ silent
-says_nothing_else format tree line meaning valid first second =
+means_nothing_else format tree line meaning valid first second =
     some_same meaning silent (sym ((line_read format tree line meaning valid).1 second) ∙ (line_read format tree line silent valid).1 first)

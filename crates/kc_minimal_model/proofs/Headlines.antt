@@ -25,7 +25,7 @@ canonical format profile tree bytes valid settled accepted =
     let utf8 = accepted_utf8 format tree bytes valid accepted in
     let found = each format valid profile tree ordered bytes meanings.0 utf8 meanings.1 in
     let reads = found.1 in
-    let fits = fits_of format valid profile tree ordered bytes reads.meanings reads.utf8 reads.says in
+    let fits = fits_of format valid profile tree ordered bytes reads.meanings reads.utf8 reads.has_meaning in
     record {
       values = found.0;
       loads = record { accepted = accepted; reads = reads };

@@ -36,11 +36,11 @@ abbrev pub meaning_of_user : ℕ → Option UserValue → LineMeaning
 meaning_of_user u None = silent
 meaning_of_user u (Some x) = assigns u x
 
--- a unit's value as its user value
+-- the user value that represents a unit's value; None if there is no such unit or value
 abbrev pub user_meant : List UnitValue → ℕ → Option UserValue
 user_meant values u = option_and_then as_user (slice_get values u)
 
--- the meaning of a line of this unit
+-- the meaning of a line that assigns a unit the user value that represents its own value
 abbrev pub meant : List UnitValue → ℕ → LineMeaning
 meant values u = meaning_of_user u (user_meant values u)
 
@@ -166,14 +166,15 @@ module _ (format : FileFormat) (valid : is_prefix format.prefix ≡ true) (profi
   at_symbol s None at kept may = absurd (false≢true may)
   at_symbol s (Some symbol) at kept may = at_choice s symbol at symbol.choice refl kept may
 
-  -- the line of a symbol that has one
+  -- the line of a symbol of the minimal file assigns its unit its own value; it is UTF-8, without a newline and without
+  -- white bytes at its end
   pub line_reads : (s : ℕ) → has_line profile tree values s ≡ true → IsLine format tree (symbol_line format tree values s) (meant values (unit_of tree s))
   unfolding symbol_line
   line_reads s has =
       let parts = and_parts (is_kept profile tree values (unit_of tree s)) (may_have_line (slice_get tree.symbols s) (value_of_symbol tree values s)) has in
       at_symbol s (slice_get tree.symbols s) refl parts.0 parts.1
 
-  -- the number of a unit that a line is of
+  -- the unit of a symbol that may have a line in the minimal file is a unit of the tree
   pub unit_inside : (s : ℕ) (o : Option Symbol) → slice_get tree.symbols s ≡ o
       → may_have_line o (option_map (λ (symbol : Symbol). value_in_unit tree values s symbol symbol.choice) o) ≡ true → unit_of tree s < length tree.units
   unit_inside s None at may = absurd (false≢true may)
@@ -186,7 +187,7 @@ module _ (format : FileFormat) (valid : is_prefix format.prefix ≡ true) (profi
         let own = sound.units_of_members s c symbol at within in inside tree.units (unit_of tree s) (of_choice c)
         (ap (slice_get tree.units) (unit_is tree sound s own.0 symbol (Some c) at within own.1) ∙ own.1)
 
-  -- the line of a symbol that has one is read as its unit's assignment
+  -- the line of a symbol of the minimal file is read as the assignment of the value of the symbol's unit
   pub read_as_assignment : (s : ℕ) → has_line profile tree values s ≡ true → IsReadAsItsAssignment format tree values s
   read_as_assignment s has =
       let parts = and_parts (is_kept profile tree values (unit_of tree s)) (may_have_line (slice_get tree.symbols s) (value_of_symbol tree values s)) has in
@@ -198,5 +199,5 @@ module _ (format : FileFormat) (valid : is_prefix format.prefix ≡ true) (profi
         has = k.has;
         meant = k.assigned;
         trimmed = line.whole;
-        says = subst (Means format tree (symbol_line format tree values s)) (sym (meaning (unit_of tree s) k)) line.says;
+        has_meaning = subst (Means format tree (symbol_line format tree values s)) (sym (meaning (unit_of tree s) k)) line.has_meaning;
       }

@@ -15,7 +15,7 @@ use Rattle.kc_rules_model.specs.checker.EqualityLaws.{values_decided}
 use Rattle.kc_rules_model.specs.checker.RestoreLaw.{rules_restore}
 use Rattle.kc_minimal_model.specs.MinimalFile.{is_kept}
 
--- its value, and the fitting user value that gives it again
+-- the unit has a value, which a user value represents that fits the unit
 pub record KeptUnit (tree : Tree) (values : List UnitValue) (u : ℕ) : Type 0 where
   pub held : UnitValue
   pub again : UserValue
@@ -36,7 +36,7 @@ module _ (profile : Profile) (tree : Tree) (users : List (Option UserValue)) (va
       let again = (rules_restore profile tree).restored u (user_of users u) values inside solved.one_each (fitting.1 u inside) differs in
       record { held = held; again = again.0; has = has; assigned = again.1; fits = again.2 }
 
-  -- the test passes for the units that are kept
+  -- a unit whose value isn't what its rule gives without a user value passes the test `is_kept`
   pub kept_passes : (u : ℕ) → u < length tree.units → IsKept (rule profile tree) values u → is_kept profile tree values u ≡ true
   kept_passes u inside kept =
       let without = rule profile tree u None values in

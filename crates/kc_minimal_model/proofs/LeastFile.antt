@@ -34,7 +34,7 @@ use Rattle.kc_tree_model.proofs.Lookups.{inside, place_is, unit_is}
 use Rattle.kc_minimal_model.proofs.KeptUnits.{KeptUnit, kept_unit, kept_passes, others_fail}
 use Rattle.kc_minimal_model.proofs.KeptLines.{line_reads, meant, user_meant, meaning_of_user, value_of_member}
 
--- what passes among some numbers
+-- all numbers that are left of a list by a filter pass the test of the filter
 pub passes_filter : (p : ℕ → Bool) (xs : List ℕ) → list_all p (filter p xs) ≡ true
 passes_filter p [] = refl
 passes_filter p (x ∷ xs) = go (p x) refl (passes_filter p xs) where
@@ -110,7 +110,7 @@ same_length w None users = refl
 same_length w (Some x) users = length-set users w (Some x)
 
 module _ (tree : Tree) (values : List UnitValue) where
-  -- the meanings of the lines of some symbols
+  -- the meanings of the lines of some symbols, each of which assigns the symbol's unit its own value
   abbrev pub meanings_of : List ℕ → List LineMeaning
   meanings_of xs = map (λ s. meant values (unit_of tree s)) xs
 
@@ -135,12 +135,12 @@ module _ (format : FileFormat) (valid : is_prefix format.prefix ≡ true) (profi
     (users : List (Option UserValue)) (values : List UnitValue)
     (fitting : FitsUsers (length tree.units) (λ u x. IsTrue (user_fits tree u x)) users)
     (solved : Solves (length tree.units) (rule profile tree) users values) where
-  -- the lines of some symbols that have one
-  pub lines_say : (xs : List ℕ) → list_all (has_line profile tree values) xs ≡ true
+  -- in a text of the lines of some symbols of the minimal file, each line assigns its symbol's unit its own value
+  pub lines_mean : (xs : List ℕ) → list_all (has_line profile tree values) xs ≡ true
       → AllZip (λ line meaning. Means format tree (without_white_end line) meaning) (file_lines (flat_map (ended_line format tree values) xs))
       (map (λ s. meant values (unit_of tree s)) xs)
-  lines_say [] all = tt
-  lines_say (s ∷ xs) all =
+  lines_mean [] all = tt
+  lines_mean (s ∷ xs) all =
       let rest = flat_map (ended_line format tree values) xs in
       let parts = and_parts (has_line profile tree values s) (list_all (has_line profile tree values) xs) all in
       let line = line_reads format valid profile tree sound users values fitting solved s parts.0 in
@@ -148,9 +148,9 @@ module _ (format : FileFormat) (valid : is_prefix format.prefix ≡ true) (profi
       ap file_lines (append_assoc (symbol_line format tree values s) (10 ∷ []) rest) ∙ first_line (symbol_line format tree values s) rest line.one in
       subst (λ lines. AllZip (λ l meaning. Means format tree (without_white_end l) meaning) lines
       (meant values (unit_of tree s) ∷ map (λ t. meant values (unit_of tree t)) xs)) (sym cut)
-      (subst (λ l. Means format tree l (meant values (unit_of tree s))) (sym line.whole) line.says, lines_say xs parts.1)
+      (subst (λ l. Means format tree l (meant values (unit_of tree s))) (sym line.whole) line.has_meaning, lines_mean xs parts.1)
 
-  -- a symbol whose line is of the unit
+  -- a unit that is kept has a line in the minimal file: that of one of its symbols
   pub speaks_at : (u : ℕ) → is_kept profile tree values u ≡ true → KeptUnit tree values u → (unit : TreeUnit) → slice_get tree.units u ≡ Some unit
       → list_any (λ s. unit_of tree s == u) (minimal_symbols profile tree values) ≡ true
   unfolding user_fits
@@ -194,7 +194,7 @@ module _ (format : FileFormat) (valid : is_prefix format.prefix ≡ true) (profi
       after_lines tree values u (minimal_symbols profile tree values) (empty_assignment tree) false
       (let len = none_length (length tree.units) in omega (arith, len)) (none_held (length tree.units) u)
 
-  -- what the lines of the minimal file assign
+  -- the lines of the minimal file assign the least assignment of the values
   pub least_of_lines : IsLeastAssignment (length tree.units) (rule profile tree) as_user values
       (file_assignment tree (map (λ s. meant values (unit_of tree s)) (minimal_symbols profile tree values)))
   least_of_lines = record {
@@ -216,10 +216,10 @@ module _ (format : FileFormat) (valid : is_prefix format.prefix ≡ true) (profi
         (symbol_numbers tree) fails);
   }
 
-  -- the minimal file is read as the least assignment
+  -- the minimal file is read as the least assignment of its values
   pub reads_as_least : IsReadAsLeast format profile tree values
   reads_as_least = record {
     meanings = map (λ s. meant values (unit_of tree s)) (minimal_symbols profile tree values);
-    says = lines_say (minimal_symbols profile tree values) (passes_filter (has_line profile tree values) (symbol_numbers tree));
+    has_meaning = lines_mean (minimal_symbols profile tree values) (passes_filter (has_line profile tree values) (symbol_numbers tree));
     least = least_of_lines;
   }

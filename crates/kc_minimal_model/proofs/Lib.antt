@@ -10,13 +10,13 @@ pub mod NeededUnits
 pub mod DifferenceLaws
 pub mod FileAcceptance
 pub mod FittingLines
-pub mod MinimalAccepted
+pub mod MinimalFileLimits
 pub mod OwnValues
 pub mod HeadingLines
 pub mod OwnLines
 pub mod EntryTexts
 pub mod FullLines
-pub mod FullBack
+pub mod FullFileLemmas
 pub mod FilesAssign
 pub mod DifferingSymbols
 pub mod LineNumbers

@@ -106,7 +106,7 @@ module _ (format : FileFormat) (valid : is_prefix format.prefix ≡ true) (profi
     (users : List (Option UserValue)) (values : List UnitValue)
     (fitting : FitsUsers (length tree.units) (λ u x. IsTrue (user_fits tree u x)) users)
     (solved : Solves (length tree.units) (rule profile tree) users values) where
-  -- the test of the symbols whose lines have these numbers
+  -- whether the number of a symbol's line in the minimal file, counted from 0, passes a test
   abbrev pub keeps_symbol : (ℕ → Bool) → ℕ → Bool
   keeps_symbol keeps = keeps_number_of keeps 0 (minimal_symbols profile tree values)
 
@@ -120,13 +120,13 @@ module _ (format : FileFormat) (valid : is_prefix format.prefix ≡ true) (profi
       ∙ flat_of_map ended (symbol_line format tree values) (at_numbers keeps 0 xs)
       ∙ ap (flat_map (ended_line format tree values)) (at_numbers_filtered keeps (has_line profile tree values) 0 0 (length tree.symbols))
 
-  -- the number of lines
+  -- the minimal file has as many lines as there are symbols with a line
   pub line_count : length (file_lines (minimal_file format profile tree values)) ≡ length (minimal_symbols profile tree values)
   line_count =
       ap length (minimal_file_lines format valid profile tree sound users values fitting solved)
       ∙ length-map (minimal_symbols profile tree values) (symbol_line format tree values)
 
-  -- the symbol of a line that isn't kept
+  -- if the number of a line of the minimal file fails a test, there is a symbol whose line has a number that fails it
   pub symbol_dropped : (keeps : ℕ → Bool) (k : ℕ) → k < length (file_lines (minimal_file format profile tree values)) → keeps k ≡ false
       → (s : ℕ) × (has_line profile tree values s ≡ true) × (keeps_symbol keeps s ≡ false)
   symbol_dropped keeps k below dropped =

@@ -42,7 +42,7 @@ body_of (c ∷ text) = go (c == 34 || (c == 92)) refl (body_of text) where
   go true e rest = pair rest
   go false e rest = let both = or_parts (c == 34) (c == 92) e in plain both.0 both.1 rest
 
--- the quoted spelling of a text represents it
+-- the quoted spelling of a text, with its escapes, represents the text
 pub quoted_means : (text : List ℕ) → IsQuoted (quoted text) text
 quoted_means text = (flat_map escaped_byte text, refl, body_of text)
 
@@ -81,9 +81,9 @@ spelling_utf8 : (strings : Strings) (text : List ℕ) → IsUtf8 text → IsUtf8
 spelling_utf8 Escaped text utf8 = quoted_utf8 text utf8
 spelling_utf8 Raw text utf8 = ascii_then 34 (text ++ 34 ∷ []) (omega arith) (IsUtf8-append text (34 ∷ []) utf8 (ascii_alone 34 (omega arith)))
 
--- what is asked of a written line
+-- the line has this meaning, is UTF-8, and has neither a newline nor white bytes at its end
 pub record IsLine (format : FileFormat) (tree : Tree) (line : List ℕ) (meaning : LineMeaning) : Type 0 where
-  pub says : Means format tree line meaning
+  pub has_meaning : Means format tree line meaning
   pub whole : without_white_end line ≡ line
   pub one : lacks 10 line ≡ true
   pub utf8 : IsUtf8 line
@@ -106,18 +106,18 @@ module _ (format : FileFormat) (valid : is_prefix format.prefix ≡ true) (tree 
   split_value_line : (text : List ℕ) → value_line format.prefix symbol.name text ≡ (format.prefix ++ (symbol.name ++ 61 ∷ [])) ++ text
   split_value_line text = simp append_assoc
 
-  says_value : (text : List ℕ) (meaning : LineMeaning) → ValueMeans format.strings tree s symbol text meaning
+  value_line_means : (text : List ℕ) (meaning : LineMeaning) → ValueMeans format.strings tree s symbol text meaning
       → Means format tree (value_line format.prefix symbol.name text) meaning
-  says_value text meaning says =
+  value_line_means text meaning has_meaning =
       value (value_line format.prefix symbol.name text) symbol.name text s symbol meaning
       ((sound.words s symbol at).0, name_lacks 61 refl symbol.name (sound.words s symbol at).1, refl)
-      (found_by_name tree sound s symbol at) at says
+      (found_by_name tree sound s symbol at) at has_meaning
 
-  -- a value line whose text is of ink
+  -- a line `CONFIG_NAME=text` has the meaning that the text has for its symbol, if the text is of ink bytes
   pub ink_line : (text : List ℕ) (meaning : LineMeaning) → IsInk text → ValueMeans format.strings tree s symbol text meaning
       → IsLine format tree (value_line format.prefix symbol.name text) meaning
-  ink_line text meaning ink says = record {
-    says = says_value text meaning says;
+  ink_line text meaning ink has_meaning = record {
+    has_meaning = value_line_means text meaning has_meaning;
     whole = ap without_white_end (split_value_line text) ∙ keeps_text (format.prefix ++ (symbol.name ++ 61 ∷ [])) text ink.some ink.ink
         ∙ sym (split_value_line text);
     one = one_value_line text (all_weaker is_ink (λ c. not (c == 10)) ink_newline text ink.ink);
@@ -130,10 +130,10 @@ module _ (format : FileFormat) (valid : is_prefix format.prefix ≡ true) (tree 
   abbrev spelling : List ℕ → List ℕ
   spelling text = string_spelling format.strings text
 
-  string_says : (text : List ℕ) → symbol.kind ≡ Text
+  string_line_means : (text : List ℕ) → symbol.kind ≡ Text
       → Means format tree (value_line format.prefix symbol.name (spelling text)) (assigns (unit_of tree s) (TextUser text))
-  string_says text is =
-      says_value (spelling text) (assigns (unit_of tree s) (TextUser text)) (says_quoted (spelling text) text is (spelling_is format.strings text))
+  string_line_means text is =
+      value_line_means (spelling text) (assigns (unit_of tree s) (TextUser text)) (says_quoted (spelling text) text is (spelling_is format.strings text))
 
   string_trimmed : (text : List ℕ)
       → without_white_end (value_line format.prefix symbol.name (spelling text)) ≡ value_line format.prefix symbol.name (spelling text)
@@ -151,19 +151,20 @@ module _ (format : FileFormat) (valid : is_prefix format.prefix ≡ true) (tree 
   string_line : (text : List ℕ) → symbol.kind ≡ Text → has_newline text ≡ false → IsUtf8 text
       → IsLine format tree (value_line format.prefix symbol.name (spelling text)) (assigns (unit_of tree s) (TextUser text))
   string_line text is one utf8 = record {
-    says = string_says text is;
+    has_meaning = string_line_means text is;
     whole = string_trimmed text;
     one = string_one text one;
     utf8 = utf8_value_line (spelling text) (spelling_utf8 format.strings text utf8);
   }
 
-  -- an unset line
+  -- a line `# CONFIG_NAME is not set` is read as the assignment of `n` to a bool or tristate outside choices, and as
+  -- nothing for another symbol
   pub not_set_line : IsLine format tree (unset_line format.prefix symbol.name) (unset_meaning tree s symbol symbol.choice)
   not_set_line =
       let front = codes "# " ++ (format.prefix ++ (symbol.name ++ codes " is not ")) in
       let same : unset_line format.prefix symbol.name ≡ front ++ codes "set" = simp append_assoc in
       record {
-        says = unset (unset_line format.prefix symbol.name) symbol.name s symbol
+        has_meaning = unset (unset_line format.prefix symbol.name) symbol.name s symbol
             ((sound.words s symbol at).0, name_lacks 32 refl symbol.name (sound.words s symbol at).1, refl) (found_by_name tree sound s symbol at) at;
         whole = ap without_white_end same ∙ keeps_text front (codes "set") (omega arith) refl ∙ sym same;
         one = all_of_both (λ c. not (c == 10)) (codes "# ") (format.prefix ++ (symbol.name ++ codes " is not set")) refl
@@ -185,7 +186,7 @@ module _ (format : FileFormat) (valid : is_prefix format.prefix ≡ true) (tree 
       → IsLine format tree (value_line format.prefix symbol.name (letter t)) (assigns (unit_of tree s) (TriUser t))
   letter_line t out meant ink = ink_line (letter t) (assigns (unit_of tree s) (TriUser t)) ink (says_tri (letter t) t out meant)
 
-  -- the line of a bool or tristate outside choices
+  -- the line of a bool or tristate outside choices is read as the assignment of its value
   pub tri_line : (kind : Kind) (t : Tri) → symbol.kind ≡ kind → symbol.choice ≡ None → tri_fits kind t ≡ true
       → IsLine format tree (line_with format symbol.name (of_tri kind t)) (assigns (unit_of tree s) (TriUser t))
   tri_line Boolean N is out fits =
@@ -202,7 +203,7 @@ module _ (format : FileFormat) (valid : is_prefix format.prefix ≡ true) (tree 
   tri_line Int t is out fits = absurd (false≢true fits)
   tri_line Hex t is out fits = absurd (false≢true fits)
 
-  -- the line of a string, int or hex
+  -- the line of a string, int or hex is read as the assignment of its value
   pub text_line : (kind : Kind) (text : List ℕ) → symbol.kind ≡ kind → user_text_fits kind text ≡ true
       → IsLine format tree (line_with format symbol.name (of_text kind text)) (assigns (unit_of tree s) (TextUser text))
   text_line Boolean text is fits = absurd (false≢true fits)
@@ -215,7 +216,7 @@ module _ (format : FileFormat) (valid : is_prefix format.prefix ≡ true) (tree 
   text_line Hex text is fits =
       ink_line text (assigns (unit_of tree s) (TextUser text)) (number_ink Hex text fits) (number text (ap (λ k. is_some (number_of_text k text)) is ∙ fits))
 
-  -- the line of a selected member
+  -- the line of a choice's selected member is read as the assignment that selects this member
   pub member_line : (c : ℕ) → symbol.choice ≡ Some c → symbol.kind ≡ Boolean
       → IsLine format tree (line_with format symbol.name (of_tri Boolean Y)) (assigns (unit_of tree s) (MemberUser s))
   member_line c within is =
@@ -227,6 +228,6 @@ strings_read_back format tree s symbol text valid sound at is one =
     let line = value_line format.prefix symbol.name (string_spelling format.strings text) in
     let meaning = assigns (unit_of tree s) (TextUser text) in
     let lines : file_lines (line ++ 10 ∷ []) ≡ line ∷ [] = first_line line [] (string_one format valid tree sound s symbol at text one) in
-    let says = string_says format valid tree sound s symbol at text is in
+    let has_meaning = string_line_means format valid tree sound s symbol at text is in
     subst (λ ls. AllZip (λ l x. Means format tree (without_white_end l) x) ls (meaning ∷ [])) (sym lines)
-    (subst (λ l. Means format tree l meaning) (sym (string_trimmed format valid tree sound s symbol at text)) says, tt)
+    (subst (λ l. Means format tree l meaning) (sym (string_trimmed format valid tree sound s symbol at text)) has_meaning, tt)

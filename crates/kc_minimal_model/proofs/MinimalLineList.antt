@@ -27,7 +27,7 @@ module _ (format : FileFormat) (valid : is_prefix format.prefix ≡ true) (profi
     (users : List (Option UserValue)) (values : List UnitValue)
     (fitting : FitsUsers (length tree.units) (λ u x. IsTrue (user_fits tree u x)) users)
     (solved : Solves (length tree.units) (rule profile tree) users values) where
-  -- the ended lines of symbols that have one are cut into these lines
+  -- the lines of a text of some symbols' lines in the minimal file are these symbols' lines, in order
   pub lines_of_symbols : (xs : List ℕ) → list_all (has_line profile tree values) xs ≡ true
       → file_lines (flat_map (ended_line format tree values) xs) ≡ map (symbol_line format tree values) xs
   lines_of_symbols [] all = refl
@@ -54,6 +54,6 @@ module _ (format : FileFormat) (valid : is_prefix format.prefix ≡ true) (profi
   pub minimal_file_lines : file_lines (minimal_file format profile tree values) ≡ map (symbol_line format tree values) (minimal_symbols profile tree values)
   minimal_file_lines = lines_of_symbols (minimal_symbols profile tree values) (passes_filter (has_line profile tree values) (symbol_numbers tree))
 
--- as a law
+-- the lines of a minimal file are its symbols' lines, in order, as the law `MinimalFileLines`
 pub file_lines_listed : MinimalFileLines
 file_lines_listed format valid profile tree users values sound fitting solved = minimal_file_lines format valid profile tree sound users values fitting solved

@@ -1,27 +1,18 @@
 -- Minimal files of small trees.
-use Rattle.std.proofs.Common.{◌≡◌, ℕ, [], ◌∷◌, Some, refl, List}
+use Rattle.std.proofs.Common.{◌≡◌, ℕ, [], ◌∷◌, Some, refl}
 use Rattle.std.specs.Prelude.{codes}
-use Rattle.std.specs.Fmt.{digits}
-use Rattle.kc_value.specs.Number.{int_text, hex_text}
-use Rattle.kc_rules_model.specs.declared.profile.Profile.TheVariants.{Present, Classic}
+use Rattle.kc_rules_model.specs.declared.profile.Profile.TheVariants.{Present}
 use Rattle.kc_rules_model.specs.declared.values.UnitValue.{UnitValue}
 use Rattle.kc_rules_model.specs.declared.values.UnitValue.TheVariants.{Member as MemberValue}
 use Rattle.kc_rules_model.specs.Rule.{rule}
-use Rattle.kc_rules_model.proofs.RowTrees.{n, m, y, text, tree_a, tree_default_y, tree_default_n, tree_lifted, tree_int, tree_hex, tree_string, tree_pick, tree_select, tree_imply, tree_no_modules, tree_chain, tree_hidden}
-use Rattle.kc_dotconfig_model.specs.declared.format.Strings.TheVariants.{Escaped, Raw}
+use Rattle.kc_rules_model.proofs.RowTrees.{n, m, y, text, tree_a, tree_default_y, tree_default_n, tree_lifted, tree_string, tree_pick, tree_chain, tree_hidden}
+use Rattle.kc_dotconfig_model.specs.declared.format.Strings.TheVariants.{Escaped}
 use Rattle.kc_dotconfig_model.specs.Formats.{FileFormat}
 use Rattle.kc_minimal_model.specs.SymbolLine.{symbol_line}
 use Rattle.kc_minimal_model.specs.MinimalFile.{minimal_file}
 
-abbrev escaped : List ℕ → FileFormat
-escaped prefix = record { prefix = prefix; strings = Escaped }
-
 abbrev config : FileFormat
-config = escaped (codes "CONFIG_")
-
--- where strings are raw
-abbrev raw : FileFormat
-raw = record { prefix = codes "CONFIG_"; strings = Raw }
+config = record { prefix = codes "CONFIG_"; strings = Escaped }
 
 abbrev picks : ℕ → UnitValue
 picks s = MemberValue (Some s)
@@ -43,28 +34,11 @@ below_a_lifted_default : (minimal_file config Present tree_lifted (y ∷ m ∷ y
 unfolding rule symbol_line
 below_a_lifted_default = (refl, refl)
 
-ints : (minimal_file config Present tree_int (text (codes "10") ∷ []) ≡ [])
-    × (minimal_file config Present tree_int (text (codes "20") ∷ []) ≡ codes "CONFIG_N=20\n")
-    × (minimal_file config Present tree_int (text (codes "010") ∷ []) ≡ codes "CONFIG_N=010\n")
-unfolding rule symbol_line int_text digits
-ints = (refl, refl, refl)
-
-hexes : (minimal_file config Present tree_hex (text (codes "0x1f") ∷ []) ≡ [])
-    × (minimal_file config Present tree_hex (text (codes "1F") ∷ []) ≡ codes "CONFIG_H=1F\n")
-unfolding rule symbol_line hex_text digits
-hexes = (refl, refl)
-
 strings : (minimal_file config Present tree_string (text (codes "x") ∷ []) ≡ [])
     × (minimal_file config Present tree_string (text [] ∷ []) ≡ codes "CONFIG_S=\"\"\n")
     × (minimal_file config Present tree_string (text (codes "a\"b\\c") ∷ []) ≡ codes "CONFIG_S=\"a\\\"b\\\\c\"\n")
 unfolding rule symbol_line
 strings = (refl, refl, refl)
-
-raw_strings : (minimal_file raw Present tree_string (text (codes "x") ∷ []) ≡ [])
-    × (minimal_file raw Present tree_string (text [] ∷ []) ≡ codes "CONFIG_S=\"\"\n")
-    × (minimal_file raw Present tree_string (text (codes "a\"b\\c") ∷ []) ≡ codes "CONFIG_S=\"a\"b\\c\"\n")
-unfolding rule symbol_line
-raw_strings = (refl, refl, refl)
 
 -- of a choice the selected member alone; lines are in order of definition
 choices : (minimal_file config Present tree_pick (picks 1 ∷ n ∷ []) ≡ [])
@@ -72,25 +46,6 @@ choices : (minimal_file config Present tree_pick (picks 1 ∷ n ∷ []) ≡ [])
 unfolding rule symbol_line
 choices = (refl, refl)
 
-selects : minimal_file config Present tree_select (y ∷ y ∷ []) ≡ codes "CONFIG_S=y\n"
-unfolding rule symbol_line
-selects = refl
-
-implies : (minimal_file config Present tree_imply (y ∷ y ∷ m ∷ m ∷ []) ≡ codes "CONFIG_FOO=y\nCONFIG_BAR=m\n")
-    × (minimal_file config Present tree_imply (y ∷ y ∷ m ∷ n ∷ []) ≡ codes "CONFIG_FOO=y\nCONFIG_BAR=m\n# CONFIG_BAZ is not set\n")
-    × (minimal_file config Classic tree_imply (y ∷ y ∷ m ∷ y ∷ []) ≡ codes "CONFIG_FOO=y\nCONFIG_BAR=m\n")
-    × (minimal_file config Classic tree_imply (y ∷ y ∷ m ∷ n ∷ []) ≡ codes "CONFIG_FOO=y\nCONFIG_BAR=m\n# CONFIG_BAZ is not set\n")
-unfolding rule symbol_line
-implies = (refl, refl, refl, refl)
-
-without_modules : minimal_file config Present tree_no_modules (n ∷ y ∷ []) ≡ codes "CONFIG_A=y\n"
-unfolding rule symbol_line
-without_modules = refl
-
 along_a_chain : minimal_file config Present tree_chain (y ∷ y ∷ y ∷ []) ≡ codes "CONFIG_A=y\nCONFIG_C=y\n"
 unfolding rule symbol_line
 along_a_chain = refl
-
-other_prefix : minimal_file (escaped (codes "BOARD_")) Present tree_a (y ∷ []) ≡ codes "BOARD_A=y\n"
-unfolding rule symbol_line
-other_prefix = refl

@@ -28,13 +28,13 @@ use Rattle.kc_minimal_model.proofs.NeededUnits.{needs_units, needs_values}
 use Rattle.kc_minimal_model.proofs.FilesAssign.{assigns_each, assigns_values, assigns_as_many}
 use Rattle.kc_minimal_model.proofs.LineNumbers.{keeps_symbol, lines_kept, line_count, symbol_dropped}
 use Rattle.kc_minimal_model.proofs.FileAcceptance.{is_short, accepted_symbols, shorts_of_file, file_of_shorts, filter_shorter, flat_shorter}
-use Rattle.kc_minimal_model.proofs.MinimalAccepted.{few_lines, lines_are_short}
+use Rattle.kc_minimal_model.proofs.MinimalFileLimits.{few_lines, lines_are_short}
 
 module _ (format : FileFormat) (valid : is_prefix format.prefix ≡ true) (profile : Profile) (tree : Tree) (settled : IsOrderedTree tree)
     (users : List (Option UserValue)) (values : List UnitValue)
     (fitting : FitsUsers (length tree.units) (λ u x. IsTrue (user_fits tree u x)) users)
     (solved : Solves (length tree.units) (rule profile tree) users values) where
-  -- some of the lines, where each line is short
+  -- some lines of the minimal file alone are an accepted file, if all its lines are short and it is within the limit of bytes
   pub part_accepted : (keeps : ℕ → Bool) → length (minimal_file format profile tree values) ≤ MAX_CONFIG_BYTES
       → list_all (is_short format valid profile tree settled.consistent users values fitting solved) (minimal_symbols profile tree values) ≡ true
       → IsAccepted format tree (symbol_lines keeps format profile tree values)
@@ -68,7 +68,7 @@ module _ (format : FileFormat) (valid : is_prefix format.prefix ≡ true) (profi
   differing keeps s has dropped =
       let lost = needed format valid profile tree settled users values fitting solved keeps s has dropped in
       let bytes = symbol_lines keeps format profile tree values in
-      let fits_lost = fits_of format valid profile tree settled bytes lost.1.meanings lost.1.utf8 lost.1.says in
+      let fits_lost = fits_of format valid profile tree settled bytes lost.1.meanings lost.1.utf8 lost.1.has_meaning in
       let others_fit = solutions_fit profile tree settled (file_assignment tree lost.1.meanings) fits_lost lost.0 lost.1.gives.solves in (
         lost.0,
         lost.1,
@@ -80,7 +80,7 @@ module _ (format : FileFormat) (valid : is_prefix format.prefix ≡ true) (profi
   compared : (file : List ℕ) (others : List UnitValue) → ReadsTo format profile tree file others
       → HaveSameValues tree values others ↔ (minimal_file format profile tree values ≡ minimal_file format profile tree others)
   compared file others reads =
-      let fits = fits_of format valid profile tree settled file reads.meanings reads.utf8 reads.says in
+      let fits = fits_of format valid profile tree settled file reads.meanings reads.utf8 reads.has_meaning in
       let equal = same_files format valid profile tree settled users (file_assignment tree reads.meanings) values others fitting fits solved
       reads.gives.solves in
       let values_fit = solutions_fit profile tree settled users fitting values solved in

@@ -67,7 +67,8 @@ module _ (profile : Profile) (tree : Tree) (users : List (Option UserValue)) (va
       (speaks_at plain valid profile tree settled.consistent users values fitting solved u test k unit.0 unit.1) in
       (found.0, found.1, eqb-true (unit_of tree found.0) u found.2)
 
-  -- cut down to some units, the assignment gives the values exactly if the unit of each line is among these
+  -- the assignment cut down to some units still gives the values exactly if the unit of each line of the minimal file
+  -- is among them
   pub needs_units : (fewer : List (Option UserValue)) (keeps : ℕ → Bool) → IsCutTo (length tree.units) keeps users fewer
       → UniquelySolves (length tree.units) (rule profile tree) fewer values ↔ HasUnitsOfLines profile tree values keeps
   needs_units fewer keeps is_cut =
@@ -77,7 +78,7 @@ module _ (profile : Profile) (tree : Tree) (users : List (Option UserValue)) (va
         λ lines. by_units.1 (λ u inside kept. let line = kept_line u inside kept in ap keeps (sym line.2) ∙ lines line.0 line.1),
       )
 
-  -- and it has the members, strings and numbers of the lines
+  -- an assignment that gives the values has the members, strings and numbers that the lines of their minimal file assign
   pub needs_values : HasValuesOfLines profile tree values users
   needs_values s value has holds text =
       let kept = line_kept s has in

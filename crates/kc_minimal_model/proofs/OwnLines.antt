@@ -33,13 +33,13 @@ use Rattle.kc_minimal_model.proofs.DifferenceLaws.{text_kind}
 use Rattle.kc_minimal_model.proofs.KeptLines.{tri_kind, user_meant}
 use Rattle.kc_minimal_model.proofs.LineReads.{IsLine, utf8_value_line, tri_line, text_line, member_line, not_set_line}
 
--- nothing is assigned but the value that is held
+-- a line of this meaning assigns a unit its own value, or assigns nothing without a notice
 abbrev pub IsOwn : List UnitValue → LineMeaning → Type 0
 IsOwn values (assigns u x) = user_meant values u ≡ Some x
 IsOwn values (notice kind) = ⊥
 IsOwn values silent = Unit {0}
 
--- a written line that is such an assignment
+-- the line is read, and assigns a unit its own value or assigns nothing
 pub record IsOwnLine (format : FileFormat) (tree : Tree) (values : List UnitValue) (line : List ℕ) : Type 0 where
   pub meaning : LineMeaning
   pub reads : IsLine format tree line meaning
@@ -54,13 +54,13 @@ module _ (format : FileFormat) (valid : is_prefix format.prefix ≡ true) (tree 
   -- the line of an int or hex without a number
   empty_line : (s : ℕ) (symbol : Symbol) → slice_get tree.symbols s ≡ Some symbol → ValueMeans format.strings tree s symbol [] silent
       → IsLine format tree (value_line format.prefix symbol.name []) silent
-  empty_line s symbol at says =
+  empty_line s symbol at has_meaning =
       let words = sound.words s symbol at in
       let bytes = (and_parts _ (list_all is_name_byte format.prefix) valid).1 in
       let same : value_line format.prefix symbol.name [] ≡ (format.prefix ++ symbol.name) ++ 61 ∷ [] = sym (append_assoc format.prefix symbol.name (61 ∷ [])) in
       record {
-        says = value (value_line format.prefix symbol.name []) symbol.name [] s symbol silent (words.0, name_lacks 61 refl symbol.name words.1, refl)
-            (found_by_name tree sound s symbol at) at says;
+        has_meaning = value (value_line format.prefix symbol.name []) symbol.name [] s symbol silent (words.0, name_lacks 61 refl symbol.name words.1, refl)
+            (found_by_name tree sound s symbol at) at has_meaning;
         whole = ap without_white_end same ∙ ends_in_ink (format.prefix ++ symbol.name) 61 refl ∙ sym same;
         one = all_of_both (λ c. not (c == 10)) format.prefix (symbol.name ++ (61 ∷ [])) (name_lacks 10 refl format.prefix bytes)
             (all_of_both (λ c. not (c == 10)) symbol.name (61 ∷ []) (name_lacks 10 refl symbol.name words.1) refl);
@@ -70,25 +70,25 @@ module _ (format : FileFormat) (valid : is_prefix format.prefix ≡ true) (tree 
   abbrev of_text : Kind → List ℕ → SymbolValue
   of_text kind text = record { kind = kind; tri = N; text = text }
 
-  text_says : (s : ℕ) (symbol : Symbol) → slice_get tree.symbols s ≡ Some symbol → (text : List ℕ) → user_meant values (unit_of tree s) ≡ Some (TextUser text)
+  text_is_own_line : (s : ℕ) (symbol : Symbol) → slice_get tree.symbols s ≡ Some symbol → (text : List ℕ) → user_meant values (unit_of tree s) ≡ Some (TextUser text)
       → user_text_fits symbol.kind text ≡ true
       → IsOwnLine format tree values (line_with format symbol.name (of_text symbol.kind text))
-  text_says s symbol at text held good =
+  text_is_own_line s symbol at text held good =
       record {
         meaning = assigns (unit_of tree s) (TextUser text);
         reads = text_line format valid tree sound s symbol at symbol.kind text refl good;
         own = held;
       }
 
-  number_says : (s : ℕ) (symbol : Symbol) → slice_get tree.symbols s ≡ Some symbol → (text : List ℕ) → user_meant values (unit_of tree s) ≡ Some (TextUser text)
+  number_is_own_line : (s : ℕ) (symbol : Symbol) → slice_get tree.symbols s ≡ Some symbol → (text : List ℕ) → user_meant values (unit_of tree s) ≡ Some (TextUser text)
       → (kind : Kind) → symbol.kind ≡ kind
       → ((length text == 0) || is_some (number_of_text kind text)) ≡ true → (is_some (number_of_text kind text) ≡ true → user_text_fits kind text ≡ true)
       → (value_line format.prefix symbol.name [] ≡ line_with format symbol.name (of_text kind [])) → ValueMeans format.strings tree s symbol [] silent
       → IsOwnLine format tree values (line_with format symbol.name (of_text symbol.kind text))
-  number_says s symbol at text held kind is good number form says = elim (or_cases (length text == 0) (is_some (number_of_text kind text)) good) [
+  number_is_own_line s symbol at text held kind is good number form has_meaning = elim (or_cases (length text == 0) (is_some (number_of_text kind text)) good) [
     | inl none ↦
         let line : IsLine format tree (line_with format symbol.name (of_text kind [])) silent = subst (λ l. IsLine format tree l silent) form
-        (empty_line s symbol at says) in
+        (empty_line s symbol at has_meaning) in
         let at_kind : IsLine format tree (line_with format symbol.name (of_text symbol.kind [])) silent = subst
         (λ k. IsLine format tree (line_with format symbol.name (of_text k [])) silent) (sym is) line in
         record {
@@ -97,7 +97,7 @@ module _ (format : FileFormat) (valid : is_prefix format.prefix ≡ true) (tree 
               (sym (no_bytes text none)) at_kind;
           own = tt;
         }
-    | inr some ↦ text_says s symbol at text held (ap (λ k. user_text_fits k text) is ∙ number some)
+    | inr some ↦ text_is_own_line s symbol at text held (ap (λ k. user_text_fits k text) is ∙ number some)
   ]
 
   text_of_kind : (s : ℕ) (symbol : Symbol) → slice_get tree.symbols s ≡ Some symbol → (text : List ℕ)
@@ -106,9 +106,9 @@ module _ (format : FileFormat) (valid : is_prefix format.prefix ≡ true) (tree 
       → IsOwnLine format tree values (line_with format symbol.name (of_text symbol.kind text))
   text_of_kind s symbol at text held Boolean is good = absurd (false≢true good)
   text_of_kind s symbol at text held Tristate is good = absurd (false≢true good)
-  text_of_kind s symbol at text held Text is good = text_says s symbol at text held (ap (λ k. user_text_fits k text) is ∙ good)
-  text_of_kind s symbol at text held Int is good = number_says s symbol at text held Int is good (λ e. e) refl (no_int is)
-  text_of_kind s symbol at text held Hex is good = number_says s symbol at text held Hex is good (λ e. e) refl (no_hex is)
+  text_of_kind s symbol at text held Text is good = text_is_own_line s symbol at text held (ap (λ k. user_text_fits k text) is ∙ good)
+  text_of_kind s symbol at text held Int is good = number_is_own_line s symbol at text held Int is good (λ e. e) refl (no_int is)
+  text_of_kind s symbol at text held Hex is good = number_is_own_line s symbol at text held Hex is good (λ e. e) refl (no_hex is)
 
   by_held : (s : ℕ) (symbol : Symbol) → slice_get tree.symbols s ≡ Some symbol → symbol.choice ≡ None → (held : UnitValue)
       → slice_get values (unit_of tree s) ≡ Some held → symbol_value_fits (Some symbol) held ≡ true
@@ -205,7 +205,7 @@ module _ (format : FileFormat) (valid : is_prefix format.prefix ≡ true) (tree 
   at_symbol s symbol None at is = cc
   at_symbol s symbol (Some x) at is = at_choice s x at x.choice refl
 
-  -- the line of each symbol
+  -- the line of each symbol of the tree assigns the symbol's unit its own value or assigns nothing
   pub own_line : (s : ℕ) (symbol : Symbol) → slice_get tree.symbols s ≡ Some symbol → IsOwnLine format tree values (symbol_line format tree values s)
   unfolding symbol_line
   own_line s symbol at = at_symbol s symbol (slice_get tree.symbols s) refl at

@@ -214,7 +214,7 @@ module _ (profile : Profile) (tree : Tree) (values : List UnitValue) where
   own_unit (Some (of_symbol s)) lifted = own_symbol_at s (slice_get tree.symbols s) refl lifted
   own_unit (Some (of_choice c)) lifted = own_choice_at (slice_get tree.choices c)
 
--- In a solution, a unit that isn't lifted has its value again by that value as its user value.
+-- In a solution, a unit that isn't lifted (`IsLifted`) gets its value again if that value is its user value.
 pub own_values : (profile : Profile) (tree : Tree) (users : List (Option UserValue)) (values : List UnitValue)
     → FitsUsers (length tree.units) (λ u x. IsTrue (user_fits tree u x)) users → Solves (length tree.units) (rule profile tree) users values
     → (u : ℕ) (held : UnitValue) → u < length tree.units → slice_get values u ≡ Some held → (IsLifted profile tree values u → ⊥)
@@ -288,7 +288,7 @@ hidden_values profile tree values u s symbol x unit there hidden =
     ∙ hidden_symbol profile tree values symbol symbol.kind x hidden
     ∙ sym (ap (λ o. rule_of_unit profile tree o None values) unit ∙ ap (λ o. rule_of_symbol profile tree o None values) there)
 
--- A number's empty value is what it has without a user value.
+-- In a solution, an int or hex whose value is empty has no value without a user value either.
 pub empty_numbers : (profile : Profile) (tree : Tree) (users : List (Option UserValue)) (values : List UnitValue)
     → FitsUsers (length tree.units) (λ u x. IsTrue (user_fits tree u x)) users → Solves (length tree.units) (rule profile tree) users values
     → (u s : ℕ) (symbol : Symbol) → u < length tree.units → slice_get tree.units u ≡ Some (of_symbol s) → slice_get tree.symbols s ≡ Some symbol

@@ -30,74 +30,78 @@ at_numbers keeps k (x ∷ xs) = if keeps k then x ∷ at_numbers keeps (k + 1) x
 abbrev pub with_lines : (ℕ → Bool) → List ℕ → List ℕ
 with_lines keeps bytes = flat_map (λ (line : List ℕ). line ++ 10 ∷ []) (at_numbers keeps 0 (file_lines bytes))
 
--- the unit of each symbol that has a line passes a test
+-- the unit of each symbol with a line in the minimal file passes the test
 abbrev pub HasUnitsOfLines : Profile → Tree → List UnitValue → (ℕ → Bool) → Type 0
 HasUnitsOfLines profile tree values keeps = (s : ℕ) → has_line profile tree values s ≡ true → keeps (unit_of tree s) ≡ true
 
--- an assignment has the values of those lines that assign a member, a string or a number
+-- the assignment has the user values of those lines of the minimal file that assign a member, a string or a number
 abbrev pub HasValuesOfLines : Profile → Tree → List UnitValue → List (Option UserValue) → Type 0
 HasValuesOfLines profile tree values users = (s : ℕ) (value : UnitValue) → has_line profile tree values s ≡ true
     → slice_get values (unit_of tree s) ≡ Some value → is_tri_value value ≡ false
     → user_of users (unit_of tree s) ≡ as_user value
 
--- the units to which lines assign, one for each line that assigns
+-- the units to which the lines of a configuration file assign, one for each line that assigns
 abbrev pub assigned_units : List LineMeaning → List ℕ
 assigned_units [] = []
 assigned_units (assigns u x ∷ meanings) = u ∷ assigned_units meanings
 assigned_units (notice kind ∷ meanings) = assigned_units meanings
 assigned_units (silent ∷ meanings) = assigned_units meanings
 
--- lines assign no less than the minimal file of these values: to the unit of each of its lines, the values of its lines, by
--- at least as many lines
+-- the lines of a configuration file assign no less than the minimal file of the values: to the unit of each of its
+-- lines, with the same members, strings and numbers, by at least as many lines
 pub record AssignsTheLines (profile : Profile) (tree : Tree) (values : List UnitValue) (meanings : List LineMeaning) : Type 0 where
   pub each : HasUnitsOfLines profile tree values (λ u. list_any (eqb u) (assigned_units meanings))
   pub each_value : HasValuesOfLines profile tree values (file_assignment tree meanings)
   pub as_many : length (minimal_symbols profile tree values) ≤ length (assigned_units meanings)
 
--- every file that gives values assigns no less than their minimal file, whatever bytes are before the names and in each form of strings
+-- every configuration file that gives values assigns no less than their minimal file, with any bytes as its prefix
+-- and in each form of strings
 abbrev pub FilesAssignTheLines : Type 0
 FilesAssignTheLines = (format : FileFormat) (profile : Profile) (tree : Tree) (file : List ℕ) (values : List UnitValue)
     → IsSettledTree tree → (reads : ReadsTo format profile tree file values) → AssignsTheLines profile tree values reads.meanings
 
 -- A text is the canonical file of values, over one tree, in one profile and one format.
 pub record IsCanonicalText (format : FileFormat) (profile : Profile) (tree : Tree) (values : List UnitValue) (text : List ℕ) : Type 0 where
-  -- it is their minimal file
+  -- the text is the minimal file of the values
   pub is : text ≡ minimal_file format profile tree values
-  -- a file gives every symbol the same value exactly if its minimal file is this text byte for byte
+  -- a configuration file gives every symbol the same value as the text exactly if its minimal file is the text byte for byte
   pub same : (file : List ℕ) (others : List UnitValue) → ReadsTo format profile tree file others
       → HaveSameValues tree values others ↔ (text ≡ minimal_file format profile tree others)
-  -- the text gives these values and no others
+  -- reading the text gives the values and no others
   pub back : ReadsTo format profile tree text values
-  -- minimising twice is minimising once
+  -- the minimal file of the values that the text gives is the text again
   pub once : (again : List UnitValue) → ReadsTo format profile tree text again → minimal_file format profile tree again ≡ text
-  -- without one of its lines, and with some of the others or all, it gives some symbol another value
+  -- without one of its lines, and with all or some of its other lines, the text gives some symbol another value
   pub needed : (keeps : ℕ → Bool) (k : ℕ) → k < length (file_lines text) → keeps k ≡ false
       → (others : List UnitValue) × ReadsTo format profile tree (with_lines keeps text) others
       × DifferAtASymbol tree others values
-  -- an assignment of the values, cut down to some units, gives them exactly if these are all that have a line, or more
+  -- an assignment that gives the values, cut down to some units, still gives them exactly if the unit of each line of
+  -- the text is among these units
   pub least : (users fewer : List (Option UserValue)) (keeps : ℕ → Bool)
       → FitsUsers (length tree.units) (λ u x. IsTrue (user_fits tree u x)) users
       → Solves (length tree.units) (rule profile tree) users values → IsCutTo (length tree.units) keeps users fewer
       → UniquelySolves (length tree.units) (rule profile tree) fewer values ↔ HasUnitsOfLines profile tree values keeps
-  -- and it has the values of the lines
+  -- an assignment that gives the values has the members, strings and numbers that the lines of the text assign
   pub least_values : (users : List (Option UserValue))
       → FitsUsers (length tree.units) (λ u x. IsTrue (user_fits tree u x)) users
       → Solves (length tree.units) (rule profile tree) users values → HasValuesOfLines profile tree values users
-  -- a file that gives the values assigns to the unit of each line, the values of the lines, by at least as many lines
+  -- a file that gives the values assigns to the unit of each line of the text, with the same members, strings and
+  -- numbers, by at least as many lines
   pub assigns_each : (file : List ℕ) → (reads : ReadsTo format profile tree file values)
       → HasUnitsOfLines profile tree values (λ u. list_any (eqb u) (assigned_units reads.meanings))
   pub assigns_values : (file : List ℕ) → (reads : ReadsTo format profile tree file values)
       → HasValuesOfLines profile tree values (file_assignment tree reads.meanings)
   pub assigns_as_many : (file : List ℕ) → (reads : ReadsTo format profile tree file values)
       → length (file_lines text) ≤ length (assigned_units reads.meanings)
-  -- within the limits the text is accepted, and so are some of its lines alone
+  -- if the text is within the limit of bytes and has no line that is too long, it is accepted, and so is any selection of its
+  -- lines
   pub accepted : length text ≤ MAX_CONFIG_BYTES → has_short_lines text ≡ true → IsAccepted format tree text
   pub part_accepted : length text ≤ MAX_CONFIG_BYTES → has_short_lines text ≡ true → (keeps : ℕ → Bool)
       → IsAccepted format tree (with_lines keeps text)
-  -- where an accepted file gives the values, no line of the text is too long
+  -- if an accepted configuration file gives the values, no line of the text is too long
   pub short : (file : List ℕ) → Loads format profile tree file values → has_short_lines text ≡ true
 
--- the minimal file of the values of a fitting assignment is canonical
+-- the minimal file of the values that an assignment of fitting user values gives is canonical (`IsCanonicalText`)
 abbrev pub MinimalTextsAreCanonical : Type 0
 MinimalTextsAreCanonical = (format : FileFormat) (profile : Profile) (tree : Tree) (users : List (Option UserValue)) (values : List UnitValue)
     → is_prefix format.prefix ≡ true → IsSettledTree tree

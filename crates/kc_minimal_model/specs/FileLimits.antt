@@ -20,13 +20,14 @@ MinimalFileLines = (format : FileFormat) → is_prefix format.prefix ≡ true
     → ForSolutions (λ profile tree values. file_lines (minimal_file format profile tree values)
     ≡ map (symbol_line format tree values) (minimal_symbols profile tree values))
 
--- a file that can be read is accepted if it is within the limits
+-- a configuration file whose lines are UTF-8 and not malformed is accepted if it is within the limits of bytes, lines
+-- and line lengths
 abbrev pub ReadFilesAreAccepted : Type 0
 ReadFilesAreAccepted = (format : FileFormat) (profile : Profile) (tree : Tree) (bytes : List ℕ) (values : List UnitValue)
     → ReadsTo format profile tree bytes values → length bytes ≤ MAX_CONFIG_BYTES → length (file_lines bytes) ≤ MAX_CONFIG_LINES
     → has_short_lines bytes ≡ true → IsAccepted format tree bytes
 
--- a minimal file of an accepted file passes no limit but the size
+-- the minimal file of an accepted file is accepted and gives the same values, if it is within the limit of bytes
 abbrev pub MinimalFilesAreAccepted : Type 0
 MinimalFilesAreAccepted = (format : FileFormat) (profile : Profile) (tree : Tree) (bytes : List ℕ) (values : List UnitValue)
     → is_prefix format.prefix ≡ true → IsSettledTree tree → Loads format profile tree bytes values

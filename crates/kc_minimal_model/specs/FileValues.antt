@@ -13,26 +13,26 @@ use Rattle.kc_dotconfig_model.specs.ConfigFiles.{FileMeans, file_lines, file_ass
 use Rattle.kc_value.specs.declared.limits.TheConstants.{MAX_LINE_BYTES}
 use Rattle.kc_dotconfig_model.specs.LoadFaults.{IsAccepted}
 
--- each line of the file is UTF-8 and not malformed, and its assignment gives these values and no others
+-- each line of the configuration file is UTF-8 and not malformed, and the file's assignment gives these values and no others
 pub record ReadsTo (format : FileFormat) (profile : Profile) (tree : Tree) (bytes : List ℕ) (values : List UnitValue) : Type 0 where
   pub utf8 : has_utf8_lines bytes ≡ true
   pub meanings : List LineMeaning
-  pub says : FileMeans format tree bytes meanings
+  pub has_meaning : FileMeans format tree bytes meanings
   pub gives : UniquelySolves (length tree.units) (rule profile tree) (file_assignment tree meanings) values
 
--- an accepted file that gives these values and no others
+-- the configuration file is accepted, and gives these values and no others
 pub record Loads (format : FileFormat) (profile : Profile) (tree : Tree) (bytes : List ℕ) (values : List UnitValue) : Type 0 where
   pub accepted : IsAccepted format tree bytes
   pub reads : ReadsTo format profile tree bytes values
 
--- whether no line is longer than a line of a file may be
+-- whether each line of a configuration file has at most `MAX_LINE_BYTES` bytes
 abbrev pub has_short_lines : List ℕ → Bool
 has_short_lines bytes = list_all (λ (line : List ℕ). nat_le (length line) MAX_LINE_BYTES) (file_lines bytes)
 
--- every symbol has the same value
+-- every symbol has the same value in both valuations
 abbrev pub HaveSameValues : Tree → List UnitValue → List UnitValue → Type 0
 HaveSameValues tree v w = (s : ℕ) → value_of_symbol tree v s ≡ value_of_symbol tree w s
 
--- some symbol has another value
+-- some symbol has different values in the two valuations
 abbrev pub DifferAtASymbol : Tree → List UnitValue → List UnitValue → Type 0
 DifferAtASymbol tree v w = (s : ℕ) × (value_of_symbol tree v s ≢ value_of_symbol tree w s)

@@ -10,29 +10,30 @@ use Rattle.kc_rules_model.specs.Reports.{is_written}
 use Rattle.kc_dotconfig_model.specs.Formats.{FileFormat}
 use Rattle.kc_minimal_model.specs.SymbolLine.{ended_line}
 
--- a title that begins with the prefix comes after two spaces, so that it is never read as an unset line
+-- the title in a heading of the full file, after a further space if it begins with the prefix, so that it is never
+-- read as an unset line
 abbrev pub heading_title : List ℕ → List ℕ → List ℕ
 heading_title prefix title = if starts_with nat_eq title prefix then 32 ∷ title else title
 
--- the heading of a menu or a comment (Kconfiglib's `write_config`)
+-- the heading of a menu or a comment in the full file, from the prefix and the title (Kconfiglib's `write_config`)
 abbrev pub heading : List ℕ → List ℕ → List ℕ
 heading prefix title = codes "\n#\n# " ++ (heading_title prefix title ++ codes "\n#\n")
 
--- the line at a menu's end
+-- the line at the end of a menu of this title in the full file, with its newline
 abbrev pub end_line : List ℕ → List ℕ
 end_line title = codes "# end of " ++ (title ++ 10 ∷ [])
 
--- a condition applies where it isn't `n`
+-- whether a condition applies: its value isn't `n`
 abbrev pub applies : Tree → List UnitValue → Expr → Bool
 applies tree values e = not (is_n (condition tree values e))
 
--- whether an entry defines a symbol
+-- whether an entry defines the symbol of this number
 abbrev pub defines : ℕ → Entry → Bool
 defines s (definition t) = nat_eq s t
 defines s e = false
 
--- whether an entry is written, with the entries before it, the newest first: a symbol at its first definition alone, a
--- heading and a menu's end where the conditions apply (Kconfiglib's `write_config`)
+-- whether the full file has an entry, given those before it: the first definition of a symbol that is written, and a menu's
+-- heading or end or a comment whose conditions aren't `n` (Kconfiglib's `write_config`)
 abbrev pub is_entry_written : Tree → List UnitValue → (before : List Entry) → Entry → Bool
 is_entry_written tree values before (definition s) = is_written tree values s && not (list_any (defines s) before)
 is_entry_written tree values before (choice_begins c) = false
@@ -40,7 +41,7 @@ is_entry_written tree values before (menu_begins title dependency visible) = app
 is_entry_written tree values before (menu_ends title dependency visible) = applies tree values dependency && applies tree values visible
 is_entry_written tree values before (comment title dependency) = applies tree values dependency
 
--- the text of an entry that is written
+-- the text of an entry that the full file has
 abbrev pub entry_text : FileFormat → Tree → List UnitValue → Entry → List ℕ
 entry_text format tree values (definition s) = ended_line format tree values s
 entry_text format tree values (choice_begins c) = []
@@ -48,32 +49,34 @@ entry_text format tree values (menu_begins title dependency visible) = heading f
 entry_text format tree values (menu_ends title dependency visible) = end_line title
 entry_text format tree values (comment title dependency) = heading format.prefix title
 
+-- whether an entry defines a symbol
 abbrev pub is_symbol : Entry → Bool
 is_symbol (definition s) = true
 is_symbol e = false
 
+-- whether an entry is the end of a menu
 abbrev pub is_menu_end : Entry → Bool
 is_menu_end (menu_ends title dependency visible) = true
 is_menu_end e = false
 
--- whether the last entry that is written, of these with the newest first, is a menu's end
+-- whether a menu's end is the last of the entries, given the newest first, that the full file has
 abbrev pub ends_with_menu : Tree → List UnitValue → List Entry → Bool
 ends_with_menu tree values [] = false
 ends_with_menu tree values (e ∷ before) = if is_entry_written tree values before e then is_menu_end e else ends_with_menu tree values before
 
--- an empty line comes before a symbol that follows the end of a menu
+-- the newline of an empty line before an entry of the full file, if it is a symbol that follows a menu's end; nothing otherwise
 abbrev pub empty_line_before : Tree → List UnitValue → (before : List Entry) → Entry → List ℕ
 empty_line_before tree values before e = if is_symbol e && ends_with_menu tree values before then 10 ∷ [] else []
 
--- what an entry adds, with the entries before it
+-- the text that an entry adds to the full file, given the entries before it, the newest first
 abbrev pub text_added : FileFormat → Tree → List UnitValue → (before : List Entry) → Entry → List ℕ
 text_added format tree values before e = if is_entry_written tree values before e then empty_line_before tree values before e ++ entry_text format tree values e else []
 
--- what entries add, in their order, with the entries before them
+-- the text that entries, in their order, add to the full file, given the entries before them, the newest first
 abbrev pub texts_added : FileFormat → Tree → List UnitValue → (before : List Entry) → List Entry → List ℕ
 texts_added format tree values before [] = []
 texts_added format tree values before (e ∷ entries) = text_added format tree values before e ++ texts_added format tree values (e ∷ before) entries
 
--- the full file (Kconfiglib's `write_config`)
+-- the full file of a valuation, with its newlines (Kconfiglib's `write_config`)
 abbrev pub full_file : FileFormat → Tree → List UnitValue → List ℕ
 full_file format tree values = texts_added format tree values [] tree.entries

@@ -21,26 +21,29 @@ use Rattle.kc_minimal_model.specs.Differences.{differences}
 use Rattle.kc_minimal_model.specs.FileValues.{Loads, HaveSameValues}
 use Rattle.kc_minimal_model.specs.CanonicalText.{IsCanonicalText}
 
--- a file gives these values and no others, and their minimal file is canonical
+-- the configuration file is accepted, gives the values `values` and no others, and their minimal file is canonical
+-- (`IsCanonicalText`)
 pub record HasCanonicalFile (format : FileFormat) (profile : Profile) (tree : Tree) (bytes : List ℕ) : Type 0 where
   pub values : List UnitValue
   pub loads : Loads format profile tree bytes values
   pub canonical : IsCanonicalText format profile tree values (minimal_file format profile tree values)
 
--- each accepted file over a settled tree has a minimal file that is canonical
+-- each accepted file over a consistent tree without a cycle of dependencies has a canonical minimal file (`HasCanonicalFile`)
 abbrev pub MinimalFilesAreCanonical : Type 0
 MinimalFilesAreCanonical = (format : FileFormat) (profile : Profile) (tree : Tree) (bytes : List ℕ) → is_prefix format.prefix ≡ true
     → IsSettledTree tree → IsAccepted format tree bytes → HasCanonicalFile format profile tree bytes
 
--- two files have canonical minimal files, and give every symbol the same value exactly if these are equal byte for byte
+-- both configuration files have canonical minimal files, and they give every symbol the same value exactly if their
+-- minimal files are equal byte for byte
 pub record AreComparedByMinimalFiles (format : FileFormat) (profile : Profile) (tree : Tree) (a b : List ℕ) : Type 0 where
   pub left : HasCanonicalFile format profile tree a
   pub right : HasCanonicalFile format profile tree b
   pub same : HaveSameValues tree left.values right.values
       ↔ (minimal_file format profile tree left.values ≡ minimal_file format profile tree right.values)
 
--- The headline: for all Kconfig files that are read without a fault, and whose units have no cycle, and for every two
--- configuration files that are accepted over them.
+-- The headline: for all Kconfig files that are read without a fault and whose units have no cycle, two accepted
+-- configuration files have canonical minimal files, and give every symbol the same value exactly if these are equal
+-- byte for byte.
 abbrev pub Headline : Type 0
 Headline = (files : Files) (root : List ℕ) (format : FileFormat) (profile : Profile) (a b : List ℕ) → is_prefix format.prefix ≡ true
     → first_tree_fault files root ≡ None
@@ -48,7 +51,8 @@ Headline = (files : Files) (root : List ℕ) (format : FileFormat) (profile : Pr
     → IsAccepted format (tree_of_files files root) a → IsAccepted format (tree_of_files files root) b
     → AreComparedByMinimalFiles format profile (tree_of_files files root) a b
 
--- two fitting assignments differ at no symbol exactly if their minimal files are equal byte for byte
+-- the values that two assignments of fitting user values give differ at no symbol exactly if their minimal files are equal byte
+-- for byte
 abbrev pub DifferencesDecideMinimalFiles : Type 0
 DifferencesDecideMinimalFiles = (format : FileFormat) (profile : Profile) (tree : Tree) (a b : List (Option UserValue)) (left right : List UnitValue)
     → is_prefix format.prefix ≡ true → IsSettledTree tree

@@ -6,6 +6,6 @@ pub mod FileValues
 pub mod MinimalFileLaws
 pub mod FileLimits
 pub mod CanonicalText
-pub mod FullFilesBack
+pub mod FullFileLaws
 pub mod Headline
 pub mod between

@@ -19,10 +19,10 @@ use Rattle.kc_minimal_model.specs.SymbolLine.{value_line, symbol_line}
 use Rattle.kc_minimal_model.specs.Differences.{differences}
 use Rattle.kc_minimal_model.specs.MinimalFile.{minimal_file, has_line}
 
--- each line of the file is read, and what the lines assign is the least assignment of the values
+-- each line of the minimal file has a meaning, and what the lines assign is the least assignment of the values
 pub record IsReadAsLeast (format : FileFormat) (profile : Profile) (tree : Tree) (values : List UnitValue) : Type 0 where
   pub meanings : List LineMeaning
-  pub says : FileMeans format tree (minimal_file format profile tree values) meanings
+  pub has_meaning : FileMeans format tree (minimal_file format profile tree values) meanings
   pub least : IsLeastAssignment (length tree.units) (rule profile tree) as_user values (file_assignment tree meanings)
 
 -- a symbol's line is read as the assignment of its unit's value to its unit
@@ -32,9 +32,9 @@ pub record IsReadAsItsAssignment (format : FileFormat) (tree : Tree) (values : L
   pub has : slice_get values (unit_of tree s) ≡ Some value
   pub meant : as_user value ≡ Some user
   pub trimmed : without_white_end (symbol_line format tree values s) ≡ symbol_line format tree values s
-  pub says : Means format tree (symbol_line format tree values s) (assigns (unit_of tree s) user)
+  pub has_meaning : Means format tree (symbol_line format tree values s) (assigns (unit_of tree s) user)
 
--- a property of the values that any fitting assignment has over any consistent tree
+-- the property holds of the values that any assignment of fitting user values gives over any consistent tree
 abbrev pub ForSolutions : (Profile → Tree → List UnitValue → Type 0) → Type 0
 ForSolutions P =
     (profile : Profile) (tree : Tree) (users : List (Option UserValue)) (values : List UnitValue) → IsConsistent tree
@@ -47,25 +47,26 @@ MinimalLinesAreRead = (format : FileFormat) → is_prefix format.prefix ≡ true
     → ForSolutions (λ profile tree values. (s : ℕ) → has_line profile tree values s ≡ true
     → IsReadAsItsAssignment format tree values s)
 
--- no two lines speak of one unit
+-- no two lines of a minimal file assign to the same unit
 abbrev pub MinimalLinesDiffer : Type 0
 MinimalLinesDiffer =
     ForSolutions (λ profile tree values. (s t : ℕ) → has_line profile tree values s ≡ true
     → has_line profile tree values t ≡ true → unit_of tree s ≡ unit_of tree t → s ≡ t)
 
--- a minimal file is read as the least assignment of its values
+-- a minimal file is read as the least assignment that gives its values (`IsLeastAssignment`)
 abbrev pub MinimalFilesAssignLeast : Type 0
 MinimalFilesAssignLeast = (format : FileFormat) → is_prefix format.prefix ≡ true
     → ForSolutions (λ profile tree values. IsReadAsLeast format profile tree values)
 
--- in each format the line of a string and a text without a newline is read back as the assignment of this text
+-- in each format, the line that is written for a string symbol with a text without a newline is read as the
+-- assignment of this text
 abbrev pub StringsAreReadBack : Type 0
 StringsAreReadBack = (format : FileFormat) (tree : Tree) (s : ℕ) (symbol : Symbol) (text : List ℕ) → is_prefix format.prefix ≡ true
     → IsConsistent tree → slice_get tree.symbols s ≡ Some symbol → symbol.kind ≡ Text → has_newline text ≡ false
     → FileMeans format tree (value_line format.prefix symbol.name (string_spelling format.strings text) ++ 10 ∷ [])
     (assigns (unit_of tree s) (TextUser text) ∷ [])
 
--- nothing differs between two valuations exactly if they are the same
+-- two valuations whose values fit their units, in a consistent tree, differ at no symbol exactly if they are equal
 abbrev pub DifferencesAreExact : Type 0
 DifferencesAreExact = (tree : Tree) (v w : List UnitValue) → IsConsistent tree
     → FitsValues (length tree.units) (λ u x. IsTrue (value_fits tree u x)) v

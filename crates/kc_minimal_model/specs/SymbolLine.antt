@@ -11,7 +11,7 @@ use Rattle.kc_rules_model.specs.SymbolValues.{value_of_symbol}
 use Rattle.kc_dotconfig_model.specs.declared.format.Strings.{Strings}
 use Rattle.kc_dotconfig_model.specs.Formats.{FileFormat, string_spelling}
 
--- the text after `=`: a string is in quotes, in the form of the file
+-- the spelling of a value's text after `=`: a string in quotes, in the file's form of strings; any other text as it is
 abbrev pub spelled : Strings → Kind → List ℕ → List ℕ
 spelled strings Text text = string_spelling strings text
 spelled strings _ text = text
@@ -24,21 +24,22 @@ value_line prefix name text = prefix ++ (name ++ (61 ∷ text))
 abbrev pub unset_line : List ℕ → List ℕ → List ℕ
 unset_line prefix name = codes "# " ++ (prefix ++ (name ++ codes " is not set"))
 
--- a bool or tristate of value `n` isn't set, and any other value comes after `=`; without the newline
+-- the line of a symbol's value, without its newline: `# CONFIG_NAME is not set` for `n` of a bool or tristate, and
+-- `CONFIG_NAME=value` otherwise
 abbrev pub line_with : FileFormat → List ℕ → SymbolValue → List ℕ
 line_with format name seen = if is_tri_kind seen.kind && is_n seen.tri
     then unset_line format.prefix name
     else value_line format.prefix name (spelled format.strings seen.kind seen.text)
 
--- a symbol that isn't there has no line
+-- the line of a symbol with this value, without its newline; empty if there is no symbol or no value
 abbrev pub line_of_value : FileFormat → Option Symbol → Option SymbolValue → List ℕ
 line_of_value format (Some symbol) (Some seen) = line_with format symbol.name seen
 line_of_value format _ _ = []
 
--- the line of a symbol, without its newline
+-- the line of a symbol in a configuration file, without its newline; empty if there is no such symbol
 unfoldable pub symbol_line : FileFormat → Tree → List UnitValue → ℕ → List ℕ
 symbol_line format tree values s = line_of_value format (slice_get tree.symbols s) (value_of_symbol tree values s)
 
--- the line of a symbol's value, with its newline
+-- the line of a symbol in a configuration file, with its newline
 abbrev pub ended_line : FileFormat → Tree → List UnitValue → ℕ → List ℕ
 ended_line format tree values s = symbol_line format tree values s ++ 10 ∷ []

@@ -1,7 +1,7 @@
 //! Laws of the files.
 ghost use Rattle.kc_minimal_model.specs.CanonicalText.{FilesAssignTheLines, MinimalTextsAreCanonical};
 ghost use Rattle.kc_minimal_model.specs.FileLimits.{MinimalFileLines, MinimalFilesAreAccepted, ReadFilesAreAccepted};
-ghost use Rattle.kc_minimal_model.specs.FullFilesBack.{FullFilesLeadBack};
+ghost use Rattle.kc_minimal_model.specs.FullFileLaws.{FullFilesLeadBack};
 ghost use Rattle.kc_minimal_model.specs.Headline.{DifferencesDecideMinimalFiles, Headline, MinimalFilesAreCanonical};
 ghost use Rattle.kc_minimal_model.specs.MinimalFileLaws.{DifferencesAreExact, MinimalFilesAssignLeast, MinimalLinesAreRead, MinimalLinesDiffer, StringsAreReadBack};
 
@@ -16,7 +16,7 @@ pub fn strings_are_read_back()
     ensures { StringsAreReadBack }
 {}
 
-/// No two lines of a minimal file speak of one unit.
+/// No two lines of a minimal file assign to the same unit.
 pub fn minimal_lines_differ()
     ensures { MinimalLinesDiffer }
 {}
@@ -26,45 +26,45 @@ pub fn minimal_file_has_its_lines()
     ensures { MinimalFileLines }
 {}
 
-/// A minimal file is read, and what its lines assign is the least assignment of the values.
+/// A minimal file can be read, and its lines make the least assignment that gives its values (`IsLeastAssignment`).
 pub fn minimal_files_assign_least()
     ensures { MinimalFilesAssignLeast }
 {}
 
-/// Every file that gives the values of a minimal file assigns to each of its units, the same member
-/// to choices and the same text to strings and numbers, by at least as many lines. The prefix may
-/// be any bytes, and strings may be in each form.
+/// Every file that gives the values of a minimal file assigns to the unit of each of its lines, with the same member
+/// for choices and the same text for strings and numbers, by at least as many lines. The prefix may be any bytes, and
+/// strings may be in each form.
 pub fn files_assign_the_lines()
     ensures { FilesAssignTheLines }
 {}
 
-/// The minimal file of the values of any fitting assignment is canonical: a file gives every
-/// symbol the same value exactly if its minimal file is the same byte for byte; it gives the
-/// values back; minimising it gives it again; without any of its lines it gives other values; no
-/// assignment and no file with these values assigns less; and within the limits of bytes it is
-/// accepted.
+/// The minimal file of the values that an assignment of fitting user values gives is canonical (`IsCanonicalText`). A file gives
+/// every symbol the same value exactly if that file's minimal file is this one byte for byte. Reading the minimal file gives the
+/// values back, and minimising it changes nothing. Without any one of its lines it gives other values. No assignment and no file
+/// with these values assigns less. Within the limits of bytes the minimal file is accepted.
 pub fn minimal_texts_are_canonical()
     ensures { MinimalTextsAreCanonical }
 {}
 
-/// A file that can be read is accepted within the limits.
+/// A configuration file whose lines are UTF-8 and not malformed is accepted if it is within the limits of bytes, lines
+/// and line lengths.
 pub fn read_files_are_accepted()
     ensures { ReadFilesAreAccepted }
 {}
 
-/// The minimal file of an accepted file is accepted and gives its values, if its size is within
-/// the limit.
+/// The minimal file of an accepted file is accepted and gives the same values, if it is within the limit of bytes.
 pub fn minimal_files_are_accepted()
     ensures { MinimalFilesAreAccepted }
 {}
 
-/// Where no tristate is above its visibility, reading the full file gives the values back.
+/// Reading the full file of a configuration's values gives these values back, unless some visible tristate would get another
+/// value if its value were also its user value.
 pub fn full_files_lead_back()
     ensures { FullFilesLeadBack }
 {}
 
-/// Each accepted file over a settled tree gives every unit one value and no other, and the minimal
-/// file of these values is canonical.
+/// Each accepted file over a consistent tree without a cycle of dependencies gives every unit one value and no other, and the
+/// minimal file of these values is canonical (`IsCanonicalText`).
 pub fn minimal_files_are_canonical()
     ensures { MinimalFilesAreCanonical }
 {}
@@ -76,13 +76,13 @@ pub fn headline()
     ensures { Headline }
 {}
 
-/// Nothing differs between two valuations exactly if they are the same.
+/// Two valuations whose values fit their units differ at no symbol exactly if they are equal.
 pub fn differences_are_exact()
     ensures { DifferencesAreExact }
 {}
 
-/// Nothing differs between what two fitting assignments give exactly if their minimal files are
-/// equal byte for byte.
+/// The values that two assignments of fitting user values give differ at no symbol exactly if their minimal files are equal byte
+/// for byte.
 pub fn differences_decide_minimal_files()
     ensures { DifferencesDecideMinimalFiles }
 {}

@@ -20,7 +20,7 @@ bound_is tree values (both a b) = refl
 bound_is tree values (either a b) = refl
 bound_is tree values (shown e) = refl
 
--- a bound can be printed
+-- the number of a text in an int or hex, or 0 where it represents none, can be printed in that type
 pub number_printable : (kind : Kind) (text : List ℕ) → IsNumber kind → IsPrintable kind (unwrap_or (number_of_text kind text) (pos 0))
 number_printable Int text is = int_bound text (number_of_text Int text) refl
 number_printable Hex text is = hex_bound text (number_of_text Hex text) refl

@@ -66,7 +66,7 @@ kept_units : (t r : Bool) → (t ≡ true → r ≡ true) → (t && r) ≡ t
 kept_units true r f = f refl
 kept_units false r f = refl
 
--- what a unit needs, ascending and each once, are its dependencies
+-- a list of what a unit needs, sorted and without repetitions, is the list of its dependencies
 pub sorted_needs : (tree : Tree) (u : ℕ) (found sorted last : List ℕ) → u < length tree.units
     → ((d : ℕ) → has found d ≡ has (needed_by tree (slice_get tree.units u)) d) → AreUnits tree found
     → IsPermutation found sorted → IsSorted nat_cmp sorted → last ≡ dedup eqb sorted → last ≡ dependencies tree u
@@ -86,7 +86,8 @@ sorted_needs tree u found sorted last there same below permuted rising e =
 earlier : (xs ys : List ℕ) (k : ℕ) → k < length xs → slice_index (xs ++ ys) k ≡ slice_index xs k
 earlier xs ys k h = get_or-append xs ys 0 k h
 
--- the dependencies of one more unit
+-- the lists of the dependencies of the units below `u`, with those of unit `u` after them, are the lists for the units below `u +
+-- 1`
 pub linked : (tree : Tree) (u : ℕ) (starts links units nextStarts nextLinks : List ℕ) → LinksBelow tree u starts links → units ≡ dependencies tree u
     → nextLinks ≡ links ++ units → nextStarts ≡ starts ++ length (links ++ units) ∷ [] → LinksBelow tree (u + 1) nextStarts nextLinks
 linked tree u starts links units nextStarts nextLinks l e eLinks eStarts =

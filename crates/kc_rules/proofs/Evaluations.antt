@@ -1,4 +1,4 @@
--- Rules of units by what they are.
+-- The rules of units, by whether a unit is a symbol or a choice.
 use Rattle.std.proofs.Common.{◌≡◌, inl, inr, ◌==◌, arith, ℕ, ◌<◌, true, false, cond, IsTrue, List, length, Option, Some, None, IfSome, pos, unwrap_or, sym, ap, ◌∙◌}
 use Rattle.std.specs.Prelude.{slice_get}
 use Rattle.std.specs.List.{All, list_any}

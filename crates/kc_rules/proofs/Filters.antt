@@ -2,34 +2,34 @@
 use Rattle.std.proofs.Common.{◌≡◌, ℕ, zero, suc, ◌+◌, Bool, true, false, cond, List, [], ◌∷◌, ◌++◌, refl, sym, ap, ◌∙◌, arith}
 use Rattle.std.specs.List.{filter, range_with_len}
 
-pub nothing_behind : (xs : List ℕ) → xs ≡ xs ++ []
-nothing_behind [] = refl
-nothing_behind (x ∷ xs) = ap (λ ys. x ∷ ys) (nothing_behind xs)
+pub append_empty : (xs : List ℕ) → xs ≡ xs ++ []
+append_empty [] = refl
+append_empty (x ∷ xs) = ap (λ ys. x ∷ ys) (append_empty xs)
 
 one_kept : (p : ℕ → Bool) (n : ℕ) → filter p (n ∷ []) ≡ cond (p n) (n ∷ []) []
 one_kept p n = refl
 
-filter_behind : (p : ℕ → Bool) (xs : List ℕ) (n : ℕ) → filter p (xs ++ n ∷ []) ≡ filter p xs ++ cond (p n) (n ∷ []) []
-filter_behind p [] n = one_kept p n
-filter_behind p (x ∷ xs) n = by_test (p x) (filter_behind p xs n) where
+filter_append_one : (p : ℕ → Bool) (xs : List ℕ) (n : ℕ) → filter p (xs ++ n ∷ []) ≡ filter p xs ++ cond (p n) (n ∷ []) []
+filter_append_one p [] n = one_kept p n
+filter_append_one p (x ∷ xs) n = by_test (p x) (filter_append_one p xs n) where
   by_test : (t : Bool) → filter p (xs ++ n ∷ []) ≡ filter p xs ++ cond (p n) (n ∷ []) []
       → cond t (x ∷ filter p (xs ++ n ∷ [])) (filter p (xs ++ n ∷ [])) ≡ cond t (x ∷ filter p xs) (filter p xs) ++ cond (p n) (n ∷ []) []
   by_test true e = ap (λ ys. x ∷ ys) e
   by_test false e = e
 
-range_behind : (a n : ℕ) → range_with_len a (suc n) ≡ range_with_len a n ++ (a + n) ∷ []
-range_behind a zero = ap (λ k. k ∷ []) (omega arith)
-range_behind a (suc n) = ap (λ ys. a ∷ ys) (range_behind (a + 1) n ∙ ap (λ k. range_with_len (a + 1) n ++ k ∷ []) (omega arith))
+range_append_one : (a n : ℕ) → range_with_len a (suc n) ≡ range_with_len a n ++ (a + n) ∷ []
+range_append_one a zero = ap (λ k. k ∷ []) (omega arith)
+range_append_one a (suc n) = ap (λ ys. a ∷ ys) (range_append_one (a + 1) n ∙ ap (λ k. range_with_len (a + 1) n ++ k ∷ []) (omega arith))
 
--- one more number
+-- the numbers below `n` that pass a test, with `n` after them if it passes, are the numbers below `n + 1` that pass it
 pub filter_more : (p : ℕ → Bool) (n s : ℕ) (t : Bool) (old new : List ℕ) → s ≡ n → t ≡ p s → old ≡ filter p (range_with_len 0 n)
     → new ≡ old ++ cond t (s ∷ []) [] → new ≡ filter p (range_with_len 0 (n + 1))
 filter_more p n s t old new es et eo en =
     en ∙ ap (λ ys. ys ++ cond t (s ∷ []) []) eo
     ∙ ap (λ u. filter p (range_with_len 0 n) ++ cond u (s ∷ []) []) et
     ∙ ap (λ k. filter p (range_with_len 0 n) ++ cond (p k) (k ∷ []) []) es
-    ∙ sym (ap (λ k. filter p (range_with_len 0 k)) next ∙ ap (filter p) (range_behind 0 n ∙ ap (λ k. range_with_len 0 n ++ k ∷ []) zero_plus)
-    ∙ filter_behind p (range_with_len 0 n) n)
+    ∙ sym (ap (λ k. filter p (range_with_len 0 k)) next ∙ ap (filter p) (range_append_one 0 n ∙ ap (λ k. range_with_len 0 n ++ k ∷ []) zero_plus)
+    ∙ filter_append_one p (range_with_len 0 n) n)
   where
     next : n + 1 ≡ suc n
     next = omega arith

@@ -5,7 +5,7 @@ use Rattle.std.specs.List.{AllByRecursion}
 use Rattle.std.proofs.lemmas.Option.{slice_get-get_or}
 use Rattle.kc_expr.specs.Expr.{Expr, value}
 use Rattle.kc_expr.specs.Lookup.{environment_of, index_of_name}
-use Rattle.kc_expr.specs.NamesIn.{names_in}
+use Rattle.kc_expr.specs.ExpressionNames.{names_in}
 use Rattle.kc_expr.proofs.Places.{place_there}
 use Rattle.kc_tree_model.specs.Trees.{Tree}
 use Rattle.kc_tree_model.specs.TreeLookup.{symbol_named}

@@ -14,11 +14,11 @@ use Rattle.kc_value.specs.declared.value.Kind.{Kind}
 use Rattle.kc_value.specs.declared.value.Kind.TheVariants.{Bool as Boolean, Tristate, Text, Int, Hex}
 use Rattle.kc_expr.specs.between.Arena.{Exprs, node_expr}
 use Rattle.kc_expr.specs.Expr.{modules}
-use Rattle.kc_expr.specs.NamesIn.{names_in, operand_names}
+use Rattle.kc_expr.specs.ExpressionNames.{names_in, operand_names}
 use Rattle.kc_tree.specs.between.Views.{symbol_view, choice_view, default_view, range_view, reverse_dependency_view, member_default_view, operand_or_empty, symbol_of_name_id, HasOperands}
 use Rattle.kc_tree.specs.declared.symbol.Default.{Default as KeptDefault}
 use Rattle.kc_tree.specs.declared.symbol.Range.{Range as KeptRange}
-use Rattle.kc_tree.specs.declared.symbol.ReverseDependency.{ReverseDependency as KeptForce}
+use Rattle.kc_tree.specs.declared.symbol.ReverseDependency.{ReverseDependency as KeptReverseDependency}
 use Rattle.kc_tree.specs.declared.symbol.Symbol.{Symbol as KeptSymbol}
 use Rattle.kc_tree.specs.declared.symbol.Choice.{Choice as KeptChoice}
 use Rattle.kc_tree.specs.declared.symbol.MemberDefault.{MemberDefault as KeptMemberDefault}
@@ -31,7 +31,7 @@ use Rattle.kc_tree_model.proofs.Lookups.{inside, index_if_found}
 use Rattle.kc_rules.specs.checker.ModulesSymbol.{modules_symbol}
 use Rattle.kc_expr.specs.between.Visits.{mentions, passes_some_name}
 use Rattle.kc_rules.specs.checker.Links.{has, is_of, in_exprs, in_defaults, in_ranges, in_reverse_dependencies, in_symbol, in_member_defaults, in_prompt, in_choice, depends_on_reverse, by_modules}
-use Rattle.kc_rules.proofs.Pushes.{any_same, any_map, any_flat, any_told, operand_mention, nothing_more}
+use Rattle.kc_rules.proofs.Pushes.{any_same, any_map, any_flat, any_filtered, operand_mention, nothing_more}
 
 -- no symbol has the empty name
 not_empty : (symbol : Symbol) → 0 < length symbol.name → bytes_eq [] symbol.name ≡ false
@@ -53,17 +53,17 @@ unnamed tree sound =
     ap (λ p. index_if_found p (length tree.symbols)) (none_empty tree.symbols (λ s symbol e. (sound.words s symbol e).0))
     ∙ ap (λ b. cond b (Some (length tree.symbols)) None) (le-ltb (length tree.symbols) (length tree.symbols) (omega arith))
 
--- the symbol of a name by its number
-pub told_named : (tree : Tree) → IsConsistent tree → (names : List (List ℕ)) (i : ℕ)
+-- the symbol found by the number of a name in an arena is the symbol of the name, or none where there is no such number
+pub symbol_of_name_number : (tree : Tree) → IsConsistent tree → (names : List (List ℕ)) (i : ℕ)
     → symbol_of_name_id tree names i ≡ symbol_named tree (slice_index_or names i [])
-told_named tree sound names i = elim (cases_lt i (length names)) [
+symbol_of_name_number tree sound names i = elim (cases_lt i (length names)) [
   | inl h ↦ ap (option_and_then (symbol_named tree)) (slice_get-get_or names i [] h)
   | inr h ↦ ap (option_and_then (symbol_named tree)) (slice_get_past names i h) ∙ sym (ap (symbol_named tree) (get_or_past names i [] h) ∙ unnamed tree sound)
 ]
 
--- the units of some names
+-- a unit is among the units of some names exactly if one of the names is that of a symbol of the unit
 pub units_of_names : (tree : Tree) (d : ℕ) (names : List (List ℕ)) → has (units_named tree names) d ≡ list_any (is_of tree d) names
-units_of_names tree d names = any_told (λ name. option_map (unit_of tree) (symbol_named tree name)) d names
+units_of_names tree d names = any_filtered (λ name. option_map (unit_of tree) (symbol_named tree name)) d names
 
 module _ (exprs : Exprs) (p : List ℕ → Bool) where
   in_all : (ids : List ℕ) → list_any p (flat_map names_in (map (node_expr exprs) ids)) ≡ in_exprs exprs p ids
@@ -109,7 +109,7 @@ module _ (exprs : Exprs) (p : List ℕ → Bool) where
       ∙ any_map (λ (r : Range). list_any p (operand_names r.low ++ operand_names r.high ++ names_in r.condition)) (range_view exprs) rs
       ∙ each_range rs all
 
-  in_each_force : (fs : List KeptForce)
+  in_each_force : (fs : List KeptReverseDependency)
       → list_any p (flat_map (λ (f : ReverseDependency). names_in f.condition) (map (reverse_dependency_view exprs) fs)) ≡ in_reverse_dependencies exprs p fs
   in_each_force fs =
       any_flat p (λ (f : ReverseDependency). names_in f.condition) (map (reverse_dependency_view exprs) fs)
@@ -120,7 +120,7 @@ module _ (exprs : Exprs) (p : List ℕ → Bool) where
   prompts_mention tree s k e = ap (λ o. list_any p (names_in_prompts o)) e ∙ in_all k.prompts.now
 
 -- the units of some selects or implies
-forces_needed : (tree : Tree) (exprs : Exprs) (d : ℕ) (fs : List KeptForce)
+forces_needed : (tree : Tree) (exprs : Exprs) (d : ℕ) (fs : List KeptReverseDependency)
     → has (units_of_reverse_dependencies tree (map (reverse_dependency_view exprs) fs)) d
     ≡ (depends_on_reverse tree d fs || in_reverse_dependencies exprs (is_of tree d) fs)
 forces_needed tree exprs d fs =
@@ -141,11 +141,11 @@ modules_needed tree d Int = refl
 modules_needed tree d Hex = refl
 
 -- the order in which they are met
-met_order : (w m s i sn imp : Bool) → (s || i || m || (w || sn || imp)) ≡ (w || m || (s || sn) || (i || imp))
-met_order w m true i sn imp = sym (ap (λ t. t || (i || imp)) (or-true (w || m)))
-met_order w m false true sn imp = sym (or-true (w || m || sn))
-met_order w true false false sn imp = sym (ap (λ t. t || sn || imp) (or-true w))
-met_order w false false false sn imp = ap (λ t. t || sn || imp) (nothing_more w)
+needs_reordered : (w m s i sn imp : Bool) → (s || i || m || (w || sn || imp)) ≡ (w || m || (s || sn) || (i || imp))
+needs_reordered w m true i sn imp = sym (ap (λ t. t || (i || imp)) (or-true (w || m)))
+needs_reordered w m false true sn imp = sym (or-true (w || m || sn))
+needs_reordered w true false false sn imp = sym (ap (λ t. t || sn || imp) (or-true w))
+needs_reordered w false false false sn imp = ap (λ t. t || sn || imp) (nothing_more w)
 
 module _ (tree : Tree) (exprs : Exprs) (d : ℕ) where
   own_names : (k : KeptSymbol) → ((j : ℕ) (r : KeptRange) → slice_get k.ranges.now j ≡ Some r → HasOperands exprs r)
@@ -185,7 +185,7 @@ module _ (tree : Tree) (exprs : Exprs) (d : ℕ) where
       (map (default_view exprs) k.defaults.now) ++ flat_map (λ (r : Range). operand_names r.low ++ operand_names r.high ++ names_in r.condition)
       (map (range_view exprs) k.ranges.now) ++ flat_map names_in (map (node_expr exprs) k.direct.now) ++ cond (is_tristate k.kind) (modules ∷ []) [] in
       let w : Bool = in_exprs exprs p k.prompts.now || in_defaults exprs p k.defaults.now || in_ranges exprs p k.ranges.now || in_exprs exprs p k.direct.now in
-      met_order w (by_modules tree d k.kind (symbol_named tree modules)) (depends_on_reverse tree d k.selectors.now) (depends_on_reverse tree d k.impliers.now)
+      needs_reordered w (by_modules tree d k.kind (symbol_named tree modules)) (depends_on_reverse tree d k.selectors.now) (depends_on_reverse tree d k.impliers.now)
       (in_reverse_dependencies exprs p k.selectors.now) (in_reverse_dependencies exprs p k.impliers.now)
       ∙ sym (list_any-append (λ m. m == d) (units_named tree own ++ sel) imp
       ∙ ap (λ t. t || has imp d) (list_any-append (λ m. m == d) (units_named tree own) sel)
@@ -225,33 +225,33 @@ module _ (tree : Tree) (exprs : Exprs) (d : ℕ) where
 pub bounds_are : (exprs : Exprs) (rs : List KeptRange) → All (HasOperands exprs) rs → (j : ℕ) (r : KeptRange) → slice_get rs j ≡ Some r → HasOperands exprs r
 bounds_are exprs rs all j r e = subst (HasOperands exprs) (get_or_from_slice_get rs j r r e) (all j r (inside rs j r e))
 
--- the names met, by their numbers
-pub names_met : (exprs : Exprs) (p : List ℕ → Bool) (ids items : List ℕ) (n : Bool) → ids ≡ items → passes_some_name exprs p items ≡ n
+-- whether one of some names, given by their numbers in an arena, passes a test is the same by numbers and by names
+pub names_needed : (exprs : Exprs) (p : List ℕ → Bool) (ids items : List ℕ) (n : Bool) → ids ≡ items → passes_some_name exprs p items ≡ n
     → list_any (λ i. p (slice_index_or exprs.names i [])) ids ≡ n
-names_met exprs p ids items n same e =
+names_needed exprs p ids items n same e =
     ap (list_any (λ i. p (slice_index_or exprs.names i []))) same ∙ sym (any_map p (λ i. slice_index_or exprs.names i []) items) ∙ e
 
--- what is met for a symbol and for a choice, where nothing was met before
-pub symbol_met : (tree : Tree) (exprs : Exprs) (d : ℕ) (k : KeptSymbol) (modules : Option ℕ) → All (HasOperands exprs) k.ranges.now
+-- whether a unit was appended among those that a symbol needs, step by step to an empty list, is whether the symbol needs it
+pub symbol_needed : (tree : Tree) (exprs : Exprs) (d : ℕ) (k : KeptSymbol) (modules : Option ℕ) → All (HasOperands exprs) k.ranges.now
     → modules ≡ modules_symbol tree
-    → (none by_selects by_implies by_all met no_names names : Bool) → none ≡ false → by_selects ≡ (none || depends_on_reverse tree d k.selectors.now)
+    → (none by_selects by_implies by_all needed no_names names : Bool) → none ≡ false → by_selects ≡ (none || depends_on_reverse tree d k.selectors.now)
     → by_implies ≡ (by_selects || depends_on_reverse tree d k.impliers.now)
     → by_all ≡ (by_implies || by_modules tree d k.kind modules) → no_names ≡ false → names ≡ (no_names || in_symbol exprs (is_of tree d) k)
-    → met ≡ (by_all || names)
-    → met ≡ has (needed_by_symbol tree (symbol_view exprs k)) d
-symbol_met tree exprs d k modules bounds is none by_selects by_implies by_all met no_names names e0 e1 e2 e3 f0 f1 e4 =
+    → needed ≡ (by_all || names)
+    → needed ≡ has (needed_by_symbol tree (symbol_view exprs k)) d
+symbol_needed tree exprs d k modules bounds is none by_selects by_implies by_all needed no_names names e0 e1 e2 e3 f0 f1 e4 =
     e4 ∙ ap (λ t. by_all || t) (f1 ∙ ap (λ t. t || in_symbol exprs (is_of tree d) k) f0)
     ∙ ap (λ t. t || in_symbol exprs (is_of tree d) k) (e3 ∙ ap (λ t. t || by_modules tree d k.kind modules)
     (e2 ∙ ap (λ t. t || depends_on_reverse tree d k.impliers.now) (e1 ∙ ap (λ t. t || depends_on_reverse tree d k.selectors.now) e0))
     ∙ ap (λ o. depends_on_reverse tree d k.selectors.now || depends_on_reverse tree d k.impliers.now || by_modules tree d k.kind o) is)
     ∙ symbol_needs tree exprs d k (bounds_are exprs k.ranges.now bounds)
 
-pub choice_met : (tree : Tree) (exprs : Exprs) (d : ℕ) (k : KeptChoice) (none met no_names names : Bool) → none ≡ false → no_names ≡ false
-    → names ≡ (no_names || in_choice tree exprs (is_of tree d) k) → met ≡ (none || names) → met ≡ has (needed_by_choice tree (choice_view exprs k)) d
-choice_met tree exprs d k none met no_names names e0 f0 f1 e1 =
+pub choice_needed : (tree : Tree) (exprs : Exprs) (d : ℕ) (k : KeptChoice) (none needed no_names names : Bool) → none ≡ false → no_names ≡ false
+    → names ≡ (no_names || in_choice tree exprs (is_of tree d) k) → needed ≡ (none || names) → needed ≡ has (needed_by_choice tree (choice_view exprs k)) d
+choice_needed tree exprs d k none needed no_names names e0 f0 f1 e1 =
     e1 ∙ ap (λ t. t || names) e0 ∙ f1 ∙ ap (λ t. t || in_choice tree exprs (is_of tree d) k) f0 ∙ choice_needs tree exprs d k
 
--- what a unit needs, by what it is
+-- what a symbol needs is needed by the unit that is this symbol
 pub needed_symbol : (tree : Tree) (u s : ℕ) (symbol : Symbol) → slice_get tree.units u ≡ Some (of_symbol s) → slice_get tree.symbols s ≡ Some symbol
     → needed_by_symbol tree symbol ≡ needed_by tree (slice_get tree.units u)
 needed_symbol tree u s symbol e f = sym (ap (needed_by tree) e ∙ ap (needed_by_symbol_at tree) f)

@@ -6,14 +6,15 @@ use Rattle.std.proofs.lemmas.List.Elements.{All-append, All-cons, All-nil}
 use Rattle.std.proofs.lemmas.Bool.{false≢true}
 use Rattle.std.proofs.lemmas.List.Folds.{list_any-append, list_any_more}
 use Rattle.kc_expr.specs.Expr.{Expr, alone, related, negated, both, either, shown}
-use Rattle.kc_expr.specs.NamesIn.{operand_names}
+use Rattle.kc_expr.specs.ExpressionNames.{operand_names}
 use Rattle.kc_expr.specs.between.Operand.{operand_alone}
 use Rattle.kc_tree.specs.between.Views.{operand_or_empty}
 use Rattle.kc_tree_model.specs.Trees.{Tree}
 use Rattle.kc_expr.specs.between.Visits.{mentions}
 use Rattle.kc_rules.specs.checker.Links.{is_at, has, AreUnits}
 
--- one more element
+-- whether `start` holds or one of the first `i` elements passes a test, or the element at `i` passes it, is the same for the
+-- first `i + 1` elements
 pub any_pushed : {X : Type 0} (m : X → Bool) (xs : List X) (i : ℕ) (x : X) (start old new : Bool) → i < length xs → x ≡ get_or xs i x → new ≡ (old || m x)
     → old ≡ (start || list_any m (take i xs)) → new ≡ (start || list_any m (take (i + 1) xs))
 any_pushed m xs i x start old new h e a b =
@@ -36,11 +37,11 @@ any_cons : (d : ℕ) (o : Option ℕ) (us : List ℕ) → list_any (λ e. e == d
 any_cons d None us = refl
 any_cons d (Some u) us = refl
 
-pub any_told : {X : Type 0} (h : X → Option ℕ) (d : ℕ) (xs : List X) → list_any (λ e. e == d) (filter_map h xs) ≡ list_any (λ x. is_at d (h x)) xs
-any_told h d [] = refl
-any_told h d (x ∷ xs) = any_cons d (h x) (filter_map h xs) ∙ ap (λ t. is_at d (h x) || t) (any_told h d xs)
+pub any_filtered : {X : Type 0} (h : X → Option ℕ) (d : ℕ) (xs : List X) → list_any (λ e. e == d) (filter_map h xs) ≡ list_any (λ x. is_at d (h x)) xs
+any_filtered h d [] = refl
+any_filtered h d (x ∷ xs) = any_cons d (h x) (filter_map h xs) ∙ ap (λ t. is_at d (h x) || t) (any_filtered h d xs)
 
--- a bound is an operand
+-- the names of an expression that is an operand alone, as a bound of a range is, are the names of the operand
 pub operand_mention : (p : List ℕ → Bool) (e : Expr) → IsSome (operand_alone e) → list_any p (operand_names (operand_or_empty e)) ≡ mentions p e
 operand_mention p (alone a) h = refl
 operand_mention p (related op a b) h = absurd (false≢true h)
@@ -53,11 +54,11 @@ pub nothing_more : (b : Bool) → b ≡ (b || false)
 nothing_more true = refl
 nothing_more false = refl
 
--- two parts one after the other
+-- a truth joined by `or` with one truth and then with another is joined with both at once
 pub two_pushed : (o a b m n : Bool) → m ≡ (o || a) → n ≡ (m || b) → n ≡ (o || (a || b))
 two_pushed o a b m n e f = f ∙ ap (λ t. t || b) e ∙ or_assoc o a b
 
--- one more unit
+-- a list of units with one more at its end has a unit if the list has it or it is the one at the end
 pub has_pushed : (old new : List ℕ) (u d : ℕ) → new ≡ old ++ u ∷ [] → has new d ≡ (has old d || (u == d))
 has_pushed old new u d e = ap (λ us. has us d) e ∙ list_any-append (λ m. m == d) old (u ∷ []) ∙ ap (λ t. has old d || t) (sym (nothing_more (u == d)))
 

@@ -15,7 +15,7 @@ kept : (b u : Bool) → u ≡ true → b ≡ (b && u)
 kept true u e = sym e
 kept false u e = refl
 
--- a text of UTF-8 is a line where it has no newline
+-- a text of UTF-8 is one line exactly if it has no newline
 pub line_is : (text : List ℕ) → IsUtf8 text → not (has_newline text) ≡ is_line text
 line_is text e = kept (not (has_newline text)) (is_utf8 text) (is_utf8-from_IsUtf8 text e)
 

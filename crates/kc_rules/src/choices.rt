@@ -10,7 +10,7 @@ use super::tristate_rules::is_visible;
 use super::valuation::Valuation;
 use kc_tree::{Choice, MemberDefault, Sym};
 
-/// Whether the prompt's condition isn't `n`; without a prompt never.
+/// Whether the condition of a choice's prompt isn't `n`; false without a prompt.
 fn is_shown(under: &Valuation<'_>, choice: &Choice<'_>) -> bool
     requires fits { ChoiceFits (valuation_exprs under.now) (length (valuation_tree under.now).symbols) choice.now }
     ensures value { result ≡ is_shown (valuation_tree under.now) (valuation_values under.now) (choice_view (valuation_exprs under.now) choice.now) }
@@ -21,7 +21,7 @@ fn is_shown(under: &Valuation<'_>, choice: &Choice<'_>) -> bool
     }
 }
 
-/// Whether a member is visible.
+/// Whether a member of a choice is visible.
 fn is_member_visible(under: &Valuation<'_>, s: Sym) -> bool
     requires there { s < length (valuation_tree under.now).symbols }
     ensures value { result ≡ is_visible_member (valuation_tree under.now) (valuation_values under.now) s }
@@ -29,7 +29,7 @@ fn is_member_visible(under: &Valuation<'_>, s: Sym) -> bool
     is_visible(under, &under.rules.tree.symbol(s))
 }
 
-/// Whether the condition isn't `n` and the member is visible.
+/// Whether a default of a choice counts: its condition isn't `n` and its member is visible.
 fn is_default_open(under: &Valuation<'_>, default: MemberDefault) -> bool
     requires member { default.member < length (valuation_tree under.now).symbols }
     requires condition { default.condition < length (valuation_exprs under.now).nodes }
@@ -38,7 +38,7 @@ fn is_default_open(under: &Valuation<'_>, default: MemberDefault) -> bool
     !is_n(under.condition(default.condition)) && is_member_visible(under, default.member)
 }
 
-/// The first default whose condition isn't `n` and whose member is visible.
+/// The member of a choice's first default whose condition isn't `n` and whose member is visible.
 fn default_member(under: &Valuation<'_>, defaults: &[MemberDefault]) -> Option<Sym>
     requires fits { AreMemberDefaults (valuation_exprs under.now) (valuation_tree under.now) defaults.now }
     ensures value { result ≡ default_member_of (valuation_tree under.now) (valuation_values under.now) (map (member_default_view (valuation_exprs under.now)) defaults.now) }
@@ -51,7 +51,7 @@ fn default_member(under: &Valuation<'_>, defaults: &[MemberDefault]) -> Option<S
     None
 }
 
-/// The first visible member.
+/// The first visible member of a choice.
 fn first_member(under: &Valuation<'_>, members: &[Sym]) -> Option<Sym>
     requires fits { AreMembers (valuation_tree under.now) members.now }
     ensures value { result ≡ find (is_visible_member (valuation_tree under.now) (valuation_values under.now)) members.now }
@@ -64,10 +64,11 @@ fn first_member(under: &Valuation<'_>, members: &[Sym]) -> Option<Sym>
     None
 }
 
-/// The selection of a choice without a user's: the first default's member or the first, of an optional choice none.
+/// The selection of a choice without a user's: the member of the first default that counts, otherwise the first visible one;
+/// `None` for an optional choice.
 fn selection_without_user(under: &Valuation<'_>, choice: &Choice<'_>) -> Option<Sym>
-    requires { ChoiceFits (valuation_exprs under.now) (length (valuation_tree under.now).symbols) choice.now }
-    ensures { result ≡ selection_without_user_of (valuation_tree under.now) (choice_view (valuation_exprs under.now) choice.now) (valuation_values under.now) }
+    requires fits { ChoiceFits (valuation_exprs under.now) (length (valuation_tree under.now).symbols) choice.now }
+    ensures value { result ≡ selection_without_user_of (valuation_tree under.now) (choice_view (valuation_exprs under.now) choice.now) (valuation_values under.now) }
 {
     if choice.optional {
         return None;
@@ -78,7 +79,8 @@ fn selection_without_user(under: &Valuation<'_>, choice: &Choice<'_>) -> Option<
     first_member(under, choice.members)
 }
 
-/// The selection of a choice.
+/// The selection of a choice: the user's member if it is visible, otherwise the member of the first default that `is_open`,
+/// otherwise the first visible member. `None` where the choice isn't visible, or is optional and no user's member is visible.
 pub(crate) fn choice_rule(
     under: &Valuation<'_>,
     choice: &Choice<'_>,

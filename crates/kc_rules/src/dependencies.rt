@@ -192,7 +192,8 @@ fn needed(
     Ok(())
 }
 
-/// The dependencies of all units, one after the other, and the place at which those of each begin.
+/// The dependencies of all units of a tree: `links` has those of one unit after those of another, and `starts` the index at which
+/// those of each unit begin, and then the length of `links`.
 #[derive(Drop)]
 pub(crate) struct Links {
     pub(crate) starts: Vec<u32>,
@@ -220,7 +221,7 @@ fn link(links: &mut Links, units: &[u32]) -> Result<(), AllocError>
     Ok(())
 }
 
-/// The dependencies of all units.
+/// The dependencies of all units of a tree, those of each unit ascending and each once. An `Err` means out of memory.
 pub(crate) fn links_of(alloc: Global, tree: &Tree) -> Result<Links, AllocError>
     ensures { IfOk result (λ l. AreLinks tree.now.tree l.starts.items l.links.items) }
 {

@@ -62,7 +62,7 @@ fn symbol_rule(
     }
 }
 
-/// The value of a unit.
+/// The value of a unit by its rule, given its user value, if it has one, and the values of units. An `Err` means out of memory.
 pub(crate) fn value_of(
     alloc: Global,
     rules: &Rules,

@@ -102,7 +102,8 @@ fn push_conditions(
     Ok(())
 }
 
-/// Appends the names that a symbol outside choices needs.
+/// Appends the names in the attributes of a symbol outside choices and in the conditions by which others select or imply it, but
+/// for expressions that `walk` has visited. An `Err` means out of memory.
 pub(crate) fn push_symbol(
     tree: &Tree,
     symbol: &Symbol<'_>,
@@ -193,7 +194,8 @@ fn push_prompt(
     }
 }
 
-/// Appends the names that a choice needs.
+/// Appends the names in the conditions of a choice's prompt, defaults and members' prompts, but for expressions that `walk` has
+/// visited. An `Err` means out of memory.
 pub(crate) fn push_choice(
     tree: &Tree,
     choice: &Choice<'_>,

@@ -26,14 +26,14 @@ impl Settled {
         &self.rules.tree
     }
 
-    /// How `imply` acts.
+    /// The profile of the settled tree: how `imply` acts in it.
     pub fn profile(&self) -> Profile
         ensures { result ≡ profile_of self.now }
     {
         self.rules.profile
     }
 
-    /// An order of its units, each after its dependencies.
+    /// An order of the tree's units, in which each unit comes after its dependencies.
     pub fn order(&self) -> &Order
         ensures { IsOrder (length (tree_of_settled self.now).units) (dependencies (tree_of_settled self.now)) result.now }
     {

@@ -100,7 +100,7 @@ fn is_unmet(under: &Valuation<'_>, s: Sym) -> bool
 }
 
 /// Appends the symbol if `counts`.
-#[tactic(auto, using(crate::proofs::Filters::nothing_behind))]
+#[tactic(auto, using(crate::proofs::Filters::append_empty))]
 fn push_if(found: &mut Vec<Sym>, s: Sym, counts: bool) -> Result<(), AllocError>
     ensures { OnOk result (found.new.items ≡ found.old.items ++ (if counts then s ∷ [] else [])) }
 {
@@ -113,8 +113,8 @@ fn push_if(found: &mut Vec<Sym>, s: Sym, counts: bool) -> Result<(), AllocError>
 }
 
 impl Settled {
-    /// Whether a full file has the symbol: each that is visible, and outside choices each that has a default, is
-    /// selected, or is implied where its direct dependency isn't `n`. Takes no memory.
+    /// Whether a full file has a line for a symbol: if it is visible, unless its optional choice has no selection; outside
+    /// choices also if it has a default, is selected, or is implied while its direct dependency isn't `n`. Takes no memory.
     pub fn written(&self, s: Sym, values: &[UnitValue]) -> bool
         requires there { s < length (tree_of_settled self.now).symbols }
         ensures value { result ≡ is_written (tree_of_settled self.now) values.now s }

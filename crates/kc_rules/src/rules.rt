@@ -10,8 +10,8 @@ use kc_rules_model::Profile;
 use kc_system::Order;
 use kc_tree::{Sym, Tree};
 
-/// A tree, its profile, its symbol `MODULES`, and the dependencies of each unit: `links` from its place in `starts` to
-/// that of the next unit.
+/// A tree, its profile, its symbol `MODULES`, and the dependencies of each unit: `links` has those of one unit after those of
+/// another, and `starts` the index at which those of each unit begin, and then the length of `links`.
 #[derive(Drop)]
 pub struct Rules {
     pub(crate) tree: Tree,
@@ -24,7 +24,7 @@ pub struct Rules {
     ghost links_are: { AreLinks tree.tree starts.items links.items },
 }
 
-/// A tree and an order of its units.
+/// A tree whose units don't depend on each other in a cycle, with an order in which each unit comes after its dependencies.
 #[derive(Drop)]
 pub struct Settled {
     pub(crate) rules: Rules,

@@ -44,8 +44,8 @@ fn ordered(alloc: Global, rules: Rules) -> Result<Settled, (Tree, SettleFault)>
     }
 }
 
-/// Settles a tree: then its units don't depend on each other in a cycle. Refused, with the tree handed back, exactly if
-/// they do, with the named cycle, and for lack of memory ("recursive dependency limitations").
+/// Settles a tree, whose units then don't depend on each other in a cycle. An `Err` hands the tree back with the fault: a cycle
+/// of its units, or out of memory ("recursive dependency limitations").
 pub fn settle(alloc: Global, tree: Tree, profile: Profile) -> Result<Settled, (Tree, SettleFault)>
     ensures tree { IfOk result (λ s. tree_model_of s ≡ tree) }
     ensures profile { IfOk result (λ s. profile_of s ≡ profile) }

@@ -88,8 +88,8 @@ fn is_choice_fit(members: &[Sym], value: &UserValue) -> bool
 }
 
 impl Settled {
-    /// Whether a user value has the shape of a unit: a bool isn't `m`, the text of an int or hex is a number of its
-    /// type, that of a string has no newline, and a choice has a member of its own. Takes no memory.
+    /// Whether a user value has the shape of a unit: `n` or `y` for a bool, any tristate for a tristate, a text that is a number
+    /// of its type for an int or hex, a text without newline for a string, one of its members for a choice. Takes no memory.
     pub fn user_fits(&self, u: u32, value: &UserValue) -> bool
         requires there { u < length (tree_of_settled self.now).units }
         ensures value { result ≡ user_fits (tree_of_settled self.now) u value.now }

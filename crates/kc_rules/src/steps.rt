@@ -1,7 +1,7 @@
 //! The meter of evaluations.
 ghost use Rattle.std.specs.Prelude.{◌≡◌, ◌+◌, ◌<◌, ◌^◌, min};
 
-/// Counts evaluations.
+/// A meter that counts evaluations of rules, up to 2^64 - 1.
 #[derive(Drop)]
 pub struct Steps {
     count: u64,
@@ -11,14 +11,14 @@ pub struct Steps {
 impl Steps {
     ghost use Rattle.kc_rules.specs.between.Meters.{counted};
 
-    /// A count of no evaluations.
+    /// A meter that has counted no evaluations.
     pub fn new() -> Steps
         ensures { counted result ≡ 0 }
     {
         Steps { count: 0 }
     }
 
-    /// How many were counted.
+    /// The number of evaluations that were counted, at most 2^64 - 1.
     pub fn count(&self) -> u64
         ensures { result ≡ counted self.now }
     {

@@ -16,7 +16,7 @@ use kc_rules_model::UnitValue;
 use kc_tree::Sym;
 use kc_value::{Kind, Tri};
 
-/// The letter of a tristate.
+/// The letter of a tristate: `n`, `m` or `y`.
 pub(crate) fn letter_of(value: Tri) -> &'static str
     ensures { result.now ≡ letter value }
 {
@@ -27,7 +27,7 @@ pub(crate) fn letter_of(value: Tri) -> &'static str
     }
 }
 
-/// Whether it is `n`.
+/// Whether a tristate is `n`.
 pub(crate) fn is_n(value: Tri) -> bool
     ensures { result ≡ is_n value }
 {
@@ -37,7 +37,7 @@ pub(crate) fn is_n(value: Tri) -> bool
     }
 }
 
-/// The tristate that a unit's value is, else `n`.
+/// The tristate that a unit's value is, and `n` where it is no tristate.
 fn tri_of_value(held: Option<&UnitValue>) -> Tri
     ensures { result ≡ tri_of (option_copied held.entry) }
 {
@@ -47,7 +47,7 @@ fn tri_of_value(held: Option<&UnitValue>) -> Tri
     }
 }
 
-/// The text that a unit's value is, else none.
+/// The text that a unit's value is, and an empty text where it is none.
 fn text_of_value<'a>(held: Option<&'a UnitValue>) -> &'a str
     ensures { result.now ≡ text_of (option_copied held.entry) }
 {
@@ -57,7 +57,7 @@ fn text_of_value<'a>(held: Option<&'a UnitValue>) -> &'a str
     }
 }
 
-/// `y` for the member that a unit's value is, else `n`.
+/// `y` where a unit's value is this symbol as the selected member of a choice, otherwise `n`.
 fn tri_if_member(held: Option<&UnitValue>, s: Sym) -> Tri
     ensures { result ≡ tri_if_selected s (member_of (option_copied held.entry)) }
 {
@@ -73,7 +73,7 @@ fn tri_if_member(held: Option<&UnitValue>, s: Sym) -> Tri
     }
 }
 
-/// Whether a unit's value is no member.
+/// Whether a unit has no selected member: it has no value, a value of another shape, or that of a choice without a selection.
 pub(crate) fn has_no_member(held: Option<&UnitValue>) -> bool
     ensures { result ≡ is_none (member_of (option_copied held.entry)) }
 {
@@ -92,7 +92,7 @@ fn tri_value_ref(kind: Kind, tri: Tri) -> Looked<'static>
 }
 
 impl<'a> Valuation<'a> {
-    /// The value of a symbol.
+    /// The value of a symbol under the values of the units: its type, its tristate value and its text.
     pub(crate) fn symbol(&self, s: Sym) -> Looked<'a>
         requires there { s < length (valuation_tree self.now).symbols }
         ensures value { value_of_symbol (valuation_tree self.now) (valuation_values self.now) s ≡ Some (symbol_value_of result) }
@@ -134,7 +134,7 @@ impl<'a> Valuation<'a> {
         }
     }
 
-    /// The value of an expression.
+    /// The value of an expression of the tree's arena under the values of the units.
     pub(crate) fn condition(&self, id: ExprId) -> Tri
         requires there { id < length (valuation_exprs self.now).nodes }
         ensures value { result ≡ condition (valuation_tree self.now) (valuation_values self.now) (node_expr (valuation_exprs self.now) id) }
@@ -142,7 +142,8 @@ impl<'a> Valuation<'a> {
         self.rules.tree.arena().value(id, self)
     }
 
-    /// The text that an operand represents, and none for another expression.
+    /// The text that an operand represents: of a defined symbol its value, of an undefined one its name, of a constant its text.
+    /// It is empty for an expression that isn't an operand alone.
     pub(crate) fn operand_text(&self, id: ExprId) -> &str
         requires there { id < length (valuation_exprs self.now).nodes }
         ensures value { result.now ≡ expression_text (valuation_tree self.now) (valuation_values self.now) (node_expr (valuation_exprs self.now) id) }

@@ -17,7 +17,7 @@ use kc_tree::{Default, Range, Symbol};
 use kc_value::{Kind, Text, hex_of, int_of, number_text};
 use std::alloc::{AllocError, Global};
 
-/// The value of the first default whose condition isn't `n`.
+/// The expression of the value of a symbol's first default whose condition isn't `n`, or `None` without one.
 pub(crate) fn active_default(under: &Valuation<'_>, defaults: &[Default]) -> Option<ExprId>
     requires fits { AreDefaults (valuation_exprs under.now) defaults.now }
     ensures value { option_map (node_expr (valuation_exprs under.now)) result ≡ active_value_of (valuation_tree under.now) (valuation_values under.now) (map (default_view (valuation_exprs under.now)) defaults.now) }
@@ -31,7 +31,7 @@ pub(crate) fn active_default(under: &Valuation<'_>, defaults: &[Default]) -> Opt
     None
 }
 
-/// The text of the active default, empty without one.
+/// The text of a symbol's first default whose condition isn't `n`, empty without one.
 fn default_text<'a>(under: &'a Valuation<'a>, symbol: &Symbol<'_>) -> &'a str
     requires fits { SymbolFits (valuation_exprs under.now) (length (valuation_tree under.now).symbols) symbol.now }
     ensures value { result.now ≡ default_text (valuation_tree under.now) (valuation_values under.now) (symbol_view (valuation_exprs under.now) symbol.now) }
@@ -42,7 +42,8 @@ fn default_text<'a>(under: &'a Valuation<'a>, symbol: &Symbol<'_>) -> &'a str
     }
 }
 
-/// The value of a string.
+/// The value of a symbol of type string: the user's text if the symbol is visible, otherwise the text of its first default whose
+/// condition isn't `n`, empty without one. An `Err` means out of memory.
 pub(crate) fn string_rule(
     alloc: Global,
     under: &Valuation<'_>,
@@ -64,7 +65,8 @@ pub(crate) fn string_rule(
     }
 }
 
-/// The number that a text is for a kind.
+/// The number that a text represents in a type: decimal for an int, hexadecimal for a hex. `None` where it represents none, and
+/// for any other type.
 pub(crate) fn number_of(kind: Kind, text: &str) -> Option<i128>
     ensures { result ≡ number_of_text kind text.now }
 {
@@ -75,7 +77,7 @@ pub(crate) fn number_of(kind: Kind, text: &str) -> Option<i128>
     }
 }
 
-/// The number of a bound, 0 where it isn't a number of the type.
+/// The number of a bound of a range, 0 where it isn't a number of the type.
 #[tactic(auto, using(crate::proofs::Bounds::bound_is, crate::proofs::Bounds::number_printable))]
 fn bound(under: &Valuation<'_>, kind: Kind, id: ExprId) -> i128
     requires there { id < length (valuation_exprs under.now).nodes }
@@ -173,7 +175,8 @@ fn number_default(
     }
 }
 
-/// The value of an int or hex.
+/// The value of an int or hex: the user's text if the symbol is visible and the number is within the active range, otherwise the
+/// text of its default, or the nearest bound where the default is outside the range. An `Err` means out of memory.
 pub(crate) fn number_rule(
     alloc: Global,
     under: &Valuation<'_>,

@@ -43,7 +43,7 @@ fn reverse_value(under: &Valuation<'_>, force: ReverseDependency) -> Tri
     }
 }
 
-/// The largest of the values that selects or implies demand.
+/// The largest of the values that some selects or implies demand of a symbol, `n` without any.
 #[inline(always)]
 pub(crate) fn reverse_limit(under: &Valuation<'_>, all: &[ReverseDependency]) -> Tri
     requires fits { AreReverseDependencies (valuation_exprs under.now) (valuation_tree under.now) all.now }
@@ -66,7 +66,7 @@ pub(crate) fn y_for_m(value: Tri) -> Tri
     }
 }
 
-/// A bool has no `m`, nor has a tristate while `MODULES` is `n`: there `m` becomes `y`.
+/// A value for a symbol of this type, with `y` in place of `m` for a bool, and for a tristate while `MODULES` is `n`.
 pub(crate) fn promoted(under: &Valuation<'_>, kind: Kind, value: Tri) -> Tri
     ensures { result ≡ promoted (valuation_tree under.now) (valuation_values under.now) kind value }
 {
@@ -86,7 +86,8 @@ pub(crate) fn promoted(under: &Valuation<'_>, kind: Kind, value: Tri) -> Tri
     }
 }
 
-/// The largest of the prompts' conditions, promoted.
+/// The visibility of a symbol: the largest value of its prompts' conditions, with `y` in place of `m` where the symbol can't be
+/// `m`.
 pub(crate) fn visibility(under: &Valuation<'_>, symbol: &Symbol<'_>) -> Tri
     requires fits { SymbolFits (valuation_exprs under.now) (length (valuation_tree under.now).symbols) symbol.now }
     ensures value { result ≡ visibility (valuation_tree under.now) (valuation_values under.now) (symbol_view (valuation_exprs under.now) symbol.now) }
@@ -94,7 +95,7 @@ pub(crate) fn visibility(under: &Valuation<'_>, symbol: &Symbol<'_>) -> Tri
     promoted(under, symbol.kind, largest(under, symbol.prompts))
 }
 
-/// Whether some prompt's condition isn't `n`.
+/// Whether a symbol is visible: the condition of some prompt isn't `n`.
 pub(crate) fn is_visible(under: &Valuation<'_>, symbol: &Symbol<'_>) -> bool
     requires fits { SymbolFits (valuation_exprs under.now) (length (valuation_tree under.now).symbols) symbol.now }
     ensures value { result ≡ is_visible (valuation_tree under.now) (valuation_values under.now) (symbol_view (valuation_exprs under.now) symbol.now) }
@@ -102,7 +103,7 @@ pub(crate) fn is_visible(under: &Valuation<'_>, symbol: &Symbol<'_>) -> bool
     !is_n(largest(under, symbol.prompts))
 }
 
-/// The value of the first default whose condition isn't `n`, up to the condition.
+/// The value of a bool's or tristate's first default whose condition isn't `n`, limited to the condition; `n` without one.
 #[inline(always)]
 pub(crate) fn default_value(under: &Valuation<'_>, defaults: &[Default]) -> Tri
     requires fits { AreDefaults (valuation_exprs under.now) defaults.now }
@@ -117,7 +118,7 @@ pub(crate) fn default_value(under: &Valuation<'_>, defaults: &[Default]) -> Tri
     Tri::N
 }
 
-/// The implied value where the direct dependency isn't `n`.
+/// The largest value that some `imply` demands of a symbol; `n` without any, and where the symbol's direct dependency is `n`.
 pub(crate) fn implied_effect(under: &Valuation<'_>, symbol: &Symbol<'_>) -> Tri
     requires fits { SymbolFits (valuation_exprs under.now) (length (valuation_tree under.now).symbols) symbol.now }
     ensures value { result ≡ implied_effect (valuation_tree under.now) (valuation_values under.now) (symbol_view (valuation_exprs under.now) symbol.now) }
@@ -130,7 +131,7 @@ pub(crate) fn implied_effect(under: &Valuation<'_>, symbol: &Symbol<'_>) -> Tri
     }
 }
 
-/// The value without a user value that counts.
+/// The value of a bool or tristate by its defaults and the implies that name it, without regard to user values and selects.
 pub(crate) fn unassigned_value(under: &Valuation<'_>, profile: Profile, symbol: &Symbol<'_>) -> Tri
     requires fits { SymbolFits (valuation_exprs under.now) (length (valuation_tree under.now).symbols) symbol.now }
     ensures value { result ≡ unassigned_value profile (valuation_tree under.now) (valuation_values under.now) (symbol_view (valuation_exprs under.now) symbol.now) }
@@ -149,7 +150,7 @@ pub(crate) fn unassigned_value(under: &Valuation<'_>, profile: Profile, symbol: 
     }
 }
 
-/// The value before what is selected.
+/// The value of a bool or tristate before selects: the user value up to the visibility, or the value without a user value.
 fn base(under: &Valuation<'_>, profile: Profile, symbol: &Symbol<'_>, user: Option<Tri>) -> Tri
     requires fits { SymbolFits (valuation_exprs under.now) (length (valuation_tree under.now).symbols) symbol.now }
     ensures value { result ≡ base profile (valuation_tree under.now) (valuation_values under.now) (symbol_view (valuation_exprs under.now) symbol.now) user }
@@ -163,7 +164,7 @@ fn base(under: &Valuation<'_>, profile: Profile, symbol: &Symbol<'_>, user: Opti
     unassigned_value(under, profile, symbol)
 }
 
-/// In the classic profile an implied `y` leaves no `m`.
+/// The value of a symbol with `y` in place of `m` where the profile is the classic one and the symbol is implied as `y`.
 fn without_m(under: &Valuation<'_>, profile: Profile, symbol: &Symbol<'_>, value: Tri) -> Tri
     requires fits { SymbolFits (valuation_exprs under.now) (length (valuation_tree under.now).symbols) symbol.now }
     ensures value { result ≡ (if leaves_no_m profile (valuation_tree under.now) (valuation_values under.now) (symbol_view (valuation_exprs under.now) symbol.now) then y_for_m value else value) }
@@ -180,7 +181,7 @@ fn without_m(under: &Valuation<'_>, profile: Profile, symbol: &Symbol<'_>, value
     }
 }
 
-/// The value of a bool or tristate outside choices.
+/// The value of a bool or tristate outside choices, by its user value, if there is one, and its rule in this profile.
 pub(crate) fn tri_rule(
     under: &Valuation<'_>,
     profile: Profile,

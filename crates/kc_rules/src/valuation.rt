@@ -5,7 +5,7 @@ use kc_rules_model::UnitValue;
 use kc_tree::Sym;
 use kc_value::{Kind, Tri};
 
-/// Rules and a value for each unit.
+/// The rules of a tree and values of its units, under which symbols and expressions have values.
 #[derive(Clone, Copy)]
 pub(crate) struct Valuation<'a> {
     pub(crate) rules: &'a Rules,

@@ -1,4 +1,4 @@
--- Number texts are of ink.
+-- Texts of numbers have no white byte and no newline.
 use Rattle.std.proofs.Common.{◌≡◌, inl, inr, ℕ, ◌-◌, ◌^◌, ◌<◌, ◌≤◌, Bool, true, false, ◌&&◌, ◌==◌, cond, List, [], ◌∷◌, Option, Some, None, ℤ, pos, length, refl, sym, ◌∙◌, ap, arith}
 use Rattle.std.specs.Prelude.{is_some, neg_ℤ, option_map, nat_lt, nat_le}
 use Rattle.std.specs.List.{list_all}
@@ -12,7 +12,7 @@ use Rattle.kc_value.specs.Number.{int_text, hex_text, signed_text, magnitude, wi
 use Rattle.kc_value.specs.Number.{number_of_text}
 use Rattle.kc_rules_model.proofs.Ink.{is_ink, ink_of, all_weaker}
 
--- a text of one byte or more, all of ink
+-- a text has one byte or more, all below 128, and none of them is white or a newline
 pub record IsInk (text : List ℕ) : Type 0 where
   pub some : 0 < length text
   pub ink : list_all is_ink text ≡ true
@@ -85,10 +85,10 @@ int_ink : (text : List ℕ) → is_some (int_text text) ≡ true → IsInk text
 unfolding int_text
 int_ink text e = signed_ink text (some_then (nat_le (length text) 64) (signed_text text) e)
 
-behind_prefix : (text : List ℕ) → IsInk (without_prefix text) → IsInk text
-behind_prefix [] rest = rest
-behind_prefix (a ∷ []) rest = rest
-behind_prefix (a ∷ b ∷ cs) rest = go (a == 48 && (b == 120)) (a == 48 && (b == 88)) refl refl rest where
+ink_with_prefix : (text : List ℕ) → IsInk (without_prefix text) → IsInk text
+ink_with_prefix [] rest = rest
+ink_with_prefix (a ∷ []) rest = rest
+ink_with_prefix (a ∷ b ∷ cs) rest = go (a == 48 && (b == 120)) (a == 48 && (b == 88)) refl refl rest where
   go : (s t : Bool) → (a == 48 && (b == 120)) ≡ s → (a == 48 && (b == 88)) ≡ t → IsInk (cond s cs (cond t cs (a ∷ b ∷ cs))) → IsInk (a ∷ b ∷ cs)
   go true t small large rest =
       let both = and_parts (a == 48) (b == 120) small in more_ink a 48 (b ∷ cs) both.0 refl refl (more_ink b 120 cs both.1 refl refl rest)
@@ -100,9 +100,9 @@ hex_text_ink : (text : List ℕ) → is_some (hex_text text) ≡ true → IsInk 
 unfolding hex_text
 hex_text_ink text e =
     let some = some_then (nat_le (length text) 64) (option_map pos (magnitude 16 (2 ^ 64) (without_prefix text))) e in
-    behind_prefix text (digits_ink 16 (2 ^ 64) (without_prefix text) (omega arith) hex_ink (some_before pos (magnitude 16 (2 ^ 64) (without_prefix text)) some))
+    ink_with_prefix text (digits_ink 16 (2 ^ 64) (without_prefix text) (omega arith) hex_ink (some_before pos (magnitude 16 (2 ^ 64) (without_prefix text)) some))
 
--- the text of a number
+-- the text of a number has one byte or more, all below 128, and none of them is white or a newline
 pub number_ink : (kind : Kind) (text : List ℕ) → is_some (number_of_text kind text) ≡ true → IsInk text
 number_ink Boolean text e = absurd (false≢true e)
 number_ink Tristate text e = absurd (false≢true e)

@@ -8,7 +8,7 @@ use Rattle.kc_rules_model.specs.Dependencies.{dependencies}
 use Rattle.kc_rules_model.specs.SettledTrees.{IsSettledTree}
 use Rattle.kc_rules_model.specs.checker.GraphLaw.{rules_graph}
 
--- a consistent tree, and an order in which each unit comes after its dependencies
+-- a tree is consistent, and its units have an order in which each comes after its dependencies
 pub record IsOrderedTree (tree : Tree) : Type 0 where
   pub consistent : IsConsistent tree
   pub order : List ℕ

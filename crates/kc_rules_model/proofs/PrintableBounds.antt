@@ -21,7 +21,7 @@ hex_printable text z (bare n writes below is len) = subst (λ k. (pos 0 ≤ℤ k
 hex_printable text z (prefixed digits n parts writes below is len) =
     subst (λ k. (pos 0 ≤ℤ k) × (k <ℤ pos (2 ^ 64))) (sym is) (omega (arith, ints), omega (arith, ints))
 
--- the number of a text, and the 0 of one that isn't a number
+-- the bound of an int range can be printed, also the 0 of a text that isn't a number
 pub int_bound : (text : List ℕ) (o : Option ℤ) → number_of_text Int text ≡ o → IsPrintable Int (unwrap_or o (pos 0))
 int_bound text None e = omega arith
 int_bound text (Some z) e = int_printable text z (int_sound text z e)

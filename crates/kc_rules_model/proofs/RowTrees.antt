@@ -1,13 +1,13 @@
--- Small trees by hand, on which the definitions are computed.
+-- Small trees, written by hand, on which the definitions are computed. In their comments / separates the lines of the Kconfig
+-- file.
 use Rattle.std.proofs.Common.{ℕ, true, false, List, [], ◌∷◌, Option, Some, None, length, map}
 use Rattle.std.specs.Prelude.{codes}
 use Rattle.std.specs.List.{range_with_len}
 use Rattle.kc_value.specs.declared.tri.Tri.{Tri}
 use Rattle.kc_value.specs.declared.tri.Tri.TheVariants.{N, M, Y}
 use Rattle.kc_value.specs.declared.value.Kind.{Kind}
-use Rattle.kc_value.specs.declared.value.Kind.TheVariants.{Bool as Boolean, Tristate, Text, Int, Hex}
-use Rattle.kc_expr.specs.declared.token.Relop.TheVariants.{Equal}
-use Rattle.kc_expr.specs.Expr.{Expr, alone, related, negated, both, shown, constant, named, quoted}
+use Rattle.kc_value.specs.declared.value.Kind.TheVariants.{Bool as Boolean, Tristate, Text, Int}
+use Rattle.kc_expr.specs.Expr.{Expr, alone, both, shown, constant, named, quoted}
 use Rattle.kc_tree_model.specs.Trees.{Tree, Symbol, Default, definition, choice_begins, menu_begins, menu_ends, comment}
 use Rattle.kc_tree_model.specs.declared.ids.Unit.TheVariants.{Symbol as of_symbol, Choice as of_choice}
 use Rattle.kc_system.specs.Solutions.{user_of}
@@ -18,7 +18,8 @@ use Rattle.kc_rules_model.specs.declared.values.UserValue.{UserValue}
 use Rattle.kc_rules_model.specs.declared.values.UserValue.TheVariants.{Tri as TriUser, Text as TextUser}
 use Rattle.kc_rules_model.specs.Rule.{rule}
 
--- what the rules make of values: those that they leave as they are solve the assignment
+-- the value that each unit's rule gives from an assignment and values of all units; if these values come out again, they solve
+-- the assignment
 abbrev pub by_rules : Profile → Tree → List (Option UserValue) → List UnitValue → List UnitValue
 by_rules profile tree users values = map (λ u. rule profile tree u (user_of users u) values) (range_with_len 0 (length tree.units))
 
@@ -49,7 +50,7 @@ name x = alone (named x)
 abbrev pub otherwise : Expr → Default
 otherwise e = record { value = e; condition = always }
 
--- a symbol outside choices, with no range, select or imply, and no dependency
+-- a symbol outside choices with these prompts and defaults, and no range, select, imply or dependency
 abbrev pub plain : List ℕ → Kind → List Expr → List Default → Symbol
 plain x kind prompts defaults =
     record {
@@ -83,46 +84,42 @@ three_symbols a b c =
           ∷ [];
     }
 
--- config A / bool "a"
+-- the tree of: config A / bool "a"
 abbrev pub tree_a : Tree
 tree_a = one_symbol (plain (codes "A") Boolean (always ∷ []) [])
 
--- config A / bool "a" / default y
+-- the tree of: config A / bool "a" / default y
 abbrev pub tree_default_y : Tree
 tree_default_y = one_symbol (plain (codes "A") Boolean (always ∷ []) (otherwise always ∷ []))
 
--- config A / bool "a" / default n
+-- the tree of: config A / bool "a" / default n
 abbrev pub tree_default_n : Tree
 tree_default_n = one_symbol (plain (codes "A") Boolean (always ∷ []) (otherwise (alone (constant N)) ∷ []))
 
--- config MODULES / bool "mods" / default y / config D / tristate "d" / default m / config A / tristate "a" if D / default y
+-- the tree of: config MODULES / bool "mods" / default y / config D / tristate "d" / default m / config A / tristate "a" if D /
+-- default y
 abbrev pub tree_lifted : Tree
 tree_lifted =
     three_symbols (plain (codes "MODULES") Boolean (always ∷ []) (otherwise always ∷ []))
     (plain (codes "D") Tristate (always ∷ []) (otherwise (alone (constant M)) ∷ []))
     (plain (codes "A") Tristate (name (codes "D") ∷ []) (otherwise always ∷ []))
 
--- config N / int "n" / range 10 20 / default 5
+-- the tree of: config N / int "n" / range 10 20 / default 5
 abbrev pub tree_int : Tree
 tree_int =
     one_symbol (record (plain (codes "N") Int (always ∷ []) (otherwise (name (codes "5")) ∷ []))
     { ranges = record { low = named (codes "10"); high = named (codes "20"); condition = always } ∷ [] })
 
--- config H / hex "h" / range 0x10 0x1F / default 0xFF
-abbrev pub tree_hex : Tree
-tree_hex =
-    one_symbol (record (plain (codes "H") Hex (always ∷ []) (otherwise (name (codes "0xFF")) ∷ []))
-    { ranges = record { low = named (codes "0x10"); high = named (codes "0x1F"); condition = always } ∷ [] })
-
--- config S / string "s" / default "x"
+-- the tree of: config S / string "s" / default "x"
 abbrev pub tree_string : Tree
 tree_string = one_symbol (plain (codes "S") Text (always ∷ []) (otherwise (alone (quoted (codes "x"))) ∷ []))
 
--- a member of the first choice, which is always shown: its prompt's condition
+-- a bool of this name that is a member of the first choice, which is always shown, with this condition of its prompt
 abbrev pub member : List ℕ → Expr → Symbol
 member x prompt = record (plain x Boolean (prompt ∷ []) []) { direct = shown always ∷ []; choice = Some 0 }
 
--- choice / prompt "pick" / default B / config A / bool "a" / config B / bool "b" / config C / bool "c" / depends on X / endchoice / config X / bool "x"
+-- the tree of: choice / prompt "pick" / default B / config A / bool "a" / config B / bool "b" / config C / bool "c" / depends on
+-- X / endchoice / config X / bool "x"
 abbrev pub tree_pick : Tree
 tree_pick = record {
   symbols = member (codes "A") (shown always) ∷ member (codes "B") (shown always) ∷ member (codes "C") (both (name (codes "X")) (shown always)) ∷ plain
@@ -139,7 +136,8 @@ tree_pick = record {
   units = of_choice 0 ∷ of_symbol 3 ∷ [];
 }
 
--- the same, with `optional`
+-- the tree of: choice / prompt "pick" / optional / default B / config A / bool "a" / config B / bool "b" / config C / bool "c" /
+-- depends on X / endchoice / config X / bool "x"
 abbrev pub tree_optional_pick : Tree
 tree_optional_pick = record tree_pick {
   choices = record {
@@ -152,7 +150,7 @@ tree_optional_pick = record tree_pick {
   } ∷ [];
 }
 
--- choice / prompt "p" if X / config A / bool "a" / endchoice / config B / bool / default A / config X / bool "x"
+-- the tree of: choice / prompt "p" if X / config A / bool "a" / endchoice / config B / bool / default A / config X / bool "x"
 abbrev pub tree_shown_if : Tree
 tree_shown_if = record {
   symbols = record (plain (codes "A") Boolean (shown (name (codes "X")) ∷ []) []) { direct = shown (name (codes "X")) ∷ []; choice = Some 0 } ∷ plain
@@ -162,12 +160,13 @@ tree_shown_if = record {
   units = of_choice 0 ∷ of_symbol 1 ∷ of_symbol 2 ∷ [];
 }
 
--- config S / bool "s" / select T / config T / tristate / depends on NO
+-- the tree of: config S / bool "s" / select T / config T / tristate / depends on NO
 abbrev pub tree_select : Tree
 tree_select = two_symbols (plain (codes "S") Boolean (always ∷ []) [])
     (record (plain (codes "T") Tristate [] []) { selectors = record { by = 0; condition = always } ∷ []; direct = name (codes "NO") ∷ [] })
 
--- config MODULES / bool "mods" / default y / config FOO / tristate "foo" / imply BAZ / config BAR / tristate "bar" / config BAZ / tristate "baz" / depends on BAR
+-- the tree of: config MODULES / bool "mods" / default y / config FOO / tristate "foo" / imply BAZ / config BAR / tristate "bar" /
+-- config BAZ / tristate "baz" / depends on BAR
 abbrev pub tree_imply : Tree
 tree_imply = record {
   symbols =
@@ -180,16 +179,12 @@ tree_imply = record {
   units = of_symbol 0 ∷ of_symbol 1 ∷ of_symbol 2 ∷ of_symbol 3 ∷ [];
 }
 
--- config MODULES / bool "mods" / config A / tristate "a"
-abbrev pub tree_no_modules : Tree
-tree_no_modules = two_symbols (plain (codes "MODULES") Boolean (always ∷ []) []) (plain (codes "A") Tristate (always ∷ []) [])
-
--- config A / bool "a" / config B / bool / default A / config C / bool "c" / depends on B
+-- the tree of: config A / bool "a" / config B / bool / default A / config C / bool "c" / depends on B
 abbrev pub tree_chain : Tree
 tree_chain = three_symbols (plain (codes "A") Boolean (always ∷ []) []) (plain (codes "B") Boolean [] (otherwise (name (codes "A")) ∷ []))
     (record (plain (codes "C") Boolean (name (codes "B") ∷ []) []) { direct = name (codes "B") ∷ [] })
 
--- menu "hid" / visible if NO / config A / bool "a" / default y / endmenu
+-- the tree of: menu "hid" / visible if NO / config A / bool "a" / default y / endmenu
 abbrev pub tree_hidden : Tree
 tree_hidden = record {
   symbols = plain (codes "A") Boolean (name (codes "NO") ∷ []) (otherwise always ∷ []) ∷ [];
@@ -198,7 +193,7 @@ tree_hidden = record {
   units = of_symbol 0 ∷ [];
 }
 
--- config A / bool "a" / menu "Net" / config B / bool "b" / endmenu / config C / bool "c" / comment "done"
+-- the tree of: config A / bool "a" / menu "Net" / config B / bool "b" / endmenu / config C / bool "c" / comment "done"
 abbrev pub tree_menu : Tree
 tree_menu = record {
   symbols = plain (codes "A") Boolean (always ∷ []) [] ∷ plain (codes "B") Boolean (always ∷ []) [] ∷ plain (codes "C") Boolean (always ∷ []) [] ∷ [];
@@ -207,23 +202,3 @@ tree_menu = record {
       (codes "done") always ∷ [];
   units = of_symbol 0 ∷ of_symbol 1 ∷ of_symbol 2 ∷ [];
 }
-
--- menu TITLE / config A / bool "a" / default y / endmenu
-abbrev pub tree_titled : List ℕ → Tree
-tree_titled title = record {
-  symbols = plain (codes "A") Boolean (always ∷ []) (otherwise always ∷ []) ∷ [];
-  choices = [];
-  entries = menu_begins title always always ∷ definition 0 ∷ menu_ends title always always ∷ [];
-  units = of_symbol 0 ∷ [];
-}
-
--- config A / bool "a" / config B / bool "b" / config R / bool / default y if !A = B
-abbrev pub tree_relation : Tree
-tree_relation = three_symbols (plain (codes "A") Boolean (always ∷ []) []) (plain (codes "B") Boolean (always ∷ []) [])
-    (plain (codes "R") Boolean [] (record { value = always; condition = negated (related Equal (named (codes "A")) (named (codes "B"))) } ∷ []))
-
--- config N / int "n" / config Q / bool / default y if N = 10
-abbrev pub tree_number_relation : Tree
-tree_number_relation =
-    two_symbols (plain (codes "N") Int (always ∷ []) []) (plain (codes "Q") Boolean []
-    (record { value = always; condition = related Equal (named (codes "N")) (named (codes "10")) } ∷ []))

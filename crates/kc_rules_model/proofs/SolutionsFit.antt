@@ -25,7 +25,7 @@ use Rattle.kc_rules_model.proofs.FittingValues.{rules_fit}
 use Rattle.kc_rules_model.proofs.OrderedTrees.{IsOrderedTree, ordered_tree}
 use Rattle.kc_rules_model.specs.RuleLaws.{SolutionsFit as Law}
 
--- a value that fits, for each kind of unit
+-- some value that fits, for each kind of unit
 abbrev blank_of_kind : Kind → UnitValue
 blank_of_kind Boolean = TriValue N
 blank_of_kind Tristate = TriValue N
@@ -94,7 +94,7 @@ module _ (profile : Profile) (tree : Tree) (settled : IsOrderedTree tree) (users
         (let e : i + 1 ≡ suc i = omega arith in rw e at more),
       )
 
-  -- the values of a fitting assignment fit
+  -- values that solve a fitting assignment fit their units
   pub solutions_fit : (values : List UnitValue) → Solves (length tree.units) (rule profile tree) users values
       → FitsValues (length tree.units) (λ u v. IsTrue (value_fits tree u v)) values
   solutions_fit values solved =
@@ -105,6 +105,6 @@ module _ (profile : Profile) (tree : Tree) (settled : IsOrderedTree tree) (users
       settled.ordered (rules_frame profile tree) users fitting.1 all.0 values other solved in
       subst (λ v. FitsValues (length tree.units) (λ u w. IsTrue (value_fits tree u w)) v) same all.1
 
--- as a law
+-- in every consistent tree without a cycle, values that solve a fitting assignment fit their units
 pub all_solutions_fit : Law
 all_solutions_fit profile tree users values settled fitting solved = solutions_fit profile tree (ordered_tree tree settled) users fitting values solved

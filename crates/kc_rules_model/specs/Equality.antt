@@ -7,11 +7,11 @@ use Rattle.kc_rules_model.specs.declared.values.UnitValue.TheVariants.{Tri as Tr
 use Rattle.kc_rules_model.specs.declared.values.UserValue.{UserValue}
 use Rattle.kc_rules_model.specs.declared.values.UserValue.TheVariants.{Tri as TriUser, Text as TextUser, Member as MemberUser}
 
--- two tristates are the same
+-- whether two tristates are equal
 abbrev pub same_tri : Tri → Tri → Bool
 same_tri a b = rank a == rank b
 
--- two values are the same
+-- whether two values of units are equal: the same tristate, the same text byte for byte, or the same selected member or none
 abbrev pub same_value : UnitValue → UnitValue → Bool
 same_value (TriValue a) (TriValue b) = same_tri a b
 same_value (TextValue a) (TextValue b) = bytes_eq a b
@@ -19,12 +19,12 @@ same_value (MemberValue None) (MemberValue None) = true
 same_value (MemberValue (Some a)) (MemberValue (Some b)) = a == b
 same_value _ _ = false
 
--- whether the value of a unit is this one
+-- whether a unit has a value and it is equal to the given one
 abbrev pub value_is : Option UnitValue → UnitValue → Bool
 value_is None value = false
 value_is (Some held) value = same_value held value
 
--- two user values are the same
+-- whether two user values are equal: the same tristate, the same text byte for byte, or the same member
 abbrev pub same_user : UserValue → UserValue → Bool
 same_user (TriUser a) (TriUser b) = same_tri a b
 same_user (TextUser a) (TextUser b) = bytes_eq a b

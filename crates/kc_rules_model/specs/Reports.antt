@@ -13,28 +13,29 @@ use Rattle.kc_tree_model.specs.TreeLookup.{index_of_unit}
 use Rattle.kc_rules_model.specs.SymbolValues.{member_of}
 use Rattle.kc_rules_model.specs.Rule.{rule, as_user, is_visible, selected, implied, direct_dependency, active_default, default_tri}
 
--- the numbers of the symbols, in order of first definition
+-- the numbers of all symbols of a tree, from 0, in order of first definition
 abbrev pub symbol_numbers : Tree → List ℕ
 symbol_numbers tree = range_with_len 0 (length tree.symbols)
 
--- a bool or tristate with a default that isn't `n`, or another symbol with a default
+-- whether a symbol has a default that counts for a full file: of a bool or tristate one whose value isn't `n`, of another type
+-- any whose condition isn't `n`
 abbrev pub has_default : Tree → List UnitValue → Symbol → Bool
 has_default tree values symbol =
     if is_tri_kind symbol.kind
     then not (is_n (default_tri tree values (active_default tree values symbol)))
     else is_some (active_default tree values symbol)
 
--- whether a choice of this number is there and optional
+-- whether the tree has a choice of this number and it is optional
 abbrev pub is_optional_choice : Tree → ℕ → Bool
 is_optional_choice tree c = unwrap_or (option_map (λ (choice : Choice). choice.optional) (slice_get tree.choices c)) false
 
--- whether this choice, if it is one, is optional and has no selection
+-- whether a choice number is given and is that of an optional choice without a selected member
 abbrev pub is_unselected : Tree → List UnitValue → Option ℕ → Bool
 is_unselected tree values None = false
 is_unselected tree values (Some c) = is_optional_choice tree c && is_none (member_of (slice_get values (index_of_unit tree (of_choice c))))
 
--- a full file (Kconfiglib's `write_config`) has each visible symbol, but no member of an optional choice without a
--- selection; and outside choices each that has a default, is selected, or is implied where its direct dependency isn't `n`
+-- whether a full file (Kconfiglib's `write_config`) has a symbol: it is visible, and no member of an optional choice without a
+-- selected member; or it is outside choices and has a default, is selected, or is implied while its direct dependency isn't `n`
 abbrev pub is_written_symbol : Tree → List UnitValue → Symbol → Bool
 is_written_symbol tree values symbol =
     (is_visible tree values symbol && not (is_unselected tree values symbol.choice))
@@ -43,24 +44,25 @@ is_written_symbol tree values symbol =
     || not (is_n (selected tree values symbol))
     || (not (is_n (implied tree values symbol)) && not (is_n (direct_dependency tree values symbol)))))
 
--- whether a symbol of this number is there and written
+-- whether the tree has a symbol of this number and a full file has it
 abbrev pub is_written : Tree → List UnitValue → ℕ → Bool
 is_written tree values s = unwrap_or (option_map (is_written_symbol tree values) (slice_get tree.symbols s)) false
 
--- a symbol outside choices that is selected above its direct dependency ("Menu attributes", reverse dependencies)
+-- whether a symbol has an unmet dependency: it is outside choices and selected above its direct dependency ("Menu attributes",
+-- reverse dependencies)
 abbrev pub is_unmet_symbol : Tree → List UnitValue → Symbol → Bool
 is_unmet_symbol tree values symbol = is_none symbol.choice
     && nat_lt (rank (direct_dependency tree values symbol)) (rank (selected tree values symbol))
 
--- whether a symbol of this number is there and unmet
+-- whether the tree has a symbol of this number and it has an unmet dependency
 abbrev pub is_unmet : Tree → List UnitValue → ℕ → Bool
 is_unmet tree values s = unwrap_or (option_map (is_unmet_symbol tree values) (slice_get tree.symbols s)) false
 
--- the unmet symbols, in order of first definition
+-- the numbers of the symbols with an unmet dependency (selected above the direct dependency), in order of first definition
 abbrev pub unmet : Tree → List UnitValue → List ℕ
 unmet tree values = filter (is_unmet tree values) (symbol_numbers tree)
 
--- a visible tristate whose value, as its user value, gives another value
+-- unit u is a visible tristate that would get another value if its value were its user value
 pub record IsLifted (profile : Profile) (tree : Tree) (values : List UnitValue) (u : ℕ) : Type 0 where
   pub s : ℕ
   pub symbol : Symbol

@@ -23,92 +23,95 @@ use Rattle.kc_value.specs.Kinds.{is_bool, is_tristate}
 use Rattle.kc_value.specs.Number.{number_of_text, number_spelling}
 use Rattle.kc_rules_model.specs.SymbolValues.{environment, value_of_symbol, condition}
 
--- the value of the symbol `MODULES`, `n` undefined ("modules")
+-- the value of the symbol `MODULES`; `n` if it is undefined ("modules")
 abbrev pub modules_value : Tree → List UnitValue → Tri
 modules_value tree values = symbol_tri (environment tree values modules)
 
--- a bool has no `m`, nor has a tristate while `MODULES` is `n`: there `m` becomes `y`
+-- a tristate value as a symbol of this type can have it: `m` becomes `y` for a bool, and for a tristate while `MODULES` is `n`
 abbrev pub promoted : Tree → List UnitValue → Kind → Tri → Tri
 promoted tree values kind t = if is_bool kind || (is_tristate kind && is_n (modules_value tree values))
     then y_for_m t
     else t
 
--- the values of some expressions
+-- the value of each of some expressions, in their order
 abbrev pub conditions : Tree → List UnitValue → List Expr → List Tri
 conditions tree values [] = []
 conditions tree values (e ∷ es) = condition tree values e ∷ conditions tree values es
 
--- the largest of the prompts' conditions, promoted ("input prompt")
+-- the visibility of a symbol: the largest of the conditions of its prompts, where `m` becomes `y` if the symbol can't be `m`
+-- ("input prompt")
 abbrev pub visibility : Tree → List UnitValue → Symbol → Tri
 visibility tree values symbol = promoted tree values symbol.kind (largest (conditions tree values symbol.prompts))
 
--- a symbol is visible where its visibility isn't `n`
+-- whether a symbol is visible: its visibility isn't `n`
 abbrev pub is_visible : Tree → List UnitValue → Symbol → Bool
 is_visible tree values symbol = not (is_n (visibility tree values symbol))
 
--- the largest over the definitions ("dependencies")
+-- the direct dependency of a symbol: the largest of the dependencies of its definitions, `depends on` joined with enclosing
+-- conditions ("dependencies")
 abbrev pub direct_dependency : Tree → List UnitValue → Symbol → Tri
 direct_dependency tree values symbol = largest (conditions tree values symbol.direct)
 
--- the limit of one select or imply: the other symbol's value, up to the condition
+-- the lower limit from one select or imply: the value of the symbol that has it, at most the value of its condition
 abbrev pub reverse_dependency_value : Tree → List UnitValue → ReverseDependency → Tri
 reverse_dependency_value tree values f = tri_and (symbol_tri (value_of_symbol tree values f.by)) (condition tree values f.condition)
 
--- the limits of some selects or implies
+-- the lower limit from each of some selects or implies, in their order
 abbrev pub reverse_dependency_limit : Tree → List UnitValue → List ReverseDependency → List Tri
 reverse_dependency_limit tree values [] = []
 reverse_dependency_limit tree values (f ∷ fs) = reverse_dependency_value tree values f ∷ reverse_dependency_limit tree values fs
 
--- the lower limit that selects set, without regard to dependencies ("reverse dependencies")
+-- the lower limit for a symbol's value from the `select`s that name it, without regard to dependencies ("reverse dependencies")
 abbrev pub selected : Tree → List UnitValue → Symbol → Tri
 selected tree values symbol = largest (reverse_dependency_limit tree values symbol.selectors)
 
--- the lower limit that implies suggest ("weak reverse dependencies")
+-- the lower limit for a symbol's value from the `imply`s that name it ("weak reverse dependencies")
 abbrev pub implied : Tree → List UnitValue → Symbol → Tri
 implied tree values symbol = largest (reverse_dependency_limit tree values symbol.impliers)
 
--- the first default whose condition isn't `n` ("default value")
+-- the default of a symbol that counts: the first whose condition isn't `n`, if there is one ("default value")
 abbrev pub active_default : Tree → List UnitValue → Symbol → Option Default
 active_default tree values symbol =
     find (λ (d : Default). not (is_n (condition tree values d.condition))) symbol.defaults
 
--- the value of a default, up to its condition
+-- the value of a default of a bool or tristate, at most the value of its condition; `n` without a default
 abbrev pub default_tri : Tree → List UnitValue → Option Default → Tri
 default_tri tree values None = N
 default_tri tree values (Some d) = tri_and (condition tree values d.value) (condition tree values d.condition)
 
--- a default of a string, int or hex is one operand, and represents its text
+-- the text of a default of a string, int or hex: that of its one operand; empty if it isn't one operand
 abbrev pub expression_text : Tree → List UnitValue → Expr → List ℕ
 expression_text tree values (alone a) = operand_text (environment tree values) a
 expression_text tree values _ = []
 
--- the text of the active default, empty without one
+-- the text of the first default of a symbol whose condition isn't `n`; empty without one
 abbrev pub default_text : Tree → List UnitValue → Symbol → List ℕ
 default_text tree values symbol =
     unwrap_or (option_map (λ (d : Default). expression_text tree values d.value) (active_default tree values symbol)) []
 
--- the user value as a tristate
+-- the tristate of a user value, if there is a user value and it is a tristate
 abbrev pub assigned_tri : Option UserValue → Option Tri
 assigned_tri (Some (TriUser t)) = Some t
 assigned_tri _ = None
 
--- the user value as a text
+-- the text of a user value, if there is a user value and it is a text
 abbrev pub assigned_text : Option UserValue → Option (List ℕ)
 assigned_text (Some (TextUser text)) = Some text
 assigned_text _ = None
 
--- the user value as a member
+-- the number of the member of a user value, if there is a user value and it is a choice's member
 abbrev pub assigned_member : Option UserValue → Option ℕ
 assigned_member (Some (MemberUser member)) = Some member
 assigned_member _ = None
 
--- the implied value where the direct dependency isn't `n`
+-- the lower limit for a symbol's value from the `imply`s that name it; `n` while its direct dependency is `n`
 abbrev pub implied_effect : Tree → List UnitValue → Symbol → Tri
 implied_effect tree values symbol = if is_n (direct_dependency tree values symbol)
     then N
     else implied tree values symbol
 
--- without a user value that counts: the active default and what is implied
+-- the value of a bool or tristate without regard to user values and selects: from its default and the implies that name it,
+-- joined as the profile says
 abbrev pub unassigned_value : Profile → Tree → List UnitValue → Symbol → Tri
 unassigned_value Present tree values symbol =
     let d = default_tri tree values (active_default tree values symbol) in
@@ -117,49 +120,51 @@ unassigned_value Present tree values symbol =
 unassigned_value Classic tree values symbol =
     tri_or (default_tri tree values (active_default tree values symbol)) (implied_effect tree values symbol)
 
--- a user value counts where the symbol is visible, up to its visibility
+-- the value of a bool or tristate without regard to selects: its user value, at most its visibility, if it has one and is
+-- visible; otherwise from its default and the implies that name it
 abbrev pub base : Profile → Tree → List UnitValue → Symbol → Option Tri → Tri
 base profile tree values symbol None = unassigned_value profile tree values symbol
 base profile tree values symbol (Some a) = if is_visible tree values symbol
     then tri_and a (visibility tree values symbol)
     else unassigned_value profile tree values symbol
 
--- in the classic profile an implied `y` leaves no `m`
+-- whether `m` becomes `y` in the value of a symbol because `y` is implied; only in the profile `Classic`
 abbrev pub leaves_no_m : Profile → Tree → List UnitValue → Symbol → Bool
 leaves_no_m Present tree values symbol = false
 leaves_no_m Classic tree values symbol = is_y (implied_effect tree values symbol)
 
--- the value of a bool or tristate outside choices
+-- the value of a bool or tristate outside choices, from its user value or none and the values of all units
 abbrev pub tri_rule : Profile → Tree → Symbol → Option UserValue → List UnitValue → Tri
 tri_rule profile tree symbol user values =
     let b = base profile tree values symbol (assigned_tri user) in
     let t = promoted tree values symbol.kind (tri_or b (selected tree values symbol)) in
     if leaves_no_m profile tree values symbol then y_for_m t else t
 
--- the assigned text where the symbol is visible
+-- the text that a user assigns to a symbol, if there is one and the symbol is visible
 abbrev pub visible_text : Tree → Symbol → Option UserValue → List UnitValue → Option (List ℕ)
 visible_text tree symbol user values = if is_visible tree values symbol then assigned_text user else None
 
--- the value of a string
+-- the value of a string: the user's text if the symbol is visible, otherwise the text of its default
 abbrev pub string_rule : Tree → Symbol → Option UserValue → List UnitValue → List ℕ
 string_rule tree symbol user values =
     unwrap_or (visible_text tree symbol user values) (default_text tree values symbol)
 
--- the first range whose condition isn't `n` ("numerical ranges")
+-- the range of a symbol that counts: the first whose condition isn't `n`, if there is one ("numerical ranges")
 abbrev pub active_range : Tree → List UnitValue → Symbol → Option Range
 active_range tree values symbol = find (λ (r : Range). not (is_n (condition tree values r.condition))) symbol.ranges
 
--- a bound that isn't a number of the type counts as 0
+-- the number of a range's bound; 0 if its text isn't a number of the type
 abbrev pub bound : Tree → List UnitValue → Kind → Operand → ℤ
 bound tree values kind a = unwrap_or (number_of_text kind (operand_text (environment tree values) a)) (pos 0)
 
--- without a range every number is within it
+-- whether a number is within a range, whose bounds belong to it; every number is if there is no range
 abbrev pub is_within : Tree → List UnitValue → Kind → Option Range → ℤ → Bool
 is_within tree values kind None n = true
 is_within tree values kind (Some r) n = not (int_lt n (bound tree values kind r.low))
     && not (int_lt (bound tree values kind r.high) n)
 
--- the text, where its number is within the range; below it the lower bound, above it the upper one
+-- the given text, whose number is given too, if the number is within the range; otherwise the spelling of the bound that it
+-- passes
 abbrev pub clamped : Tree → List UnitValue → Kind → Option Range → ℤ → List ℕ → List ℕ
 clamped tree values kind None n text = text
 clamped tree values kind (Some r) n text =
@@ -167,7 +172,8 @@ clamped tree values kind (Some r) n text =
     let high = bound tree values kind r.high in
     if int_lt n low then number_spelling kind low else (if int_lt high n then number_spelling kind high else text)
 
--- a default that isn't a number of the type counts as empty, and an empty text as the number 0
+-- the default of an int or hex, moved into its range; a default that isn't a number of the type is an empty text, which counts as
+-- 0 for the range
 abbrev pub number_default : Tree → List UnitValue → Symbol → List ℕ
 number_default tree values symbol =
     let text = default_text tree values symbol in
@@ -176,7 +182,8 @@ number_default tree values symbol =
     then clamped tree values symbol.kind range (unwrap_or (number_of_text symbol.kind text) (pos 0)) text
     else clamped tree values symbol.kind range (pos 0) []
 
--- the value of an int or hex: the assigned text where it is within the range, else the default's
+-- the value of an int or hex: the user's text if the symbol is visible and the number is within the range, otherwise the default,
+-- moved into the range
 abbrev pub number_rule : Tree → Symbol → Option UserValue → List UnitValue → List ℕ
 number_rule tree symbol user values =
     let range = active_range tree values symbol in
@@ -185,23 +192,23 @@ number_rule tree symbol user values =
     let by_user = option_and_then (λ text. if within text then Some text else None) (visible_text tree symbol user values) in
     unwrap_or by_user (number_default tree values symbol)
 
--- the value of a symbol outside choices, by its type
+-- the value of a symbol outside choices by its type, from its user value or none and the values of all units
 abbrev pub symbol_rule : Kind → Profile → Tree → Symbol → Option UserValue → List UnitValue → UnitValue
 symbol_rule Boolean profile tree symbol user values = TriValue (tri_rule profile tree symbol user values)
 symbol_rule Tristate profile tree symbol user values = TriValue (tri_rule profile tree symbol user values)
 symbol_rule Text profile tree symbol user values = TextValue (string_rule tree symbol user values)
 symbol_rule _ profile tree symbol user values = TextValue (number_rule tree symbol user values)
 
--- whether a symbol of this number is there and visible
+-- whether the tree has a symbol of this number and it is visible
 abbrev pub is_visible_member : Tree → List UnitValue → ℕ → Bool
 is_visible_member tree values s = unwrap_or (option_map (is_visible tree values) (slice_get tree.symbols s)) false
 
--- shown exactly if the prompt's condition isn't `n`; without a prompt never ("choices")
+-- whether a choice is shown: it has a prompt, whose condition isn't `n` ("choices")
 abbrev pub is_shown : Tree → List UnitValue → Choice → Bool
 is_shown tree values choice = unwrap_or (option_map (λ e. not (is_n (condition tree values e))) choice.prompt) false
 
--- the value of a choice: the user's member, else the first default's or the first, each if it is visible; of an optional
--- choice the user's member alone
+-- the selected member of a choice, if the choice is shown: the user's member; otherwise, unless the choice is optional, that of
+-- the first default that counts, or else the first member; each only if it is visible
 abbrev pub choice_rule : Tree → Choice → Option UserValue → List UnitValue → Option ℕ
 choice_rule tree choice user values =
     let seen : ℕ → Bool = is_visible_member tree values in
@@ -211,17 +218,17 @@ choice_rule tree choice user values =
     let otherwise = if choice.optional then None else option_or by_default (find seen choice.members) in
     if is_shown tree values choice then option_or by_user otherwise else None
 
--- the value of a symbol, and `n` if it isn't there
+-- the value of a symbol outside choices, from its user value or none and the values of all units; `n` without a symbol
 abbrev pub rule_of_symbol : Profile → Tree → Option Symbol → Option UserValue → List UnitValue → UnitValue
 rule_of_symbol profile tree None user values = TriValue N
 rule_of_symbol profile tree (Some symbol) user values = symbol_rule symbol.kind profile tree symbol user values
 
--- the value of a choice, and `n` if it isn't there
+-- the value of a choice, from its user value or none and the values of all units; `n` without a choice
 abbrev pub rule_of_choice : Tree → Option Choice → Option UserValue → List UnitValue → UnitValue
 rule_of_choice tree None user values = TriValue N
 rule_of_choice tree (Some choice) user values = MemberValue (choice_rule tree choice user values)
 
--- the value of a unit, and `n` if it isn't there
+-- the value of a unit, from its user value or none and the values of all units; `n` without a unit
 abbrev pub rule_of_unit : Profile → Tree → Option TreeUnit → Option UserValue → List UnitValue → UnitValue
 rule_of_unit profile tree (Some (of_symbol s)) user values =
     rule_of_symbol profile tree (slice_get tree.symbols s) user values
@@ -229,11 +236,11 @@ rule_of_unit profile tree (Some (of_choice c)) user values =
     rule_of_choice tree (slice_get tree.choices c) user values
 rule_of_unit profile tree None user values = TriValue N
 
--- the value that unit u has with this user value, or with none
+-- the rule of unit u: the value that it has with this user value, or with none, where the units have these values
 unfoldable pub rule : Profile → Tree → ℕ → Option UserValue → List UnitValue → UnitValue
 rule profile tree u user values = rule_of_unit profile tree (slice_get tree.units u) user values
 
--- a value as a user value; a choice without a selection has none
+-- the user value that equals a value; a choice without a selected member has none
 abbrev pub as_user : UnitValue → Option UserValue
 as_user (TriValue t) = Some (TriUser t)
 as_user (TextValue text) = Some (TextUser text)

@@ -13,40 +13,41 @@ use Rattle.kc_rules_model.specs.Dependencies.{dependencies}
 use Rattle.kc_rules_model.specs.Shapes.{user_fits, value_fits}
 use Rattle.kc_rules_model.specs.SettledTrees.{IsSettledTree}
 
--- the dependencies ascend without repeats, and name units
+-- law: in every tree the dependencies of each unit ascend without repeats, and are numbers of units
 abbrev pub DependenciesAreGraph : Type 0
 DependenciesAreGraph = (tree : Tree) → IsGraph (length tree.units) (dependencies tree)
 
--- values that agree on the dependencies of a unit give it the same value
+-- law: values that agree on the dependencies of a unit give the unit the same value
 abbrev pub RulesKeepFrame : Type 0
 RulesKeepFrame = (profile : Profile) (tree : Tree)
     → KeepsFrame (length tree.units) (dependencies tree) (rule profile tree) (λ u x. IsTrue (user_fits tree u x))
 
--- a value that a unit wouldn't have without its user value is given again by itself as the user value
+-- law: a value that a unit gets only with a user value is given again when the value itself is the user value
 abbrev pub RulesRestore : Type 0
 RulesRestore = (profile : Profile) (tree : Tree)
     → Restores (length tree.units) (rule profile tree) as_user (λ u x. IsTrue (user_fits tree u x))
 
--- the value is a tristate
+-- whether the value of a unit is a tristate
 abbrev pub is_tri_value : UnitValue → Bool
 is_tri_value (TriValue t) = true
 is_tri_value (TextValue text) = false
 is_tri_value (MemberValue member) = false
 
--- a text or member that a unit wouldn't have without its user value is its user value
+-- law: the user value of a unit is its value, if that is a text or a member and the unit wouldn't have it without its user value
 abbrev pub TextsAreAssigned : Type 0
 TextsAreAssigned = (profile : Profile) (tree : Tree) (u : ℕ) (x : Option UserValue) (values : List UnitValue)
     → rule profile tree u x values ≢ rule profile tree u None values
     → is_tri_value (rule profile tree u x values) ≡ false → x ≡ as_user (rule profile tree u x values)
 
--- what a rule gives fits its unit, over a consistent tree, where the values and the user value do
+-- law: the value that a unit's rule gives fits the unit, in a consistent tree, if all values and the user value fit their units
 abbrev pub RulesFit : Type 0
 RulesFit = (profile : Profile) (tree : Tree) (u : ℕ) (x : Option UserValue) (values : List UnitValue)
     → IsConsistent tree → u < length tree.units → IfSome x (λ y. IsTrue (user_fits tree u y))
     → FitsValues (length tree.units) (λ w v. IsTrue (value_fits tree w v)) values
     → IsTrue (value_fits tree u (rule profile tree u x values))
 
--- the values that a fitting assignment gives fit their units, over a settled tree
+-- law: the values that solve an assignment of user values fit their units if the user values do, in a consistent tree without a
+-- cycle of dependencies
 abbrev pub SolutionsFit : Type 0
 SolutionsFit = (profile : Profile) (tree : Tree) (users : List (Option UserValue)) (values : List UnitValue)
     → IsSettledTree tree → FitsUsers (length tree.units) (λ u x. IsTrue (user_fits tree u x)) users

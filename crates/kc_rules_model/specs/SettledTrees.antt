@@ -5,7 +5,7 @@ use Rattle.kc_tree_model.specs.Trees.{Tree}
 use Rattle.kc_tree_model.specs.TreeLookup.{IsConsistent}
 use Rattle.kc_rules_model.specs.Dependencies.{dependencies}
 
--- a consistent tree of which no unit depends on itself, be it over others ("recursive dependency limitations")
+-- a tree is consistent, and no unit depends on itself, directly or through other units ("recursive dependency limitations")
 pub record IsSettledTree (tree : Tree) : Type 0 where
   pub consistent : IsConsistent tree
   pub acyclic : HasNoCycle (length tree.units) (dependencies tree)

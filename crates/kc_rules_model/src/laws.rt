@@ -1,44 +1,45 @@
-//! Laws of the rules.
+//! Laws of the rules that give units their values.
 ghost use Rattle.std.specs.Prelude.{◌≡◌, ◌↔◌, IsTrue};
 ghost use Rattle.kc_rules_model.specs.declared.values.UnitValue.{UnitValue};
 ghost use Rattle.kc_rules_model.specs.declared.values.UserValue.{UserValue};
 ghost use Rattle.kc_rules_model.specs.RuleLaws.{DependenciesAreGraph, RulesKeepFrame, RulesRestore, RulesFit, TextsAreAssigned, SolutionsFit};
 ghost use Rattle.kc_rules_model.specs.Equality.{same_value, same_user};
 
-/// The dependencies of each tree ascend without repeats and name units.
+/// The law that in every tree the dependencies of each unit ascend without repeats and are numbers of units.
 pub fn dependencies_are_a_graph()
     ensures { DependenciesAreGraph }
 {}
 
-/// In each profile, values that agree on the dependencies of a unit give it the same value.
+/// The law that in both profiles values that agree on the dependencies of a unit give the unit the same value.
 pub fn rules_keep_the_frame()
     ensures { RulesKeepFrame }
 {}
 
-/// In each profile, a value that a unit wouldn't have without its user value is given again by
-/// itself as the user value.
+/// The law that in both profiles a value that a unit gets only with a user value is given again when the value itself is the user
+/// value.
 pub fn rules_restore()
     ensures { RulesRestore }
 {}
 
-/// In each profile, what a rule gives fits its unit, where the values and the user value fit theirs.
+/// The law that in both profiles the value that a unit's rule gives fits the unit, in a consistent tree, if all values and the
+/// user value fit their units.
 pub fn rules_fit()
     ensures { RulesFit }
 {}
 
-/// In each profile, the values that a fitting assignment gives fit their units, over a consistent
-/// tree without a cycle.
+/// The law that in both profiles the values that solve an assignment of user values fit their units if the user values do, in a
+/// consistent tree without a cycle of dependencies.
 pub fn solutions_fit()
     ensures { SolutionsFit }
 {}
 
-/// In each profile, a text or member that a unit wouldn't have without its user value is its user
-/// value.
+/// The law that in both profiles the user value of a unit is its value, if that is a text or a member and the unit wouldn't have
+/// it without its user value.
 pub fn texts_are_assigned()
     ensures { TextsAreAssigned }
 {}
 
-/// The tests of equality hold of equal values alone.
+/// The law that the tests of equality, of values of units and of user values, hold exactly for equal ones.
 pub fn equality_is_decided()
     ensures values { (a b : UnitValue) → IsTrue (same_value a b) ↔ (a ≡ b) }
     ensures users { (a b : UserValue) → IsTrue (same_user a b) ↔ (a ≡ b) }

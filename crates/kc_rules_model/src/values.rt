@@ -20,6 +20,6 @@ pub enum UserValue {
     Tri(Tri),
     /// The value of a string, int or hex.
     Text(Text),
-    /// The member of a choice.
+    /// The member of a choice that the user selects.
     Member(Sym),
 }

@@ -1,4 +1,4 @@
--- An arena that grows in two steps.
+-- Growth of an arena: in two steps, and in none.
 use Rattle.std.proofs.Common.{◌≡◌, List, length, take, drop, ◌++◌, ap, sym, ◌∙◌, append_assoc}
 use Rattle.std.proofs.lemmas.List.{take-append-drop}
 use Rattle.std.proofs.Math.Seq.{take-append_seam, take-length}
@@ -19,6 +19,6 @@ grows_on old mid new g h = record {
   nodes = front_on old.nodes mid.nodes new.nodes g.nodes h.nodes;
 }
 
--- an arena that did not grow
+-- an arena that stays as it is counts as grown
 pub grows_none : (e : Exprs) → Grows e e
 grows_none e = record { names = take-length e.names; nodes = take-length e.nodes }

@@ -1,4 +1,4 @@
--- Steps of the forms.
+-- The forms of lines, step by step: conditions, first tokens and results.
 use Rattle.std.proofs.Common.{◌≡◌, inl, inr, ℕ, suc, zero, ◌+◌, ◌<◌, ◌≤◌, ◌⊎◌, Bool, true, false, List, [], ◌∷◌, length, drop, refl, ap, sym, ◌∙◌, arith, rules, Some, Result, Ok, Err, length-drop, map, ◌==◌}
 use Rattle.std.proofs.lemmas.List.{drop-map, drop_more}
 use Rattle.std.specs.Prelude.{codes, slice_index_or, take}
@@ -29,22 +29,22 @@ more x [] h = absurd (omega arith)
 more x (t ∷ ts) h = refl
 
 -- what is left of a condition once its expression is read
-behind : List Lexeme → Result Expr (ExprKind × List Lexeme) → Result Expr TreeKind
-behind ts (Ok e) = no_more (conditional e) (drop (length (extent ts)) ts)
-behind ts (Err f) = Err (kind_of_fault f.0)
+after_condition : List Lexeme → Result Expr (ExprKind × List Lexeme) → Result Expr TreeKind
+after_condition ts (Ok e) = no_more (conditional e) (drop (length (extent ts)) ts)
+after_condition ts (Err f) = Err (kind_of_fault f.0)
 
 by_reading : (ts : List Lexeme) (r : Result Expr (ExprKind × List Lexeme))
     → (elim r [ Ok e ↦ Ok (record { expr = e; single = length (extent ts) == 1; rest = drop (length (extent ts)) ts }) | Err f ↦ Err (kind_of_fault f.0) ] >>=
-    λ (t : ParsedExpr). no_more (conditional t.expr) t.rest) ≡ behind ts r
-unfolding behind
+    λ (t : ParsedExpr). no_more (conditional t.expr) t.rest) ≡ after_condition ts r
+unfolding after_condition
 by_reading ts (Ok e) = refl
 by_reading ts (Err f) = refl
 
--- tokens after a condition
+-- a last condition with tokens after its expression is malformed
 pub condition_after : (ts : List Lexeme) (e : Expr) → read_expr (extent ts) ≡ Ok e → length (extent ts) < length ts → last_condition ts ≡ Err Malformed
-unfolding behind
+unfolding after_condition
 condition_after ts e reads h =
-    by_reading ts (read_expr (extent ts)) ∙ ap (behind ts) reads ∙ more (conditional e) (drop (length (extent ts)) ts)
+    by_reading ts (read_expr (extent ts)) ∙ ap (after_condition ts) reads ∙ more (conditional e) (drop (length (extent ts)) ts)
     (omega (arith, length-drop (length (extent ts)) ts))
 
 -- no tokens after a condition
@@ -53,21 +53,21 @@ bare x [] h = refl
 bare x (t ∷ ts) h = absurd (omega (arith, h))
 
 pub condition_last : (ts : List Lexeme) (e : Expr) → read_expr (extent ts) ≡ Ok e → length ts ≤ length (extent ts) → last_condition ts ≡ Ok (conditional e)
-unfolding behind
+unfolding after_condition
 condition_last ts e reads h =
-    by_reading ts (read_expr (extent ts)) ∙ ap (behind ts) reads ∙ bare (conditional e) (drop (length (extent ts)) ts)
+    by_reading ts (read_expr (extent ts)) ∙ ap (after_condition ts) reads ∙ bare (conditional e) (drop (length (extent ts)) ts)
     (omega (arith, h, length-drop (length (extent ts)) ts))
 
--- tokens that are no expression
+-- a last condition that is no expression has the fault of the expression
 pub condition_unread : (ts : List Lexeme) (x : ExprKind × List Lexeme) → read_expr (extent ts) ≡ Err x → last_condition ts ≡ Err (kind_of_fault x.0)
-unfolding behind
-condition_unread ts x reads = by_reading ts (read_expr (extent ts)) ∙ ap (behind ts) reads
+unfolding after_condition
+condition_unread ts x reads = by_reading ts (read_expr (extent ts)) ∙ ap (after_condition ts) reads
 
 reported_kind : (all : List Lexeme) (x : ExprKind × List Lexeme) → (fault_of all x).kind ≡ x.0
 reported_kind all (k, []) = refl
 reported_kind all (k, t ∷ ts) = refl
 
--- the parser's fault as that of a form
+-- a fault that the parser of expressions reports is the one that the definition of a form gives
 pub unread : {A : Type 0} (ps : List Lexeme) (at : ℕ) (e : ExprFault) (k : TreeKind) (given : Result A TreeKind)
     → ((e.kind ≡ expr_kinds.OutOfMemory) ⊎ RefusesExpr ps at e) → k ≡ kind_of_fault e.kind
     → ((x : ExprKind × List Lexeme) → read_expr (expr_tokens ps at) ≡ Err x → given ≡ Err (kind_of_fault x.0)) → (k ≡ OutOfMemory) ⊎ (given ≡ Err k)
@@ -78,7 +78,7 @@ unread ps at e k given f q h = elim f [
       inr (h n.fault (fault_read _ n.fault n.first) ∙ ap Err (sym (q ∙ ap kind_of_fault told)))
 ]
 
--- the token at a place, and those after it
+-- the tokens from a place on are the one at that place and those after it
 pub front_piece : (ts : List CodeToken) (at : ℕ) (d : CodeToken) → at < length ts
     → drop at (lexemes_of ts) ≡ lexeme_of (slice_index_or ts at d) ∷ drop (at + 1) (lexemes_of ts)
 front_piece ts at d h =
@@ -94,29 +94,29 @@ if_given t ts e w c = rw w (rw c refl)
 pub if_refused : (t : Lexeme) (ts : List Lexeme) (k : TreeKind) → is_the_word (codes "if") t ≡ true → last_condition ts ≡ Err k → optional_if (t ∷ ts) ≡ Err k
 if_refused t ts k w c = rw w (rw c refl)
 
--- the token that a clause has past the end
+-- some token, the default for a place past the end of a list of tokens
 abbrev pub some_token : CodeToken
 some_token = record { kind = Word; start = 0; end = 0; text = record { ref_ptr = (0, 0); now = [] } }
 
--- the answer along an equation of what is given
+-- a result that agrees with y agrees with x, if x and y are equal
 pub along : {A B : Type 0} (view : A → B) (r : Result A TreeKind) (x y : Result B TreeKind) → x ≡ y → ReturnsOrFails view r y → ReturnsOrFails view r x
 along view (Ok a) x y q g = q ∙ g
 along view (Err k) x y q g = elim g [ inl m ↦ inl m | inr e ↦ inr (q ∙ e) ]
 
--- one step after what is given
+-- a result with a function applied to its `Ok`
 abbrev pub stepped : {B C : Type 0} → (B → C) → Result B TreeKind → Result C TreeKind
 stepped k r = r >>= λ b. Ok (k b)
 
--- the first token
+-- the first token of a list, and `some_token` of an empty one
 abbrev pub first_of : List CodeToken → CodeToken
 first_of ts = slice_index_or ts 0 some_token
 
--- there is a token where the test of none fails
+-- a number that the test `n == 0` refuses is above 0
 pub there : (n : ℕ) (b : Bool) → b ≡ (n == 0) → b ≡ false → 0 < n
 there zero b e f = absurd (false≢true (sym f ∙ e))
 there (suc n) b e f = omega arith
 
--- the statement of a line, by its keyword
+-- the statement of a line under one keyword is that under an equal keyword
 pub by_keyword : (e : Exprs) (r : Result CodeStatement TreeKind) (ps : List Lexeme) {k l : Keyword} → k ≡ l
     → ReturnsOrFails (statement_in e) r (statement_of l ps) → ReturnsOrFails (statement_in e) r (statement_of k ps)
 by_keyword e r ps {k} {l} q g = along (statement_in e) r (statement_of k ps) (statement_of l ps) (ap (λ w. statement_of w ps) q) g
@@ -129,7 +129,7 @@ pub none_there : (ts : List CodeToken) (b : Bool) → b ≡ (length ts == 0) →
 none_there [] b e f = refl
 none_there (t ∷ ts) b e f = absurd (omega (arith, equal (length (t ∷ ts)) 0 (sym e ∙ f)))
 
--- what is given, one step further
+-- a result that agrees with a definition still does after one more function on the `Ok` of each
 pub given_on : {A B C : Type 0} (view : A → B) (k : B → C) (r : Result A TreeKind) (x : Result B TreeKind) → ReturnsOrFails view r x
     → ReturnsOrFails (λ a. k (view a)) r (stepped k x)
 given_on view k (Ok a) x g = ap (stepped k) g

@@ -13,7 +13,7 @@ use Rattle.kc_expr.specs.declared.token.TokenKind.{TokenKind}
 use Rattle.kc_expr.specs.declared.token.TokenKind.TheVariants.{Word, Quoted, Relation, Not, And, Or, Open, Close}
 use Rattle.kc_tree_model.specs.Placement.{is_glob_path}
 
--- a byte of patterns
+-- whether a byte makes a path a pattern: `*`, `?` or `[`
 abbrev pub is_pattern_byte : ℕ → Bool
 is_pattern_byte c = c == 42 || (c == 63) || (c == 91)
 

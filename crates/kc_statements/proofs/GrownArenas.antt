@@ -7,9 +7,9 @@ use Rattle.kc_expr.specs.Expr.{Expr, alone, constant}
 use Rattle.kc_tree_model.specs.Statements.{DefaultAttribute, TargetAttribute, typed_prompt, typed_default, prompt, default, depends, select, imply, range, visible, condition}
 use Rattle.kc_statements.specs.declared.statement.Head.{Head as CodeHead}
 use Rattle.kc_statements.specs.declared.statement.Head.TheVariants as heads
-use Rattle.kc_statements.specs.declared.statement.DefaultAttribute.{DefaultAttribute as CodeValued}
-use Rattle.kc_statements.specs.declared.statement.TargetAttribute.{TargetAttribute as CodeAimed}
-use Rattle.kc_statements.specs.declared.statement.RangeAttribute.{RangeAttribute as CodeBounded}
+use Rattle.kc_statements.specs.declared.statement.DefaultAttribute.{DefaultAttribute as CodeDefaultAttribute}
+use Rattle.kc_statements.specs.declared.statement.TargetAttribute.{TargetAttribute as CodeTargetAttribute}
+use Rattle.kc_statements.specs.declared.statement.RangeAttribute.{RangeAttribute as CodeRangeAttribute}
 use Rattle.kc_statements.specs.declared.statement.Attribute.{Attribute as CodeAttribute}
 use Rattle.kc_statements.specs.declared.statement.Attribute.TheVariants as attributes
 use Rattle.kc_statements.specs.between.StatementViews.{if_in, operand_of_expr, operand_or_n, default_in, target_in, range_in, attribute_in, head_in, NodeExists, IfNodeExists, OperandNodeExists, DefaultNodesExist, TargetNodesExist, RangeNodesExist, AttributeNodesExist, HeadNodesExist}
@@ -24,14 +24,14 @@ front_parts xs ys e = sym (take-append-drop (length xs) ys) ∙ ap (λ zs. zs ++
 front_get : {X : Type 0} (xs ys : List X) (i : ℕ) (d : X) → take (length xs) ys ≡ xs → i < length xs → get_or ys i d ≡ get_or xs i d
 front_get xs ys i d e h = ap (λ zs. get_or zs i d) (front_parts xs ys e) ∙ get_or_append_left xs (drop (length xs) ys) d i h
 
--- a node
+-- a node of an arena is also one of the grown arena
 pub node_held : (old new : Exprs) (id : ℕ) → Grows old new → NodeExists old id → NodeExists new id
 node_held old new id g h = let l = front_long old.nodes new.nodes g.nodes in omega arith
 
 pub node_same : (old new : Exprs) (id : ℕ) → Grows old new → NodeExists old id → node_expr new id ≡ node_expr old id
 node_same old new id g h = front_get old.nodes new.nodes id (alone (constant N)) g.nodes h
 
--- the node of an `if`
+-- a condition that is a node of an arena, or none, is so too in the grown arena
 pub if_held : (old new : Exprs) (c : Option ℕ) → Grows old new → IfNodeExists old c → IfNodeExists new c
 if_held old new None g h = tt
 if_held old new (Some id) g h = node_held old new id g h
@@ -40,7 +40,7 @@ pub if_same : (old new : Exprs) (c : Option ℕ) → Grows old new → IfNodeExi
 if_same old new None g h = refl
 if_same old new (Some id) g h = ap Some (node_same old new id g h)
 
--- an operand
+-- a node that is an operand is the same operand in the grown arena
 pub operand_same : (old new : Exprs) (id : ℕ) → Grows old new → OperandNodeExists old id → operand_or_n new id ≡ operand_or_n old id
 operand_same old new id g h = ap operand_of_expr (node_same old new id g h.within)
 
@@ -50,39 +50,39 @@ operand_held old new id g h = record {
   is = node_same old new id g h.within ∙ h.is ∙ ap alone (sym (operand_same old new id g h));
 }
 
--- a default
-pub valued_same : (old new : Exprs) (d : CodeValued) → Grows old new → DefaultNodesExist old d → default_in new d ≡ default_in old d
+-- a `default` attribute means the same over the grown arena
+pub valued_same : (old new : Exprs) (d : CodeDefaultAttribute) → Grows old new → DefaultNodesExist old d → default_in new d ≡ default_in old d
 valued_same old new d g h =
     ap (λ (v : Expr). let r : DefaultAttribute = record { value = v; single = d.single; condition = if_in new d.condition } in r)
     (node_same old new d.value g h.0)
     ∙ ap (λ (c : Option Expr). let r : DefaultAttribute = record { value = node_expr old d.value; single = d.single; condition = c } in r)
     (if_same old new d.condition g h.1)
 
-pub valued_held : (old new : Exprs) (d : CodeValued) → Grows old new → DefaultNodesExist old d → DefaultNodesExist new d
+pub valued_held : (old new : Exprs) (d : CodeDefaultAttribute) → Grows old new → DefaultNodesExist old d → DefaultNodesExist new d
 valued_held old new d g h = (node_held old new d.value g h.0, if_held old new d.condition g h.1)
 
--- a `select` or an `imply`
-pub target_same : (old new : Exprs) (s : CodeAimed) → Grows old new → TargetNodesExist old s → target_in new s ≡ target_in old s
+-- a `select` or `imply` attribute means the same over the grown arena
+pub target_same : (old new : Exprs) (s : CodeTargetAttribute) → Grows old new → TargetNodesExist old s → target_in new s ≡ target_in old s
 target_same old new s g h =
     ap (λ (x : List ℕ). let r : TargetAttribute = record { name = x; condition = if_in new s.condition } in r)
     (front_get old.names new.names s.name [] g.names h.0)
     ∙ ap (λ (c : Option Expr). let r : TargetAttribute = record { name = get_or old.names s.name []; condition = c } in r) (if_same old new s.condition g h.1)
 
-pub target_held : (old new : Exprs) (s : CodeAimed) → Grows old new → TargetNodesExist old s → TargetNodesExist new s
+pub target_held : (old new : Exprs) (s : CodeTargetAttribute) → Grows old new → TargetNodesExist old s → TargetNodesExist new s
 target_held old new s g h = let l = front_long old.names new.names g.names in (omega (arith, h.0), if_held old new s.condition g h.1)
 
--- a range
-pub bounded_same : (old new : Exprs) (r : CodeBounded) → Grows old new → RangeNodesExist old r → range_in new r ≡ range_in old r
+-- a `range` attribute means the same over the grown arena
+pub bounded_same : (old new : Exprs) (r : CodeRangeAttribute) → Grows old new → RangeNodesExist old r → range_in new r ≡ range_in old r
 bounded_same old new r g h =
     let low = operand_same old new r.low g h.0 in
     let high = operand_same old new r.high g h.1 in
     let c = if_same old new r.condition g h.2 in
     cc
 
-pub bounded_held : (old new : Exprs) (r : CodeBounded) → Grows old new → RangeNodesExist old r → RangeNodesExist new r
+pub bounded_held : (old new : Exprs) (r : CodeRangeAttribute) → Grows old new → RangeNodesExist old r → RangeNodesExist new r
 bounded_held old new r g h = (operand_held old new r.low g h.0, operand_held old new r.high g h.1, if_held old new r.condition g h.2)
 
--- an attribute
+-- an attribute means the same over the grown arena
 pub attribute_same : (old new : Exprs) (a : CodeAttribute) → Grows old new → AttributeNodesExist old a → attribute_in new a ≡ attribute_in old a
 attribute_same old new (attributes.Typed k) g h = refl
 attribute_same old new (attributes.TypedPrompt k c) g h = ap (typed_prompt k) (if_same old new c g h)
@@ -113,7 +113,7 @@ attribute_held old new attributes.Help g h = tt
 attribute_held old new attributes.Modules g h = tt
 attribute_held old new attributes.Optional g h = tt
 
--- a statement that closes the open entry
+-- a statement other than an attribute means the same over the grown arena
 pub head_same : (old new : Exprs) (h : CodeHead) → Grows old new → HeadNodesExist old h → head_in new h ≡ head_in old h
 head_same old new (heads.Config name) g h = refl
 head_same old new heads.Choice g h = refl

@@ -1,4 +1,4 @@
--- Lines by their first tokens.
+-- The definitions of lines, by their first tokens.
 use Rattle.std.proofs.Common.{◌≡◌, ℕ, ◌<◌, Bool, true, false, ◌==◌, not, List, [], ◌∷◌, length, drop, refl, ap, sym, ◌∙◌, arith, Option, Some, None, Result, Ok, Err}
 use Rattle.std.specs.Prelude.{codes, slice_index_or}
 use Rattle.std.specs.Bool.{if◌then◌else◌}
@@ -16,7 +16,7 @@ use Rattle.kc_statements.specs.between.StatementViews.{if_in, target_in, IfNodeE
 use Rattle.kc_statements.proofs.FormLemmas.{first_of, none_there, stepped}
 use Rattle.kc_statements.proofs.GrownArenas.{if_same}
 
--- a condition after a word
+-- if the first token is the expected word, the attribute of the line is that of the condition after the word
 pub worded_is : (w : List ℕ) (f : Expr → Attribute) (ts : List CodeToken) → 0 < length ts → is_the_word w (lexeme_of (first_of ts)) ≡ true
     → condition_line w f (lexemes_of ts) ≡ stepped (λ x. attribute (f x)) (last_condition (drop 1 (lexemes_of ts)))
 worded_is w f [] l h = absurd (omega (arith, l))
@@ -27,7 +27,7 @@ pub worded_other : (w : List ℕ) (f : Expr → Attribute) (ts : List CodeToken)
 worded_other w f [] l h = absurd (omega (arith, l))
 worded_other w f (t ∷ ts) l h = rw h refl
 
--- an `if` after a quoted text
+-- if the first token is a quoted text, the prompt is that of the optional condition after the text
 pub prompt_is : (f : Option Expr → Attribute) (ts : List CodeToken) → 0 < length ts → is_quoted_kind (first_of ts).kind ≡ true
     → prompt_line f (lexemes_of ts) ≡ stepped (λ x. attribute (f x)) (optional_if (drop 1 (lexemes_of ts)))
 prompt_is f [] l h = absurd (omega (arith, l))
@@ -53,12 +53,12 @@ pub target_other : (f : TargetAttribute → Attribute) (ts : List CodeToken) →
 target_other f [] l h = absurd (omega (arith, l))
 target_other f (t ∷ ts) l h = rw h refl
 
-pub target_told : (mid new : Exprs) (f : TargetAttribute → Attribute) (ts : List CodeToken) (id : ℕ) (c : Option ℕ) → 0 < length ts
+pub target_line_is : (mid new : Exprs) (f : TargetAttribute → Attribute) (ts : List CodeToken) (id : ℕ) (c : Option ℕ) → 0 < length ts
     → is_name (lexeme_of (first_of ts)) ≡ true → Grows mid new
     → optional_if (drop 1 (lexemes_of ts)) ≡ Ok (if_in mid c) → IfNodeExists mid c → slice_index_or new.names id [] ≡ (first_of ts).text.now
     → target_line f (lexemes_of ts) ≡ Ok (attribute (f (target_in new (record { name = id; condition = c }))))
 unfolding target_as
-target_told mid new f ts id c l n g o h x =
+target_line_is mid new f ts id c l n g o h x =
     let k : Option Expr → Statement = target_as f (first_of ts).text.now in
     target_is f ts l n ∙ ap (stepped k) o ∙ ap (λ d. Ok (k d)) (sym (if_same mid new c g h)) ∙ ap (λ y. Ok (target_as f y (if_in new c))) (sym x)
 
@@ -130,7 +130,7 @@ source_is [] x l h = absurd (omega (arith, l))
 source_is (t ∷ []) x l h = source_reading [] (path_of (lexeme_of t)) ∙ ap (source_by []) h
 source_is (t ∷ u ∷ ts) x l h = absurd (omega (arith, l))
 
--- a test of the first token
+-- a test of the first token of the code gives what `first_is` gives for the tokens as the definitions have them
 pub first_reported : (test : Lexeme → Bool) (ts : List CodeToken) → 0 < length ts → test (lexeme_of (first_of ts)) ≡ first_is test (lexemes_of ts)
 first_reported test [] l = absurd (omega (arith, l))
 first_reported test (t ∷ ts) l = refl

@@ -1,4 +1,4 @@
--- The line of a range by its parts.
+-- The line of a range, by its two operands and the tokens after them.
 use Rattle.std.proofs.Common.{◌≡◌, ℕ, ◌≤◌, false, List, [], ◌∷◌, length, drop, refl, ap, arith, Option, Some, None, Ok, Err}
 use Rattle.std.specs.Prelude.{slice_index_or}
 use Rattle.kc_expr.specs.Token.{lexeme_of, lexemes_of}
@@ -27,7 +27,7 @@ any_first : (a : Option Operand) → range_of_operands a None ≡ (λ ts. Err Ma
 any_first None = refl
 any_first (Some a) = refl
 
--- no range begins with another token
+-- a range whose first token is neither a word nor a quoted text is malformed
 pub first_refused : (ts : List CodeToken) → 2 ≤ length ts → is_operand_kind (slice_index_or ts 0 some_token).kind ≡ false
     → range_line (lexemes_of ts) ≡ Err Malformed
 first_refused [] l e = absurd (omega arith)
@@ -40,7 +40,7 @@ second_refused [] l e = absurd (omega arith)
 second_refused (t ∷ []) l e = absurd (omega arith)
 second_refused (t ∷ u ∷ ts) l e = rw (no_operand u.kind u.text.now e) (ap (λ f. f (lexemes_of ts)) (any_first (operand_of_lexeme (lexeme_of t))))
 
--- two operands, and what is after them
+-- two operands, and maybe a condition after them, are a range
 pub operands_given : (ts : List CodeToken) (a b : Operand) (c : Option Expr) → 2 ≤ length ts
     → operand_of_lexeme (lexeme_of (slice_index_or ts 0 some_token)) ≡ Some a → operand_of_lexeme (lexeme_of (slice_index_or ts 1 some_token)) ≡ Some b
     → optional_if (drop 2 (lexemes_of ts)) ≡ Ok c → range_line (lexemes_of ts) ≡ Ok (attribute (range (record { low = a; high = b; condition = c })))

@@ -23,7 +23,7 @@ pub title_there : (ts : List CodeToken) → is_one_quoted (lexemes_of ts) ≡ tr
 title_there [] n = absurd (false≢true n)
 title_there (t ∷ ts) n = omega arith
 
--- the title's text, or out of memory
+-- what the code reads as a titled statement agrees with the definition, if the title's text does; it fails only out of memory
 pub title_by : (f : List ℕ → Head) (x : List ℕ) (r : Result (List ℕ) TreeKind) (given : Result Statement TreeKind) → given ≡ Ok (head (f x))
     → IfOk r (λ t. t ≡ x) → IfErr r (λ k. k ≡ OutOfMemory)
     → ReturnsOrFails (λ t. head (f t)) r given

@@ -13,7 +13,7 @@ no_text : (e x : List ℕ) (b : Bool) → bytes_eq e x ≡ b → (e ≡ x → �
 no_text e x false t d = refl
 no_text e x true t d = absurd (d ((bytes_eq-Decides e x).0 t))
 
--- a word that is none of a table's
+-- a word is none of those in a table of keywords
 abbrev pub IsNoneOf : List (List ℕ × Keyword) → List ℕ → Type 0
 IsNoneOf [] x = Unit {0}
 IsNoneOf (e ∷ es) x = (x ≡ e.0 → ⊥) × IsNoneOf es x
@@ -41,7 +41,7 @@ by_length : (es : List (List ℕ × Keyword)) (x : List ℕ) → keyword_in_tabl
 by_length [] x = refl
 by_length (e ∷ es) x = passed e es (filter (λ e. length e.0 == length x) es) x (length e.0 == length x) (by_length es x) (lengths_differ e.0 x)
 
--- words of a length are looked up among those
+-- a word of n bytes has the same keyword among the words of n bytes as in the whole table
 pub of_that_length : (n : ℕ) (x : List ℕ) → length x ≡ n → keyword_in_table (of_length n) x ≡ keyword_in_table keywords x
 of_that_length n x l = ap (λ m. keyword_in_table (of_length m) x) (sym l) ∙ by_length keywords x
 

@@ -1,4 +1,4 @@
-//! The forms of attributes, by the tokens after their first words ("Menu attributes").
+//! The forms of attributes: what may follow their first words ("Menu attributes"). `Q` is a quoted text, `E` an expression.
 ghost use Rattle.std.specs.Prelude.{Option, IfOk, codes};
 ghost use Rattle.kc_expr.specs.between.Arena.{Exprs, Grows, node_expr};
 ghost use Rattle.kc_expr.specs.Expr.{Expr};
@@ -15,7 +15,7 @@ use kc_expr::{Arena, ExprId, Token};
 use kc_tree_model::TreeKind;
 use kc_value::Kind;
 
-/// `Q [if E]`: the `if`.
+/// Reads a quoted text and maybe a condition, `Q [if E]`, and gives the condition.
 fn prompt(arena: &mut Arena, tokens: &[Token<'_>]) -> Result<Option<ExprId>, TreeKind>
     ensures grows { Grows arena.old arena.new }
     ensures gives { (f : Option Expr → DefinedAttribute) → ReturnsOrFails (λ c. attribute (f (if_in arena.new c))) result (prompt_line f (lexemes_of tokens.now)) }
@@ -30,7 +30,7 @@ fn prompt(arena: &mut Arena, tokens: &[Token<'_>]) -> Result<Option<ExprId>, Tre
     optional_if(arena, tokens, 1)
 }
 
-/// Reads what follows `prompt`: `Q [if E]`.
+/// Reads a `prompt` attribute from the tokens after `prompt`: a quoted text and maybe a condition, `Q [if E]`.
 pub(crate) fn prompt_line<'a>(
     arena: &mut Arena,
     tokens: &[Token<'_>],
@@ -45,7 +45,7 @@ pub(crate) fn prompt_line<'a>(
     }
 }
 
-/// Reads what follows a type: `[Q [if E]]`.
+/// Reads a type attribute from the tokens after the type: nothing, or a prompt with maybe a condition, `[Q [if E]]`.
 pub(crate) fn type_line<'a>(
     arena: &mut Arena,
     kind: Kind,
@@ -64,7 +64,7 @@ pub(crate) fn type_line<'a>(
     }
 }
 
-/// `E [if E]`, where `m` in the first stays `m`.
+/// Reads the value of a default and maybe a condition, `E [if E]`. The constant `m` in the value stays `m`.
 #[inline(always)]
 fn default_attribute(arena: &mut Arena, tokens: &[Token<'_>]) -> Result<DefaultAttribute, TreeKind>
     ensures grows { Grows arena.old arena.new }
@@ -85,7 +85,7 @@ fn default_attribute(arena: &mut Arena, tokens: &[Token<'_>]) -> Result<DefaultA
     }
 }
 
-/// Reads what follows `default`: `E [if E]`.
+/// Reads a `default` attribute from the tokens after `default`: a value and maybe a condition, `E [if E]`.
 pub(crate) fn default_line<'a>(
     arena: &mut Arena,
     tokens: &[Token<'_>],
@@ -100,7 +100,8 @@ pub(crate) fn default_line<'a>(
     }
 }
 
-/// `E [if E]`, after a word that gives the type too.
+/// Reads an attribute like `def_bool` from the tokens after its first word, which gives the type `kind`: the value of a default
+/// and maybe a condition, `E [if E]`.
 pub(crate) fn typed_default_line<'a>(
     arena: &mut Arena,
     kind: Kind,
@@ -119,7 +120,7 @@ pub(crate) fn typed_default_line<'a>(
     }
 }
 
-/// A condition after a word.
+/// Reads a word and a condition up to the end of the tokens.
 fn condition_after_word(
     arena: &mut Arena,
     word: &str,
@@ -138,7 +139,7 @@ fn condition_after_word(
     last_condition(arena, tokens, 1)
 }
 
-/// `on E`, after `depends`.
+/// Reads a `depends on` attribute from the tokens after `depends`: `on` and a condition, `on E`.
 pub(crate) fn depends_line<'a>(
     arena: &mut Arena,
     tokens: &[Token<'_>],
@@ -153,7 +154,7 @@ pub(crate) fn depends_line<'a>(
     }
 }
 
-/// `if E`, after `visible`.
+/// Reads a `visible if` attribute from the tokens after `visible`: `if` and a condition, `if E`.
 pub(crate) fn visible_line<'a>(
     arena: &mut Arena,
     tokens: &[Token<'_>],
@@ -168,7 +169,7 @@ pub(crate) fn visible_line<'a>(
     }
 }
 
-/// Reads what follows `select` or `imply`: `NAME [if E]`.
+/// Reads the tokens after `select` or `imply`: the name of a symbol and maybe a condition, `NAME [if E]`.
 fn target_attribute(arena: &mut Arena, tokens: &[Token<'_>]) -> Result<TargetAttribute, TreeKind>
     ensures grows { Grows arena.old arena.new }
     ensures gives { (f : DefinedAimed → DefinedAttribute) → ReturnsOrFails (λ s. attribute (f (target_in arena.new s))) result (target_line f (lexemes_of tokens.now)) }
@@ -190,7 +191,7 @@ fn target_attribute(arena: &mut Arena, tokens: &[Token<'_>]) -> Result<TargetAtt
     }
 }
 
-/// `NAME [if E]`, after `select`.
+/// Reads a `select` attribute from the tokens after `select`: the name of a symbol and maybe a condition, `NAME [if E]`.
 pub(crate) fn select_line<'a>(
     arena: &mut Arena,
     tokens: &[Token<'_>],
@@ -205,7 +206,7 @@ pub(crate) fn select_line<'a>(
     }
 }
 
-/// `NAME [if E]`, after `imply`.
+/// Reads an `imply` attribute from the tokens after `imply`: the name of a symbol and maybe a condition, `NAME [if E]`.
 pub(crate) fn imply_line<'a>(
     arena: &mut Arena,
     tokens: &[Token<'_>],
@@ -220,7 +221,7 @@ pub(crate) fn imply_line<'a>(
     }
 }
 
-/// Nothing may follow `help`.
+/// Reads a `help` attribute. `tokens`, those after `help`, must be empty.
 pub(crate) fn help_line<'a>(tokens: &[Token<'_>]) -> Result<Statement<'a>, TreeKind>
     ensures gives { (e : Exprs) → ReturnsOrFails (statement_in e) result (no_more (attribute help) (lexemes_of tokens.now)) }
     ensures held { (e : Exprs) → IfOk result (StatementNodesExist e) }
@@ -232,7 +233,7 @@ pub(crate) fn help_line<'a>(tokens: &[Token<'_>]) -> Result<Statement<'a>, TreeK
     }
 }
 
-/// Nothing may follow `modules`.
+/// Reads a `modules` attribute. `tokens`, those after `modules`, must be empty.
 pub(crate) fn modules_line<'a>(tokens: &[Token<'_>]) -> Result<Statement<'a>, TreeKind>
     ensures gives { (e : Exprs) → ReturnsOrFails (statement_in e) result (no_more (attribute modules) (lexemes_of tokens.now)) }
     ensures held { (e : Exprs) → IfOk result (StatementNodesExist e) }
@@ -244,7 +245,7 @@ pub(crate) fn modules_line<'a>(tokens: &[Token<'_>]) -> Result<Statement<'a>, Tr
     }
 }
 
-/// Nothing may follow `optional`.
+/// Reads an `optional` attribute. `tokens`, those after `optional`, must be empty.
 pub(crate) fn optional_line<'a>(tokens: &[Token<'_>]) -> Result<Statement<'a>, TreeKind>
     ensures gives { (e : Exprs) → ReturnsOrFails (statement_in e) result (no_more (attribute optional) (lexemes_of tokens.now)) }
     ensures held { (e : Exprs) → IfOk result (StatementNodesExist e) }
@@ -256,7 +257,7 @@ pub(crate) fn optional_line<'a>(tokens: &[Token<'_>]) -> Result<Statement<'a>, T
     }
 }
 
-/// `modules`, after `option`.
+/// Reads an `option` attribute from the tokens after `option`: the word `modules` alone.
 pub(crate) fn option_line<'a>(tokens: &[Token<'_>]) -> Result<Statement<'a>, TreeKind>
     ensures gives { (e : Exprs) → ReturnsOrFails (statement_in e) result (option_line (lexemes_of tokens.now)) }
     ensures held { (e : Exprs) → IfOk result (StatementNodesExist e) }

@@ -10,7 +10,7 @@ use super::token::is_the_word;
 use kc_expr::{Arena, ExprId, Token};
 use kc_tree_model::TreeKind;
 
-/// A condition at the end of a line.
+/// Reads a condition from the token at `at` up to the end of the line.
 pub(crate) fn last_condition(
     arena: &mut Arena,
     tokens: &[Token<'_>],
@@ -31,7 +31,7 @@ pub(crate) fn last_condition(
     Ok(id)
 }
 
-/// Reads a condition that may be left out: `[if E]`.
+/// Reads a condition that may be left out, `[if E]`, from the token at `at` up to the end of the line.
 pub(crate) fn optional_if(
     arena: &mut Arena,
     tokens: &[Token<'_>],

@@ -5,7 +5,7 @@ ghost use Rattle.kc_tree_model.specs.Forms.{kind_of_fault};
 use kc_expr::ExprKind;
 use kc_tree_model::TreeKind;
 
-/// A fault of an expression as one of the tree.
+/// The fault of the tree that a fault of an expression becomes.
 pub fn tree_kind_of(kind: ExprKind) -> TreeKind
     ensures { result ≡ kind_of_fault kind }
 {

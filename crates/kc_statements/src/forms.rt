@@ -1,4 +1,4 @@
-//! The statements of lines, by their keywords and the tokens after them.
+//! The statements of lines, by their keywords and the tokens after their first words.
 ghost use Rattle.std.specs.Prelude.{IfOk};
 ghost use Rattle.kc_expr.specs.between.Arena.{Grows};
 ghost use Rattle.kc_expr.specs.Token.{lexemes_of};
@@ -19,11 +19,11 @@ use kc_expr::{Arena, Token};
 use kc_tree_model::{Keyword, TreeKind};
 use std::alloc::Global;
 
-/// The statement of a line with this keyword, by the tokens after its first ("Kconfig syntax", "Menu attributes").
+/// The statement of a line, by the keyword of its first token and the tokens after that ("Kconfig syntax", "Menu attributes").
 ///
-/// `Malformed` if they haven't the form of the keyword (a word that is left out has none, which is a fault before);
-/// `TooDeep` where an expression has a symbol under more than 64 `!` and parentheses; `OutOfMemory` is out of memory.
-/// Expressions that were read stay in the arena also after an `Err`.
+/// An `Err` is `Malformed` if the tokens don't have the form of the keyword, or if the keyword is `LeftOut`; the fault of an
+/// expression, such as `TooDeep` for a symbol under more than 64 `!` and parentheses; or `OutOfMemory`. Expressions that were
+/// read stay in the arena also after an `Err`.
 pub fn statement_of<'a>(
     alloc: Global,
     arena: &mut Arena,

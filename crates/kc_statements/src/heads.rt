@@ -1,4 +1,4 @@
-//! The forms of statements that close the open entry, by the tokens after their first words ("Kconfig syntax").
+//! The forms of statements that close the open entry: what may follow their first words ("Kconfig syntax").
 ghost use Rattle.std.specs.Prelude.{◌≡◌, ℕ, List, IfOk, IfErr};
 ghost use Rattle.kc_expr.specs.between.Arena.{Exprs, Grows};
 ghost use Rattle.kc_expr.specs.Grammar.{quoted_text as text_meant};
@@ -17,7 +17,7 @@ use kc_tree_model::{Block, Keyword, TreeKind};
 use kc_value::Text;
 use std::alloc::{AllocError, Global};
 
-/// Reads what follows `config`: `NAME`.
+/// Reads a `config` statement from the tokens after `config`: the name of a symbol alone.
 pub(crate) fn config_line<'a>(tokens: &[Token<'a>]) -> Result<Statement<'a>, TreeKind>
     ensures gives { (e : Exprs) → ReturnsOrFails (statement_in e) result (config_line (lexemes_of tokens.now)) }
     ensures held { (e : Exprs) → IfOk result (StatementNodesExist e) }
@@ -31,7 +31,7 @@ pub(crate) fn config_line<'a>(tokens: &[Token<'a>]) -> Result<Statement<'a>, Tre
     Ok(Statement::Head(Head::Config(tokens[0].text)))
 }
 
-/// Nothing may follow `choice`.
+/// Reads a `choice` statement. `tokens`, those after `choice`, must be empty.
 pub(crate) fn choice_line<'a>(tokens: &[Token<'_>]) -> Result<Statement<'a>, TreeKind>
     ensures gives { (e : Exprs) → ReturnsOrFails (statement_in e) result (choice_line (lexemes_of tokens.now)) }
     ensures held { (e : Exprs) → IfOk result (StatementNodesExist e) }
@@ -61,7 +61,7 @@ fn unquoted(alloc: Global, text: &str) -> Result<Text, TreeKind>
     }
 }
 
-/// Reads a title: `Q`.
+/// Reads a title from the tokens of a line after its first: one quoted text.
 fn title(alloc: Global, tokens: &[Token<'_>]) -> Result<Text, TreeKind>
     ensures { (f : List ℕ → DefinedHead) → ReturnsOrFails (λ t. head (f t)) result (titled_line f (lexemes_of tokens.now)) }
 {
@@ -71,7 +71,7 @@ fn title(alloc: Global, tokens: &[Token<'_>]) -> Result<Text, TreeKind>
     unquoted(alloc, tokens[0].text)
 }
 
-/// `Q`, a menu's title.
+/// Reads a `menu` statement from the tokens after `menu`: the menu's title, one quoted text.
 pub(crate) fn menu_line<'a>(alloc: Global, tokens: &[Token<'_>]) -> Result<Statement<'a>, TreeKind>
     ensures gives { (e : Exprs) → ReturnsOrFails (statement_in e) result (titled_line menu (lexemes_of tokens.now)) }
     ensures held { (e : Exprs) → IfOk result (StatementNodesExist e) }
@@ -82,7 +82,7 @@ pub(crate) fn menu_line<'a>(alloc: Global, tokens: &[Token<'_>]) -> Result<State
     }
 }
 
-/// `Q`, a comment's title.
+/// Reads a `comment` statement from the tokens after `comment`: the comment's title, one quoted text.
 pub(crate) fn comment_line<'a>(
     alloc: Global,
     tokens: &[Token<'_>],
@@ -96,7 +96,7 @@ pub(crate) fn comment_line<'a>(
     }
 }
 
-/// `Q`, which isn't kept.
+/// Reads a `mainmenu` statement from the tokens after `mainmenu`: a title, one quoted text, which isn't kept.
 pub(crate) fn mainmenu_line<'a>(tokens: &[Token<'_>]) -> Result<Statement<'a>, TreeKind>
     ensures gives { (e : Exprs) → ReturnsOrFails (statement_in e) result (titled_line (λ _. mainmenu) (lexemes_of tokens.now)) }
     ensures held { (e : Exprs) → IfOk result (StatementNodesExist e) }
@@ -123,7 +123,7 @@ fn path_of(alloc: Global, token: &Token<'_>) -> Result<Option<Text>, AllocError>
     Ok(None)
 }
 
-/// `Q` or `W`.
+/// Reads a `source` statement from the tokens after `source`: a path, one quoted text or one bare word.
 pub(crate) fn source_line<'a>(
     alloc: Global,
     tokens: &[Token<'_>],
@@ -141,7 +141,7 @@ pub(crate) fn source_line<'a>(
     }
 }
 
-/// `E`, of an `if` block.
+/// Reads an `if` statement, which opens an `if` block, from the tokens after `if`: a condition.
 pub(crate) fn if_line<'a>(
     arena: &mut Arena,
     tokens: &[Token<'_>],
@@ -156,7 +156,7 @@ pub(crate) fn if_line<'a>(
     }
 }
 
-/// Nothing may follow `endmenu`, `endif` and `endchoice`.
+/// Reads an `endmenu`, `endif` or `endchoice` statement. `tokens`, those after that word, must be empty.
 pub(crate) fn end_line<'a>(block: Block, tokens: &[Token<'_>]) -> Result<Statement<'a>, TreeKind>
     ensures gives { (e : Exprs) → ReturnsOrFails (statement_in e) result (no_more (head (ends block)) (lexemes_of tokens.now)) }
     ensures held { (e : Exprs) → IfOk result (StatementNodesExist e) }

@@ -1,4 +1,4 @@
-//! The first words of lines.
+//! The keywords that the first words of lines are.
 ghost use Rattle.std.specs.Prelude.{◌≡◌, length};
 ghost use Rattle.kc_expr.specs.Token.{lexeme_of};
 ghost use Rattle.kc_tree_model.specs.Keywords.{keyword_in_table, keywords, keyword_of as defined_keyword};
@@ -8,8 +8,8 @@ use kc_expr::{Token, TokenKind};
 use kc_tree_model::{Block, Keyword};
 use kc_value::Kind;
 
-/// The keyword of a line by its first token; `None` where no statement and no attribute begins so ("Kconfig syntax",
-/// "Menu attributes").
+/// The keyword that the first token of a line is; `None` if no statement and no attribute begins with it ("Kconfig syntax", "Menu
+/// attributes").
 pub fn keyword_of(token: &Token<'_>) -> Option<Keyword>
     ensures { result ≡ defined_keyword (lexeme_of token.now) }
 {
@@ -19,7 +19,7 @@ pub fn keyword_of(token: &Token<'_>) -> Option<Keyword>
     }
 }
 
-/// The keyword that a word is: by its length first.
+/// The keyword that a word is, if it is one; looked up by the word's length first.
 fn keyword_named(word: &str) -> Option<Keyword>
     ensures { result ≡ keyword_in_table keywords word.now }
 {

@@ -1,4 +1,4 @@
-//! The checks before a line's form: forms that are left out, and the attributes of each entry.
+//! The checks of a line before its form: forms that are left out of the language, and the attributes of each entry.
 ghost use Rattle.std.specs.Prelude.{◌≡◌, ◌&&◌, ◌||◌, ◌==◌, not, List};
 ghost use Rattle.std.specs.List.{list_any};
 ghost use Rattle.kc_value.specs.Kinds.{is_tri_kind};
@@ -11,7 +11,7 @@ use kc_expr::{Language, Token};
 use kc_tree_model::{Keyword, OpenEntry};
 use kc_value::Kind;
 
-/// Whether an entry takes an attribute ("Kconfig syntax": config, choice, menu, comment).
+/// Whether an entry may have the attribute that begins with this keyword ("Kconfig syntax": config, choice, menu, comment).
 pub fn allows_attribute(entry: OpenEntry, keyword: Keyword) -> bool
     ensures { result ≡ allows_attribute entry keyword }
 {
@@ -23,7 +23,7 @@ pub fn allows_attribute(entry: OpenEntry, keyword: Keyword) -> bool
     }
 }
 
-/// Whether a `config` takes an attribute.
+/// Whether a `config` entry may have the attribute that begins with this keyword.
 fn config_allows(keyword: Keyword) -> bool
     ensures { result ≡ allows_attribute OpenEntry.Config keyword }
 {
@@ -43,7 +43,7 @@ fn config_allows(keyword: Keyword) -> bool
     )
 }
 
-/// Whether a `choice` takes an attribute.
+/// Whether a `choice` entry may have the attribute that begins with this keyword.
 fn choice_allows(keyword: Keyword) -> bool
     ensures { result ≡ allows_attribute OpenEntry.Choice keyword }
 {
@@ -58,21 +58,22 @@ fn choice_allows(keyword: Keyword) -> bool
     )
 }
 
-/// Whether a byte makes a path a pattern.
+/// Whether a byte makes a path a pattern: `*`, `?` or `[`.
 fn is_glob_byte(byte: u8) -> bool
     ensures { result ≡ (byte == 42 || (byte == 63) || (byte == 91)) }
 {
     matches!(byte, b'*' | b'?' | b'[')
 }
 
-/// Whether a text has such a byte.
+/// Whether a text has one of the bytes `*`, `?` and `[`, which make a path a pattern.
 fn has_glob_byte(text: &[u8]) -> bool
     ensures { result ≡ list_any (λ c. c == 42 || (c == 63) || (c == 91)) text.now }
 {
     text.iter().any(|byte| is_glob_byte(*byte))
 }
 
-/// Whether a token is a path that is a pattern. Quotes and backslashes make none, so its text is tested as it is.
+/// Whether a token is a path with `*`, `?` or `[`, which is a pattern. Quotes and backslashes are none of these, so the text of a
+/// quoted token is tested as it is written.
 fn is_glob_path(token: &Token<'_>) -> bool
     ensures { result ≡ is_glob_path (lexeme_of token.now) }
 {
@@ -88,7 +89,8 @@ fn is_strict(language: Language) -> bool
     }
 }
 
-/// Whether a default type is left out in this language: in the strict one, where it is neither bool nor tristate.
+/// Whether attributes like `def_int`, of this type, are left out of the language: in the strict language, if the type is neither
+/// bool nor tristate.
 fn is_default_type_left_out(language: Language, kind: Kind) -> bool
     ensures { result ≡ (is_strict language && not (is_tri_kind kind)) }
 {
@@ -98,9 +100,12 @@ fn is_default_type_left_out(language: Language, kind: Kind) -> bool
     }
 }
 
-/// Whether a line with this keyword is left out in this language, by the tokens after its first and whether the open
-/// entry is a choice: its first word, options, named and tristate choices, paths that are patterns, and in the strict
-/// language default types other than bool and tristate, and optional choices ("Kconfig syntax").
+/// Whether a line has a form that this language leaves out, by the keyword of its first token, the tokens after that, and whether
+/// the open entry is a choice.
+///
+/// Left out are words such as `rsource`, the options `env`, `defconfig_list` and `allnoconfig_y`, named choices, tristate
+/// choices, paths that are patterns, and in the strict language also `def_int`, `def_hex` and `def_string`, and `optional`
+/// choices ("Kconfig syntax").
 pub fn is_left_out(
     language: Language,
     keyword: Keyword,

@@ -1,4 +1,4 @@
-//! The form of ranges, by the tokens after `range` ("Menu attributes").
+//! The form of ranges: what may follow `range` ("Menu attributes").
 ghost use Rattle.std.specs.Prelude.{◌≡◌, true, Some, IfOk, IfErr};
 ghost use Rattle.kc_expr.specs.between.Arena.{Grows};
 ghost use Rattle.kc_expr.specs.Grammar.{is_operand_kind, operand_of_lexeme};
@@ -13,7 +13,7 @@ use super::token::is_operand;
 use kc_expr::{Arena, ExprId, Token};
 use kc_tree_model::TreeKind;
 
-/// The operand that a word or a quoted text is, as an expression.
+/// Adds a bare word or a quoted text to the arena, as an expression of one operand.
 fn operand(arena: &mut Arena, token: &Token<'_>) -> Result<ExprId, TreeKind>
     requires kind { is_operand_kind token.now.kind ≡ true }
     ensures grows { Grows arena.old arena.new }
@@ -28,7 +28,7 @@ fn operand(arena: &mut Arena, token: &Token<'_>) -> Result<ExprId, TreeKind>
     }
 }
 
-/// Reads what follows `range`: `OP OP [if E]`.
+/// Reads a `range` attribute from the tokens after `range`: two operands and maybe a condition, `OP OP [if E]`.
 pub(crate) fn range_line<'a>(
     arena: &mut Arena,
     tokens: &[Token<'_>],

@@ -1,26 +1,26 @@
-//! The statements of a tree's lines.
+//! The statements that the lines of Kconfig files represent.
 use kc_expr::{ExprId, NameId};
 use kc_tree_model::Block;
 use kc_value::{Kind, Text};
 
-/// A statement that closes the open entry ("Kconfig syntax").
+/// A statement other than an attribute: it closes the entry that is open, and may open a new one ("Kconfig syntax").
 #[derive(Drop)]
 pub enum Head<'a> {
-    /// The name that is defined.
+    /// The name of the symbol that a `config` statement defines.
     Config(&'a str),
     Choice,
-    /// A menu's title.
+    /// The title of a `menu` statement.
     Menu(Text),
     Condition(ExprId),
-    /// A comment's title.
+    /// The title of a `comment` statement.
     Comment(Text),
-    /// The path that is sourced.
+    /// The path of a `source` statement.
     Source(Text),
     Mainmenu,
     Ends(Block),
 }
 
-/// The value of a default, whether it is one operand (in parentheses it isn't), and its `if`.
+/// A `default` attribute: the value, whether it is one operand (in parentheses it isn't), and the condition after `if`.
 #[derive(Clone, Copy)]
 pub struct DefaultAttribute {
     pub value: ExprId,
@@ -28,14 +28,14 @@ pub struct DefaultAttribute {
     pub condition: Option<ExprId>,
 }
 
-/// The name in a `select` or an `imply`, and its `if`.
+/// A `select` or `imply` attribute: the name of the symbol that it selects or implies, and the condition after `if`.
 #[derive(Clone, Copy)]
 pub struct TargetAttribute {
     pub name: NameId,
     pub condition: Option<ExprId>,
 }
 
-/// The bounds of a `range`, which are operands, and its `if`.
+/// A `range` attribute: the lower and the upper bound, each an expression of one operand, and the condition after `if`.
 #[derive(Clone, Copy)]
 pub struct RangeAttribute {
     pub low: ExprId,
@@ -43,7 +43,7 @@ pub struct RangeAttribute {
     pub condition: Option<ExprId>,
 }
 
-/// An attribute of the open entry ("Menu attributes"); of a prompt only its `if` is kept.
+/// An attribute of the entry that is open ("Menu attributes"). Of a prompt only the condition after `if` is kept.
 #[derive(Clone, Copy)]
 pub enum Attribute {
     Typed(Kind),
@@ -61,7 +61,7 @@ pub enum Attribute {
     Optional,
 }
 
-/// The statement of a line.
+/// The statement that a logical line of a Kconfig file represents.
 #[derive(Drop)]
 pub enum Statement<'a> {
     Head(Head<'a>),

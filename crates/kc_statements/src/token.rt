@@ -23,7 +23,7 @@ pub(crate) fn is_quoted(token: &Token<'_>) -> bool
     matches!(token.kind, TokenKind::Quoted)
 }
 
-/// Whether a token is a bare word of these letters.
+/// Whether a token is the bare word `word`.
 pub(crate) fn is_the_word(word: &str, token: &Token<'_>) -> bool
     ensures { result ≡ is_the_word word.now (lexeme_of token.now) }
 {
@@ -37,7 +37,7 @@ fn is_name_byte(byte: u8) -> bool
     matches!(byte, b'A'..=b'Z' | b'a'..=b'z' | b'0'..=b'9' | b'_')
 }
 
-/// Whether a token is the name of a symbol: letters, digits and `_`, and none of the three constants.
+/// Whether a token is the name of a symbol: a bare word of letters, digits and `_`, and none of the constants `n`, `m` and `y`.
 pub(crate) fn is_name(token: &Token<'_>) -> bool
     ensures { result ≡ is_name (lexeme_of token.now) }
 {
@@ -58,14 +58,14 @@ fn are_name_bytes(bytes: &[u8]) -> bool
     bytes.iter().all(|byte| is_name_byte(*byte))
 }
 
-/// Whether a word is one of the three constants.
+/// Whether a word is one of the constants `n`, `m` and `y`.
 fn is_constant(word: &str) -> bool
     ensures { result ≡ (bytes_eq word.now (codes "n") || bytes_eq word.now (codes "m") || bytes_eq word.now (codes "y")) }
 {
     word == "n" || word == "m" || word == "y"
 }
 
-/// Whether a token is an option that is left out.
+/// Whether a token is the word of an option that is left out of the language: `env`, `defconfig_list` or `allnoconfig_y`.
 pub(crate) fn is_left_out_option(token: &Token<'_>) -> bool
     ensures { result ≡ is_left_out_option (lexeme_of token.now) }
 {

@@ -96,7 +96,7 @@ module _ (size : ℕ) (dependencies : ℕ → List ℕ) (graph : IsGraph size de
         let d = get_or (dependencies u) k.0 0 in
         walk_closes flags left first least n (walk ++ u ∷ []) (set places u (length walk)) d
         (walked size dependencies first walk (walk ++ u ∷ []) places u d refl none follows w) (omega (arith, h, length-append walk (u ∷ [])))
-    | inr met ↦ (drop (get_or places u 0) walk, (closed size dependencies first walk places u least met w).1)
+    | inr visited ↦ (drop (get_or places u 0) walk, (closed size dependencies first walk places u least visited w).1)
   ]
 
   -- the walk at its beginning
@@ -110,7 +110,7 @@ module _ (size : ℕ) (dependencies : ℕ → List ℕ) (graph : IsGraph size de
     next = λ w e. absurd (none-some w e);
     here = left;
     one_each = length-replicate size size;
-    met = λ w h. inl (get_or-replicate size w size 0 h, λ k e. none-some w e);
+    visited = λ w h. inl (get_or-replicate size w size 0 h, λ k e. none-some w e);
   }
 
   -- where a unit is left there is a cycle

@@ -1,4 +1,4 @@
--- One more unit that is eliminated, or one more that waits.
+-- Eliminations of units, step by step: a unit is eliminated, or waits for a dependency that isn't.
 use Rattle.std.proofs.Common.{◌≡◌, ◌⊎◌, inl, inr, ℕ, zero, suc, ◌+◌, ◌<◌, ◌≤◌, Bool, true, false, List, [], ◌∷◌, ◌++◌, length, set, get_or, length-set, refl, sym, ◌∙◌, ap, subst, arith, Some, slice_get, not, eqb, replicate}
 use Rattle.std.proofs.lemmas.Bool.{cases_eq, cases_lt, cases_Bool, false≢true, not-true, eqb-true}
 use Rattle.std.proofs.lemmas.Option.{slice_get_within, none-some}
@@ -22,7 +22,7 @@ push_cases [] u (suc k) w e = absurd (none-some w e)
 push_cases (x ∷ xs) u zero w e = inl e
 push_cases (x ∷ xs) u (suc k) w e = elim (push_cases xs u k w e) [ inl earlier ↦ inl earlier | inr last ↦ inr (ap suc last.0, last.1) ]
 
--- a unit whose dependencies are all eliminated is eliminated
+-- an elimination goes on with a unit whose flag is unset and whose dependencies are all eliminated
 pub eliminates_more : (size : ℕ) (dependencies : ℕ → List ℕ) (eliminated new : List ℕ) (flags : List Bool) (u : ℕ) → u < size → new ≡ eliminated ++ u ∷ []
     → get_or flags u false ≡ false
     → ((d : ℕ) → Contains (dependencies u) d → (d < size) × (get_or flags d false ≡ true)) → Eliminating size dependencies eliminated flags
@@ -68,12 +68,12 @@ eliminated_grows eliminated new u new_is = (
   (length eliminated, ap (λ xs. slice_get xs (length eliminated)) new_is ∙ push_at eliminated u),
 )
 
--- where every unit is eliminated, the list is an order
+-- the list of eliminated units is an order of dependency if it has all units
 pub all_eliminated : (size : ℕ) (dependencies : ℕ → List ℕ) (eliminated : List ℕ) (flags : List Bool) → Eliminating size dependencies eliminated flags
     → ((u : ℕ) → u < size → get_or flags u false ≡ true) → IsOrder size dependencies eliminated
 all_eliminated size dependencies eliminated flags t all = record { units = t.units; each = λ u h. (t.flagged u h).0 (all u h); once = t.once; after = t.after }
 
--- a unit that waits beyond the first i still does
+-- a unit that waits for a dependency beyond the first i eliminated units still does once more units are eliminated
 pub still_beyond : (dependencies : ℕ → List ℕ) (old new : List ℕ) (i u : ℕ) → i ≤ length old → Grows old new → WaitsBeyond dependencies old i u
     → WaitsBeyond dependencies new i u
 still_beyond dependencies old new i u h grows w = elim w [
@@ -107,7 +107,7 @@ pub beyond_less : (dependencies : ℕ → List ℕ) (eliminated : List ℕ) (i j
     → WaitsBeyond dependencies eliminated i u
 beyond_less dependencies eliminated i j u h w = elim w [ inl yet ↦ inl yet | inr waits ↦ inr (waits.0, waits.1, λ k lt e. waits.2 k (omega arith) e) ]
 
--- the units that depend on the one at i were visited
+-- once the units that depend on the eliminated unit at i are visited, each unit is eliminated or waits beyond the first i + 1
 pub visited_beyond : (size : ℕ) (dependencies : ℕ → List ℕ) (eliminated new : List ℕ) (ready : List ℕ) (i u : ℕ) → slice_get eliminated i ≡ Some u
     → AreDependents size dependencies u ready → Grows eliminated new
     → ((w : ℕ) → Contains ready w → WaitsBeyond dependencies new (length eliminated) w) → (w : ℕ) → w < size → WaitsBeyond dependencies eliminated i w
@@ -131,13 +131,13 @@ visited_beyond size dependencies eliminated new ready i u at dependents grows vi
       ]
     ]
 
--- numbers below n, each once, are n at most
+-- a list of numbers below n, each once, has at most n of them
 pub length-once : (n : ℕ) (xs : List ℕ) → ((k u : ℕ) → slice_get xs k ≡ Some u → u < n)
     → ((j k u : ℕ) → slice_get xs j ≡ Some u → slice_get xs k ≡ Some u → j ≡ k) → length xs ≤ n
 length-once n xs below once = length-le_from_distinct_below xs n (distinct_from_once xs once)
     (λ q has. let at = Contains-from_any {eq = eqb} eqb-true q xs has in below at.0 q (get_from_Contains xs q at))
 
--- with nothing eliminated, the flags are unset
+-- an elimination begins with no eliminated unit and all flags unset
 pub nothing_eliminated : (size : ℕ) (dependencies : ℕ → List ℕ) (eliminated : List ℕ) (flags : List Bool) → eliminated ≡ [] → flags ≡ replicate size false
     → Eliminating size dependencies eliminated flags
 nothing_eliminated size dependencies eliminated flags none unset =
@@ -153,7 +153,7 @@ nothing_eliminated size dependencies eliminated flags none unset =
       );
     }
 
--- with every place 0, nothing was passed
+-- if `next` is 0 for each unit, no dependency need have its flag set
 pub nothing_passed : (size : ℕ) (dependencies : ℕ → List ℕ) (flags : List Bool) (next : List ℕ) → next ≡ replicate size 0 → Passed size dependencies flags next
 nothing_passed size dependencies flags next is =
     let at : (u : ℕ) → u < size → get_or next u 0 ≡ 0 = λ u h. ap (λ xs. get_or xs u 0) is ∙ get_or-replicate size u 0 0 h in
@@ -163,7 +163,7 @@ nothing_passed size dependencies flags next is =
       passed = λ u k d h below e. absurd (omega (arith, at u h, below));
     }
 
--- where each unit is eliminated or has a dependency that isn't, just the units that are left have unset flags
+-- if each unit is eliminated or has a dependency whose flag is unset, just the units that are left have unset flags
 pub flags_left : (size : ℕ) (dependencies : ℕ → List ℕ) (eliminated : List ℕ) (flags : List Bool) → IsGraph size dependencies
     → Eliminating size dependencies eliminated flags
     → ((u : ℕ) → u < size → IsEliminated eliminated u ⊎ ((d : ℕ) × Contains (dependencies u) d × (get_or flags d false ≡ false)))
@@ -194,7 +194,7 @@ flags_left size dependencies eliminated flags graph t each u h = (
         | inr waits ↦ (waits.0, waits.1, not_set waits.0 (graph.units w waits.0 lt waits.1) waits.2)
       ]
 
--- once each unit is eliminated or waits for one that isn't, just the units that are left have unset flags
+-- if each unit is eliminated or waits for a unit that isn't, just the units that are left have unset flags
 pub flags_left_at_end : (size : ℕ) (dependencies : ℕ → List ℕ) (eliminated : List ℕ) (flags : List Bool) → IsGraph size dependencies
     → Eliminating size dependencies eliminated flags
     → ((u : ℕ) → u < size → WaitsBeyond dependencies eliminated (length eliminated) u) → FlagsLeft size dependencies flags

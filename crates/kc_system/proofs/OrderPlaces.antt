@@ -6,7 +6,7 @@ use Rattle.kc_system.specs.Dependencies.{IsOrder}
 use Rattle.kc_system.proofs.Lists.{get-set_same, get-set_other}
 use Rattle.kc_system.proofs.Eliminations.{length-once, push_cases}
 
--- one more unit has its place
+-- if the units before place i of the order have their places listed, those up to place i do once the one at i is written
 pub places_more : (size : ℕ) (dependencies : ℕ → List ℕ) (order places : List ℕ) (i u : ℕ) → IsOrder size dependencies order → length places ≡ size
     → slice_get order i ≡ Some u
     → ((k w : ℕ) → k < i → slice_get order k ≡ Some w → slice_get places w ≡ Some k) → (k w : ℕ) → k < i + 1 → slice_get order k ≡ Some w
@@ -26,11 +26,11 @@ places_more size dependencies order places i u ordered one_each at below k w h e
           get-set_other places u w i other ∙ below k w earlier e
     ]
 
--- an order is as long as there are units, at most
+-- an order has at most as many elements as there are units
 pub short_order : (size : ℕ) (dependencies : ℕ → List ℕ) (order : List ℕ) → IsOrder size dependencies order → length order ≤ size
 short_order size dependencies order ordered = length-once size order ordered.units ordered.once
 
--- the places of the first n units
+-- there is a list of the places of the first n units in the order
 listed_places : (size : ℕ) (dependencies : ℕ → List ℕ) (order : List ℕ) → IsOrder size dependencies order → (n : ℕ) → n ≤ size
     → (places : List ℕ) × (length places ≡ n) × ((u k : ℕ) → slice_get places u ≡ Some k → slice_get order k ≡ Some u)
 listed_places size dependencies order ordered zero h = ([], refl, λ u k e. absurd (none-some k e))
@@ -45,7 +45,7 @@ listed_places size dependencies order ordered (suc n) h =
       ],
     )
 
--- an order is as long as there are units
+-- an order has exactly as many elements as there are units
 pub order_length : (size : ℕ) (dependencies : ℕ → List ℕ) (order : List ℕ) → IsOrder size dependencies order → length order ≡ size
 order_length size dependencies order ordered =
     let all = listed_places size dependencies order ordered size (omega arith) in

@@ -7,7 +7,7 @@ use crate::elimination::first_remaining;
 use crate::system::Graph;
 use std::alloc::{AllocError, Global};
 
-/// The least of the dependencies that are left, of a unit that is left.
+/// The least dependency that is left of a unit that is left. The flags of the units that are left are unset.
 fn least_remaining_dependency<G: Graph>(graph: &G, flags: &[bool], u: u32) -> u32
     requires left { FlagsLeft (G.size graph.now) (G.dependencies graph.now) flags.now }
     requires flags { length flags.now ≡ G.size graph.now }
@@ -26,7 +26,8 @@ fn part_from(alloc: Global, walk: &[u32], start: usize) -> Result<Vec<u32>, Allo
     Vec::from_slice(alloc, &walk[start..])
 }
 
-/// The named cycle, by a walk from the least unit left along the least dependencies left; or out of memory.
+/// The cycle of dependencies to report, among the units whose flags are unset, or out of memory. It is found by a walk from
+/// `first`, the least of these units, along the least dependency that is one of them, up to the first repetition.
 pub(crate) fn named_cycle<G: Graph>(
     alloc: Global,
     graph: &G,

@@ -1,4 +1,4 @@
-//! An order of dependency, or the named cycle.
+//! An order of dependency, or a cycle of dependencies.
 ghost use Rattle.std.specs.Prelude.{◌≡◌, ℕ, ◌<◌, ◌^◌, true, false, length, slice_index_or, IfOk, IfErr, IfSome, IfNone};
 ghost use Rattle.kc_system.specs.Dependencies.{IsOrder, HasNoCycle};
 ghost use Rattle.kc_system.specs.Faults.{ReportsCycle};
@@ -23,7 +23,7 @@ fn first_unset(flags: &[bool]) -> Option<usize>
     None
 }
 
-/// An order if all units are eliminated, and else the named cycle of those that are left.
+/// An order if all units are eliminated, and otherwise a cycle among those that are left.
 fn order_or_cycle<G: Graph>(
     alloc: Global,
     graph: &G,
@@ -46,10 +46,12 @@ fn order_or_cycle<G: Graph>(
     }
 }
 
-/// Each unit once, after its dependencies. Refused with the named cycle exactly if units depend on each other in a
-/// cycle, and where memory runs out. Left are the units of the largest set in which each has a dependency in the
-/// set; the named cycle is the part from the first unit met twice of the walk that begins at the least unit left and
-/// follows the least dependency left. Takes time linear in units and dependencies.
+/// An order that has each unit once, after its dependencies. Takes time linear in units and dependencies.
+///
+/// The result is a fault exactly if units depend on each other in a cycle, or memory runs out. The cycle that is reported is a
+/// part of a walk among the units that are left, those of the largest set in which each has a dependency in the set. The walk
+/// begins at the least of them and goes on to the least dependency that is left; the cycle is the part from the first unit that
+/// comes up twice.
 pub fn order<G: Graph>(alloc: Global, graph: &G) -> Result<Order, OrderFault>
     ensures order { IfOk result (λ order. IsOrder (G.size graph.now) (G.dependencies graph.now) order) }
     ensures acyclic { IfOk result (λ order. HasNoCycle (G.size graph.now) (G.dependencies graph.now)) }

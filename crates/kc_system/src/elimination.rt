@@ -7,7 +7,8 @@ use crate::rows::{Rows, list_dependents};
 use crate::system::Graph;
 use std::alloc::{AllocError, Global};
 
-/// The first place, from a given one on, at which a dependency's flag is unset; the length where there is none.
+/// The first place in a unit's list of dependencies, from a given one on, of a dependency whose flag is unset; the length of the
+/// list if there is none.
 pub(crate) fn first_remaining(dependencies: &[u32], from: usize, flags: &[bool]) -> usize
     requires from { from ≤ length dependencies.now }
     requires units { All (λ d. d < length flags.now) dependencies.now }
@@ -99,7 +100,7 @@ fn eliminate_reachable<G: Graph>(
     Ok(())
 }
 
-/// Tries each unit once.
+/// Eliminates each unit whose dependencies are all eliminated when its turn comes, in the order of their numbers.
 fn eliminate_each_once<G: Graph>(
     graph: &G,
     eliminated: &mut Vec<u32>,
@@ -118,8 +119,8 @@ fn eliminate_each_once<G: Graph>(
     Ok(())
 }
 
-/// Eliminates units as long as there are any whose dependencies are all eliminated. The flags of the others stay
-/// unset.
+/// Eliminates units as long as there are any whose dependencies are all eliminated: lists them and sets their flags. The flags of
+/// the other units stay unset.
 pub(crate) fn eliminate_all<G: Graph>(
     alloc: Global,
     graph: &G,

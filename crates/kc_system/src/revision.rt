@@ -15,14 +15,15 @@ use crate::system::{Graph, System};
 use crate::undo_log::write_logged;
 use std::alloc::{AllocError, Global};
 
-/// Whether a value isn't the one before.
+/// Whether two values differ.
 fn differs<S: System>(value: &S::Value, before: &S::Value) -> bool
     ensures { (result ≡ false) ↔ (value.now ≡ before.now) }
 {
     !S::same(value, before)
 }
 
-/// Evaluates a unit. If its value differs, writes it, logs the one before, and makes its dependents pending.
+/// Evaluates a unit. If its value differs from the old one, writes it, logs the old one, and adds the places of the units that
+/// depend on it to the pending ones.
 fn revise_unit<S: System>(
     plan: &Plan<'_, S>,
     u: u32,
@@ -51,8 +52,9 @@ fn revise_unit<S: System>(
     Ok(())
 }
 
-/// Evaluates the units at pending places and those that this touches, each once and after its dependencies, and
-/// returns how many. The values before are logged, so that they can be restored.
+/// Evaluates the units at the pending places of the order, and every unit with a dependency whose value changes, each once and
+/// after its dependencies. Returns how many units that are. Logs the old values of those that change, so that they can be
+/// restored.
 pub(crate) fn revise<S: System>(
     plan: &Plan<'_, S>,
     users: &[Option<S::User>],

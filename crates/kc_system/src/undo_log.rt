@@ -13,7 +13,7 @@ fn replace_value<V>(values: &mut [V], u: usize, value: &mut V)
     std::mem::swap(&mut values[u], value);
 }
 
-/// Writes a value, and logs the one before. After running out of memory both are as before.
+/// Writes the value of unit `u`, and adds the old one to the log. If memory runs out, values and log are as before.
 pub(crate) fn write_logged<V: Drop>(
     values: &mut [V],
     log: &mut Vec<(u32, V)>,
@@ -32,7 +32,7 @@ pub(crate) fn write_logged<V: Drop>(
     Ok(())
 }
 
-/// Restores the logged values, the last logged first.
+/// Restores the values of a log, the last logged first.
 pub(crate) fn restore_logged<V: Drop>(values: &mut [V], log: &mut Vec<(u32, V)>)
     requires units { (k u : ℕ) (a : V) → slice_get log.old.items k ≡ Some (u, a) → u < length values.old }
     ensures restored { values.new ≡ undone log.old.items values.old }

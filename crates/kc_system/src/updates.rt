@@ -15,7 +15,8 @@ use crate::undo_log::restore_logged;
 use crate::user_values::{mark_changed, write_users};
 use std::alloc::{AllocError, Global};
 
-/// Brings the values up to date from pending places on, and reports. After running out of memory they are as before.
+/// Brings the values up to date, from the units at pending places on, and reports what changed. After running out of memory the
+/// values are as before.
 fn revalue<S: System>(
     plan: &Plan<'_, S>,
     users: &[Option<S::User>],
@@ -56,7 +57,7 @@ fn revalue<S: System>(
     Ok(Report { changed, evaluated })
 }
 
-/// Writes some changes, and makes the places of the units pending whose user values differ in the end.
+/// Writes some changes of user values, and makes the places of the units pending whose user values differ in the end.
 fn write_changes<S: System>(
     plan: &Plan<'_, S>,
     changes: &[(u32, Option<S::User>)],
@@ -81,8 +82,8 @@ fn write_changes<S: System>(
     Ok(())
 }
 
-/// Makes some changes of user values, brings the values up to date, and reports. After running out of memory users
-/// and values are as before.
+/// Makes some changes of user values, brings the values of all units up to date, and reports what changed. If memory runs out,
+/// the user values and the values of units are as before.
 pub(crate) fn change<S: System>(
     plan: &Plan<'_, S>,
     changes: &[(u32, Option<S::User>)],

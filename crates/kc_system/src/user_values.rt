@@ -10,7 +10,7 @@ use crate::system::System;
 use crate::undo_log::write_logged;
 use std::alloc::{AllocError, Global};
 
-/// Writes the user values of some changes one after another, and logs those that they replace.
+/// Writes the user values of some changes one after another, and logs those that they replace; or out of memory.
 pub(crate) fn write_users<S: System>(
     alloc: Global,
     changes: &[(u32, Option<S::User>)],
@@ -29,7 +29,7 @@ pub(crate) fn write_users<S: System>(
     Ok(())
 }
 
-/// Adds a unit's place if its user value differs from the one before, and removes it if not.
+/// Adds a unit's place to the pending ones if its user value differs from the old one, and removes it otherwise.
 fn mark_if_changed<S: System>(
     pending: &mut PlaceSet,
     place: u32,
@@ -48,7 +48,7 @@ fn mark_if_changed<S: System>(
     }
 }
 
-/// Adds the places of the units whose user values differ from those before the logged changes.
+/// Adds the places of the units whose user values differ from those before the logged changes to the set of pending places.
 pub(crate) fn mark_changed<S: System>(
     pending: &mut PlaceSet,
     log: &[(u32, Option<S::User>)],

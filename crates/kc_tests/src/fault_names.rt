@@ -1,6 +1,7 @@
 //! The name of each kind of fault is the text that it is printed as.
 use super::printed_texts::is_printed;
 use kc_expr::ExprKind;
+use kc_macros::{AnswersKind, MacroKind, MacroNoticeKind};
 use kc_tree_model::TreeKind;
 use std::test::Fail;
 
@@ -48,6 +49,56 @@ fn kinds_of_tree_faults_are_printed_as_their_names(rt: HostRuntime) -> Result<()
         TreeKind::Cycle,
         TreeKind::LeftOut,
         TreeKind::OutOfMemory,
+    ] {
+        let printed = twice!(is_printed(rt.alloc(), &kind, kind.name()));
+        assert!(rt; printed);
+    }
+    Ok(())
+}
+
+#[test]
+fn kinds_of_macro_faults_are_printed_as_their_names(rt: HostRuntime) -> Result<(), Fail> {
+    for kind in [
+        MacroKind::Unterminated,
+        MacroKind::Undefined,
+        MacroKind::Recursion,
+        MacroKind::Arguments,
+        MacroKind::Error,
+        MacroKind::Unanswered,
+        MacroKind::JoinedAssignment,
+        MacroKind::MissingFile,
+        MacroKind::SourceLoop,
+        MacroKind::TooDeep,
+        MacroKind::TooMany,
+        MacroKind::LineTooLong,
+        MacroKind::OutOfMemory,
+    ] {
+        let printed = twice!(is_printed(rt.alloc(), &kind, kind.name()));
+        assert!(rt; printed);
+    }
+    Ok(())
+}
+
+#[test]
+fn kinds_of_macro_notices_are_printed_as_their_names(rt: HostRuntime) -> Result<(), Fail> {
+    for kind in [MacroNoticeKind::Info, MacroNoticeKind::Warning] {
+        let printed = twice!(is_printed(rt.alloc(), &kind, kind.name()));
+        assert!(rt; printed);
+    }
+    Ok(())
+}
+
+#[test]
+fn kinds_of_answer_faults_are_printed_as_their_names(rt: HostRuntime) -> Result<(), Fail> {
+    for kind in [
+        AnswersKind::Malformed,
+        AnswersKind::TwoAnswers,
+        AnswersKind::NotUtf8,
+        AnswersKind::LineTooLong,
+        AnswersKind::TooManyLines,
+        AnswersKind::TooLarge,
+        AnswersKind::Read,
+        AnswersKind::OutOfMemory,
     ] {
         let printed = twice!(is_printed(rt.alloc(), &kind, kind.name()));
         assert!(rt; printed);

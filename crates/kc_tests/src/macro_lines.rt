@@ -1,8 +1,9 @@
 //! Lines with macros: their values, assignments, forms, and how they are written.
 use kc_macros::{
-    Answers, Bindings, LineContent, LineForm, Place, Run, SourceSort, Stop, WrittenToken, assign,
-    is_copied, is_help_line, is_undecided, line_bytes, line_form, quoted_text_token, read_line,
-    source_line, text_value, with_bare_prompt, with_replacement, without_choice_name,
+    Answers, Bindings, LineContent, LineForm, MacroNotice, MacroNoticeKind, Place, Run, SourceSort,
+    Stop, WrittenToken, assign, is_copied, is_help_line, is_undecided, line_bytes, line_form,
+    quoted_text_token, read_line, source_line, text_value, with_bare_prompt, with_replacement,
+    without_choice_name,
 };
 use kc_value::Seed;
 use std::alloc::{AllocError, Global};
@@ -31,7 +32,7 @@ fn said(alloc: Global, stop: Stop) -> Result<Vec<u8>, AllocError> {
     }
 }
 
-/// Assigns what lines say, in order. Each has to be an assignment without a fault, so that it is want of memory where one
+/// Assigns what lines say, in order. Each has to be an assignment without a fault, so that it is lack of memory where one
 /// is refused.
 fn assigned(alloc: Global, lines: &[&[u8]]) -> Result<Bindings, AllocError> {
     let answers = answers(alloc)?;
@@ -112,6 +113,56 @@ fn references_have_values(rt: HostRuntime) -> Result<(), std::test::Fail> {
         (b"$(error-if,y,a (b, c))", b"a (b, c)"),
     ] {
         let found = twice!(value(rt.alloc(), &none, text));
+        assert_eq!(rt; found.as_slice(), wanted);
+    }
+    Ok(())
+}
+
+/// The word of a kind of notice.
+fn notice_word(kind: MacroNoticeKind) -> &'static [u8] {
+    match kind {
+        MacroNoticeKind::Info => b"info",
+        MacroNoticeKind::Warning => b"warning",
+    }
+}
+
+/// The kinds and texts of the notices that are at the place of the tests; each ends with a semicolon.
+fn listed(alloc: Global, notices: &[MacroNotice]) -> Result<Vec<u8>, AllocError> {
+    let mut out = Vec::new(alloc);
+    for notice in notices {
+        if notice.file.as_slice() == AT.file && notice.line == AT.line {
+            out.extend_from_slice(notice_word(notice.kind))?;
+            out.push(b' ')?;
+            out.extend_from_slice(notice.text.as_slice())?;
+            out.push(b';')?;
+        }
+    }
+    Ok(out)
+}
+
+/// The notices of a run that finds the value of a text, also of a run that is stopped by a fault.
+fn noticed(alloc: Global, text: &[u8]) -> Result<Vec<u8>, AllocError> {
+    let answers = answers(alloc)?;
+    let bindings = Bindings::new(alloc, Seed::fixed());
+    let mut run = Run::new(alloc, Seed::fixed(), &answers, true);
+    match text_value(&mut run, AT, &bindings, text) {
+        Err(Stop::OutOfMemory) => Err(AllocError),
+        _ => listed(alloc, run.notices()),
+    }
+}
+
+#[test]
+fn notices_are_in_order(rt: HostRuntime) -> Result<(), std::test::Fail> {
+    for (text, wanted) in [
+        (&b"a$(ARCH)"[..], &b""[..]),
+        (
+            b"$(info,a $(ARCH))$(warning-if,y,b)$(info,c)",
+            b"info a x 86;warning b;info c;",
+        ),
+        (b"$(warning-if,n,a)$(warning-if,y,b)", b"warning b;"),
+        (b"$(info,a)$(error-if,y,b)$(info,c)", b"info a;"),
+    ] {
+        let found = twice!(noticed(rt.alloc(), text));
         assert_eq!(rt; found.as_slice(), wanted);
     }
     Ok(())

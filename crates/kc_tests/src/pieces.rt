@@ -122,18 +122,66 @@ fn are_answered(alloc: Global) -> Result<bool, AllocError> {
 fn are_answered_over(alloc: Global, tree: &Settled) -> Result<bool, AllocError> {
     let mut are_answered = true;
     for case in &cases() {
-        are_answered &= is_answered(alloc, tree, case, 1, 64)?;
-        are_answered &= is_answered(alloc, tree, case, 2, 64)?;
-        are_answered &= is_answered(alloc, tree, case, 3, 64)?;
-        are_answered &= is_answered(alloc, tree, case, 7, 64)?;
-        are_answered &= is_answered(alloc, tree, case, 4_096, 64)?;
+        are_answered &= is_answered_in_pieces(alloc, tree, case)?;
     }
     Ok(are_answered)
+}
+
+/// Whether a file is answered as it should be, in pieces of each size.
+fn is_answered_in_pieces(
+    alloc: Global,
+    tree: &Settled,
+    case: &Case<'_>,
+) -> Result<bool, AllocError> {
+    let mut holds = is_answered(alloc, tree, case, 1, 64)?;
+    holds &= is_answered(alloc, tree, case, 2, 64)?;
+    holds &= is_answered(alloc, tree, case, 3, 64)?;
+    holds &= is_answered(alloc, tree, case, 7, 64)?;
+    holds &= is_answered(alloc, tree, case, 4_096, 64)?;
+    Ok(holds)
 }
 
 #[test]
 fn files_in_pieces_are_minimised_alike(rt: HostRuntime) -> Result<(), Fail> {
     assert!(rt; are_answered(rt.alloc())?);
+    Ok(())
+}
+
+/// A line of 65,536 bytes, which is a comment, with no newline after it. There is room for one byte more.
+fn longest_line(alloc: Global) -> Result<Vec<u8>, AllocError> {
+    let mut file = Vec::with_capacity(alloc, 65_537)?;
+    file.push(b'#')?;
+    file.resize(65_536, b'x')?;
+    Ok(file)
+}
+
+/// Whether the longest line that is read is accepted, and one of a byte more is refused.
+fn are_long_lines_answered(alloc: Global) -> Result<bool, AllocError> {
+    let tree = settled(alloc, BOOL, Profile::Present)?;
+    let are_answered = are_long_lines_answered_over(alloc, &tree);
+    drop(tree);
+    are_answered
+}
+
+/// Whether they are over this tree.
+fn are_long_lines_answered_over(alloc: Global, tree: &Settled) -> Result<bool, AllocError> {
+    let mut file = twice!(longest_line(alloc));
+    let accepted = Case {
+        file: &file,
+        then: Then::End,
+        answer: Ok(0),
+        written: b"",
+    };
+    let is_accepted = is_answered_in_pieces(alloc, tree, &accepted)?;
+    twice!(file.push(b'x'));
+    let longer = refused(&file, Then::End, 1, LoadKind::LineTooLong);
+    let is_refused = is_answered_in_pieces(alloc, tree, &longer)?;
+    Ok(is_accepted && is_refused)
+}
+
+#[test]
+fn a_line_in_pieces_may_have_65536_bytes(rt: HostRuntime) -> Result<(), Fail> {
+    assert!(rt; are_long_lines_answered(rt.alloc())?);
     Ok(())
 }
 

@@ -13,7 +13,8 @@ use std::alloc::{AllocError, Global};
 /// The largest value of a unit.
 const LARGEST: u32 = 1_000;
 
-/// Units whose value is their user's number, else the smaller of 1,000 and 1 plus the sum of their dependencies.
+/// A system for tests: the value of a unit is its user's number, or without one the smaller of 1,000 and 1 plus the sum of the
+/// values of its dependencies.
 #[derive(Drop)]
 pub(crate) struct Sums {
     rows: Vec<Vec<u32>>,
@@ -21,7 +22,7 @@ pub(crate) struct Sums {
     ghost few: { length rows.items < 2 ^ 32 },
 }
 
-/// Counts evaluations.
+/// A meter that counts the evaluations of units.
 #[derive(Drop)]
 pub(crate) struct Tally {
     pub(crate) count: u64,
@@ -116,7 +117,7 @@ impl System for Sums {
 }
 
 impl Tally {
-    /// A count of no evaluations.
+    /// A meter with the count 0.
     pub(crate) fn new() -> Tally
         ensures { result.count ≡ 0 }
     {
@@ -125,7 +126,7 @@ impl Tally {
 }
 
 impl Sums {
-    /// The system of these rows: the units that each unit depends on. None if a row doesn't ascend, or has a number
+    /// The test system with these rows, each the units that a unit depends on. `None` if a row doesn't ascend, or has a number
     /// that is no unit.
     pub(crate) fn of(rows: Vec<Vec<u32>>) -> Option<Sums> {
         if is_graph(rows.as_slice()) {
@@ -166,7 +167,7 @@ fn is_graph(rows: &[Vec<u32>]) -> bool
     true
 }
 
-/// Whether changes are of units, to numbers up to 1,000.
+/// Whether each change is of a unit of the system, to a number up to 1,000 or to none.
 pub(crate) fn fit_changes(system: &Sums, changes: &[(u32, Option<u32>)]) -> bool
     ensures { IsTrue result → FitsChanges (length system.now.rows.items) IsSmall changes.now }
 {
@@ -178,7 +179,7 @@ pub(crate) fn fit_changes(system: &Sums, changes: &[(u32, Option<u32>)]) -> bool
     true
 }
 
-/// Whether there is a number up to 1,000 or none for each unit.
+/// Whether `users` has an entry for each unit of the system: a user's number up to 1,000, or `None`.
 pub(crate) fn fit_users(system: &Sums, users: &[Option<u32>]) -> bool
     ensures { IsTrue result → FitsUsers (length system.now.rows.items) IsSmall users.now }
 {

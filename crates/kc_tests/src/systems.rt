@@ -11,7 +11,7 @@ use kc_system::{Order, OrderFault, kept_units, order, solve};
 use std::alloc::{AllocError, Global};
 use std::test::Fail;
 
-/// The system of sums with these rows: the units that each unit depends on.
+/// The test system with these rows, each the units that a unit depends on.
 pub(crate) fn sums_of(alloc: Global, rows: &[&[u32]]) -> Result<Sums, Fail> {
     Ok(Sums::of(twice!(copied_rows(alloc, rows))).ok_or(
         "dependencies don't ascend, or aren't units",
@@ -27,7 +27,7 @@ fn copied_rows(alloc: Global, rows: &[&[u32]]) -> Result<Vec<Vec<u32>>, AllocErr
     Ok(copied)
 }
 
-/// An order of a system, made at the second try where the first is refused.
+/// An order of the units of a test system, computed at a second try if the first fails.
 pub(crate) fn order_of(alloc: Global, system: &Sums) -> Result<Order, Fail>
     ensures { IfOk result (λ order. IsOrder (length system.now.rows.items) (row_at system.now.rows.items) order) }
 {

@@ -11,7 +11,7 @@ use kc_tree::{Texts, Tree, read_tree};
 use kc_value::FromRead;
 use std::alloc::{AllocError, Global};
 
-/// The tree of one file, settled; an `Err` where it isn't accepted too.
+/// The settled tree of one Kconfig file with this text. An `Err` means out of memory, or that the tree isn't accepted.
 pub(crate) fn settled(alloc: Global, text: &[u8], profile: Profile) -> Result<Settled, AllocError> {
     let texts = texts_of(alloc, text)?;
     let settled = settled_twice(alloc, &texts, profile);
@@ -31,14 +31,16 @@ fn settled_of(alloc: Global, texts: &Texts, profile: Profile) -> Result<Settled,
     }
 }
 
-fn tree_of(alloc: Global, texts: &Texts) -> Result<Tree, AllocError> {
+/// The tree of these texts. An `Err` means out of memory, or that the tree isn't accepted.
+pub(crate) fn tree_of(alloc: Global, texts: &Texts) -> Result<Tree, AllocError> {
     match read_tree(alloc, texts, "Kconfig") {
         Ok(tree) => Ok(tree),
         Err(_) => Err(AllocError),
     }
 }
 
-fn texts_of(alloc: Global, text: &[u8]) -> Result<Texts, AllocError> {
+/// One Kconfig file with this text. An `Err` means out of memory.
+pub(crate) fn texts_of(alloc: Global, text: &[u8]) -> Result<Texts, AllocError> {
     let mut texts = Texts::new(alloc);
     insert(&mut texts, text)?;
     Ok(texts)
@@ -52,7 +54,7 @@ fn insert(texts: &mut Texts, text: &[u8]) -> Result<(), AllocError> {
     Ok(())
 }
 
-/// Lays a file over what is held; an `Err` where it isn't accepted too.
+/// Overrides a configuration with a configuration file. An `Err` means out of memory, or that the file isn't accepted.
 pub(crate) fn merged(
     alloc: Global,
     config: &mut Config<'_>,
@@ -62,7 +64,8 @@ pub(crate) fn merged(
     config.merge(&fragment)
 }
 
-/// Lays a file over what is held; where that is refused once, it has to leave what is held as it was.
+/// Overrides a configuration with a configuration file, at a second try if the first fails, which has to leave the configuration
+/// as it was.
 pub(crate) fn merged_twice(
     alloc: Global,
     config: &mut Config<'_>,
@@ -74,7 +77,7 @@ pub(crate) fn merged_twice(
     report
 }
 
-/// The assignments of a file, read at the second try where the first is refused.
+/// The assignments and notices of a configuration file, read at a second try if the first fails.
 pub(crate) fn fragment_twice(
     alloc: Global,
     settled: &Settled,
@@ -125,7 +128,7 @@ fn is_same_user(user: &Option<UserValue>, other: &Option<UserValue>) -> bool {
     }
 }
 
-/// Whether each value of the second is that of the first.
+/// Whether each value in `held` is the one at the same place in `values`.
 pub(crate) fn are_same(values: &[UnitValue], held: &[UnitValue]) -> bool {
     values.len() >= held.len()
         && values
@@ -134,7 +137,7 @@ pub(crate) fn are_same(values: &[UnitValue], held: &[UnitValue]) -> bool {
             .all(|(value, held)| Settled::same(value, held))
 }
 
-/// Puts a file in the place of what is held; an `Err` where it isn't accepted too.
+/// Replaces a configuration with that of a configuration file. An `Err` means out of memory, or that the file isn't accepted.
 pub(crate) fn replaced(
     alloc: Global,
     config: &mut Config<'_>,

@@ -98,7 +98,7 @@ fn each_call_fails_in_turn(rt: HostRuntime) -> Result<(), Fail> {
     Ok(())
 }
 
-/// Whether a new file whose removal fails is told of, and a folder that isn't synced too. The first name is taken then, which
+/// Whether a new file whose removal fails is reported, and a folder that isn't synced too. The first name is taken then, which
 /// is a call more.
 fn is_told_of(rt: &HostRuntime) -> Result<bool, Fail> {
     let mut disk = disk_with_files(rt)?;

@@ -333,13 +333,13 @@ module _ (files : Files) (root : List ℕ) (l : Listing) (symbols : SymbolParts)
   pub is_gathering : IsGathering (reading files root).read g
   is_gathering = record { whole = whole; fits = fits }
 
--- the tree is consistent
+-- the tree of the collected lists is consistent if the files have no fault
 pub consistent_of : (files : Files) (root : List ℕ) (g : Gathered) → first_tree_fault files root ≡ None → IsGathering (reading files root).read g
     → IsConsistent (gathered_tree g)
 unfolding tree_of_files
 consistent_of files root g h k = subst IsConsistent (sym k.whole) (tree_is_consistent files root h)
 
--- what a tree of it shows
+-- a tree with the value of the collected lists is the tree of the files
 pub whole_is : (files : Files) (root : List ℕ) (g : Gathered) (t : TreeModel) → IsGathering (reading files root).read g
     → t ≡ record { exprs = g.arena; tree = gathered_tree g } → t.tree ≡ tree_of_files files root
 unfolding tree_of_files

@@ -20,7 +20,7 @@ use Rattle.kc_listing.specs.declared.listing.SymbolTable.{SymbolTable}
 use Rattle.kc_listing.specs.between.SymbolTable.{number_in, HasNames}
 use Rattle.kc_listing.specs.between.ListingView.{line_in, RepresentsListing, RepresentsHead}
 use Rattle.kc_listing.specs.declared.listing.Listing.{Listing}
-use Rattle.kc_listing.specs.declared.listing.GroupHead.{GroupHead as CodeWhat}
+use Rattle.kc_listing.specs.declared.listing.GroupHead.{GroupHead as CodeHead}
 use Rattle.kc_listing.specs.declared.listing.GroupHead.TheVariants as codes
 use Rattle.kc_listing.proofs.NameLemmas.{as_many_names}
 use Rattle.kc_tree_model.specs.Limits.{names_defined}
@@ -51,7 +51,7 @@ use Rattle.kc_tree.specs.checker.Walks.{condition_at}
 use Rattle.kc_tree.specs.declared.symbol.MemberDefault.{MemberDefault}
 use Rattle.kc_tree.proofs.Symbols.{bare_is}
 
--- a default's value is there
+-- the value of a default whose nodes exist is a node of the arena
 pub value_there : (exprs : Exprs) (a : CodeAttribute) (v : ℕ) → AttributeNodesExist exprs a → default_value_view a ≡ Some v → v < length exprs.nodes
 value_there exprs (attributes.Typed k) v h e = cc
 value_there exprs (attributes.TypedPrompt k c) v h e = cc
@@ -260,7 +260,7 @@ module _ (n : SymbolTable) (symbols : List ℕ) (c : Contents) (has : HasNames n
       kept_fits l x (option_and_then (symbol_bare n) (default_value_view l.attribute)) refl (h 0 x (omega arith)) (member_default_rows n ls xs)
       (all_fit ls xs (λ k d i. h (suc k) d (omega arith)))
 
--- items under a new key
+-- items appended under key `m` come after those of `k` if the keys are equal, and don't change those of `k` if not
 pub items_after : {T : Type 0} (k m : ℕ) (keys : List ℕ) (items xs : List T) → length items ≡ length keys
     → items_of k (keys ++ map (λ (_ : T). m) xs) (items ++ xs) ≡ items_of k keys items ++ cond (m == k) xs []
 items_after {T} k m [] [] [] e = by (m == k)
@@ -308,7 +308,7 @@ pub get_last : {X : Type 0} (xs : List X) (y : X) → slice_get (xs ++ y ∷ [])
 get_last [] y = refl
 get_last (x ∷ xs) y = get_last xs y
 
-pub choices_by : (x : CodeWhat) (n : ℕ) → choices_after x n ≡ cond (is_choice_code x) (n + 1) n
+pub choices_by : (x : CodeHead) (n : ℕ) → choices_after x n ≡ cond (is_choice_code x) (n + 1) n
 choices_by (codes.Config s) n = refl
 choices_by codes.Choice n = refl
 choices_by (codes.Menu t) n = refl
@@ -319,14 +319,14 @@ choices_by codes.Mainmenu n = refl
 choices_by (codes.Ends b) n = refl
 choices_by codes.FileEnd n = refl
 
-pub choices_few : (x : CodeWhat) (n : ℕ) → choices_after x n ≤ n + 1
+pub choices_few : (x : CodeHead) (n : ℕ) → choices_after x n ≤ n + 1
 choices_few x n = by (is_choice_code x) (choices_by x n)
   where
     by : (b : Bool) → choices_after x n ≡ cond b (n + 1) n → choices_after x n ≤ n + 1
     by true e = omega (arith, e)
     by false e = omega (arith, e)
 
-choice_given : (exprs : Exprs) (names texts : List (List ℕ)) (c : CodeWhat) (m : Group) → RepresentsHead exprs names texts c m.head → is_choice_code c ≡ true
+choice_given : (exprs : Exprs) (names texts : List (List ℕ)) (c : CodeHead) (m : Group) → RepresentsHead exprs names texts c m.head → is_choice_code c ≡ true
     → m.head ≡ of_head choice
 choice_given exprs names texts (codes.Config s) m h e = cc
 choice_given exprs names texts codes.Choice m h e = h
@@ -439,8 +439,8 @@ module _ (l : Listing) (groups : List GroupConditions) (conditions : List ℕ) (
             ∙ ap (λ ps. choice_defaults_of (contents_of read) (slice_get ps k)) (sym places));
       }
 
-  -- one group more
-  pub one_more : (i n n2 : ℕ) (what : CodeWhat) (old new : Keyed MemberDefault) → i < length l.groups.items → what ≡ (group_at l.groups.items i).head
+  -- the defaults collected from the first `i` groups, with those of the next group, are those of the first `i + 1`
+  pub one_more : (i n n2 : ℕ) (what : CodeHead) (old new : Keyed MemberDefault) → i < length l.groups.items → what ≡ (group_at l.groups.items i).head
       → n ≡ length (numbers_of_choices (read_before i read)) → n2 ≡ choices_after what n → HasNoFaults read
       → new.keys.items ≡ old.keys.items ++ map (λ (_ : MemberDefault). n) (group_default_rows what l.names (own_lines l i) (own_conditions groups conditions i))
       → new.items.items ≡ old.items.items ++ group_default_rows what l.names (own_lines l i) (own_conditions groups conditions i) → AreTo i n old
@@ -448,8 +448,8 @@ module _ (l : Listing) (groups : List GroupConditions) (conditions : List ℕ) (
   one_more i n n2 what old new h v c m none e f d =
       by (is_choice_code what) refl e f
     where
-      behind : (x : CodeWhat) (b : Bool) → is_choice_code x ≡ b → choices_after x n ≡ cond b (n + 1) n
-      behind x b e = choices_by x n ∙ ap (λ t. cond t (n + 1) n) e
+      choices_after_by : (x : CodeHead) (b : Bool) → is_choice_code x ≡ b → choices_after x n ≡ cond b (n + 1) n
+      choices_after_by x b e = choices_by x n ∙ ap (λ t. cond t (n + 1) n) e
 
       by : (b : Bool) → is_choice_code what ≡ b
           → new.keys.items ≡ old.keys.items ++ map (λ (_ : MemberDefault). n)
@@ -459,10 +459,10 @@ module _ (l : Listing) (groups : List GroupConditions) (conditions : List ℕ) (
       by true t e f =
           let count : n ≡ length (filter opens (groups_in_context (read_before i read))) = c
           ∙ length-map (filter opens (groups_in_context (read_before i read))) (λ (p : GroupInContext). p.group.number) in
-          subst (λ k. AreTo (i + 1) k new) (sym (m ∙ behind what true t))
+          subst (λ k. AreTo (i + 1) k new) (sym (m ∙ choices_after_by what true t))
           (more_defaults i n old new h (ap is_choice_code (sym v) ∙ t) count none (rw t at e) (rw t at f) d)
       by false t e f =
-          subst (λ k. AreTo (i + 1) k new) (sym (m ∙ behind what false t))
+          subst (λ k. AreTo (i + 1) k new) (sym (m ∙ choices_after_by what false t))
           (same_defaults i n old new h (ap is_choice_code (sym v) ∙ t) ((rw t at e) ∙ append-nil old.keys.items) ((rw t at f) ∙ append-nil old.items.items) d)
 
   pub all_gathered : (i n : ℕ) (found : Keyed MemberDefault) → i ≡ length l.groups.items → n ≡ length (numbers_of_choices (read_before i read))

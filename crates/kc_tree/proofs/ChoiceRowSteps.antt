@@ -122,7 +122,7 @@ module _ (l : Listing) (exprs : Exprs) (groups : List GroupConditions) (conditio
       conditions_count exprs l.texts.items conditions groups read k ∙ sym
       (count_is l.names.arena (names_defined read) l.texts.items l.lines.items l.groups.items read s.groups_are)
 
-  -- the place of a group, with how it is kept and its conditions
+  -- the listing represents the group with number `i` that was read, and the walk its conditions
   pub record IsBoth (i : ℕ) : Type 0 where
     pub group : Group
     pub now : read_before (i + 1) read ≡ group ∷ read_before i read

@@ -21,7 +21,7 @@ use Rattle.kc_tree_model.specs.Blocks.{defined_name}
 use Rattle.kc_listing.specs.declared.listing.Group.{Group as CodeGroup}
 use Rattle.kc_listing.specs.declared.listing.Line.{Line as CodeLine}
 use Rattle.kc_listing.specs.declared.listing.Listing.{Listing}
-use Rattle.kc_listing.specs.declared.listing.GroupHead.{GroupHead as CodeWhat}
+use Rattle.kc_listing.specs.declared.listing.GroupHead.{GroupHead as CodeHead}
 use Rattle.kc_listing.specs.declared.listing.GroupHead.TheVariants as codes
 use Rattle.kc_listing.specs.between.SymbolTable.{text_of_name}
 use Rattle.kc_listing.specs.between.ListingView.{RepresentsListing, RepresentsHead, RepresentsGroups}
@@ -161,7 +161,7 @@ module _ (e : Exprs) (names texts : List (List ℕ)) (m : Group) (n : ℕ) where
   abbrev counted : GroupHead → ℕ
   counted v = cond (is_some_block blocks.Choice (from_head block_of_head v)) (n + 1) n
 
-  pub counts : (w : CodeWhat) → RepresentsHead e names texts w m.head → choices_after w n ≡ cond (opens_choice m) (n + 1) n
+  pub counts : (w : CodeHead) → RepresentsHead e names texts w m.head → choices_after w n ≡ cond (opens_choice m) (n + 1) n
   counts (codes.Config s) h = sym (ap counted h.2)
   counts codes.Choice h = sym (ap counted h)
   counts (codes.Menu t) h = sym (ap counted h.2)
@@ -225,16 +225,16 @@ module _ (e e2 : Exprs) (texts : List (List ℕ)) (C : Contents) (d : Differ C.n
   text_is : (t : ℕ) (title : List ℕ) → slice_get texts t ≡ Some title → slice_index_or texts t [] ≡ title
   text_is t title h = get_or_from_slice_get texts t title [] h
 
-  stands : (id : ℕ) (x : Expr) → side_of p.group.head ≡ closing ⊎ Represents e2 id x → (side_of p.group.head ≡ closing → ⊥) → Represents e2 id x
-  stands id x (inl a) away = absurd (away a)
-  stands id x (inr s) away = s
+  represented_unless_closing : (id : ℕ) (x : Expr) → side_of p.group.head ≡ closing ⊎ Represents e2 id x → (side_of p.group.head ≡ closing → ⊥) → Represents e2 id x
+  represented_unless_closing id x (inl a) away = absurd (away a)
+  represented_unless_closing id x (inr s) away = s
 
   end_shown : (o : Option ℕ) (a v : ℕ) (x : Option tree.Entry) → RepresentsEnd e2 texts o a v x
       → option_map (entry_from_row e2 texts) (option_map (λ t. MenuEnds t a v) o) ≡ x
   end_shown None a v x h = sym h
   end_shown (Some t) a v x h = ap (λ title. Some (tree.menu_ends title (node_expr e2 a) (node_expr e2 v))) (text_is t h.0 h.1) ∙ sym h.4
 
-  pub entry_shown : (w : CodeWhat) (c : GroupConditions) (own : List ℕ) → RepresentsHead e C.names texts w p.group.head → RepresentsConditions e2 texts own c p
+  pub entry_shown : (w : CodeHead) (c : GroupConditions) (own : List ℕ) → RepresentsHead e C.names texts w p.group.head → RepresentsConditions e2 texts own c p
       → (opens_choice p.group ≡ true → choice_number C p.group.number ≡ Some n) → option_map (entry_from_row e2 texts) (entry_row w c n) ≡ entry_at C p
   entry_shown (codes.Config s) c own h k o = sym (ap at_place h.2 ∙ ap (option_map tree.definition) (place_is C.names h.0 s d h.1))
   entry_shown codes.Choice c own h k o =
@@ -242,8 +242,8 @@ module _ (e e2 : Exprs) (texts : List (List ℕ)) (C : Contents) (d : Differ C.n
       sym (ap at_place h ∙ ap (option_map tree.choice_begins) (o opened))
   entry_shown (codes.Menu t) c own h k o =
       let away : side_of p.group.head ≡ closing → ⊥ = λ q. let z : opening ≡ closing = sym (ap side_of h.2) ∙ q in cc in
-      let a = stands c.dependency (dependency_of p.enclosing p.group) k.dependency_is away in
-      let v = stands c.visible (conjunction_of (p.enclosing.visibles ++ attribute_values visible_of p.group)) k.visible_is away in
+      let a = represented_unless_closing c.dependency (dependency_of p.enclosing p.group) k.dependency_is away in
+      let v = represented_unless_closing c.visible (conjunction_of (p.enclosing.visibles ++ attribute_values visible_of p.group)) k.visible_is away in
       ap (λ title. Some (tree.menu_begins title (node_expr e2 c.dependency) (node_expr e2 c.visible))) (text_is t h.0 h.1)
       ∙ ap (λ x. Some (tree.menu_begins h.0 x (node_expr e2 c.visible))) a.is
       ∙ ap (λ x. Some (tree.menu_begins h.0 (dependency_of p.enclosing p.group) x)) v.is
@@ -252,7 +252,7 @@ module _ (e e2 : Exprs) (texts : List (List ℕ)) (C : Contents) (d : Differ C.n
   entry_shown (codes.Condition id) c own h k o = sym (ap at_place h.1)
   entry_shown (codes.Comment t) c own h k o =
       let away : side_of p.group.head ≡ closing → ⊥ = λ q. let z = sym (ap side_of h.2) ∙ q in cc in
-      let a = stands c.dependency (dependency_of p.enclosing p.group) k.dependency_is away in
+      let a = represented_unless_closing c.dependency (dependency_of p.enclosing p.group) k.dependency_is away in
       ap (λ title. Some (tree.comment title (node_expr e2 c.dependency))) (text_is t h.0 h.1)
       ∙ ap (λ x. Some (tree.comment h.0 x)) a.is
       ∙ sym (ap at_place h.2)
@@ -275,7 +275,7 @@ module _ (e e2 : Exprs) (texts : List (List ℕ)) (C : Contents) (d : Differ C.n
   end_fits None a v x h = All-nil Fits
   end_fits (Some t) a v x h = one_fits (MenuEnds t a v) (get_below texts t h.0 h.1, h.2, h.3)
 
-  pub entry_fits : (w : CodeWhat) (c : GroupConditions) (own : List ℕ) → RepresentsHead e C.names texts w p.group.head → RepresentsConditions e2 texts own c p
+  pub entry_fits : (w : CodeHead) (c : GroupConditions) (own : List ℕ) → RepresentsHead e C.names texts w p.group.head → RepresentsConditions e2 texts own c p
       → (opens_choice p.group ≡ true → n < length C.choices) → All Fits (option_to_list (entry_row w c n))
   entry_fits (codes.Config s) c own h k o = one_fits (Definition s) (get_below C.names s h.0 h.1)
   entry_fits codes.Choice c own h k o =
@@ -285,13 +285,13 @@ module _ (e e2 : Exprs) (texts : List (List ℕ)) (C : Contents) (d : Differ C.n
       let away : side_of p.group.head ≡ closing → ⊥ = λ q. let z : opening ≡ closing = sym (ap side_of h.2) ∙ q in cc in
       one_fits (MenuBegins t c.dependency c.visible) (
         get_below texts t h.0 h.1,
-        (stands c.dependency (dependency_of p.enclosing p.group) k.dependency_is away).within,
-        (stands c.visible (conjunction_of (p.enclosing.visibles ++ attribute_values visible_of p.group)) k.visible_is away).within,
+        (represented_unless_closing c.dependency (dependency_of p.enclosing p.group) k.dependency_is away).within,
+        (represented_unless_closing c.visible (conjunction_of (p.enclosing.visibles ++ attribute_values visible_of p.group)) k.visible_is away).within,
       )
   entry_fits (codes.Condition id) c own h k o = All-nil Fits
   entry_fits (codes.Comment t) c own h k o =
       let away : side_of p.group.head ≡ closing → ⊥ = λ q. let z = sym (ap side_of h.2) ∙ q in cc in
-      one_fits (Comment t c.dependency) (get_below texts t h.0 h.1, (stands c.dependency (dependency_of p.enclosing p.group) k.dependency_is away).within)
+      one_fits (Comment t c.dependency) (get_below texts t h.0 h.1, (represented_unless_closing c.dependency (dependency_of p.enclosing p.group) k.dependency_is away).within)
   entry_fits (codes.Source t) c own h k o = All-nil Fits
   entry_fits codes.Mainmenu c own h k o = All-nil Fits
   entry_fits (codes.Ends blocks.Menu) c own h k o = end_fits c.ended c.dependency c.visible (menu_end_of p.opened) (k.ended_is (ap side_of h))
@@ -340,7 +340,7 @@ module _ (e e2 : Exprs) (texts : List (List ℕ)) (lines : List CodeLine) (condi
   all_fit end end2 [] (x ∷ xs) [] rest h k c = absurd k
   all_fit end end2 (g ∷ gs) [] (m ∷ ms) rest h k c = absurd k
 
--- the entries that the rows represent once no group is left
+-- once no group is left, the collected rows are those of the entries of all groups
 pub rows_are : (gs : List CodeGroup) (cs : List GroupConditions) (rows : List EntryRow) (n i : ℕ) → length cs ≡ length gs → length gs ≤ i
     → rows ++ entries_from n (drop i gs) (drop i cs) ≡ entries_from 0 gs cs → i ≤ length gs
     → rows ≡ entries_back (reverse gs) (reverse cs)

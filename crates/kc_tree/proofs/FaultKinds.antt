@@ -27,7 +27,7 @@ use Rattle.kc_tree.specs.checker.Kinds.{is_added_code, is_added_line, may_follow
 use Rattle.kc_tree.specs.declared.summary.SymbolSummary.{SymbolSummary}
 use Rattle.kc_tree.proofs.SymbolSummaries.{first_of_both}
 
--- the first of kinds whose tests hold
+-- the first of a list that has one kind if a test holds is this kind if the test holds, and `None` if not
 pub first_of_one : (a : Bool) (j : TreeKind) → slice_get (when a j) 0 ≡ cond a (Some j) None
 first_of_one true j = refl
 first_of_one false j = refl
@@ -90,7 +90,7 @@ follow_is Linux old p is_member ls m a =
     ∙ ap (λ b. b && list_all is_added_line ls) (not_some p.enclosing.choice)
     ∙ ap (λ b. is_none p.enclosing.choice && b) (added_all old ls ∙ ap (list_all (λ (l : Line). is_added_attribute l.attribute)) (sym a))
 
--- a definition
+-- the kind of fault found in a definition from its symbol's summary is the first of the model's faults of the definition
 pub definition_is : (language : Language) (c : Contents) (p : GroupInContext) (name : List ℕ) (about : SymbolSummary)
     (is_member is_first is_modules may_follow : Bool)
     → about.given ≡ type_given c name → is_some about.choice ≡ is_some (choice_of_symbol c name) → is_member ≡ is_some p.enclosing.choice
@@ -99,7 +99,7 @@ pub definition_is : (language : Language) (c : Contents) (p : GroupInContext) (n
 definition_is language c p name about is_member is_first is_modules may_follow given choice member first modules follow =
     rw (given, choice, member, first, modules, follow) (sym (three _ _ _ _ _ _))
 
--- an attribute of a symbol
+-- the kind of fault found in an attribute of a typed symbol is the first of the model's faults of the attribute
 pub typed_is : (c : Contents) (name : List ℕ) (k : Kind) (prompted is_modules is_wrong : Bool) (a : Attribute) → is_modules ≡ bytes_eq name modules_name
     → is_wrong ≡ is_wrong_reverse_dependency c k a
     → typed_kind k prompted is_modules is_wrong a ≡ slice_get (attribute_faults c name (Some k) prompted a) 0
@@ -109,12 +109,12 @@ pub untyped_is : (c : Contents) (name : List ℕ) (prompted : Bool) (a : Attribu
     → slice_get (attribute_faults c name None prompted a) 0 ≡ cond (prompted && is_some (prompt_of a)) (Some SecondPrompt) None
 untyped_is c name prompted a = first_of_one (prompted && is_some (prompt_of a)) _
 
--- an attribute of a choice
+-- the kind of fault found in an attribute of a choice is the first of the model's faults of the attribute
 pub choice_is : (members : List (List ℕ)) (prompted is_none : Bool) (a : Attribute) → is_none ≡ is_no_member members (default_of a)
     → choice_kind prompted is_none a ≡ slice_get (choice_faults members prompted a) 0
 choice_is members prompted is_none a e = rw e (sym (first_of_two _ _ _ _))
 
--- the first fault of lines
+-- the fault of a kind at a line of a group's file
 abbrev pub fault_of : Group → ℕ → TreeKind → TreeFault
 fault_of g line kind = record { file = Some g.at.file; line = line; kind = kind }
 
@@ -130,7 +130,7 @@ line_first g f prompted l ls =
     ∙ ap (λ o. option_or o (slice_get (faults_of_lines g f (prompted || is_some (prompt_of l.attribute)) ls) 0))
     (first_mapped (fault_of g l.number) (f prompted l.attribute))
 
--- lines that are left, at a place among them
+-- the first fault among attribute lines of a group, or `None`; the truth value is whether a prompt precedes them
 abbrev pub first_left : Exprs → Group → (Bool → Attribute → List TreeKind) → Bool → List CodeLine → Option TreeFault
 first_left e g f prompted lines = slice_get (faults_of_lines g f prompted (map (line_in e) lines)) 0
 

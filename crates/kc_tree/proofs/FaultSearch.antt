@@ -1,4 +1,4 @@
--- The faults of a group, by what is known of its symbol.
+-- The faults of a group, from the summary of its symbol.
 use Rattle.std.proofs.Common.{◌≡◌, ℕ, zero, suc, ◌+◌, ◌-◌, ◌<◌, ◌≤◌, ◌==◌, Bool, true, false, cond, List, [], ◌∷◌, length, get_or, map, replicate, reverse, Option, Some, None, refl, ap, sym, subst, ◌∙◌, arith, filter}
 use Rattle.std.specs.Prelude.{slice_get, slice_index, slice_range, filter_map, flat_map, is_some, nat_lt, option_and_then, option_map, bytes_eq, All}
 use Rattle.std.specs.List.{list_any}
@@ -21,7 +21,7 @@ use Rattle.kc_tree_model.specs.TreeFaults.{may_follow_member, attribute_faults, 
 use Rattle.kc_tree_model.proofs.Consistency.Lists.{Has, Differ-once, get-map, get_below, has-at, map-get, number-get}
 use Rattle.kc_listing.specs.declared.listing.Group.{Group as CodeGroup}
 use Rattle.kc_listing.specs.declared.listing.Line.{Line as CodeLine}
-use Rattle.kc_listing.specs.declared.listing.GroupHead.{GroupHead as CodeWhat}
+use Rattle.kc_listing.specs.declared.listing.GroupHead.{GroupHead as CodeHead}
 use Rattle.kc_listing.specs.declared.listing.GroupHead.TheVariants as codes
 use Rattle.kc_listing.specs.between.SymbolTable.{HasNames, text_of_name}
 use Rattle.kc_listing.specs.between.ListingView.{RepresentsGroups, RepresentsHead, line_in}
@@ -40,7 +40,7 @@ use Rattle.kc_tree.proofs.MemberMarks.{are_marked, keys_small, member_defined}
 use Rattle.kc_tree.proofs.MemberLaw.{members_are}
 use Rattle.kc_tree.proofs.Symbols.{choice_is, place_is, statement_by}
 
--- the group at a place, as it is stored
+-- the stored group `i` and its lines represent the group of `p`, which was read with this number
 pub record IsPlaceAt (e : Exprs) (names texts : List (List ℕ)) (lines : List CodeLine) (groups : List CodeGroup) (read : List Group) (i : ℕ)
     (p : GroupInContext) : Type 0 where
   pub number : p.group.number ≡ i
@@ -75,23 +75,23 @@ module _ (e : Exprs) (names texts : List (List ℕ)) (lines : List CodeLine) (gr
       let n = count_is e names texts lines groups read h in
       (group_in_context (open_blocks 0 (read_before i read)) t.group, place_numbered read i t.group (omega arith) t.now)
 
--- the name that a `config` defines
-pub config_there : (e : Exprs) (names texts : List (List ℕ)) (code : CodeWhat) (s : ℕ) (w : GroupHead) → RepresentsHead e names texts code w
+-- a stored `config` of symbol `s` represents a `config` of the name at index `s`
+pub config_there : (e : Exprs) (names texts : List (List ℕ)) (code : CodeHead) (s : ℕ) (w : GroupHead) → RepresentsHead e names texts code w
     → code ≡ codes.Config s → (name : List ℕ) × (slice_get names s ≡ Some name) × (w ≡ of_head (config name))
 config_there e names texts code s w h k = subst (λ v. RepresentsHead e names texts v w) k h
 
-pub choice_there : (e : Exprs) (names texts : List (List ℕ)) (code : CodeWhat) (w : GroupHead) → RepresentsHead e names texts code w → code ≡ codes.Choice
+pub choice_there : (e : Exprs) (names texts : List (List ℕ)) (code : CodeHead) (w : GroupHead) → RepresentsHead e names texts code w → code ≡ codes.Choice
     → w ≡ of_head choice
 choice_there e names texts code w h k = subst (λ v. RepresentsHead e names texts v w) k h
 
--- the number of the choice that encloses a place
+-- the list of enclosing choices has at index `i` the number of the choice that encloses group `i`
 pub enclosing_got : (read : List Group) (enclosing : List (Option ℕ)) (i : ℕ) (p : GroupInContext) (d : Option ℕ)
     → enclosing ≡ map (enclosing_choice (contents_of read)) (groups_in_context read) → slice_get (groups_in_context read) i ≡ Some p
     → get_or enclosing i d ≡ enclosing_choice (contents_of read) p
 enclosing_got read enclosing i p d a at =
     get_or_from_slice_get enclosing i _ d (ap (λ xs. slice_get xs i) a ∙ map-get (enclosing_choice (contents_of read)) (groups_in_context read) i p at)
 
--- the word of a symbol's name
+-- the stored name of symbol `s` is the name at index `s` among the defined names
 pub word_is : (e : Exprs) (symbols numbers : List ℕ) (names : List (List ℕ)) (s : ℕ) (name : List ℕ) (d : ℕ) → HasNames e symbols numbers names
     → slice_get names s ≡ Some name → text_of_name e (get_or symbols s d) ≡ name
 word_is e symbols numbers names s name d h at =
@@ -119,7 +119,7 @@ pub first_reported : (c : Contents) (name : List ℕ) (p : GroupInContext) (i : 
     → first_is (first_in_definitions number_at c.places name) i ≡ is_first_definition c name p
 first_reported c name p i e = ap (first_is (first_in_definitions number_at c.places name)) (sym e) ∙ first_by (definitions_of c name) p.group.number
 
--- the kind of fault of a definition
+-- the kind of fault found in a definition that was read is the first of the model's faults of the definition
 pub definition_reported : (language : Language) (read : List Group) (p : GroupInContext) (name : List ℕ) (i : ℕ) (about : SymbolSummary)
     (is_member is_first is_modules may_follow : Bool) → Has p (groups_in_context read) → p.group.number ≡ i
     → about ≡ summary_in (contents_of read) (groups_in_context read) name
@@ -135,7 +135,7 @@ definition_reported language read p name i about is_member is_first is_modules m
     o
     w
 
--- the first fault of a definition with its attributes
+-- the first fault of a `config` group is that of the definition itself, or if it has none, that of its attribute lines
 pub config_first : (language : Language) (c : Contents) (p : GroupInContext) (name : List ℕ) → p.group.head ≡ of_head (config name)
     → slice_get (faults_of_group language c p) 0
     ≡ option_or (option_map (fault_of p.group p.group.at.line) (slice_get (definition_faults language c p name) 0))
@@ -199,7 +199,7 @@ are_marked_in read p members old new choices e many small were =
     (λ x n. member_defined read p.group.number x n)
     (λ s x at. place_is (names_defined read) x s (Differ-once (filter_map defined_name read)) at)
 
--- a mark is one of those that were given
+-- after members were marked with `choices + 1`, no mark is greater than `choices + 1`
 pub marks_small : (members old new : List ℕ) (choices : ℕ) → AreSmall old choices → WereMarked old members (choices + 1) new → AreSmall new (choices + 1)
 marks_small members old new choices small were = λ s. by_any s (list_any (λ m. m == s) members) refl
   where
@@ -215,7 +215,7 @@ marks_small members old new choices small were = λ s. by_any s (list_any (λ m.
             let k : slice_index new s ≡ 0 = get_or_past new s 0 (omega arith) in
             omega arith
 
--- the first fault of one group more, and of all
+-- if the first `i` groups have no fault, the first fault of the first `i + 1` groups is that of the last of them
 pub fault_more : (language : Language) (read : List Group) (i : ℕ) (m : Group) → read_before (i + 1) read ≡ m ∷ read_before i read
     → slice_get (flat_map (faults_of_group language (contents_of read)) (groups_in_context (read_before i read))) 0 ≡ None
     → slice_get (flat_map (faults_of_group language (contents_of read)) (groups_in_context (read_before (i + 1) read))) 0
@@ -230,13 +230,13 @@ fault_more language read i m now none =
 pub fault_all : (language : Language) (read : List Group) (i : ℕ) (t : TreeFault)
     → slice_get (flat_map (faults_of_group language (contents_of read)) (groups_in_context (read_before i read))) 0 ≡ Some t
     → slice_get (flat_map (faults_of_group language (contents_of read)) (groups_in_context read)) 0 ≡ Some t
-fault_all language read i t told =
+fault_all language read i t reported =
     let f = faults_of_group language (contents_of read) in
     let r = placed_before (length read - i) read in
     ap (λ ps. slice_get (flat_map f ps) 0) r.1
     ∙ ap (λ xs. slice_get xs 0) (flat_map-append f (groups_in_context (read_before i read)) r.0)
     ∙ first_of_both (flat_map f (groups_in_context (read_before i read))) (flat_map f r.0)
-    ∙ ap (λ o. option_or o (slice_get (flat_map f r.0) 0)) told
+    ∙ ap (λ o. option_or o (slice_get (flat_map f r.0) 0)) reported
 
 pub fault_none : (language : Language) (read : List Group) (i : ℕ) → i ≡ length read
     → slice_get (flat_map (faults_of_group language (contents_of read)) (groups_in_context (read_before i read))) 0 ≡ None
@@ -253,7 +253,7 @@ other_first : (language : Language) (c : Contents) (p : GroupInContext) (w : Gro
     → slice_get (faults_of_group language c p) 0 ≡ slice_get (elim w as (λ _. List TreeFault) [ of_head h ↦ faults_of_head language c p h | file_end ↦ [] ]) 0
 other_first language c p w e = ap (λ v. slice_get (elim v as (λ _. List TreeFault) [ of_head h ↦ faults_of_head language c p h | file_end ↦ [] ]) 0) e
 
-pub nothing_reported : (language : Language) (e : Exprs) (names texts : List (List ℕ)) (code : CodeWhat) (c : Contents) (p : GroupInContext)
+pub nothing_reported : (language : Language) (e : Exprs) (names texts : List (List ℕ)) (code : CodeHead) (c : Contents) (p : GroupInContext)
     → RepresentsHead e names texts code p.group.head → ((s : ℕ) → code ≡ codes.Config s → ⊥) → (code ≡ codes.Choice → ⊥)
     → slice_get (faults_of_group language c p) 0 ≡ None
 nothing_reported language e names texts (codes.Config s) c p h n m = absurd (n s refl)
@@ -283,7 +283,7 @@ zero_at (suc n) (suc s) = zero_at n s
 pub zeros_small : (n : ℕ) → AreSmall (replicate n 0) 0
 zeros_small n = λ s. let e = zero_at n s in omega arith
 
--- the members have places among the choices
+-- the choice number of each collected member is below the number of choices
 pub keys_fit : (read : List Group) (s : Summary) → IsSummaryOf (contents_of read) s → (i : ℕ) → i < length s.members.keys.items
     → slice_index s.members.keys.items i < s.choices
 keys_fit read s known i h =
@@ -311,11 +311,11 @@ few_choices read =
 -- the faults of one more group
 module _ (e : Exprs) (texts : List (List ℕ)) (lines : List CodeLine) (groups : List CodeGroup) (read : List Group)
     (h : RepresentsGroups e (names_defined read) texts lines (length lines) (reverse groups) read) where
-  pub fault_here : (language : Language) (i : ℕ) (told : Option TreeFault) → i < length groups → slice_get
+  pub fault_here : (language : Language) (i : ℕ) (reported : Option TreeFault) → i < length groups → slice_get
       (flat_map (faults_of_group language (contents_of read)) (groups_in_context (read_before i read))) 0 ≡ None
-      → ((p : GroupInContext) → slice_get (groups_in_context read) i ≡ Some p → told ≡ slice_get (faults_of_group language (contents_of read) p) 0)
-      → told ≡ slice_get (flat_map (faults_of_group language (contents_of read)) (groups_in_context (read_before (i + 1) read))) 0
-  fault_here language i told l none t =
+      → ((p : GroupInContext) → slice_get (groups_in_context read) i ≡ Some p → reported ≡ slice_get (faults_of_group language (contents_of read) p) 0)
+      → reported ≡ slice_get (flat_map (faults_of_group language (contents_of read)) (groups_in_context (read_before (i + 1) read))) 0
+  fault_here language i reported l none t =
       let s = shown_at e (names_defined read) texts lines groups read h i l in
       let n = count_is e (names_defined read) texts lines groups read h in
       let p : GroupInContext = group_in_context (open_blocks 0 (read_before i read)) s.group in

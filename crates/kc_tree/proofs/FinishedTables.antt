@@ -102,7 +102,7 @@ module _ (g : Gathered) (sound : IsConsistent (gathered_tree g)) (distinct : Are
     reported_none j (Some s) h e f =
         let k = row_named (get_or g.arena.names j []) s f in
         let i : j ≡ k.0.name = distinct j k.0.name h (name_at s k.0 k.1) k.2 in
-        let a : get_or table j None ≡ Some s = ap (λ n. get_or table n None) i ∙ t.told s k.0 (slice_get_within g.symbols.items s k.0 k.1) k.1 in
+        let a : get_or table j None ≡ Some s = ap (λ n. get_or table n None) i ∙ t.has_symbols s k.0 (slice_get_within g.symbols.items s k.0 k.1) k.1 in
         cc
 
     reported_same : (j : ℕ) (o : Option ℕ) → j < length g.arena.names → get_or table j None ≡ o → o ≡ symbol_named (gathered_tree g) (get_or g.arena.names j [])
@@ -115,7 +115,7 @@ module _ (g : Gathered) (sound : IsConsistent (gathered_tree g)) (distinct : Are
         (λ j h. (let l : j < length g.arena.names = omega (arith, t.len) in reported_same j (get_or table j None) l refl
         ∙ sym (get_or-map (symbol_named (gathered_tree g)) g.arena.names j [] None l)))
 
--- the collected lists, if these are the lists of their tree
+-- collected lists with the rows, entries, titles and units of a stored tree, and with these attributes, members and defaults
 abbrev pub gathered_in : Parts → Attributes → Keyed ℕ → Keyed MemberDefault → Gathered
 gathered_in p A M D =
     record {
@@ -147,7 +147,7 @@ module _ (p : Parts) (A : Attributes) (M : Keyed ℕ) (D : Keyed MemberDefault) 
       let h : c < length p.choices.items = omega arith in
       rw (m.of_key c h, d.of_key c h) refl
 
-  -- both are one tree
+  -- the stored lists and the collected lists represent the same tree
   pub whole_same : tree_from_rows p ≡ gathered_tree (gathered_in p A M D)
   whole_same =
       let made : List tree.Symbol → List tree.Choice → Tree = λ s c. record {
@@ -210,7 +210,7 @@ module _ (p : Parts) (A : Attributes) (M : Keyed ℕ) (D : Keyed MemberDefault) 
         unit_of_choice = u.choices_len ∙ choices_many;
       }
 
-      -- the lists keep what they have to
+      -- the stored lists are sound if the arena's names are distinct and the table has the symbol of each name
       pub kept : AreDistinct p.arena.names → IsTable (length p.arena.names) p.symbols.items (length p.symbols.items) p.symbol_of_name.items → AreSoundParts p
       kept distinct t = record {
         fits = parts_fit;

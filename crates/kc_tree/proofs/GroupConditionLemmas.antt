@@ -1,4 +1,4 @@
--- The conditions of groups, place by place.
+-- The conditions of groups, by the groups' numbers.
 use Rattle.std.proofs.Common.{◌≡◌, ℕ, zero, suc, ◌+◌, ◌-◌, ◌<◌, ◌≤◌, false, cond, List, [], ◌∷◌, length, get_or, drop, reverse, refl, ap, sym, ◌∙◌, arith}
 use Rattle.std.specs.Prelude.{slice_range, nat_lt}
 use Rattle.std.proofs.lemmas.Bool.{lt-ltb}
@@ -11,7 +11,7 @@ use Rattle.kc_tree.specs.checker.Summaries.{read_before}
 use Rattle.kc_tree.specs.checker.Walks.{RepresentsConditions, RepresentsAllConditions}
 use Rattle.kc_tree.specs.declared.group_walk.GroupConditions.{GroupConditions}
 
--- the conditions of a group among what was read
+-- the stored conditions of group `i` are those of the group that was read with this number, and lie within the list
 pub record IsConditionedAt (e : Exprs) (texts : List (List ℕ)) (conditions : List ℕ) (groups : List GroupConditions) (read : List Group) (i : ℕ) : Type 0 where
   pub group : Group
   pub now : read_before (i + 1) read ≡ group ∷ read_before i read

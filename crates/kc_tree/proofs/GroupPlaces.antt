@@ -1,4 +1,4 @@
--- The groups of the definition and those of the listing, place by place.
+-- The groups of the model and those of the listing, by number.
 use Rattle.std.proofs.Common.{◌≡◌, ℕ, zero, suc, ◌+◌, ◌-◌, ◌<◌, ◌≤◌, false, cond, List, [], ◌∷◌, ◌++◌, length, get_or, drop, reverse, refl, ap, sym, subst, ◌∙◌, arith, append_assoc, append-nil, length-append, length-drop, Some}
 use Rattle.std.specs.Prelude.{slice_get, slice_range, nat_lt}
 use Rattle.std.proofs.Math.Seq.{drop-length}
@@ -12,7 +12,7 @@ use Rattle.kc_listing.specs.declared.listing.Line.{Line as CodeLine}
 use Rattle.kc_listing.specs.between.ListingView.{RepresentsGroup, RepresentsGroups}
 use Rattle.kc_tree.specs.checker.Summaries.{read_before, group_at, attributes_end, no_group}
 
--- a group among what was read, and how it is kept
+-- the stored group `i` represents the group that was read with this number, and its lines lie within the list
 pub record IsShownAt (e : Exprs) (names texts : List (List ℕ)) (lines : List CodeLine) (groups : List CodeGroup) (read : List Group) (i : ℕ) : Type 0 where
   pub group : Group
   pub now : read_before (i + 1) read ≡ group ∷ read_before i read
@@ -20,7 +20,7 @@ pub record IsShownAt (e : Exprs) (names texts : List (List ℕ)) (lines : List C
   pub rising : (group_at groups i).attributes ≤ attributes_end groups lines i
   pub within : attributes_end groups lines i ≤ length lines
 
--- as many groups as were read
+-- there are as many stored groups as groups that were read
 pub as_many : (e : Exprs) (names texts : List (List ℕ)) (lines : List CodeLine) (end : ℕ) (gs : List CodeGroup) (ms : List Group)
     → RepresentsGroups e names texts lines end gs ms → length gs ≡ length ms
 as_many e names texts lines end [] [] h = refl
@@ -110,19 +110,19 @@ module _ (e : Exprs) (names texts : List (List ℕ)) (lines : List CodeLine) (gr
         within = rw ends at r.within;
       }
 
--- no groups, and all
+-- no group was read before group 0
 pub none_before : (read : List Group) → read_before 0 read ≡ []
 none_before read = ap (λ n. drop n read) (let n : length read - 0 ≡ length read = omega arith in n) ∙ drop-length read
 
 pub all_before : (read : List Group) → read_before (length read) read ≡ read
 all_before read = ap (λ n. drop n read) (let n : length read - length read ≡ 0 = omega arith in n)
 
--- one place more
+-- the first `i + 1` groups in context are the first `i` and, after them, group `i` in its context
 pub placed_more : (read : List Group) (i : ℕ) (m : Group) → read_before (i + 1) read ≡ m ∷ read_before i read
     → groups_in_context (read_before (i + 1) read) ≡ groups_in_context (read_before i read) ++ group_in_context (open_blocks 0 (read_before i read)) m ∷ []
 placed_more read i m e = ap groups_in_context e
 
--- places before others
+-- the groups in context of a reading begin with those of the reading without its newest `k` groups
 pub placed_before : (k : ℕ) (read : List Group) → (rest : List GroupInContext) × (groups_in_context read ≡ groups_in_context (drop k read) ++ rest)
 placed_before zero read = ([], sym (append-nil (groups_in_context read)))
 placed_before (suc k) [] = ([], refl)
@@ -133,7 +133,7 @@ placed_before (suc k) (g ∷ read) =
           ∙ append_assoc (groups_in_context (drop k read)) r.0 (group_in_context (open_blocks 0 read) g ∷ []),
     )
 
--- each group has its number
+-- each group's number is how many groups were read before it
 abbrev pub AreNumbers : List Group → Type 0
 AreNumbers [] = Unit {0}
 AreNumbers (g ∷ before) = (g.number ≡ length before) × AreNumbers before
@@ -150,7 +150,7 @@ numbers_before zero read h = h
 numbers_before (suc k) [] h = tt
 numbers_before (suc k) (g ∷ read) h = numbers_before k read h.1
 
--- a place by its number
+-- a reading has as many groups in context as groups
 pub placed_count : (read : List Group) → length (groups_in_context read) ≡ length read
 placed_count [] = refl
 placed_count (g ∷ read) =

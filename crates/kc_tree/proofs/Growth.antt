@@ -29,12 +29,12 @@ pub there_on : (old new : Exprs) → Grows old new → (o : Option ℕ) → IfSo
 there_on old new g None h = tt
 there_on old new g (Some i) h = node_held old new i g h
 
--- the number of a conjunction is there
+-- the number of a conjunction, if it has one, is a node of the arena
 pub conjoins_there : (exprs : Exprs) (o : Option ℕ) (es : List Expr) → Conjoins exprs o es → IfSome o (λ i. i < length exprs.nodes)
 conjoins_there exprs None es h = tt
 conjoins_there exprs (Some i) es h = h.1.within
 
--- a number is a conjunction of its own expression
+-- an optional node is the conjunction of its own expression, or without a node of nothing
 pub conjoins_own : (exprs : Exprs) (o : Option ℕ) → IfSome o (λ i. i < length exprs.nodes) → Conjoins exprs o (conjunct exprs o)
 conjoins_own exprs None h = refl
 conjoins_own exprs (Some i) h = (omega arith, record { within = h; is = refl })
@@ -50,7 +50,7 @@ joined_on old new g e ds vs own j = record {
   shown_is = conjoins_on old new g e.shown (ds ++ visible_conjunct vs) j.shown_is;
 }
 
--- what an attribute gives is there
+-- the conjunct of an attribute whose nodes exist is a node of the arena
 pub reported_there : (w : Conjuncts) (exprs : Exprs) (a : CodeAttribute) → AttributeNodesExist exprs a
     → IfSome (conjunct_view w a) (λ i. i < length exprs.nodes)
 reported_there Dependencies exprs (attributes.Typed k) h = tt
@@ -84,21 +84,21 @@ if_there : (exprs : Exprs) (c : Option ℕ) → IfNodeExists exprs c → IfSome 
 if_there exprs None h = tt
 if_there exprs (Some i) h = h
 
--- so is its `if`
-pub if_told_there : (exprs : Exprs) (a : CodeAttribute) → AttributeNodesExist exprs a → IfSome (if_view a) (λ i. i < length exprs.nodes)
-if_told_there exprs (attributes.Typed k) h = tt
-if_told_there exprs (attributes.TypedPrompt k c) h = if_there exprs c h
-if_told_there exprs (attributes.TypedDefault k d) h = if_there exprs d.condition h.1
-if_told_there exprs (attributes.Prompt c) h = if_there exprs c h
-if_told_there exprs (attributes.Default d) h = if_there exprs d.condition h.1
-if_told_there exprs (attributes.Depends id) h = tt
-if_told_there exprs (attributes.Select s) h = if_there exprs s.condition h.1
-if_told_there exprs (attributes.Imply s) h = if_there exprs s.condition h.1
-if_told_there exprs (attributes.Range r) h = if_there exprs r.condition h.2
-if_told_there exprs (attributes.Visible id) h = tt
-if_told_there exprs attributes.Help h = tt
-if_told_there exprs attributes.Modules h = tt
-if_told_there exprs attributes.Optional h = tt
+-- the `if` of an attribute whose nodes exist is a node of the arena
+pub if_node_exists : (exprs : Exprs) (a : CodeAttribute) → AttributeNodesExist exprs a → IfSome (if_view a) (λ i. i < length exprs.nodes)
+if_node_exists exprs (attributes.Typed k) h = tt
+if_node_exists exprs (attributes.TypedPrompt k c) h = if_there exprs c h
+if_node_exists exprs (attributes.TypedDefault k d) h = if_there exprs d.condition h.1
+if_node_exists exprs (attributes.Prompt c) h = if_there exprs c h
+if_node_exists exprs (attributes.Default d) h = if_there exprs d.condition h.1
+if_node_exists exprs (attributes.Depends id) h = tt
+if_node_exists exprs (attributes.Select s) h = if_there exprs s.condition h.1
+if_node_exists exprs (attributes.Imply s) h = if_there exprs s.condition h.1
+if_node_exists exprs (attributes.Range r) h = if_there exprs r.condition h.2
+if_node_exists exprs (attributes.Visible id) h = tt
+if_node_exists exprs attributes.Help h = tt
+if_node_exists exprs attributes.Modules h = tt
+if_node_exists exprs attributes.Optional h = tt
 
 reported_append : (w : Conjuncts) (exprs : Exprs) (xs ys : List CodeLine)
     → conjunct_views w exprs (xs ++ ys) ≡ conjunct_views w exprs xs ++ conjunct_views w exprs ys
@@ -107,14 +107,14 @@ reported_append w exprs (x ∷ xs) ys =
     ap (λ es. conjunct exprs (conjunct_view w x.attribute) ++ es) (reported_append w exprs xs ys)
     ∙ sym (append_assoc (conjunct exprs (conjunct_view w x.attribute)) (conjunct_views w exprs xs) (conjunct_views w exprs ys))
 
--- one attribute more
+-- the conjuncts of the first `k + 1` attribute lines are those of the first `k` and, after them, that of line `k`
 pub reported_more : (w : Conjuncts) (exprs : Exprs) (lines : List CodeLine) (k : ℕ) (d : CodeLine) → k < length lines
     → conjunct_views w exprs (take (k + 1) lines) ≡ conjunct_views w exprs (take k lines) ++ conjunct exprs (conjunct_view w (get_or lines k d).attribute)
 reported_more w exprs lines k d h =
     ap (conjunct_views w exprs) (take_more lines k d h) ∙ reported_append w exprs (take k lines) (get_or lines k d ∷ [])
     ∙ ap (λ es. conjunct_views w exprs (take k lines) ++ es) (append-nil (conjunct exprs (conjunct_view w (get_or lines k d).attribute)))
 
--- what attributes give stays
+-- the conjuncts of attribute lines are the same after the arena grew
 pub reported_on : (w : Conjuncts) (old new : Exprs) (lines : List CodeLine) → Grows old new → All (LineNodesExist old) lines
     → conjunct_views w new lines ≡ conjunct_views w old lines
 reported_on w old new [] g h = refl
@@ -124,19 +124,19 @@ reported_on w old new (l ∷ lines) g h =
     let f = reported_on w old new lines g (λ k d i. h (suc k) d (omega arith)) in
     cc
 
--- a conjunction of all
+-- an optional conjunction, or `y` without one, represents the conjunction of all its conjuncts
 pub represents_all : (exprs : Exprs) (o : Option ℕ) (y : ℕ) (es : List Expr) → Conjoins exprs o es → Represents exprs y (conjunction_of [])
     → Represents exprs (or_yes y o) (conjunction_of es)
 represents_all exprs None y es h s = subst (λ xs. Represents exprs y (conjunction_of xs)) (sym h) s
 represents_all exprs (Some i) y es h s = h.1
 
--- the `visible if`s that enclose a place as one conjunct
+-- the number of a conjunction of `visible if`s, as a list of conjuncts, is the one conjunct that the model makes of them
 pub one_visible : (exprs : Exprs) (o : Option ℕ) (vs : List Expr) → Conjoins exprs o vs → conjunct exprs o ≡ visible_conjunct vs
 one_visible exprs None vs h = rw h refl
 one_visible exprs (Some i) [] h = absurd (omega (arith, h.0))
 one_visible exprs (Some i) (v ∷ vs) h = ap (λ e. e ∷ []) h.1.is
 
--- one attribute more is joined
+-- the conjunct of line `k` joined to those of the lines before it gives the conjunction of the first `k + 1` lines
 pub with_more : (old mid new : Exprs) (w : Conjuncts) (lines : List CodeLine) (k : ℕ) (d : CodeLine) (all joined c more : Option ℕ) → Grows old mid
     → All (LineNodesExist old) lines → k < length lines → d ≡ get_or lines k d → more ≡ conjunct_view w d.attribute
     → ((es : List Expr) → Conjoins old all es → Conjoins mid joined (es ++ conjunct_views w old (take k lines)))
@@ -157,11 +157,11 @@ by_test : (b : Bool) (x y u v : Expr) → x ≡ u → y ≡ v → cond b x y ≡
 by_test true x y u v e f = e
 by_test false x y u v e f = f
 
--- the condition of an attribute, as the arena grows
+-- the joined condition of an attribute is the same after the arena grew
 pub condition_on : (old new : Exprs) (ds vs : List Expr) (a : CodeAttribute) → Grows old new → AttributeNodesExist old a
     → condition_view new ds vs a ≡ condition_view old ds vs a
 condition_on old new ds vs a g h =
-    let e = conjunct_on old new g (if_view a) (if_told_there old a h) in
+    let e = conjunct_on old new g (if_view a) (if_node_exists old a h) in
     by_test (is_prompt a) _ _ _ _ (ap (λ c. conjunction_of (ds ++ (visible_conjunct vs ++ c))) e) (ap (λ c. conjunction_of (ds ++ c)) e)
 
 pub represent_on : (old new : Exprs) (ids : List ℕ) → Grows old new → All (λ i. i < length old.nodes) ids → map (node_expr new) ids ≡ map (node_expr old) ids
@@ -174,7 +174,7 @@ represent_on old new (i ∷ ids) g h =
 pub held_on : (old new : Exprs) (ids : List ℕ) → Grows old new → All (λ i. i < length old.nodes) ids → All (λ i. i < length new.nodes) ids
 held_on old new ids g h = λ k d l. node_held old new (get_or ids k d) g (h k d l)
 
--- one condition more
+-- the condition of line `k` appended to those of the lines before it gives the conditions of the first `k + 1` lines
 pub after_more : (old mid new : Exprs) (before after : List ℕ) (ds vs : List Expr) (lines : List CodeLine) (k id : ℕ) (d : CodeLine) → Grows old mid
     → Grows mid new → All (LineNodesExist old) lines → k < length lines → d ≡ get_or lines k d
     → AreAppended old mid before after ds vs (take k lines) → Represents new id (condition_view mid ds vs d.attribute)
@@ -187,8 +187,8 @@ after_more old mid new before after ds vs lines k id d g m held h e b s =
     record {
       own = b.own ++ id ∷ [];
       is = ap (λ xs. xs ++ id ∷ []) b.is ∙ append_assoc before b.own (id ∷ []);
-      stand = map-append (node_expr new) b.own (id ∷ [])
-          ∙ ap (λ xs. xs ++ node_expr new id ∷ []) (represent_on mid new b.own m b.held ∙ b.stand)
+      exprs_are = map-append (node_expr new) b.own (id ∷ [])
+          ∙ ap (λ xs. xs ++ node_expr new id ∷ []) (represent_on mid new b.own m b.held ∙ b.exprs_are)
           ∙ ap (λ x. map (line_condition old ds vs) (take k lines) ++ x ∷ []) here
           ∙ sym (map-append (line_condition old ds vs) (take k lines) (get_or lines k d ∷ []))
           ∙ ap (map (line_condition old ds vs)) (sym (take_more lines k d h));
@@ -196,11 +196,11 @@ after_more old mid new before after ds vs lines k id d g m held h e b s =
           (All-cons (λ i. i < length new.nodes) id [] s.within (All-nil (λ i. i < length new.nodes)));
     }
 
--- no condition yet
+-- an unchanged list of conditions has those of no attribute lines appended
 pub none_after : (exprs : Exprs) (before : List ℕ) (ds vs : List Expr) → AreAppended exprs exprs before before ds vs []
-none_after exprs before ds vs = record { own = []; is = sym (append-nil before); stand = refl; held = All-nil (λ i. i < length exprs.nodes) }
+none_after exprs before ds vs = record { own = []; is = sym (append-nil before); exprs_are = refl; held = All-nil (λ i. i < length exprs.nodes) }
 
--- the conditions of an entry
+-- the enclosing conditions and an entry's own conjuncts, joined one after the other, are the entry's joined conditions
 pub entry_joined : (old mid far new : Exprs) (lines : List CodeLine) (dependencies visibles d v s : Option ℕ) → Grows old mid → Grows mid far → Grows far new
     → All (LineNodesExist old) lines
     → IfSome visibles (λ i. i < length old.nodes)

@@ -25,8 +25,8 @@ pub mod EntrySteps
 pub mod ChoiceRowSteps
 pub mod RowSteps
 pub mod UnitSteps
-pub mod GatherSteps
-pub mod GatherLaw
-pub mod GatherShown
-pub mod GatherAll
+pub mod ItemSteps
+pub mod ItemLaw
+pub mod ItemViews
+pub mod SymbolItems
 pub mod AssemblySteps

@@ -99,7 +99,7 @@ module _ (c : Contents) (k g : ℕ) (number : choice_number c g ≡ Some k) wher
       ∙ ap (λ xs. cond (is_member_of g p) (option_to_list (option_and_then (λ n. index_of_name n c.names) (defined_name p.group))) [] ++ xs) (members_among ps)
       ∙ sym (some_named (is_member_of g p) p (filter (is_member_of g) ps))
 
-  -- the items under the number of a choice
+  -- the members collected under the number of a choice are those of the choice, in order
   pub members_are : items_of k (flat_map (member_keys_at c) c.places) (flat_map (members_at c) c.places)
       ≡ filter_map (λ x. index_of_name x c.names) (member_names c g)
   members_are = grouped_is (member_key c) (members_at c) k c.places ∙ members_among c.places

@@ -15,11 +15,11 @@ use Rattle.kc_tree.specs.checker.Marks.{AreMarked, WereMarked}
 use Rattle.kc_tree.specs.checker.Summaries.{enclosing_choice, member_in, member_key, member_keys_at, members_at}
 use Rattle.kc_tree.proofs.Symbols.{named_there}
 
--- what all elements keep to
+-- a property of each element of a list holds for all of them
 pub all_has : {A : Type 0} (P : A → Type 0) (xs : List A) → ((x : A) → Has x xs → P x) → All P xs
 all_has P xs h = λ k d l. h (get_or xs k d) (has-at (get_or xs k d) xs k (slice_get-get_or xs k d l))
 
--- the numbers of members are those of symbols
+-- the indices at which members occur in a list of names are below its length
 pub members_small : (names members : List (List ℕ)) → All (λ s. s < length names) (filter_map (λ x. index_of_name x names) members)
 members_small names members =
     all_has (λ s. s < length names) (filter_map (λ x. index_of_name x names) members)
@@ -48,7 +48,7 @@ keys_small c ps = all_has (λ k. k < length c.choices) (flat_map (member_keys_at
     let is : j.0 ≡ k = sym (ap (λ o. elim o as (λ _. ℕ) [ None ↦ 0 | Some i ↦ i ]) j.1) ∙ m.2 in
     omega arith)
 
--- the names of members are names of symbols
+-- a name that no entry defines isn't that of a choice member
 pub member_defined : (read : List Group) (g : ℕ) (x : List ℕ) → index_of_name x (names_defined read) ≡ None
     → index_of_name x (member_names (contents_of read) g) ≡ None
 member_defined read g x e = by_place (index_of_name x (member_names (contents_of read) g)) refl
@@ -63,7 +63,7 @@ member_defined read g x e = by_place (index_of_name x (member_names (contents_of
         let there : index_of_name x (names_defined read) ≡ Some i.0 = i.1 in
         cc
 
--- the marks of members
+-- a mark that is smaller than another isn't equal to it
 pub marked_test : (m mark : ℕ) → m < mark → (m == mark) ≡ false
 marked_test m mark h = grind arith
 

@@ -11,14 +11,14 @@ use Rattle.kc_tree_model.specs.Limits.{without_repeats, names_defined}
 use Rattle.kc_listing.specs.declared.listing.Group.{Group as CodeGroup}
 use Rattle.kc_listing.specs.declared.listing.Line.{Line as CodeLine}
 use Rattle.kc_listing.specs.declared.listing.Listing.{Listing}
-use Rattle.kc_listing.specs.declared.listing.GroupHead.{GroupHead as CodeWhat}
+use Rattle.kc_listing.specs.declared.listing.GroupHead.{GroupHead as CodeHead}
 use Rattle.kc_listing.specs.declared.listing.GroupHead.TheVariants as codes
 use Rattle.kc_listing.specs.between.ListingView.{RepresentsListing, RepresentsHead, RepresentsGroups}
 use Rattle.kc_tree.specs.checker.MissingPaths.{is_absent, with_absent, path_in, with_all}
 use Rattle.kc_tree.proofs.MissingPaths.{once_kept}
 
 -- the path that a group sources is the one that is kept
-source_shown : (exprs : Exprs) (names texts : List (List ℕ)) (c : CodeWhat) (w : GroupHead) → RepresentsHead exprs names texts c w
+source_shown : (exprs : Exprs) (names texts : List (List ℕ)) (c : CodeHead) (w : GroupHead) → RepresentsHead exprs names texts c w
     → path_in texts c ≡ from_head path_of_head w
 source_shown exprs names texts (codes.Config s) w h = sym (ap (from_head path_of_head) h.2)
 source_shown exprs names texts codes.Choice w h = sym (ap (from_head path_of_head) h)
@@ -78,7 +78,7 @@ module _ (files : Files) (texts : List (List ℕ)) where
   back_shown exprs names lines root end [] (m ∷ ms) h = absurd h
   back_shown exprs names lines root end (g ∷ gs) [] h = absurd h
 
--- the absent paths of all groups
+-- the absent paths collected from a listing are those of the root file and of the files that were sourced, each once
 pub all_shown : (files : Files) (root : List ℕ) (l : Listing) (read : List Group) → RepresentsListing l read
     → with_all files l.texts.items (with_absent files [] (Some root)) l.groups.items ≡ filter (is_absent files)
     (without_repeats (filter_map sourced_path read ++ root ∷ []))
@@ -88,7 +88,7 @@ all_shown files root l read s =
     ∙ all_back files l.texts.items (with_absent files [] (Some root)) (reverse l.groups.items)
     ∙ back_shown files l.texts.items l.names.arena (names_defined read) l.lines.items root (length l.lines.items) (reverse l.groups.items) read s.groups_are
 
--- no group is left at the end
+-- once no group is left, the absent paths collected so far are all
 pub none_left : (files : Files) (texts paths : List (List ℕ)) (gs : List CodeGroup) (i : ℕ) → length gs ≤ i → i ≤ length gs
     → with_all files texts paths (drop i gs) ≡ paths
 none_left files texts paths gs i a b = let e : i ≡ length gs = omega arith in rw (e, drop-length gs) refl

@@ -1,4 +1,4 @@
--- Paths, each once.
+-- Lists of paths without repeats.
 use Rattle.std.proofs.Common.{◌≡◌, ℕ, Bool, true, false, List, [], ◌∷◌, ◌++◌, ◌||◌, map, refl, ap, sym, ◌∙◌, cond}
 use Rattle.std.specs.Prelude.{filter, bytes_eq}
 use Rattle.std.specs.List.{list_any}
@@ -97,7 +97,7 @@ module _ (f : List ℕ → Bool) where
   pushed_kept x ys false e true g = refl
   pushed_kept x ys false e false g = filter-append (without_repeats ys) x ∙ rw e (append_nil (filter f (without_repeats ys)))
 
-  -- one more path
+  -- the filtered paths without repeats, with one more path, are those before it with it appended if it passes and is new
   pub once_kept : (x : List ℕ) (ys : List (List ℕ))
       → filter f (without_repeats (x ∷ ys)) ≡ cond (f x) (with_path x (filter f (without_repeats ys))) (filter f (without_repeats ys))
   once_kept x ys = pushed_kept x ys (f x) refl (is_in_list x ys) refl

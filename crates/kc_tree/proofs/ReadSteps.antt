@@ -9,7 +9,7 @@ use Rattle.kc_tree_model.specs.Limits.{without_repeats}
 use Rattle.kc_tree_model.specs.TreeReading.{Outcome, reading, lenient_reading, wanted_by, paths_or_fault, files_wanted}
 use Rattle.kc_tree_model.specs.TreeFaults.{tree_faults, first_tree_fault, first_fault_after}
 use Rattle.kc_tree_model.specs.TreesOfFiles.{IsReportedFault, AreWanted}
-use Rattle.kc_tree_model.proofs.ReadingLaws.TreesRelated.{reported_related, wanted_related}
+use Rattle.kc_tree_model.proofs.ReadingLaws.TreesOfRelation.{reported_related, wanted_related}
 use Rattle.kc_listing.specs.declared.listing.Listing.{Listing}
 use Rattle.kc_listing.specs.between.ListingView.{RepresentsListing}
 use Rattle.kc_listing.specs.between.MemoryFaults.{no_memory}
@@ -34,7 +34,7 @@ module _ (files : Files) (root : List ℕ) (l : Listing) (given : Option TreeFau
   reported_by f e (inl m) = inl (some_is f no_memory (sym e ∙ m))
   reported_by f e (inr h) = inr (after_some files.language (reading files root) f (sym h ∙ e))
 
-  -- a fault of reading is the one that is returned
+  -- a fault returned by reading is out of memory, or the first fault of the files
   pub reported_of_reading : (f : TreeFault) → given ≡ Some f → (f ≡ no_memory) ⊎ (first_tree_fault files root ≡ Some f)
   reported_of_reading f e = reported_by f e fault
 
@@ -55,16 +55,16 @@ module _ (files : Files) (root : List ℕ) (l : Listing) (given : Option TreeFau
   pub of_reading : given ≡ None → IsRepresented l
   of_reading e = record { read = (reading files root).read; shows = shown_of_reading e }
 
-  -- where reading met none, the first of the others
-  pub reported_behind : (o : Option TreeFault) → given ≡ None → o ≡ slice_get (tree_faults files.language (reading files root).read) 0
+  -- if reading has no fault, the first fault of the files is the first of the checks on the whole tree
+  pub reported_tree_fault : (o : Option TreeFault) → given ≡ None → o ≡ slice_get (tree_faults files.language (reading files root).read) 0
       → first_tree_fault files root ≡ o
   unfolding first_tree_fault
-  reported_behind o e h = after_none files.language (reading files root) (unfailed_of e) ∙ sym h
+  reported_tree_fault o e h = after_none files.language (reading files root) (unfailed_of e) ∙ sym h
 
   pub of_tree : given ≡ None → None ≡ slice_get (tree_faults files.language (reading files root).read) 0 → IsOfTree l
-  of_tree e h = record { files = files; root = root; untold = reported_behind None e h; shows = shown_of_reading e }
+  of_tree e h = record { files = files; root = root; untold = reported_tree_fault None e h; shows = shown_of_reading e }
 
--- the fault that is returned is the reported one
+-- a returned fault, if not out of memory but the first fault of the files, is their reported fault
 pub reported_or_memory : (files : Files) (root : List ℕ) (f : TreeFault) → (f ≡ no_memory) ⊎ (first_tree_fault files root ≡ Some f)
     → (f ≡ no_memory) ⊎ IsReportedFault files root f
 reported_or_memory files root f (inl m) = inl m

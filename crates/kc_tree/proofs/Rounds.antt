@@ -13,7 +13,7 @@ use Rattle.kc_tree_model.proofs.NestedTrees.OpenBlocks.{open_inside, popped, pus
 use Rattle.kc_tree_model.proofs.Consistency.Lists.{Has, filter-has, has-number, has-filter, number_of_more}
 use Rattle.kc_tree_model.proofs.Consistency.Places.{choice_read, group-placed}
 use Rattle.kc_tree_model.proofs.Consistency.Units.{has_mapped, mapped_has}
-use Rattle.kc_listing.specs.declared.listing.GroupHead.{GroupHead as CodeWhat}
+use Rattle.kc_listing.specs.declared.listing.GroupHead.{GroupHead as CodeHead}
 use Rattle.kc_listing.specs.declared.listing.GroupHead.TheVariants as codes
 use Rattle.kc_listing.specs.declared.listing.Group.{Group as CodeGroup}
 use Rattle.kc_listing.specs.declared.listing.Line.{Line as CodeLine}
@@ -21,7 +21,7 @@ use Rattle.kc_listing.specs.between.ListingView.{RepresentsHead, RepresentsGroup
 use Rattle.kc_tree.specs.checker.Summaries.{read_before, group_at, innermost_choice, choices_opened_after, is_choice_code, enclosing_choice, open_choices}
 use Rattle.kc_tree.proofs.GroupPlaces.{AreNumbers, all_before, are_numbers, numbers_before, none_before, placed_before, placed_more, shown_at}
 
--- the numbers of the groups of choices, in reading order
+-- the numbers of the groups that open choices, in reading order
 abbrev pub numbers_of_choices : List Group → List ℕ
 numbers_of_choices read = map (λ (p : GroupInContext). p.group.number) (filter (λ (p : GroupInContext). opens_choice p.group) (groups_in_context read))
 
@@ -95,7 +95,7 @@ place_there n (k ∷ ks) rest away =
     number_of_more n k ((ks ++ n ∷ []) ++ rest)
     ∙ place_after n k ks rest (k == n) refl (λ e. away (inl (eqb-true k n e))) (place_there n ks rest (λ h. away (inr h)))
 
--- the number of a choice counts those before it
+-- the number of a choice is how many choices begin before it
 pub number_counts : (read : List Group) (i : ℕ) (m : Group) → AreNumbers read → AreNumbers (read_before (i + 1) read)
     → read_before (i + 1) read ≡ m ∷ read_before i read → opens_choice m ≡ true
     → choice_number (contents_of read) m.number ≡ Some (length (numbers_of_choices (read_before i read)))
@@ -107,7 +107,7 @@ number_counts read i m a b now e =
     ap (index_of_number m.number) (r.1 ∙ ap (λ ns. ns ++ r.0) (ap numbers_of_choices now ∙ choices_more m prior e))
     ∙ place_there m.number (numbers_of_choices prior) r.0 apart
 
--- each choice that encloses a place has a number
+-- each choice that encloses a group has a number among the choices
 pub enclosing_numbered : (read : List Group) (p : GroupInContext) (n : ℕ) → Has p (groups_in_context read) → p.enclosing.choice ≡ Some n
     → (k : ℕ) × (choice_number (contents_of read) n ≡ Some k)
 enclosing_numbered read p n h e =
@@ -116,7 +116,7 @@ enclosing_numbered read p n h e =
     (filter-has opens (groups_in_context read) q.0 q.1 q.3) in
     has-number n (numbers_of_choices read) (subst (λ m. Has m (numbers_of_choices read)) q.2 there)
 
--- what is kept of the open blocks
+-- the first of the choices of the open blocks, innermost first, is the enclosing choice of the context inside these blocks
 pub innermost_is : (c : Contents) (opened : List Group) → innermost_choice (open_choices c opened) ≡ option_and_then (choice_number c) (context opened).choice
 innermost_is c [] = refl
 innermost_is c (g ∷ outer) = refl
@@ -151,7 +151,7 @@ stays : (c : Contents) (g : Group) (before : List Group) → side_of g.head ≡ 
     → open_choices c (open_blocks 0 (g ∷ before)) ≡ open_choices c (open_blocks 0 before)
 stays c g before e = ap (open_choices c) (open_inside 0 g before e)
 
-pub opened_is : (c : Contents) (e : Exprs) (names texts : List (List ℕ)) (what : CodeWhat) (g : Group) (before : List Group) (n : ℕ)
+pub opened_is : (c : Contents) (e : Exprs) (names texts : List (List ℕ)) (what : CodeHead) (g : Group) (before : List Group) (n : ℕ)
     → RepresentsHead e names texts what g.head
     → (is_choice_code what ≡ true → choice_number c g.number ≡ Some n)
     → open_choices c (open_blocks 0 (g ∷ before)) ≡ choices_opened_after what n (open_choices c (open_blocks 0 before))
@@ -165,8 +165,8 @@ opened_is c e names texts codes.Mainmenu g before n h number = stays c g before 
 opened_is c e names texts (codes.Ends b) g before n h number = closes c g before (ap side_of h)
 opened_is c e names texts codes.FileEnd g before n h number = closes c g before (ap side_of h)
 
--- whether a choice begins
-pub begins_is : (e : Exprs) (names texts : List (List ℕ)) (what : CodeWhat) (g : Group) → RepresentsHead e names texts what g.head
+-- a group opens a choice exactly if its stored statement is a `choice`
+pub begins_is : (e : Exprs) (names texts : List (List ℕ)) (what : CodeHead) (g : Group) → RepresentsHead e names texts what g.head
     → opens_choice g ≡ is_choice_code what
 begins_is e names texts (codes.Config s) g h = rw h.2 refl
 begins_is e names texts codes.Choice g h = rw h refl
@@ -178,7 +178,7 @@ begins_is e names texts codes.Mainmenu g h = rw h refl
 begins_is e names texts (codes.Ends b) g h = rw h refl
 begins_is e names texts codes.FileEnd g h = rw h refl
 
--- the enclosing choices of the first `i` groups
+-- for the first `i` groups: the choices that enclose them, those of the blocks open after them, and how many choices they open
 pub record AreRound (read : List Group) (i : ℕ) (enclosing inner : List (Option ℕ)) (choices : ℕ) : Type 0 where
   pub around_is : enclosing ≡ map (enclosing_choice (contents_of read)) (groups_in_context (read_before i read))
   pub open_is : reverse inner ≡ open_choices (contents_of read) (open_blocks 0 (read_before i read))
@@ -200,7 +200,7 @@ counted read i m false n now o e = e ∙ sym (ap (λ r. length (numbers_of_choic
 
 module _ (e : Exprs) (names texts : List (List ℕ)) (lines : List CodeLine) (groups : List CodeGroup) (read : List Group)
     (h : RepresentsGroups e names texts lines (length lines) (reverse groups) read) where
-  pub enclosing_more : (i : ℕ) (enclosing inner around2 inner2 : List (Option ℕ)) (choices choices2 : ℕ) (what : CodeWhat) → i < length groups
+  pub enclosing_more : (i : ℕ) (enclosing inner around2 inner2 : List (Option ℕ)) (choices choices2 : ℕ) (what : CodeHead) → i < length groups
       → what ≡ (group_at groups i).head → AreRound read i enclosing inner choices
       → around2 ≡ enclosing ++ innermost_choice (reverse inner) ∷ [] → reverse inner2 ≡ choices_opened_after what choices (reverse inner)
       → choices2 ≡ cond (is_choice_code what) (choices + 1) choices → AreRound read (i + 1) around2 inner2 choices2
@@ -230,12 +230,12 @@ pub all_round : (read : List Group) (i : ℕ) (enclosing inner : List (Option �
 all_round read i enclosing inner choices e r =
     r.around_is ∙ ap (λ x. map (enclosing_choice (contents_of read)) (groups_in_context x)) (ap (λ n. read_before n read) e ∙ all_before read)
 
--- the count of choices alone
+-- before the first group no choice is counted
 pub none_counted : (read : List Group) → 0 ≡ length (numbers_of_choices (read_before 0 read))
 none_counted read = sym (ap (λ r. length (numbers_of_choices r)) (none_before read))
 
 pub one_counted : (e : Exprs) (names texts : List (List ℕ)) (lines : List CodeLine) (groups : List CodeGroup) (read : List Group)
-    → RepresentsGroups e names texts lines (length lines) (reverse groups) read → (i n n2 : ℕ) (what : CodeWhat) → i < length groups
+    → RepresentsGroups e names texts lines (length lines) (reverse groups) read → (i n n2 : ℕ) (what : CodeHead) → i < length groups
     → what ≡ (group_at groups i).head
     → n ≡ length (numbers_of_choices (read_before i read)) → n2 ≡ cond (is_choice_code what) (n + 1) n
     → n2 ≡ length (numbers_of_choices (read_before (i + 1) read))

@@ -23,7 +23,7 @@ use Rattle.kc_tree.specs.declared.parts.SymbolRow.{SymbolRow}
 use Rattle.kc_tree.specs.declared.summary.SymbolSummary.{SymbolSummary}
 use Rattle.kc_tree.proofs.Symbols.{choice_is, as_many_symbols}
 
--- how a group that was read is kept
+-- a group is stored at the index of its number, with its file and its line
 pub record IsKeptAs (groups : List CodeGroup) (g : Group) : Type 0 where
   pub kept : CodeGroup
   pub at : slice_get groups g.number ≡ Some kept
@@ -66,7 +66,7 @@ reversed_twice : (gs : List CodeGroup) → reverse (reverse gs) ≡ gs
 reversed_twice [] = refl
 reversed_twice (g ∷ gs) = ap reverse (reverse-append (g ∷ []) gs) ∙ reverse-append (reverse gs) (g ∷ []) ∙ ap (λ xs. g ∷ xs) (reversed_twice gs)
 
--- each group that was read is kept under its number
+-- each group that was read is stored at the index of its number
 pub kept_as : (e : Exprs) (names texts : List (List ℕ)) (lines : List CodeLine) (groups : List CodeGroup) (read : List Group) (g : Group)
     → RepresentsGroups e names texts lines (length lines) (reverse groups) read → Has g read → IsKeptAs groups g
 kept_as e names texts lines groups read g h k =
@@ -117,7 +117,7 @@ module _ (e : Exprs) (symbols numbers : List ℕ) (texts : List (List ℕ)) (lin
       → rows ≡ rows_of_symbols groups symbols known → AreRowsOf e (contents_of read) (names_defined read) rows
   rows_shown known rows a r = rw (r, a) (rows_are (names_defined read) symbols h.names.words h.names.held)
 
--- one row more
+-- the row of symbol `s` appended to the rows before it, with those of all later symbols, gives the rows of all symbols
 pub row_more : (groups : List CodeGroup) (ids : List ℕ) (known : List SymbolSummary) (rows rows2 : List SymbolRow) (s d : ℕ) (b : SymbolSummary)
     → s < length ids
     → s < length known
@@ -140,7 +140,7 @@ rows_all groups ids known rows s a b h =
     sym (append-nil rows) ∙ ap (λ xs. rows ++ xs) (sym (ap (λ n. rows_of_symbols groups (drop n ids) (drop s known)) e
     ∙ ap (λ xs. rows_of_symbols groups xs (drop s known)) (drop-length ids))) ∙ h
 
--- as many rows as symbols
+-- a listing has as many symbol summaries as symbols
 pub as_many : (l : Listing) (known : List SymbolSummary) → IsRepresented l → AreSymbolSummaries l known → length known ≡ length l.names.symbols.items
 unfolding RepresentsListing
 as_many l known s a =

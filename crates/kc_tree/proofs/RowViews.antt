@@ -21,12 +21,12 @@ pub seen_length : {A B : Type 0} (f : ℕ → A → B) (n : ℕ) (xs : List A) �
 seen_length f n [] = refl
 seen_length f n (x ∷ xs) = ap suc (seen_length f (suc n) xs)
 
--- what holds of all items holds of those of a key
+-- what holds for all items of a list grouped by key holds for those of each key
 pub all_at : {X : Type 0} (P : X → Type 0) (starts : List ℕ) (items : List X) (k : ℕ) → All P items → All P (items_at starts items k)
 all_at P starts items k h =
     All-take P (slice_index starts (k + 1) - slice_index starts k) (drop (slice_index starts k) items) (All-drop P (slice_index starts k) items h)
 
--- as many symbols, choices, entries and units as rows
+-- the tree of stored lists has as many symbols as symbol rows
 pub symbols_length : (p : Parts) → length (tree_from_rows p).symbols ≡ length p.symbols.items
 symbols_length p = seen_length (symbol_from_row p) 0 p.symbols.items
 
@@ -39,7 +39,7 @@ entries_length p = length-map p.entries.items (entry_from_row p.arena p.titles.i
 pub units_length : (p : Parts) → length (tree_from_rows p).units ≡ length p.units.items
 units_length p = refl
 
--- the dependencies of a member or of another symbol, seen through a view, and where each has a property
+-- a symbol's own dependencies, each mapped by a function, are its own ones among all dependencies mapped by it
 pub mapped_own : {A B : Type 0} (f : A → B) (choice : Option ℕ) (all : List A) → map f (own_dependencies choice all) ≡ own_dependencies choice (map f all)
 mapped_own f None all = refl
 mapped_own f (Some k) all = sym (take-map f 1 all)

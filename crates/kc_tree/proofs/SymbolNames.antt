@@ -38,7 +38,7 @@ reported_of tree (Some x) = named_there tree x
 pub reported_there : (tree : Tree) (names : List (List ℕ)) (i : ℕ) (o : Option ℕ) → o ≡ symbol_of_name_id tree names i → IfSome o (λ s. s < length tree.symbols)
 reported_there tree names i o e = subst (λ p. IfSome p (λ s. s < length tree.symbols)) (sym e) (reported_of tree (slice_get names i))
 
--- the symbol at the place of a name is the symbol of that name
+-- the symbol found by a name's index in a list of names is the symbol of that name
 pub reported_by_place : (tree : Tree) (x : List ℕ) (names : List (List ℕ)) (i : ℕ) → index_of_name x names ≡ Some i
     → symbol_of_name_id tree names i ≡ symbol_named tree x
 reported_by_place tree x names i e =

@@ -19,7 +19,7 @@ use Rattle.kc_listing.specs.declared.listing.Line.{Line as CodeLine}
 use Rattle.kc_tree.specs.checker.Summaries.{first_in_definitions, number_at, choices_at, enclosing_choice, summary_in, first_summary, symbol_summaries, type_in}
 use Rattle.kc_tree.specs.declared.summary.SymbolSummary.{SymbolSummary}
 
--- the first of two lists
+-- the first element of two joined lists is the first of the front list, or if that is empty, of the back list
 pub first_of_both : {A : Type 0} (xs ys : List A) → slice_get (xs ++ ys) 0 ≡ option_or (slice_get xs 0) (slice_get ys 0)
 first_of_both [] ys = refl
 first_of_both (x ∷ xs) ys = refl
@@ -45,7 +45,7 @@ statement_more f ps p name =
     ∙ first_of_both (flat_map f (filter (defines name) ps)) (flat_map f (cond (defines name p) (p ∷ []) []))
     ∙ ap (option_or (first_in_definitions f ps name)) (one_place f (defines name p) p)
 
--- the summary of one definition
+-- the summary that one definition alone gives its symbol
 abbrev pub about_at : Contents → GroupInContext → SymbolSummary
 about_at c p = record { first = Some p.group.number; given = slice_get (attribute_values type_of p.group) 0; choice = enclosing_choice c p }
 
@@ -112,7 +112,7 @@ pub map_same : {X Y : Type 0} (f h : X → Y) (xs : List X) → ((y : X) → h y
 map_same f h [] k = refl
 map_same f h (x ∷ xs) k = rw (k x, map_same f h xs k) refl
 
--- whether a place defines a name
+-- a `config` group defines a name exactly if its own name equals it
 pub defines_by : (p : GroupInContext) (name y : List ℕ) → p.group.head ≡ of_head (config name) → defines y p ≡ bytes_eq name y
 defines_by p name y e = ap (λ w. elim (from_head name_of_head w) as (λ _. Bool) [ None ↦ false | Some x ↦ bytes_eq x y ]) e
 
@@ -123,7 +123,7 @@ not_same : (b : Bool) → (b ≡ true → ⊥) → b ≡ false
 not_same true h = absurd (h refl)
 not_same false h = refl
 
--- what is known of all symbols by one place more
+-- one more definition changes only its own symbol's summary, where it fills in the values still missing
 pub abouts_more : (c : Contents) (ps : List GroupInContext) (p : GroupInContext) (name : List ℕ) (s : ℕ) → Differ c.names → p.group.head ≡ of_head (config name)
     → slice_get c.names s ≡ Some name
     → symbol_summaries c (ps ++ p ∷ []) ≡ set (symbol_summaries c ps) s (first_summary (summary_in c ps name) (about_at c p))
@@ -137,7 +137,7 @@ pub abouts_same : (c : Contents) (ps : List GroupInContext) (p : GroupInContext)
     → symbol_summaries c (ps ++ p ∷ []) ≡ symbol_summaries c ps
 abouts_same c ps p e = map_same (summary_in c ps) (summary_in c (ps ++ p ∷ [])) c.names (λ y. about_same c ps p y (defines_none p y e))
 
--- types that lines give
+-- the types that attribute lines of the model give are those that the stored lines give
 pub types_of_lines : (e : Exprs) (ls : List CodeLine)
     → filter_map (λ (l : Line). type_of l.attribute) (map (λ (l : CodeLine). record { number = l.number; attribute = attribute_in e l.attribute }) ls)
     ≡ filter_map (type_in e) ls
@@ -159,6 +159,6 @@ first_at f xs i d h =
     ∙ first_by f (get_or xs i d) (drop (suc i) xs)
     ∙ ap (λ n. option_or (f (get_or xs i d)) (slice_get (filter_map f (drop n xs)) 0)) (let e : suc i ≡ i + 1 = omega arith in e)
 
--- nothing is left after the end
+-- a filter of a list's elements from its end on gives nothing
 pub none_left : {X Y : Type 0} (f : X → Option Y) (xs : List X) (i : ℕ) → length xs ≤ i → slice_get (filter_map f (drop i xs)) 0 ≡ None
 none_left f xs i h = ap (λ ys. slice_get (filter_map f ys) 0) (drop_all i xs h)

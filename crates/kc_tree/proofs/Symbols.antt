@@ -1,4 +1,4 @@
--- The symbols of a listing, and what is known of them.
+-- The symbols of a listing, and their summaries.
 use Rattle.std.proofs.Common.{◌≡◌, inl, inr, ℕ, ◌+◌, ◌<◌, Bool, true, false, cond, ◌||◌, not, List, [], ◌∷◌, ◌++◌, length, get_or, set, replicate, map, reverse, Option, Some, None, refl, ap, sym, subst, ◌∙◌, arith, append-nil}
 use Rattle.std.specs.Prelude.{slice_get, filter_map, flat_map, slice_range, is_some, option_and_then, option_map, option_to_list}
 use Rattle.std.specs.List.{cons_option}
@@ -22,7 +22,7 @@ use Rattle.kc_tree_model.proofs.Consistency.Lists.{Has, Differ, Differ-once, at_
 use Rattle.kc_tree_model.proofs.Consistency.Places.{group-placed}
 use Rattle.kc_listing.specs.declared.listing.Group.{Group as CodeGroup}
 use Rattle.kc_listing.specs.declared.listing.Line.{Line as CodeLine}
-use Rattle.kc_listing.specs.declared.listing.GroupHead.{GroupHead as CodeWhat}
+use Rattle.kc_listing.specs.declared.listing.GroupHead.{GroupHead as CodeHead}
 use Rattle.kc_listing.specs.declared.listing.GroupHead.TheVariants as codes
 use Rattle.kc_listing.specs.between.ListingView.{RepresentsGroups, RepresentsHead, line_in}
 use Rattle.kc_tree.specs.checker.Attributes.{aim_of}
@@ -32,7 +32,7 @@ use Rattle.kc_tree.proofs.SymbolSummaries.{about_at, abouts_more, abouts_same, t
 use Rattle.kc_tree.proofs.GroupPlaces.{all_before, count_is, none_before, place_numbered, placed_more, shown_at}
 use Rattle.kc_tree.proofs.Rounds.{enclosing_numbered}
 
--- a name that a place defines is among those that are defined
+-- a name that a group defines is one of the defined names
 pub named_there : (read : List Group) (p : GroupInContext) (name : List ℕ) → Has p (groups_in_context read) → defined_name p.group ≡ Some name
     → Has name (names_defined read)
 named_there read p name h e = once-has name (filter_map defined_name read) (filter_map-has defined_name read p.group name (group-placed p read h) e)
@@ -109,8 +109,8 @@ kind_is read name a e =
     ap (λ (x : SymbolSummary). kind_or_bool x.given (is_some x.choice)) e
     ∙ ap (λ o. kind_or_bool (type_given (contents_of read) name) (is_some o)) (choice_is read name)
 
--- what defines no symbol
-pub nameless : (e : Exprs) (names texts : List (List ℕ)) (code : CodeWhat) (w : GroupHead) → RepresentsHead e names texts code w
+-- a statement whose stored form is no `config` defines no name
+pub nameless : (e : Exprs) (names texts : List (List ℕ)) (code : CodeHead) (w : GroupHead) → RepresentsHead e names texts code w
     → ((s : ℕ) → code ≡ codes.Config s → ⊥) → from_head name_of_head w ≡ None
 nameless e names texts (codes.Config s) w h n = absurd (n s refl)
 nameless e names texts codes.Choice w h n = ap (from_head name_of_head) h
@@ -136,7 +136,7 @@ module _ (read : List Group) (symbols : List SymbolSummary) (h : symbols ≡ sym
       get_or_from_slice_get symbols s _ d (ap (λ xs. slice_get xs s) h
       ∙ map-get (summary_in (contents_of read) (groups_in_context read)) (names_defined read) s name e)
 
--- what is selected or implied
+-- an attribute with a target is wrong exactly if its symbol isn't bool or tristate, or the target can't be selected
 pub reverse_dependency_some : (c : Contents) (k : Kind) (a : Attribute) (x : List ℕ) → aim_of a ≡ Some x
     → is_wrong_reverse_dependency c k a ≡ (not (is_tri_kind k) || not (is_selectable c x))
 reverse_dependency_some c k (select s) x e = let same : s.name ≡ x = cc in ap (λ y. not (is_tri_kind k) || not (is_selectable c y)) same
@@ -148,7 +148,7 @@ reverse_dependency_none c k (select s) e = cc
 reverse_dependency_none c k (imply s) e = cc
 reverse_dependency_none c k a e = refl
 
--- a default of a choice
+-- `name_alone` and `bare_name` find the same name in an expression
 pub bare_is : (e : Expr) → name_alone e ≡ bare_name e
 bare_is (alone (constant t)) = refl
 bare_is (alone (named x)) = refl
@@ -240,7 +240,7 @@ module _ (e : Exprs) (texts : List (List ℕ)) (lines : List CodeLine) (groups :
       let what = subst (λ v. RepresentsHead e (names_defined read) texts v t.group.head) w t.shown.head in
       get_below (names_defined read) s what.0 what.1
 
--- nothing is known yet
+-- before any group is read, the summary of each symbol is empty
 pub none_known : (c : Contents) (names : List (List ℕ))
     → replicate (length names) (let x : SymbolSummary = record { first = None; given = None; choice = None } in x) ≡ map (summary_in c []) names
 none_known c [] = refl
@@ -257,7 +257,7 @@ pub as_many_abouts : (c : Contents) (ps : List GroupInContext) (symbols : List S
     → length symbols ≡ length c.names
 as_many_abouts c ps symbols e = ap length e ∙ length-map c.names (summary_in c ps)
 
--- the summary with one more place
+-- what a function gives for the first `i + 1` groups is what it gives for the first `i` and, after it, for group `i`
 pub statement_by : {A : Type 0} (f : GroupInContext → List A) (read : List Group) (i : ℕ) (m : Group) → read_before (i + 1) read ≡ m ∷ read_before i read
     → flat_map f (groups_in_context (read_before (i + 1) read)) ≡ flat_map f (groups_in_context (read_before i read)) ++ f
     (group_in_context (open_blocks 0 (read_before i read)) m)
@@ -266,7 +266,7 @@ statement_by f read i m now =
     ap (flat_map f) (placed_more read i m now) ∙ flat_map-append f (groups_in_context (read_before i read)) (p ∷ [])
     ∙ ap (λ xs. flat_map f (groups_in_context (read_before i read)) ++ xs) (append-nil (f p))
 
--- the members that the first `i` groups define
+-- the collected members and the numbers of their choices are those that the first `i` groups define
 pub record AreMembers (read : List Group) (i : ℕ) (keys members : List ℕ) : Type 0 where
   pub keys_are : keys ≡ flat_map (member_keys_at (contents_of read)) (groups_in_context (read_before i read))
   pub members_are : members ≡ flat_map (members_at (contents_of read)) (groups_in_context (read_before i read))
@@ -289,7 +289,7 @@ all_members read i keys members e a =
           ∙ ap (λ r. flat_map (members_at (contents_of read)) (groups_in_context r)) all,
     )
 
--- a name's number is its place
+-- in a list of distinct names, the index found for the name at index `s` is `s`
 pub place_is : (names : List (List ℕ)) (name : List ℕ) (s : ℕ) → Differ names → slice_get names s ≡ Some name → index_of_name name names ≡ Some s
 place_is names name s differ at =
     let r = has-place name names (has-at name names s at) in
@@ -322,7 +322,7 @@ module _ (e : Exprs) (texts : List (List ℕ)) (lines : List CodeLine) (groups :
   unnamed c None = refl
   unnamed c (Some k) = refl
 
-  -- a member, and what is none
+  -- a `config` inside a choice adds its symbol to the collected members, under the number of the choice
   pub member_more : (i s k : ℕ) (enclosing : List (Option ℕ)) (keys members : List ℕ) → i < length groups → (group_at groups i).head ≡ codes.Config s
       → enclosing ≡ map (enclosing_choice (contents_of read)) (groups_in_context read) → get_or enclosing i None ≡ Some k
       → AreMembers read i keys members → AreMembers read (i + 1) (keys ++ k ∷ []) (members ++ s ∷ [])

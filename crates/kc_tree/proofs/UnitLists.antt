@@ -13,7 +13,7 @@ use Rattle.kc_tree.specs.declared.tree_lists.Gathered.{Gathered}
 use Rattle.kc_tree_model.proofs.Lookups.{place_is, unit_is}
 use Rattle.kc_tree.proofs.RowViews.{seen_get, seen_length}
 
--- an element of a list
+-- a list has an element at each index below its length
 pub got : {X : Type 0} (xs : List X) (i : ℕ) → i < length xs → (x : X) × (slice_get xs i ≡ Some x)
 got [] i h = absurd (omega arith)
 got (x ∷ xs) zero h = (x, refl)

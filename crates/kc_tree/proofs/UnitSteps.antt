@@ -14,7 +14,7 @@ use Rattle.kc_tree_model.specs.Limits.{names_defined}
 use Rattle.kc_tree_model.proofs.Consistency.Lists.{has-at, has-place, place-get, map-get, Differ, Differ-once, at_most_once}
 use Rattle.kc_listing.specs.declared.listing.Group.{Group as CodeGroup}
 use Rattle.kc_listing.specs.declared.listing.Line.{Line as CodeLine}
-use Rattle.kc_listing.specs.declared.listing.GroupHead.{GroupHead as CodeWhat}
+use Rattle.kc_listing.specs.declared.listing.GroupHead.{GroupHead as CodeHead}
 use Rattle.kc_listing.specs.declared.listing.GroupHead.TheVariants as codes
 use Rattle.kc_listing.specs.between.ListingView.{RepresentsHead, RepresentsGroups}
 use Rattle.kc_tree.specs.checker.Summaries.{read_before, group_at, is_choice_code, summary_in, symbol_summaries, number_at}
@@ -24,7 +24,7 @@ use Rattle.kc_tree.proofs.GroupPlaces.{all_before, are_numbers, none_before, num
 use Rattle.kc_tree.proofs.Rounds.{numbers_of_choices, begins_is, number_counts, choices_same, count_more}
 use Rattle.kc_tree.proofs.Symbols.{choice_is}
 
--- the place of a name that is defined
+-- in a list of distinct names, the index found for the name at index `s` is `s`
 pub place_is : (names : List (List ℕ)) (name : List ℕ) (s : ℕ) → Differ names → slice_get names s ≡ Some name → index_of_name name names ≡ Some s
 place_is names name s d e =
     let p = has-place name names (has-at name names s e) in
@@ -62,7 +62,7 @@ module _ (read : List Group) (symbols : List SymbolSummary) (a : symbols ≡ sym
       ∙ reported_by (is_first_definition (contents_of read) name p && is_none (choice_of_symbol (contents_of read) name)) s
       (index_of_name name (names_defined read)) (place_is (names_defined read) name s (Differ-once (filter_map defined_name read)) at)
 
-  pub unit_shown : (w : CodeWhat) → RepresentsHead e (names_defined read) texts w p.group.head
+  pub unit_shown : (w : CodeHead) → RepresentsHead e (names_defined read) texts w p.group.head
       → (is_choice_code w ≡ true → choice_number (contents_of read) p.group.number ≡ Some choices)
       → unit_of_group symbols n choices w ≡ unit_read (contents_of read) p
   unit_shown (codes.Config s) h c = symbol_unit s h.0 h.1 ∙ sym (ap (from_head (unit_of_head (contents_of read) p)) h.2)
@@ -75,7 +75,7 @@ module _ (read : List Group) (symbols : List SymbolSummary) (a : symbols ≡ sym
   unit_shown (codes.Ends b) h c = sym (ap (from_head (unit_of_head (contents_of read) p)) h)
   unit_shown codes.FileEnd h c = sym (ap (from_head (unit_of_head (contents_of read) p)) h)
 
--- the units of the first `i` groups
+-- the collected units, and the count of choices, are those of the first `i` groups
 pub record AreUnits (read : List Group) (i : ℕ) (units : List TreeUnit) (choices : ℕ) : Type 0 where
   pub units_are : units ≡ filter_map (unit_read (contents_of read)) (groups_in_context (read_before i read))
   pub choices_are : choices ≡ length (numbers_of_choices (read_before i read))
@@ -106,7 +106,7 @@ counted read i m false n now o e = e ∙ sym (ap (λ r. length (numbers_of_choic
 module _ (read : List Group) (symbols : List SymbolSummary) (a : symbols ≡ symbol_summaries (contents_of read) (groups_in_context read)) (e : Exprs)
     (texts : List (List ℕ)) (lines : List CodeLine) (groups : List CodeGroup)
     (h : RepresentsGroups e (names_defined read) texts lines (length lines) (reverse groups) read) where
-  pub units_more : (i : ℕ) (units units2 : List TreeUnit) (choices choices2 : ℕ) (what : CodeWhat) → i < length groups → what ≡ (group_at groups i).head
+  pub units_more : (i : ℕ) (units units2 : List TreeUnit) (choices choices2 : ℕ) (what : CodeHead) → i < length groups → what ≡ (group_at groups i).head
       → AreUnits read i units choices
       → units2 ≡ units ++ option_to_list (unit_of_group symbols i choices what) → choices2 ≡ cond (is_choice_code what) (choices + 1) choices
       → AreUnits read (i + 1) units2 choices2

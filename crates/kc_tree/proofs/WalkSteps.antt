@@ -9,7 +9,7 @@ use Rattle.kc_statements.specs.between.StatementViews.{attribute_in, AttributeNo
 use Rattle.kc_statements.specs.declared.statement.Attribute.{Attribute as CodeAttribute}
 use Rattle.kc_statements.specs.declared.statement.Attribute.TheVariants as attributes
 use Rattle.kc_listing.specs.declared.listing.Line.{Line as CodeLine}
-use Rattle.kc_listing.specs.declared.listing.GroupHead.{GroupHead as CodeWhat}
+use Rattle.kc_listing.specs.declared.listing.GroupHead.{GroupHead as CodeHead}
 use Rattle.kc_listing.specs.declared.listing.GroupHead.TheVariants as codes
 use Rattle.kc_listing.specs.between.ListingView.{LineNodesExist, RepresentsHead, line_in}
 use Rattle.kc_listing.proofs.ListingGrowth.{lines_held}
@@ -33,7 +33,7 @@ use Rattle.kc_tree.specs.declared.group_walk.GroupWalk.{GroupWalk}
 use Rattle.kc_statements.proofs.ArenaGrowth.{grows_on}
 use Rattle.kc_tree.proofs.Growth.{conjoins_on, joined_on, represent_on, held_on, represents_all, condition_on}
 
--- the next attribute
+-- an attribute that is no prompt is passed over in the search for the first prompt
 pub first_step : (lines : List CodeLine) (conditions : List ℕ) (i : ℕ) (d : CodeLine) → i < length lines → length conditions ≡ length lines
     → is_prompt (get_or lines i d).attribute ≡ false
     → first_prompt (drop i lines) (drop i conditions) ≡ first_prompt (drop (i + 1) lines) (drop (i + 1) conditions)
@@ -50,7 +50,7 @@ first_here lines conditions i x d h e f g =
     let c : drop i conditions ≡ get_or conditions i 0 ∷ drop (i + 1) conditions = rw add-one (drop-cons conditions i 0 (omega arith)) in
     rw (l, c, f) (ap Some g)
 
--- the inside of an `if`, a menu and a sourced file
+-- inside an `if`, the conditions are the enclosing ones with the `if`'s expression joined to the dependencies
 pub if_inside : (old new : Exprs) (texts : List (List ℕ)) (y id : ℕ) (d : Option ℕ) (m : Group) (a : EnclosingConditions) (opened : List Group) → Grows old new
     → m.head ≡ of_head (condition (node_expr old id)) → RepresentsEnclosing old texts y a opened
     → ((es : List Expr) → Conjoins old a.dependencies es → Conjoins new d (es ++ conjunct old (Some id)))
@@ -83,7 +83,7 @@ source_inside exprs texts y path m a opened e h = record {
   ends = rw e refl;
 }
 
--- the context of the innermost place
+-- the conditions on top of the walk's stack are those inside the innermost open block
 pub top_shown : (exprs : Exprs) (texts : List (List ℕ)) (y : ℕ) (rs : List EnclosingConditions) (gs : List Group) → RepresentsEnclosings exprs texts y rs gs
     → RepresentsEnclosing exprs texts y (innermost_enclosing rs) gs
 top_shown exprs texts y [] [] h = record { dependencies_are = refl; visibles_are = refl; ends = refl }
@@ -188,7 +188,7 @@ own_shown : (old mid far later : Exprs) (before after : List ℕ) (lines : List 
     → Grows old mid → Grows far later → All (LineNodesExist old) lines → m.attributes ≡ map (line_in old) lines
     → map (node_expr later) b.own ≡ map (condition_at (group_in_context opened m)) m.attributes
 own_shown old mid far later before after lines m opened b g h held e =
-    represent_on far later b.own h b.held ∙ b.stand ∙ conditions_given mid (dependencies_of (context opened) m) (context opened).visibles lines
+    represent_on far later b.own h b.held ∙ b.exprs_are ∙ conditions_given mid (dependencies_of (context opened) m) (context opened).visibles lines
     ∙ ap (map (condition_at (group_in_context opened m))) (lines_kept old mid lines g held ∙ sym e)
 
 slice_own : (xs own : List ℕ) → slice_range (xs ++ own) (length xs) (length (xs ++ own)) ≡ own
@@ -222,7 +222,7 @@ pushed_shown exprs texts xs own c cs before m e h rest = (
   subst (λ n. RepresentsAllConditions exprs texts (xs ++ own) n cs before) (sym e) (all_kept exprs texts xs own (length xs) (omega arith) cs before rest),
 )
 
-pub end_side : (exprs : Exprs) (names texts : List (List ℕ)) (what : CodeWhat) (m : Group) → RepresentsHead exprs names texts what m.head → is_end what ≡ true
+pub end_side : (exprs : Exprs) (names texts : List (List ℕ)) (what : CodeHead) (m : Group) → RepresentsHead exprs names texts what m.head → is_end what ≡ true
     → side_of m.head ≡ closing
 end_side exprs names texts (codes.Config s) m h e = cc
 end_side exprs names texts codes.Choice m h e = cc
@@ -234,7 +234,7 @@ end_side exprs names texts codes.Mainmenu m h e = cc
 end_side exprs names texts (codes.Ends b) m h e = rw h refl
 end_side exprs names texts codes.FileEnd m h e = rw h refl
 
-pub other_side : (exprs : Exprs) (names texts : List (List ℕ)) (what : CodeWhat) (m : Group) → RepresentsHead exprs names texts what m.head
+pub other_side : (exprs : Exprs) (names texts : List (List ℕ)) (what : CodeHead) (m : Group) → RepresentsHead exprs names texts what m.head
     → is_end what ≡ false
     → side_of m.head ≡ closing → ⊥
 other_side exprs names texts (codes.Config s) m h e f = let k : inside ≡ closing = ap side_of (sym h.2) ∙ f in cc
@@ -305,7 +305,7 @@ module _ (w new : GroupWalk) (texts : List (List ℕ)) (before : List Group) (m 
         (subst (λ cs. RepresentsAllConditions later texts (w.conditions.items ++ b.own) (length (w.conditions.items ++ b.own)) cs (m ∷ before))
         (sym (ap reverse groups ∙ reverse_push w.groups.items c)) h)
 
-    -- an end
+    -- after the end of a block or of a sourced file, the walk has the conditions of all groups up to it
     pub ended : (c : GroupConditions) → side_of m.head ≡ closing
         → c ≡ record {
           dependency = or_yes w.yes (innermost_enclosing (reverse w.stack.items)).dependencies;
@@ -334,7 +334,7 @@ module _ (w new : GroupWalk) (texts : List (List ℕ)) (before : List Group) (m 
               }) was.groups_are);
         }
 
-    -- an entry, a block or a sourced file
+    -- after a group that ends no block, the walk has the conditions of all groups up to it
     pub entered : (c : GroupConditions) (o : Option EnclosingConditions) → (side_of m.head ≡ closing → ⊥)
         → AreJoined mid e (dependencies_of (context (open_blocks 0 before)) m) (context (open_blocks 0 before)).visibles (attribute_values visible_of m)
         → c ≡ record { dependency = or_yes w.yes e.dependencies; visible = or_yes w.yes e.visibles; ended = None; first = length w.conditions.items }
@@ -381,7 +381,7 @@ pub inside_on : (old new : Exprs) (texts : List (List ℕ)) (y : ℕ) (m : Group
 inside_on old new texts y m opened None g h = h
 inside_on old new texts y m opened (Some a) g h = (h.0, around_on old new texts y a (m ∷ opened) g h.1)
 
-pub what_on : (old new : Exprs) (names texts : List (List ℕ)) (c : CodeWhat) (w : GroupHead) → Grows old new → RepresentsHead old names texts c w
+pub what_on : (old new : Exprs) (names texts : List (List ℕ)) (c : CodeHead) (w : GroupHead) → Grows old new → RepresentsHead old names texts c w
     → RepresentsHead new names texts c w
 what_on old new names texts (codes.Config s) w g h = h
 what_on old new names texts codes.Choice w g h = h
@@ -460,10 +460,10 @@ module _ (old mid far : Exprs) (before after : List ℕ) (ds vs : List Expr) (li
   prompt_represents p first g held l e =
       subst (λ q. RepresentsPrompt far q (slice_get (prompts_among ds vs (map (line_in old) lines)) 0))
       (sym (e ∙ ap (λ n. first_prompt lines (drop n after)) l ∙ ap (first_prompt lines) own_is))
-      (prompt_first old far ds vs lines b.own b.held (b.stand ∙ conditions_on old mid ds vs lines g held))
+      (prompt_first old far ds vs lines b.own b.held (b.exprs_are ∙ conditions_on old mid ds vs lines g held))
 
--- the node of an `if` is there
-pub what_held : (exprs : Exprs) (names texts : List (List ℕ)) (c : CodeWhat) (w : GroupHead) → RepresentsHead exprs names texts c w
+-- the expression of a stored `if` statement that represents one of the model is a node of the arena
+pub what_held : (exprs : Exprs) (names texts : List (List ℕ)) (c : CodeHead) (w : GroupHead) → RepresentsHead exprs names texts c w
     → GroupHeadNodesExist (length exprs.nodes) c
 what_held exprs names texts (codes.Config s) w h = tt
 what_held exprs names texts codes.Choice w h = tt

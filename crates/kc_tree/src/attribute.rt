@@ -1,4 +1,4 @@
-//! The values of attributes.
+//! What an attribute is and gives.
 ghost use Rattle.std.specs.Prelude.{◌≡◌, ◌<◌, IfSome, is_some, length, option_map};
 ghost use Rattle.kc_expr.specs.between.Arena.{Exprs};
 ghost use Rattle.kc_tree_model.specs.Statements.{type_of, prompt_of, default_of, range_of, is_modules as modules};
@@ -12,7 +12,7 @@ use kc_expr::NameId;
 use kc_statements::{Attribute, DefaultAttribute};
 use kc_value::Kind;
 
-/// The type that an attribute gives.
+/// The type that an attribute gives; `None` if it gives none.
 pub(crate) fn type_given(attribute: &Attribute) -> Option<Kind>
     ensures { (e : Exprs) → result ≡ type_of (attribute_in e attribute.now) }
 {
@@ -34,7 +34,7 @@ pub(crate) fn is_prompt(attribute: &Attribute) -> bool
     )
 }
 
-/// The default that an attribute is.
+/// The value and the `if` of a default, with or without a type; `None` for any other attribute.
 pub(crate) fn default_given(attribute: &Attribute) -> Option<DefaultAttribute>
     ensures valued { (e : Exprs) → option_map (default_in e) result ≡ default_of (attribute_in e attribute.now) }
     ensures held { (e : Exprs) → AttributeNodesExist e attribute.now → IfSome result (DefaultNodesExist e) }
@@ -53,14 +53,14 @@ pub(crate) fn is_range(attribute: &Attribute) -> bool
     matches!(*attribute, Attribute::Range(_))
 }
 
-/// Whether an attribute marks the modules symbol.
+/// Whether an attribute is `modules`, which marks the modules symbol.
 pub(crate) fn is_modules(attribute: &Attribute) -> bool
     ensures { (e : Exprs) → result ≡ modules (attribute_in e attribute.now) }
 {
     matches!(*attribute, Attribute::Modules)
 }
 
-/// Whether a later definition of a member may have an attribute.
+/// Whether a later definition of a choice member may have an attribute: `depends on`, `select`, `imply` or help text.
 pub(crate) fn is_added(attribute: &Attribute) -> bool
     ensures { result ≡ is_added_code attribute.now }
 {
@@ -77,7 +77,7 @@ pub(crate) fn is_optional(attribute: &Attribute) -> bool
     matches!(*attribute, Attribute::Optional)
 }
 
-/// The name that an attribute selects or implies.
+/// The name that an attribute selects or implies; `None` for any other attribute.
 pub(crate) fn target_name(attribute: &Attribute) -> Option<NameId>
     ensures name { (e : Exprs) → option_map (text_of_name e) result ≡ aim_of (attribute_in e attribute.now) }
     ensures held { (e : Exprs) → AttributeNodesExist e attribute.now → IfSome result (λ i. i < length e.names) }

@@ -1,7 +1,7 @@
-//! Checks on attributes, made if reading met no fault.
+//! Checks on attributes of files that were read without a fault.
 ghost use Rattle.std.specs.Prelude.{◌≡◌, ℕ, All, List, Some, false, bytes_eq, length, map, slice_get};
 ghost use Rattle.kc_expr.specs.Expr.{modules as modules_name};
-ghost use Rattle.kc_tree_model.specs.Blocks.{Group as Read};
+ghost use Rattle.kc_tree_model.specs.Blocks.{Group as CodeGroup};
 ghost use Rattle.kc_tree_model.specs.Contents.{contents_of};
 ghost use Rattle.kc_tree_model.specs.Limits.{names_defined};
 ghost use Rattle.kc_tree_model.specs.TreeFaults.{attribute_faults, choice_faults, faults_of_lines};
@@ -19,7 +19,7 @@ use kc_statements::Attribute;
 use kc_tree_model::{TreeFault, TreeKind};
 use kc_value::Kind;
 
-/// A fault at a line of a file.
+/// A fault of some kind at a line of a file, which is given by its number.
 pub(crate) fn fault_at(file: u32, line: u32, kind: TreeKind) -> TreeFault
     ensures { result ≡ record { file = Some file; line = line; kind = kind } }
 {
@@ -30,7 +30,7 @@ pub(crate) fn fault_at(file: u32, line: u32, kind: TreeKind) -> TreeFault
     }
 }
 
-/// The fault of an attribute of a symbol of this type, if it has one.
+/// The fault of an attribute of a symbol of type `kind`, or `None`; `prompted` is set if a prompt precedes it.
 fn symbol_attribute_fault(
     listing: &Listing,
     symbols: &[SymbolSummary],
@@ -42,7 +42,7 @@ fn symbol_attribute_fault(
     requires shown { IsRepresented listing.now }
     requires symbols { AreSymbolSummaries listing.now symbols.now }
     requires held { AttributeNodesExist listing.now.names.arena attribute.now }
-    ensures fault { (read : List Read) (name : List ℕ) → RepresentsListing listing.now read → is_modules ≡ bytes_eq name modules_name
+    ensures fault { (read : List CodeGroup) (name : List ℕ) → RepresentsListing listing.now read → is_modules ≡ bytes_eq name modules_name
         → result ≡ slice_get (attribute_faults (contents_of read) name kind prompted (attribute_in listing.now.names.arena attribute.now)) 0 }
 {
     match kind {
@@ -55,7 +55,7 @@ fn symbol_attribute_fault(
     }
 }
 
-/// The first fault of the attributes of a symbol of this type.
+/// The first fault of the attribute lines of one definition; `kind` is its symbol's type, `file` the number of its file.
 pub(crate) fn first_symbol_fault(
     listing: &Listing,
     symbols: &[SymbolSummary],
@@ -67,7 +67,7 @@ pub(crate) fn first_symbol_fault(
     requires shown { IsRepresented listing.now }
     requires symbols { AreSymbolSummaries listing.now symbols.now }
     requires held { All (LineNodesExist listing.now.names.arena) lines.now }
-    ensures fault { (read : List Read) (g : Read) (name : List ℕ) → RepresentsListing listing.now read → is_modules ≡ bytes_eq name modules_name → g.at.file ≡ file
+    ensures fault { (read : List CodeGroup) (g : CodeGroup) (name : List ℕ) → RepresentsListing listing.now read → is_modules ≡ bytes_eq name modules_name → g.at.file ≡ file
         → result ≡ slice_get (faults_of_lines g (attribute_faults (contents_of read) name kind) false (map (line_in listing.now.names.arena) lines.now)) 0 }
 {
     let mut prompted = false;
@@ -89,7 +89,7 @@ pub(crate) fn first_symbol_fault(
     None
 }
 
-/// The fault of an attribute of a choice whose members have this mark, if it has one.
+/// The fault of an attribute of a choice, whose members have `mark` in `marks`, or `None`.
 fn choice_attribute_fault(
     listing: &Listing,
     marks: &[u32],
@@ -100,7 +100,7 @@ fn choice_attribute_fault(
     requires shown { IsRepresented listing.now }
     requires many { length marks.now ≡ length listing.now.names.symbols.items }
     requires held { AttributeNodesExist listing.now.names.arena attribute.now }
-    ensures fault { (read : List Read) (members : List (List ℕ)) → RepresentsListing listing.now read → AreMarked (names_defined read) members marks.now mark
+    ensures fault { (read : List CodeGroup) (members : List (List ℕ)) → RepresentsListing listing.now read → AreMarked (names_defined read) members marks.now mark
         → result ≡ slice_get (choice_faults members prompted (attribute_in listing.now.names.arena attribute.now)) 0 }
 {
     let is_no_member = match default_given(attribute) {
@@ -110,7 +110,7 @@ fn choice_attribute_fault(
     choice_attribute_kind(prompted, is_no_member, attribute)
 }
 
-/// The first fault of the attributes of a choice whose members have this mark.
+/// The first fault of the attribute lines of a choice, whose members have `mark` in `marks`; `file` is the number of its file.
 pub(crate) fn first_choice_fault(
     listing: &Listing,
     marks: &[u32],
@@ -121,7 +121,7 @@ pub(crate) fn first_choice_fault(
     requires shown { IsRepresented listing.now }
     requires many { length marks.now ≡ length listing.now.names.symbols.items }
     requires held { All (LineNodesExist listing.now.names.arena) lines.now }
-    ensures fault { (read : List Read) (g : Read) (members : List (List ℕ)) → RepresentsListing listing.now read → AreMarked (names_defined read) members marks.now mark → g.at.file ≡ file
+    ensures fault { (read : List CodeGroup) (g : CodeGroup) (members : List (List ℕ)) → RepresentsListing listing.now read → AreMarked (names_defined read) members marks.now mark → g.at.file ≡ file
         → result ≡ slice_get (faults_of_lines g (choice_faults members) false (map (line_in listing.now.names.arena) lines.now)) 0 }
 {
     let mut prompted = false;

@@ -1,7 +1,7 @@
-//! From what was read to the tree.
+//! Builds the tree of a listing.
 ghost use Rattle.std.specs.Prelude.{◌≡◌, ◌<◌, ℕ, List, None, IfOk};
 ghost use Rattle.kc_tree_model.specs.TreeFiles.{Files};
-ghost use Rattle.kc_tree_model.specs.Blocks.{Group as Read};
+ghost use Rattle.kc_tree_model.specs.Blocks.{Group as CodeGroup};
 ghost use Rattle.kc_tree_model.specs.Contents.{tree_of_files};
 ghost use Rattle.kc_tree_model.specs.TreeReading.{reading};
 ghost use Rattle.kc_tree_model.specs.TreeFaults.{first_tree_fault};
@@ -45,7 +45,7 @@ struct ChoiceParts {
     entries: Vec<EntryRow>,
 }
 
-/// The symbols and the units. An `Err` means out of memory.
+/// Collects the symbols and the units of a walked listing. An `Err` means out of memory.
 fn symbol_parts(
     alloc: Global,
     walked: &WalkedListing,
@@ -53,7 +53,7 @@ fn symbol_parts(
 ) -> Result<SymbolParts, AllocError>
     requires few { AreFew walked.now }
     requires walk { (files : Files) × (root : List ℕ) × IsWalk walked.now files root }
-    requires summary { (read : List Read) → RepresentsListing walked.now.listing read → IsSummary read summary.now }
+    requires summary { (read : List CodeGroup) → RepresentsListing walked.now.listing read → IsSummary read summary.now }
     ensures ok { (files : Files) (root : List ℕ) → IsWalk walked.now files root → IfOk result (AreSymbolParts walked.now.listing.names.arena (reading files root).read) }
 {
     let listing = &walked.listing;
@@ -65,7 +65,7 @@ fn symbol_parts(
     })
 }
 
-/// The choices and the entries. An `Err` means out of memory.
+/// Collects the choices and the entries of a walked listing. An `Err` means out of memory.
 fn choice_parts(alloc: Global, walked: &WalkedListing) -> Result<ChoiceParts, AllocError>
     requires few { AreFew walked.now }
     requires walk { (files : Files) × (root : List ℕ) × IsWalk walked.now files root }
@@ -81,7 +81,7 @@ fn choice_parts(alloc: Global, walked: &WalkedListing) -> Result<ChoiceParts, Al
     })
 }
 
-/// All parts collected after a walk.
+/// The parts of a tree that are collected from a walked listing.
 #[derive(Drop)]
 struct AllParts {
     summary: Summary,
@@ -89,7 +89,7 @@ struct AllParts {
     choices: ChoiceParts,
 }
 
-/// The summary, the symbols and the choices. An `Err` means out of memory.
+/// Collects the summary, the symbols and the choices of a walked listing. An `Err` means out of memory.
 fn all_parts(alloc: Global, walked: &WalkedListing) -> Result<AllParts, AllocError>
     requires walk { (files : Files) × (root : List ℕ) × IsWalk walked.now files root }
     ensures ok { (files : Files) (root : List ℕ) → IsWalk walked.now files root → IfOk result (AreAllParts walked.now.listing (reading files root).read) }
@@ -102,7 +102,7 @@ fn all_parts(alloc: Global, walked: &WalkedListing) -> Result<AllParts, AllocErr
     })
 }
 
-/// The expressions and the titles of what was read.
+/// The arena and the titles of a walked listing.
 fn arena_and_titles(walked: WalkedListing) -> (Arena, Vec<Text>)
     ensures arena { result.0 ≡ walked.listing.names.arena }
     ensures titles { result.1 ≡ walked.listing.texts }
@@ -126,7 +126,7 @@ fn arena_and_titles(walked: WalkedListing) -> (Arena, Vec<Text>)
     (arena, texts)
 }
 
-/// All parts together.
+/// The collected lists of a tree, from a walked listing and its parts.
 fn gathered(walked: WalkedListing, parts: AllParts) -> Gathered
     ensures arena { result.arena ≡ walked.listing.names.arena }
     ensures symbols { result.symbols ≡ parts.symbols.rows }
@@ -163,7 +163,7 @@ fn gathered(walked: WalkedListing, parts: AllParts) -> Gathered
     }
 }
 
-/// The parts collected after a walk. An `Err` means out of memory.
+/// Collects the lists of a tree from a walked listing. An `Err` means out of memory.
 fn gathered_of(alloc: Global, walked: WalkedListing) -> Result<Gathered, AllocError>
     requires walk { (files : Files) × (root : List ℕ) × IsWalk walked files root }
     ensures ok { (files : Files) (root : List ℕ) → IsWalk walked files root → IfOk result (IsGathering (reading files root).read) }
@@ -172,7 +172,7 @@ fn gathered_of(alloc: Global, walked: WalkedListing) -> Result<Gathered, AllocEr
     Ok(gathered(walked, parts))
 }
 
-/// The tree of what was read. An `Err` means out of memory.
+/// The tree of a listing of files without a fault. An `Err` means out of memory.
 pub(crate) fn tree_of(alloc: Global, listing: Listing) -> Result<Tree, AllocError>
     requires of_tree { IsOfTree listing }
     ensures ok { (files : Files) (root : List ℕ) → first_tree_fault files root ≡ None → RepresentsListing listing (reading files root).read

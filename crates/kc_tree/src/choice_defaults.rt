@@ -1,7 +1,7 @@
 //! The defaults of choices.
 ghost use Rattle.std.specs.Prelude.{◌≡◌, ◌<◌, ◌++◌, ◌^◌, All, IfOk, List, OnOk, length, map, option_to_list};
 ghost use Rattle.kc_listing.specs.between.ListingView.{LineNodesExist};
-ghost use Rattle.kc_tree_model.specs.Blocks.{Group as Read};
+ghost use Rattle.kc_tree_model.specs.Blocks.{Group as CodeGroup};
 ghost use Rattle.kc_tree_model.specs.Conditions.{groups_in_context};
 ghost use Rattle.kc_tree_model.specs.Contents.{contents_of};
 ghost use Rattle.kc_tree.specs.checker.FaultSearch.{HasNoFaults};
@@ -103,16 +103,16 @@ fn push_group_defaults(
     Ok(())
 }
 
-/// The defaults of all choices, each under the number of its choice. An `Err` means out of memory.
+/// The defaults of all choices of a listing, each under the number of its choice. An `Err` means out of memory.
 pub(crate) fn member_defaults(
     alloc: Global,
     listing: &Listing,
     groups: &[GroupConditions],
     conditions: &[ExprId],
 ) -> Result<Keyed<MemberDefault>, AllocError>
-    requires walked { (read : List Read) × IsWalkOf listing.now groups.now conditions.now read }
+    requires walked { (read : List CodeGroup) × IsWalkOf listing.now groups.now conditions.now read }
     requires few { length listing.now.groups.items < 2 ^ 32 }
-    ensures ok { (read : List Read) → IsWalkOf listing.now groups.now conditions.now read → HasNoFaults read
+    ensures ok { (read : List CodeGroup) → IsWalkOf listing.now groups.now conditions.now read → HasNoFaults read
         → IfOk result (AreDefaultsOf listing.now (contents_of read) (groups_in_context read) (length (contents_of read).choices)) }
 {
     let mut found = Keyed::new(alloc);

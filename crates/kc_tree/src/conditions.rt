@@ -14,14 +14,14 @@ use kc_expr::{Arena, ExprFault, ExprId};
 use kc_listing::Line;
 use kc_statements::Attribute;
 
-/// The conjuncts of an entry's attributes that are joined.
+/// Which conjuncts of an entry's attributes are joined: those of `depends on`, or those of `visible if`.
 #[derive(Clone, Copy)]
 pub(crate) enum Conjuncts {
     Dependencies,
     Visibles,
 }
 
-/// The conditions inside an open block, and the title of a menu. `None` is the empty conjunction.
+/// The joined conditions inside an open block, and the index of the title if it is a menu. `None` is the empty conjunction.
 #[derive(Clone, Copy)]
 pub(crate) struct EnclosingConditions {
     pub dependencies: Option<ExprId>,
@@ -29,8 +29,8 @@ pub(crate) struct EnclosingConditions {
     pub title: Option<usize>,
 }
 
-/// The conditions of an entry: its dependency with those around it, its `visible if` with those around it, and what its
-/// prompts depend on. `None` is the conjunction of nothing.
+/// The joined conditions of an entry: its own and the enclosing dependencies, its own and the enclosing `visible if`s, and what
+/// its prompts depend on apart from their `if`. `None` is the empty conjunction.
 #[derive(Clone, Copy)]
 pub(crate) struct EntryConditions {
     pub dependencies: Option<ExprId>,
@@ -38,7 +38,7 @@ pub(crate) struct EntryConditions {
     pub shown: Option<ExprId>,
 }
 
-/// A conjunction with one more after it, where there is one; `None` is that of nothing.
+/// The conjunction `all` with the conjunct `more` appended, if there is one; `None` is the empty conjunction.
 pub(crate) fn join_optional(
     arena: &mut Arena,
     all: Option<ExprId>,
@@ -105,7 +105,7 @@ fn conjunct_in(attribute: &Attribute, which: Conjuncts) -> Option<ExprId>
     }
 }
 
-/// A conjunction with what attributes give after it.
+/// The conjunction `all` with the conjuncts of attribute lines appended: of `depends on`, or of `visible if`.
 fn join_all(
     arena: &mut Arena,
     all: Option<ExprId>,
@@ -125,7 +125,7 @@ fn join_all(
     Ok(joined)
 }
 
-/// The conditions of an entry, by the enclosing ones and its attributes.
+/// The joined conditions of an entry, from the enclosing ones and its own attribute lines.
 pub(crate) fn entry_conditions(
     arena: &mut Arena,
     enclosing: &EnclosingConditions,
@@ -154,7 +154,7 @@ pub(crate) fn entry_conditions(
     Ok(entry)
 }
 
-/// The condition of an attribute; `yes` is that of nothing.
+/// The joined condition of an attribute of an entry; `yes` is the empty conjunction.
 fn condition_of(
     arena: &mut Arena,
     yes: ExprId,
@@ -165,7 +165,7 @@ fn condition_of(
     requires shown { IfSome entry.now.shown (λ i. i < length arena.old.nodes) }
     requires held { AttributeNodesExist arena.old attribute.now }
     ensures grows { Grows arena.old arena.new }
-    ensures stands { IfOk result (λ c. (ds vs own : List Expr) → AreJoined arena.old entry.now ds vs own → Represents arena.old yes (conjunction_of [])
+    ensures represents { IfOk result (λ c. (ds vs own : List Expr) → AreJoined arena.old entry.now ds vs own → Represents arena.old yes (conjunction_of [])
         → Represents arena.new c (condition_view arena.old ds vs attribute.now)) }
 {
     let all = if is_prompt_attribute(attribute) {
@@ -177,7 +177,7 @@ fn condition_of(
     Ok(condition.unwrap_or(yes))
 }
 
-/// Appends the conditions of an entry's attributes.
+/// Appends the joined condition of each attribute line of an entry to `conditions`; `yes` is the empty conjunction.
 pub(crate) fn push_conditions(
     arena: &mut Arena,
     yes: ExprId,
@@ -189,7 +189,7 @@ pub(crate) fn push_conditions(
     requires shown { IfSome entry.now.shown (λ i. i < length arena.old.nodes) }
     requires held { All (LineNodesExist arena.old) lines.now }
     ensures grows { Grows arena.old arena.new }
-    ensures stand { OnOk result ((ds vs own : List Expr) → AreJoined arena.old entry.now ds vs own → Represents arena.old yes (conjunction_of [])
+    ensures appended { OnOk result ((ds vs own : List Expr) → AreJoined arena.old entry.now ds vs own → Represents arena.old yes (conjunction_of [])
         → AreAppended arena.old arena.new conditions.old.items conditions.new.items ds vs lines.now) }
     ensures longer { OnOk result (length conditions.new.items ≡ length conditions.old.items + length lines.now) }
 {

@@ -1,7 +1,7 @@
 //! The prompts, defaults, ranges and reverse dependencies that a definition's attributes give.
 ghost use Rattle.std.specs.Prelude.{◌≡◌, ◌<◌, All, OnOk, length};
 ghost use Rattle.kc_listing.specs.between.ListingView.{LineNodesExist};
-ghost use Rattle.kc_tree.specs.checker.GatheredItems.{gathered_target_name, aimed_at, gathered_prompt, gathered_default, gathered_range, own_key, gathered_target, gathered_reverse_dependency, HasAppended};
+ghost use Rattle.kc_tree.specs.checker.GatheredItems.{gathered_target_name, target_key, gathered_prompt, gathered_default, gathered_range, own_key, gathered_target, gathered_reverse_dependency, HasAppended};
 
 use super::conditions::is_prompt_attribute;
 use super::items_with_keys::Keyed;
@@ -12,14 +12,14 @@ use kc_statements::Attribute;
 use kc_tree_model::Sym;
 use std::alloc::AllocError;
 
-/// Attributes that force other symbols.
+/// The attributes that act on another symbol: `select` and `imply`.
 #[derive(Clone, Copy)]
 pub(crate) enum ReverseKind {
     Select,
     Imply,
 }
 
-/// The condition of a prompt.
+/// The given condition if an attribute line is a prompt, and `None` if not.
 fn prompt_of(line: &Line, condition: ExprId) -> Option<ExprId>
     ensures { result ≡ gathered_prompt line.now condition }
 {
@@ -85,7 +85,7 @@ fn target_symbol_of(names: &SymbolTable, line: &Line, forcing: ReverseKind) -> O
     names.number_of(names.arena.name(name))
 }
 
-/// Appends the prompts of a symbol.
+/// Appends the conditions of the prompts among a definition's attribute lines, under the number of its symbol.
 pub(crate) fn push_prompts(
     found: &mut Keyed<ExprId>,
     symbol: u32,
@@ -103,7 +103,7 @@ pub(crate) fn push_prompts(
     Ok(())
 }
 
-/// Appends the defaults of a symbol.
+/// Appends the defaults among a definition's attribute lines, with their conditions, under the number of its symbol.
 pub(crate) fn push_defaults(
     found: &mut Keyed<Default>,
     symbol: u32,
@@ -121,7 +121,7 @@ pub(crate) fn push_defaults(
     Ok(())
 }
 
-/// Appends the ranges of a symbol.
+/// Appends the ranges among a definition's attribute lines, with their conditions, under the number of its symbol.
 pub(crate) fn push_ranges(
     found: &mut Keyed<Range>,
     symbol: u32,
@@ -139,7 +139,7 @@ pub(crate) fn push_ranges(
     Ok(())
 }
 
-/// Appends what a symbol selects or implies, each under the symbol that it forces.
+/// Appends the selects or the implies among a definition's attribute lines, each under the number of its target symbol.
 pub(crate) fn push_reverse_dependencies(
     found: &mut Keyed<ReverseDependency>,
     names: &SymbolTable,
@@ -150,7 +150,7 @@ pub(crate) fn push_reverse_dependencies(
 ) -> Result<(), AllocError>
     requires many { length conditions.now ≡ length lines.now }
     requires held { All (LineNodesExist names.now.arena) lines.now }
-    ensures ok { OnOk result (HasAppended (aimed_at names.now forcing) (gathered_reverse_dependency names.now forcing symbol) found.old found.new lines.now conditions.now) }
+    ensures ok { OnOk result (HasAppended (target_key names.now forcing) (gathered_reverse_dependency names.now forcing symbol) found.old found.new lines.now conditions.now) }
 {
     for i in 0..lines.len() {
         if let Some(target) = target_symbol_of(names, &lines[i], forcing) {

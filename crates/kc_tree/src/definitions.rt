@@ -1,6 +1,6 @@
 //! The attributes of symbols, from all their definitions.
 ghost use Rattle.std.specs.Prelude.{◌≡◌, ◌<◌, [], List, All, IfOk, OnOk, length};
-ghost use Rattle.kc_tree_model.specs.Blocks.{Group as Read};
+ghost use Rattle.kc_tree_model.specs.Blocks.{Group as CodeGroup};
 ghost use Rattle.kc_tree_model.specs.Contents.{contents_of};
 ghost use Rattle.kc_listing.specs.between.ListingView.{LineNodesExist};
 ghost use Rattle.kc_tree.specs.checker.ChoiceDefaults.{IsWalkOf};
@@ -19,7 +19,7 @@ use kc_expr::ExprId;
 use kc_listing::{GroupHead, Line, Listing, SymbolTable};
 use std::alloc::{AllocError, Global};
 
-/// The dependency of a group.
+/// The dependency of group `i`, joined with the enclosing ones.
 fn dependency_of(groups: &[GroupConditions], i: usize) -> ExprId
     requires there { i < length groups.now }
     ensures value { result ≡ (conditions_at groups.now i).dependency }
@@ -27,7 +27,7 @@ fn dependency_of(groups: &[GroupConditions], i: usize) -> ExprId
     groups[i].dependency
 }
 
-/// Nothing that symbols have. Takes no memory.
+/// Empty lists of collected attributes. Takes no memory.
 fn no_attributes(alloc: Global) -> Attributes
     ensures prompts { (result.prompts.keys.items ≡ []) × (result.prompts.items.items ≡ []) }
     ensures defaults { (result.defaults.keys.items ≡ []) × (result.defaults.items.items ≡ []) }
@@ -46,7 +46,7 @@ fn no_attributes(alloc: Global) -> Attributes
     }
 }
 
-/// Appends what a definition gives symbols.
+/// Appends the attributes and the dependency that one definition gives symbols. An `Err` means out of memory.
 fn push_definition(
     found: &mut Attributes,
     names: &SymbolTable,
@@ -81,16 +81,16 @@ fn push_definition(
     found.direct.push(symbol, dependency)
 }
 
-/// The attributes that all definitions give symbols, with the conditions of groups and of attributes. An `Err` means out of
-/// memory.
+/// Collects the attributes that all definitions of a listing give symbols, with the joined conditions of groups and attributes.
+/// An `Err` means out of memory.
 pub(crate) fn gather_attributes(
     alloc: Global,
     listing: &Listing,
     groups: &[GroupConditions],
     conditions: &[ExprId],
 ) -> Result<Attributes, AllocError>
-    requires walked { (read : List Read) × IsWalkOf listing.now groups.now conditions.now read }
-    ensures ok { (read : List Read) → IsWalkOf listing.now groups.now conditions.now read → IfOk result (AreAttributes listing.now.names.arena (contents_of read)) }
+    requires walked { (read : List CodeGroup) × IsWalkOf listing.now groups.now conditions.now read }
+    ensures ok { (read : List CodeGroup) → IsWalkOf listing.now groups.now conditions.now read → IfOk result (AreAttributes listing.now.names.arena (contents_of read)) }
 {
     let mut found = no_attributes(alloc);
     for i in 0..listing.groups.len() {

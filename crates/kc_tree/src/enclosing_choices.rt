@@ -1,6 +1,6 @@
 //! The enclosing choice of each statement.
 ghost use Rattle.std.specs.Prelude.{◌≡◌, ◌<◌, ◌^◌, ◌∷◌, ◌++◌, [], List, IfOk, OnOk, length, map, reverse};
-ghost use Rattle.kc_tree_model.specs.Blocks.{Group as Read};
+ghost use Rattle.kc_tree_model.specs.Blocks.{Group as CodeGroup};
 ghost use Rattle.kc_tree_model.specs.Conditions.{groups_in_context};
 ghost use Rattle.kc_tree_model.specs.Contents.{contents_of};
 ghost use Rattle.kc_listing.specs.between.ListingView.{RepresentsListing};
@@ -19,7 +19,7 @@ fn innermost(inside: &[Option<u32>]) -> Option<u32>
     }
 }
 
-/// Whether a choice begins.
+/// Whether a statement is a `choice`.
 pub(crate) fn begins_choice(head: &GroupHead) -> bool
     ensures { result ≡ is_choice_code head.now }
 {
@@ -62,13 +62,13 @@ fn push_enclosing(
     push_or_pop(inside, head, choices)
 }
 
-/// The number of the enclosing choice of each group, if there is one.
+/// For each group of a listing, the number of the choice that encloses it, or `None`. An `Err` means out of memory.
 pub(crate) fn choices_enclosing(
     alloc: Global,
     listing: &Listing,
 ) -> Result<Vec<Option<u32>>, AllocError>
     requires few { length listing.now.groups.items < 2 ^ 32 }
-    ensures ok { (read : List Read) → RepresentsListing listing.now read → IfOk result (λ a. a.items ≡ map (enclosing_choice (contents_of read)) (groups_in_context read)) }
+    ensures ok { (read : List CodeGroup) → RepresentsListing listing.now read → IfOk result (λ a. a.items ≡ map (enclosing_choice (contents_of read)) (groups_in_context read)) }
 {
     let mut enclosing = Vec::with_capacity(alloc, listing.groups.len())?;
     let mut inside = Vec::new(alloc);
@@ -82,9 +82,9 @@ pub(crate) fn choices_enclosing(
     Ok(enclosing)
 }
 
-/// How many choices there are.
+/// The number of choices in a listing.
 pub(crate) fn choice_count(listing: &Listing) -> usize
-    ensures { (read : List Read) → RepresentsListing listing.now read → result ≡ length (contents_of read).choices }
+    ensures { (read : List CodeGroup) → RepresentsListing listing.now read → result ≡ length (contents_of read).choices }
 {
     let mut choices = 0;
     for group in &listing.groups {

@@ -14,7 +14,8 @@ use kc_statements::Attribute;
 use kc_tree_model::TreeKind;
 use kc_value::Kind;
 
-/// The fault of a definition, by what is known of its symbol; `may_follow` is set if it may follow that of a member.
+/// The kind of the first fault of a definition, from the summary of its symbol; `may_follow` is set if the definition may
+/// come after its symbol's definition as a choice member.
 pub(crate) fn definition_fault(
     about: &SymbolSummary,
     is_member: bool,
@@ -67,8 +68,8 @@ fn is_stray_modules(is_modules_symbol: bool, attribute: &Attribute) -> bool
     is_modules(attribute) && !is_modules_symbol
 }
 
-/// The fault of an attribute of a symbol of this type; `is_wrong` is set if it selects or implies where it may
-/// not.
+/// The kind of the first fault of an attribute of a symbol with this type; `prompted` is set if a prompt precedes it, and
+/// `is_wrong` if it selects or implies where it may not.
 pub(crate) fn typed_attribute_fault(
     kind: Kind,
     prompted: bool,
@@ -95,7 +96,8 @@ pub(crate) fn typed_attribute_fault(
     }
 }
 
-/// The fault of an attribute of a choice; `is_no_member` is set if it is a default that names no member.
+/// The kind of the first fault of an attribute of a choice; `prompted` is set if a prompt precedes it, and `is_no_member` if it
+/// is a default that names no member.
 pub(crate) fn choice_attribute_kind(
     prompted: bool,
     is_no_member: bool,

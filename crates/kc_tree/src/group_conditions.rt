@@ -5,7 +5,7 @@ ghost use Rattle.kc_tree.specs.checker.GroupConditions.{conditions_end, own_cond
 use super::group_walk::GroupConditions;
 use kc_expr::ExprId;
 
-/// Where the conditions of a group's attributes end.
+/// The index after the last condition of the attributes of group `i`.
 fn end_of(groups: &[GroupConditions], conditions: &[ExprId], i: usize) -> usize
     requires there { i < length groups.now }
     ensures value { result ≡ conditions_end groups.now conditions.now i }
@@ -17,7 +17,7 @@ fn end_of(groups: &[GroupConditions], conditions: &[ExprId], i: usize) -> usize
     }
 }
 
-/// The conditions from a place up to another.
+/// The conditions from index `from` up to, but without, index `to`.
 fn part(conditions: &[ExprId], from: usize, to: usize) -> &[ExprId]
     requires rising { from ≤ to }
     requires within { to ≤ length conditions.now }
@@ -26,7 +26,7 @@ fn part(conditions: &[ExprId], from: usize, to: usize) -> &[ExprId]
     &conditions[from..to]
 }
 
-/// The conditions of a group's attributes.
+/// The joined conditions of the attribute lines of group `i`.
 pub(crate) fn conditions_of<'a>(
     groups: &[GroupConditions],
     conditions: &'a [ExprId],

@@ -5,7 +5,7 @@ ghost use Rattle.kc_tree.specs.checker.Summaries.{attributes_end, own_lines, IsR
 
 use kc_listing::{Group, Line, Listing};
 
-/// Where the attributes of a group end.
+/// The index after the last attribute line of group `i`.
 pub(crate) fn end_of(groups: &[Group], lines: &[Line], i: usize) -> usize
     requires there { i < length groups.now }
     ensures value { result ≡ attributes_end groups.now lines.now i }
@@ -17,7 +17,7 @@ pub(crate) fn end_of(groups: &[Group], lines: &[Line], i: usize) -> usize
     }
 }
 
-/// The lines from a place up to another.
+/// The attribute lines from index `from` up to, but without, index `to`.
 pub(crate) fn part(lines: &[Line], from: usize, to: usize) -> &[Line]
     requires rising { from ≤ to }
     requires within { to ≤ length lines.now }
@@ -26,7 +26,7 @@ pub(crate) fn part(lines: &[Line], from: usize, to: usize) -> &[Line]
     &lines[from..to]
 }
 
-/// The attributes of a group.
+/// The attribute lines of group `i` of a listing.
 pub(crate) fn lines_of(listing: &Listing, i: usize) -> &[Line]
     requires shown { IsRepresented listing.now }
     requires here { i < length listing.now.groups.items }

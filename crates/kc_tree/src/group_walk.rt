@@ -4,7 +4,7 @@ ghost use Rattle.kc_value.specs.declared.tri.Tri.TheVariants.{N};
 ghost use Rattle.kc_expr.specs.between.Arena.{Grows, Represents, node_expr};
 ghost use Rattle.kc_expr.specs.Expr.{Expr, alone, constant, shown};
 ghost use Rattle.kc_listing.specs.between.ListingView.{LineNodesExist, RepresentsHead, line_in};
-ghost use Rattle.kc_tree_model.specs.Blocks.{Group as Read, of_head};
+ghost use Rattle.kc_tree_model.specs.Blocks.{Group as CodeGroup, of_head};
 ghost use Rattle.kc_tree_model.specs.Conditions.{conjunction_of, context, attribute_values, dependencies_of, prompts_of};
 ghost use Rattle.kc_tree_model.specs.Statements.{choice, condition as condition_head, visible_of};
 ghost use Rattle.kc_tree.specs.checker.Conjuncts.{AreJoined};
@@ -20,8 +20,9 @@ use kc_listing::{GroupHead, Line};
 use kc_value::Tri;
 use std::alloc::Global;
 
-/// The dependency and the `visible if` of a group, joined with those around it. An end has those of the block that it
-/// ends, and its title, if that is a menu. The conditions of the group's attributes begin at `first`.
+/// The dependency and the `visible if` of a group, joined with the enclosing ones. The end of a block has the conditions inside
+/// that block, and in `ended` the index of its title if it is a menu. The conditions of the group's attributes begin at index
+/// `first`.
 #[derive(Clone, Copy)]
 pub(crate) struct GroupConditions {
     pub dependency: ExprId,
@@ -30,7 +31,8 @@ pub(crate) struct GroupConditions {
     pub first: usize,
 }
 
-/// The conditions of the groups walked so far.
+/// A walk over the groups of a listing: the joined conditions inside the open blocks (`stack`, innermost last), of the groups
+/// walked so far, and of their attributes. `yes` and `no` are the expressions `y` and `n`.
 #[derive(Drop)]
 pub(crate) struct GroupWalk {
     pub arena: Arena,
@@ -41,7 +43,7 @@ pub(crate) struct GroupWalk {
     pub conditions: Vec<ExprId>,
 }
 
-/// The condition of the first prompt among attributes.
+/// The condition of the first prompt among attribute lines with their conditions; `None` without a prompt.
 pub(crate) fn first_condition(lines: &[Line], conditions: &[ExprId]) -> Option<ExprId>
     requires many { length conditions.now ≡ length lines.now }
     ensures value { result ≡ first_prompt lines.now conditions.now }
@@ -69,7 +71,7 @@ fn shown_condition(
 ) -> Result<ExprId, ExprFault>
     requires there { IfSome prompt (λ i. i < length arena.old.nodes) }
     ensures grows { Grows arena.old arena.new }
-    ensures stands { IfOk result (λ s. (e : Option Expr) → RepresentsPrompt arena.old prompt e → Represents arena.old no (alone (constant N))
+    ensures represents { IfOk result (λ s. (e : Option Expr) → RepresentsPrompt arena.old prompt e → Represents arena.old no (alone (constant N))
         → Represents arena.new s (unwrap_or (option_map shown e) (alone (constant N)))) }
 {
     match prompt {
@@ -86,7 +88,7 @@ fn inside_choice(
 ) -> Result<EnclosingConditions, ExprFault>
     requires there { IfSome prompt (λ i. i < length arena.old.nodes) }
     ensures grows { Grows arena.old arena.new }
-    ensures shown { (texts : List (List ℕ)) (yes : ℕ) (m : Read) (opened : List Read)
+    ensures shown { (texts : List (List ℕ)) (yes : ℕ) (m : CodeGroup) (opened : List CodeGroup)
         → m.head ≡ of_head choice → RepresentsPrompt arena.old prompt (slice_get (prompts_of (context opened) m) 0) → Represents arena.old no (alone (constant N))
         → IfOk result (λ a. RepresentsEnclosing arena.new texts yes a (m ∷ opened)) }
 {
@@ -107,7 +109,7 @@ fn inside_if(
     requires enclosing { IfSome enclosing.now.dependencies (λ i. i < length arena.old.nodes) }
     requires condition { condition < length arena.old.nodes }
     ensures grows { Grows arena.old arena.new }
-    ensures shown { (texts : List (List ℕ)) (yes : ℕ) (m : Read) (opened : List Read)
+    ensures shown { (texts : List (List ℕ)) (yes : ℕ) (m : CodeGroup) (opened : List CodeGroup)
         → m.head ≡ of_head (condition_head (node_expr arena.old condition)) → RepresentsEnclosing arena.old texts yes enclosing.now opened
         → IfOk result (λ a. RepresentsEnclosing arena.new texts yes a (m ∷ opened)) }
 {
@@ -132,7 +134,7 @@ fn inside(
     requires enclosing { IfSome enclosing.now.dependencies (λ i. i < length arena.old.nodes) }
     requires held { GroupHeadNodesExist (length arena.old.nodes) head.now }
     ensures grows { Grows arena.old arena.new }
-    ensures shown { (names texts : List (List ℕ)) (yes : ℕ) (m : Read) (opened : List Read)
+    ensures shown { (names texts : List (List ℕ)) (yes : ℕ) (m : CodeGroup) (opened : List CodeGroup)
         → RepresentsHead arena.old names texts head.now m.head
         → RepresentsEnclosing arena.old texts yes enclosing.now opened
         → AreJoined arena.old entry.now (dependencies_of (context opened) m) (context opened).visibles (attribute_values visible_of m)
@@ -173,7 +175,7 @@ fn yes_and_no(arena: &mut Arena) -> Result<(ExprId, ExprId), ExprFault>
 }
 
 impl GroupWalk {
-    /// A walk before its first group.
+    /// A walk before the first group of a listing, with the expressions `y` and `n` added to its arena.
     pub(crate) fn new(alloc: Global, arena: Arena) -> Result<GroupWalk, ExprFault>
         ensures grows { IfOk result (λ w. Grows arena w.arena) }
         ensures walked { IfOk result (λ w. (texts : List (List ℕ)) → HasWalked texts w []) }
@@ -274,13 +276,14 @@ impl GroupWalk {
         }
     }
 
-    /// Walks a group, which has these attributes.
+    /// Walks the next group, given by its statement and its attribute lines: adds its joined conditions, and opens or ends a
+    /// block.
     pub(crate) fn visit(&mut self, head: &GroupHead, lines: &[Line]) -> Result<(), ExprFault>
-        requires walked { (texts : List (List ℕ)) × (before : List Read) × HasWalked texts self.old before }
+        requires walked { (texts : List (List ℕ)) × (before : List CodeGroup) × HasWalked texts self.old before }
         requires head { GroupHeadNodesExist (length self.old.arena.nodes) head.now }
         requires lines { All (LineNodesExist self.old.arena) lines.now }
         ensures grows { Grows self.old.arena self.new.arena }
-        ensures walked { (names texts : List (List ℕ)) (before : List Read) (m : Read) → HasWalked texts self.old before
+        ensures walked { (names texts : List (List ℕ)) (before : List CodeGroup) (m : CodeGroup) → HasWalked texts self.old before
             → RepresentsHead self.old.arena names texts head.now m.head → m.attributes ≡ map (line_in self.old.arena) lines.now
             → OnOk result (HasWalked texts self.new (m ∷ before)) }
         ensures more { OnOk result (length self.new.groups.items ≡ length self.old.groups.items + 1) }

@@ -1,11 +1,11 @@
-//! Items as they come, each under its key.
+//! Items in the order in which they are appended, each with its key.
 ghost use Rattle.std.specs.Prelude.{◌≡◌, ◌<◌, ◌^◌, ℕ, [], ◌∷◌, ◌++◌, IfOk, OnOk, OnErr, length, slice_index};
 ghost use Rattle.kc_tree.specs.checker.GroupedItems.{IsGrouped};
 
 use super::items_by_number::Grouped;
 use std::alloc::{AllocError, Global};
 
-/// Items and their keys, in the order in which they came.
+/// A list of items, each with a key, in the order in which they were appended.
 #[derive(Drop)]
 pub(crate) struct Keyed<T> {
     pub keys: Vec<u32>,
@@ -14,7 +14,7 @@ pub(crate) struct Keyed<T> {
 }
 
 impl<T: Copy> Keyed<T> {
-    /// No items. Takes no memory.
+    /// An empty list of items with keys. Takes no memory.
     pub(crate) fn new(alloc: Global) -> Keyed<T>
         ensures keys { result.keys.items ≡ [] }
         ensures items { result.items.items ≡ [] }
@@ -25,7 +25,7 @@ impl<T: Copy> Keyed<T> {
         }
     }
 
-    /// Appends an item.
+    /// Appends an item with its key. An `Err` means out of memory, and leaves the list unchanged.
     pub(crate) fn push(&mut self, key: u32, item: T) -> Result<(), AllocError>
         ensures keys { OnOk result (self.new.keys.items ≡ self.old.keys.items ++ key ∷ []) }
         ensures items { OnOk result (self.new.items.items ≡ self.old.items.items ++ item ∷ []) }
@@ -40,7 +40,7 @@ impl<T: Copy> Keyed<T> {
         Ok(())
     }
 
-    /// Groups the items by keys below `count`. An `Err` means out of memory.
+    /// Groups the items by their keys, which are below `count`. An `Err` means out of memory, or 2^32 items or more.
     pub(crate) fn grouped(&self, alloc: Global, count: usize) -> Result<Grouped<T>, AllocError>
         requires keys { (i : ℕ) → i < length self.now.keys.items → slice_index self.now.keys.items i < count }
         requires few { count < 2 ^ 32 }

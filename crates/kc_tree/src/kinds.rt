@@ -32,7 +32,7 @@ fn is_same(a: Kind, b: Kind) -> bool
     }
 }
 
-/// Whether a type is given, and is another than this one.
+/// Whether an optional type `given` is present and differs from `kind`.
 pub(crate) fn is_other_kind(kind: Kind, given: Option<Kind>) -> bool
     ensures { result ≡ other_kind kind given }
 {

@@ -1,8 +1,8 @@
-//! The walk over a whole listing.
+//! The walk over all groups of a listing.
 ghost use Rattle.std.specs.Prelude.{◌≡◌, ◌≤◌, ◌<◌, ℕ, All, IfOk, List, length, reverse, slice_range};
 ghost use Rattle.kc_expr.specs.between.Arena.{Grows};
 ghost use Rattle.kc_listing.specs.between.ListingView.{RepresentsGroups, LineNodesExist, RepresentsListing};
-ghost use Rattle.kc_tree_model.specs.Blocks.{Group as Read};
+ghost use Rattle.kc_tree_model.specs.Blocks.{Group as CodeGroup};
 ghost use Rattle.kc_tree.specs.checker.Summaries.{attributes_end, group_at, IsRepresented};
 ghost use Rattle.kc_tree.specs.checker.Walks.{RepresentsAllConditions, HasWalked};
 
@@ -12,8 +12,8 @@ use kc_expr::{Arena, ExprFault, ExprId};
 use kc_listing::{Group, Line, Listing, SymbolTable};
 use std::alloc::Global;
 
-/// The listing, with an arena that also has the joined conditions; the conditions of each group, and those of the
-/// attributes of all groups, in reading order.
+/// A listing with its conditions joined with the enclosing ones: its arena also has the joined conditions, `groups` has
+/// those of each group, and `conditions` those of all groups' attributes, in reading order.
 #[derive(Drop)]
 pub(crate) struct WalkedListing {
     pub listing: Listing,
@@ -38,10 +38,10 @@ fn walk_through(
     groups: &[Group],
     lines: &[Line],
 ) -> Result<GroupWalk, ExprFault>
-    requires shown { (names texts : List (List ℕ)) × (read : List Read) × RepresentsGroups arena names texts lines.now (length lines.now) (reverse groups.now) read }
+    requires shown { (names texts : List (List ℕ)) × (read : List CodeGroup) × RepresentsGroups arena names texts lines.now (length lines.now) (reverse groups.now) read }
     requires held { All (LineNodesExist arena) lines.now }
     ensures grows { IfOk result (λ w. Grows arena w.arena) }
-    ensures walked { (names texts : List (List ℕ)) (read : List Read) → RepresentsGroups arena names texts lines.now (length lines.now) (reverse groups.now) read
+    ensures walked { (names texts : List (List ℕ)) (read : List CodeGroup) → RepresentsGroups arena names texts lines.now (length lines.now) (reverse groups.now) read
         → IfOk result (λ w. HasWalked texts w read) }
 {
     let mut walk = GroupWalk::new(alloc, arena)?;
@@ -51,11 +51,11 @@ fn walk_through(
     Ok(walk)
 }
 
-/// Walks the whole listing. An `Err` is out of memory.
+/// Walks all groups of a listing and joins their conditions with the enclosing ones. An `Err` means out of memory.
 pub(crate) fn walk_all(alloc: Global, listing: Listing) -> Result<WalkedListing, ExprFault>
     requires shown { IsRepresented listing }
-    ensures shows { (read : List Read) → RepresentsListing listing read → IfOk result (λ w. RepresentsListing w.listing read) }
-    ensures walked { (read : List Read) → RepresentsListing listing read
+    ensures shows { (read : List CodeGroup) → RepresentsListing listing read → IfOk result (λ w. RepresentsListing w.listing read) }
+    ensures walked { (read : List CodeGroup) → RepresentsListing listing read
         → IfOk result (λ w. RepresentsAllConditions w.listing.names.arena w.listing.texts.items w.conditions.items (length w.conditions.items) (reverse w.groups.items) read) }
 {
     let Listing {

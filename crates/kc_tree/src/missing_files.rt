@@ -15,7 +15,7 @@ use kc_tree_model::{Texts, TreeFault, TreeKind};
 use kc_value::Text;
 use std::alloc::{AllocError, Global};
 
-/// Out of memory.
+/// The fault for out of memory, which has no file and the line 0.
 pub(crate) fn out_of_memory() -> TreeFault
     ensures { result ≡ no_memory }
 {
@@ -131,16 +131,16 @@ fn missing_paths(
     }
 }
 
-/// The paths that a tree lacks: the absent ones that are met, from the path of the first file on, where an absent path
-/// is read as an empty file. Each occurs once, in order of first sight.
+/// The paths that a tree lacks: those among `root` and the paths of the `source` lines read for which `texts` has no file. Such a
+/// path is read as an empty file. Each path occurs once, in reading order.
 ///
-/// With none, the files can be read by [`read_tree`](super::read_tree). After the returned paths were added to
-/// `texts`, others may be wanted.
+/// If the list is empty, the files can be read by [`read_tree`](super::read_tree). After files of the returned paths were added
+/// to `texts`, further paths may be wanted.
 ///
 /// # Errors
 ///
-/// Where no path is absent, the first fault that reading meets, with its file and line (kconfig-language.rst, "Kconfig
-/// syntax"); where memory runs out, `OutOfMemory` with no file.
+/// If no path is absent, the first fault of reading, with its file and line (kconfig-language.rst, "Kconfig syntax"); if memory
+/// runs out, `OutOfMemory` with no file.
 pub fn wanted(alloc: Global, texts: &Texts, root: &str) -> Result<Vec<String>, TreeFault>
     ensures paths { IfOk result (λ paths. AreWanted texts.now root.now (Ok (map string_bytes paths.items))) }
     ensures fault { IfErr result (λ f. (f ≡ no_memory) ⊎ AreWanted texts.now root.now (Err f)) }

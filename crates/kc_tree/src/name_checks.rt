@@ -1,6 +1,6 @@
 //! Names in `select`, `imply` and the defaults of choices.
 ghost use Rattle.std.specs.Prelude.{◌≡◌, ◌<◌, ℕ, List, is_some, length};
-ghost use Rattle.kc_tree_model.specs.Blocks.{Group as Read};
+ghost use Rattle.kc_tree_model.specs.Blocks.{Group as CodeGroup};
 ghost use Rattle.kc_tree_model.specs.Contents.{contents_of, member_named};
 ghost use Rattle.kc_tree_model.specs.Limits.{names_defined};
 ghost use Rattle.kc_tree_model.specs.TreeFaults.{is_selectable as selectable, is_wrong_reverse_dependency as wrong};
@@ -19,7 +19,7 @@ use kc_value::Kind;
 
 /// The number of the symbol of a name, if an entry defines it.
 fn symbol_number_of_name(listing: &Listing, name: &str) -> Option<u32>
-    ensures { (read : List Read) → RepresentsListing listing.now read → result ≡ index_of_name name.now (names_defined read) }
+    ensures { (read : List CodeGroup) → RepresentsListing listing.now read → result ≡ index_of_name name.now (names_defined read) }
 {
     listing.names.number_of(name)
 }
@@ -28,7 +28,7 @@ fn symbol_number_of_name(listing: &Listing, name: &str) -> Option<u32>
 fn is_selectable(listing: &Listing, symbols: &[SymbolSummary], name: &str) -> bool
     requires shown { IsRepresented listing.now }
     requires symbols { AreSymbolSummaries listing.now symbols.now }
-    ensures value { (read : List Read) → RepresentsListing listing.now read → result ≡ selectable (contents_of read) name.now }
+    ensures value { (read : List CodeGroup) → RepresentsListing listing.now read → result ≡ selectable (contents_of read) name.now }
 {
     match symbol_number_of_name(listing, name) {
         Some(s) => match symbols[s as usize].kind() {
@@ -39,7 +39,8 @@ fn is_selectable(listing: &Listing, symbols: &[SymbolSummary], name: &str) -> bo
     }
 }
 
-/// Whether an attribute of a symbol of this type selects or implies where it may not.
+/// Whether an attribute selects or implies wrongly: its symbol, which has the type `kind`, or its target has a type that is
+/// neither bool nor tristate.
 pub(crate) fn is_wrong_reverse_dependency(
     listing: &Listing,
     symbols: &[SymbolSummary],
@@ -49,7 +50,7 @@ pub(crate) fn is_wrong_reverse_dependency(
     requires shown { IsRepresented listing.now }
     requires symbols { AreSymbolSummaries listing.now symbols.now }
     requires held { AttributeNodesExist listing.now.names.arena attribute.now }
-    ensures value { (read : List Read) → RepresentsListing listing.now read → result ≡ wrong (contents_of read) kind (attribute_in listing.now.names.arena attribute.now) }
+    ensures value { (read : List CodeGroup) → RepresentsListing listing.now read → result ≡ wrong (contents_of read) kind (attribute_in listing.now.names.arena attribute.now) }
 {
     match target_name(attribute) {
         Some(name) => {
@@ -59,7 +60,7 @@ pub(crate) fn is_wrong_reverse_dependency(
     }
 }
 
-/// Whether a default of a choice is the bare name of one of its members, which have this mark.
+/// Whether a default of a choice is the bare name of one of the choice's members, which have `mark` in `marks`.
 pub(crate) fn names_member(
     listing: &Listing,
     marks: &[u32],
@@ -69,7 +70,7 @@ pub(crate) fn names_member(
     requires shown { IsRepresented listing.now }
     requires many { length marks.now ≡ length listing.now.names.symbols.items }
     requires held { DefaultNodesExist listing.now.names.arena valued.now }
-    ensures value { (read : List Read) (members : List (List ℕ)) → RepresentsListing listing.now read → AreMarked (names_defined read) members marks.now mark
+    ensures value { (read : List CodeGroup) (members : List (List ℕ)) → RepresentsListing listing.now read → AreMarked (names_defined read) members marks.now mark
         → result ≡ is_some (member_named members (default_in listing.now.names.arena valued.now)) }
 {
     if !valued.single {

@@ -1,4 +1,4 @@
-//! The symbols of names.
+//! The table of the symbols of an arena's names.
 ghost use Rattle.std.specs.Prelude.{◌≡◌, ◌<◌, ◌^◌, ℕ, IfOk, Some, length, slice_get};
 ghost use Rattle.kc_tree.specs.checker.NameTable.{IsTable};
 ghost use Rattle.kc_tree.specs.declared.parts.SymbolRow.{SymbolRow as Row};
@@ -7,7 +7,7 @@ use super::parts::SymbolRow;
 use kc_tree_model::Sym;
 use std::alloc::{AllocError, Global};
 
-/// For each of the `count` names of an arena, the symbol of that name.
+/// For each of the `names` names of an arena, by its number, the symbol of that name, or `None`. An `Err` means out of memory.
 pub(crate) fn symbols_of_names(
     alloc: Global,
     names: usize,

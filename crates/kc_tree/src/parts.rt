@@ -12,7 +12,8 @@ use kc_expr::{Arena, ExprId, NameId};
 use kc_tree_model::{Sym, Unit};
 use kc_value::{Kind, Text};
 
-/// A symbol's name, type, first place and choice.
+/// A stored symbol without its attributes: its name and type, the file's number and the line of its first definition, and the
+/// number of its choice if it is a member.
 #[derive(Clone, Copy)]
 pub(crate) struct SymbolRow {
     pub name: NameId,
@@ -22,7 +23,8 @@ pub(crate) struct SymbolRow {
     pub choice: Option<u32>,
 }
 
-/// A choice's place, the condition of its prompt, and whether it is optional.
+/// A stored choice without its members and defaults: its file's number and line, the condition of its prompt if it has one, and
+/// whether it is optional.
 #[derive(Clone, Copy)]
 pub(crate) struct ChoiceRow {
     pub file: u32,
@@ -31,7 +33,7 @@ pub(crate) struct ChoiceRow {
     pub optional: bool,
 }
 
-/// An entry; its title is a number among the titles.
+/// A stored entry of a tree; `title` is an index into the tree's titles.
 #[derive(Clone, Copy)]
 pub(crate) enum EntryRow {
     Definition(Sym),
@@ -52,8 +54,8 @@ pub(crate) enum EntryRow {
     },
 }
 
-/// All that a tree has, and besides the unit of each symbol and of each choice, and for each name of the arena the symbol
-/// of that name.
+/// The lists that store a tree, with the unit of each symbol and of each choice, and for each name of the arena the symbol of
+/// that name.
 #[derive(Drop)]
 pub(crate) struct Parts {
     pub arena: Arena,
@@ -90,7 +92,7 @@ impl Parts {
     ghost use Rattle.kc_tree.specs.checker.PartsView.{tree_from_rows};
     ghost use Rattle.kc_tree.specs.checker.StoredParts.{AreSoundParts};
 
-    /// A symbol by its number.
+    /// The symbol with number `s`.
     pub(crate) fn symbol(&self, s: usize) -> Symbol<'_>
         requires kept { AreSoundParts self.now }
         requires there { s < length self.now.symbols.items }
@@ -116,7 +118,7 @@ impl Parts {
         }
     }
 
-    /// A choice by its number.
+    /// The choice with number `c`.
     pub(crate) fn choice(&self, c: usize) -> Choice<'_>
         requires kept { AreSoundParts self.now }
         requires there { c < length self.now.choices.items }
@@ -137,7 +139,7 @@ impl Parts {
         }
     }
 
-    /// A unit by its number.
+    /// The unit with number `u`.
     pub(crate) fn unit(&self, u: usize) -> Unit
         requires kept { AreSoundParts self.now }
         requires there { u < length self.now.units.items }
@@ -148,7 +150,7 @@ impl Parts {
         self.units[u]
     }
 
-    /// The unit of a symbol.
+    /// The number of the unit of symbol `s`; a choice member's unit is its choice.
     pub(crate) fn unit_of(&self, s: usize) -> u32
         requires kept { AreSoundParts self.now }
         requires there { s < length self.now.symbols.items }
@@ -158,7 +160,7 @@ impl Parts {
         self.unit_of_symbol[s]
     }
 
-    /// The name of a symbol.
+    /// The name of symbol `s`.
     pub(crate) fn name(&self, s: usize) -> &str
         requires kept { AreSoundParts self.now }
         requires there { s < length self.now.symbols.items }
@@ -175,7 +177,7 @@ impl Parts {
         self.titles[index as usize].as_str()
     }
 
-    /// An entry by its place.
+    /// The entry with index `i`, in reading order.
     pub(crate) fn entry(&self, i: usize) -> Entry<'_>
         requires kept { AreSoundParts self.now }
         requires there { i < length self.now.entries.items }

@@ -1,11 +1,11 @@
-//! Paths, each once.
+//! Lists of paths without repeats.
 ghost use Rattle.std.specs.Prelude.{◌≡◌, ◌↔◌, IsTrue, [], OnOk, IfOk, map, string_bytes};
 
 use indexmap::IndexSet;
 use kc_value::Seed;
 use std::alloc::{AllocError, Global};
 
-/// Paths, each once, in order of first sight.
+/// A list of paths, each once, in order of first insertion.
 #[derive(Drop)]
 pub(crate) struct Paths {
     alloc: Global,
@@ -15,7 +15,7 @@ pub(crate) struct Paths {
 impl Paths {
     ghost use Rattle.kc_tree.specs.checker.MissingPaths.{paths_in, with_path};
 
-    /// No paths. They are hashed by this seed.
+    /// An empty list of paths, which hashes them with `seed`.
     pub(crate) fn new(alloc: Global, seed: Seed) -> Paths
         ensures { paths_in result ≡ [] }
     {
@@ -25,14 +25,14 @@ impl Paths {
         }
     }
 
-    /// Whether there are none.
+    /// Whether the list has no paths.
     pub(crate) fn is_empty(&self) -> bool
         ensures { IsTrue result ↔ (paths_in self.now ≡ []) }
     {
         self.paths.is_empty()
     }
 
-    /// Appends a path, unless it is there. An `Err` means out of memory.
+    /// Appends a path, unless the list has it. An `Err` means out of memory.
     pub(crate) fn insert(&mut self, path: &str) -> Result<(), AllocError>
         ensures { OnOk result (paths_in self.new ≡ with_path path.now (paths_in self.old)) }
     {
@@ -40,7 +40,7 @@ impl Paths {
         Ok(())
     }
 
-    /// All paths in order. An `Err` means out of memory.
+    /// A copy of all paths, in order of first insertion. An `Err` means out of memory.
     pub(crate) fn to_list(&self) -> Result<Vec<String>, AllocError>
         ensures { IfOk result (λ list. map string_bytes list.items ≡ paths_in self.now) }
     {

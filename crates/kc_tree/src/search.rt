@@ -1,9 +1,9 @@
-//! The first fault of the checks that are made if reading met none.
+//! The first fault of the checks on a listing that was read without a fault.
 ghost use Rattle.std.specs.Prelude.{◌≡◌, ◌<◌, ◌+◌, ℕ, List, IfOk, Some, bytes_eq, length, slice_get, if◌then◌else◌};
 ghost use Rattle.kc_expr.specs.Expr.{modules as modules_name};
 ghost use Rattle.kc_expr.specs.declared.language.Language.{Language as AnyLanguage};
 ghost use Rattle.std.specs.List.{list_all};
-ghost use Rattle.kc_tree_model.specs.Blocks.{Group as Read};
+ghost use Rattle.kc_tree_model.specs.Blocks.{Group as CodeGroup};
 ghost use Rattle.kc_tree_model.specs.Conditions.{GroupInContext, groups_in_context};
 ghost use Rattle.kc_tree_model.specs.Contents.{contents_of, member_names};
 ghost use Rattle.kc_tree_model.specs.Limits.{names_defined};
@@ -32,7 +32,7 @@ use std::alloc::{AllocError, Global};
 fn is_modules(listing: &Listing, s: u32) -> bool
     requires shown { IsRepresented listing.now }
     requires here { s < length listing.now.names.symbols.items }
-    ensures value { (read : List Read) (name : List ℕ) → RepresentsListing listing.now read → slice_get (names_defined read) s ≡ Some name → result ≡ bytes_eq name modules_name }
+    ensures value { (read : List CodeGroup) (name : List ℕ) → RepresentsListing listing.now read → slice_get (names_defined read) s ≡ Some name → result ≡ bytes_eq name modules_name }
 {
     let id = listing.names.symbols[s as usize];
     listing.names.arena.name(id) == "MODULES"
@@ -77,7 +77,7 @@ fn config_fault(
     requires summary { IsSummed listing.now summary.now }
     requires here { i < length listing.now.groups.items }
     requires head { (group_at listing.now.groups.items i).head ≡ codes.Config s }
-    ensures fault { (read : List Read) (p : GroupInContext) → RepresentsListing listing.now read → slice_get (groups_in_context read) i ≡ Some p → result ≡ slice_get (faults_of_group language (contents_of read) p) 0 }
+    ensures fault { (read : List CodeGroup) (p : GroupInContext) → RepresentsListing listing.now read → slice_get (groups_in_context read) i ≡ Some p → result ≡ slice_get (faults_of_group language (contents_of read) p) 0 }
 {
     let about = summary.symbols[s as usize];
     let is_member = summary.enclosing[i].is_some();
@@ -106,7 +106,7 @@ fn choice_fault(listing: &Listing, marks: &[u32], mark: u32, i: usize) -> Option
     requires many { length marks.now ≡ length listing.now.names.symbols.items }
     requires here { i < length listing.now.groups.items }
     requires head { (group_at listing.now.groups.items i).head ≡ codes.Choice }
-    ensures fault { (read : List Read) (p : GroupInContext) → RepresentsListing listing.now read → slice_get (groups_in_context read) i ≡ Some p
+    ensures fault { (read : List CodeGroup) (p : GroupInContext) → RepresentsListing listing.now read → slice_get (groups_in_context read) i ≡ Some p
         → AreMarked (names_defined read) (member_names (contents_of read) p.group.number) marks.now mark → (language : AnyLanguage) → result ≡ slice_get (faults_of_group language (contents_of read) p) 0 }
 {
     let file = listing.groups[i].file;
@@ -131,7 +131,7 @@ fn group_fault(
     requires small { AreSmall marks.old.items choices }
     requires counted { CountsChoices listing.now i choices }
     requires few { choices < 4294967295 }
-    ensures fault { (read : List Read) (p : GroupInContext) → RepresentsListing listing.now read → slice_get (groups_in_context read) i ≡ Some p → result ≡ slice_get (faults_of_group language (contents_of read) p) 0 }
+    ensures fault { (read : List CodeGroup) (p : GroupInContext) → RepresentsListing listing.now read → slice_get (groups_in_context read) i ≡ Some p → result ≡ slice_get (faults_of_group language (contents_of read) p) 0 }
     ensures many { length marks.new.items ≡ length listing.now.names.symbols.items }
     ensures marks { AreSmall marks.new.items (if is_choice_code (group_at listing.now.groups.items i).head then choices + 1 else choices) }
 {
@@ -145,14 +145,14 @@ fn group_fault(
     }
 }
 
-/// The first of the faults of what was read, in reading order. An `Err` means out of memory.
+/// The first fault of the checks on all statements of a listing, in reading order, or `None`. An `Err` means out of memory.
 pub(crate) fn first_fault(
     alloc: Global,
     language: Language,
     listing: &Listing,
 ) -> Result<Option<TreeFault>, AllocError>
     requires shown { IsRepresented listing.now }
-    ensures fault { (read : List Read) → RepresentsListing listing.now read → IfOk result (λ f. f ≡ slice_get (tree_faults language read) 0) }
+    ensures fault { (read : List CodeGroup) → RepresentsListing listing.now read → IfOk result (λ f. f ≡ slice_get (tree_faults language read) 0) }
 {
     let summary = Summary::new(alloc, listing)?;
     let members = summary.members.grouped(alloc, summary.choices)?;

@@ -1,7 +1,7 @@
 //! Summaries of symbols and choices, before conditions are joined.
 ghost use Rattle.std.specs.Prelude.{◌≡◌, ◌<◌, ◌^◌, List, IfOk, is_some, length, map, filter_map, flat_map, slice_get};
 ghost use Rattle.kc_expr.specs.between.Arena.{Exprs};
-ghost use Rattle.kc_tree_model.specs.Blocks.{Group as Read};
+ghost use Rattle.kc_tree_model.specs.Blocks.{Group as CodeGroup};
 ghost use Rattle.kc_tree_model.specs.Conditions.{groups_in_context};
 ghost use Rattle.kc_tree_model.specs.Contents.{contents_of};
 ghost use Rattle.kc_tree_model.specs.TreeFaults.{kind_or_bool};
@@ -17,8 +17,8 @@ use kc_tree_model::Sym;
 use kc_value::Kind;
 use std::alloc::{AllocError, Global};
 
-/// A symbol over all its definitions: the number of the first one among the groups, the type that was given
-/// first, and the choice of the first one that is a member.
+/// A summary of all definitions of a symbol: the group number of the first one, the type that is given first, and the number of
+/// the first choice that the symbol is a member of.
 #[derive(Clone, Copy)]
 pub(crate) struct SymbolSummary {
     pub first: Option<u32>,
@@ -27,7 +27,7 @@ pub(crate) struct SymbolSummary {
 }
 
 impl SymbolSummary {
-    /// The type of the symbol: the first given one, and of a member without one bool.
+    /// The type of the symbol: the one given first, or bool for a choice member without one; `None` if it has none.
     pub(crate) fn kind(&self) -> Option<Kind>
         ensures { result ≡ kind_or_bool self.now.given (is_some self.now.choice) }
     {
@@ -40,7 +40,7 @@ impl SymbolSummary {
         }
     }
 
-    /// The first type and the first choice that either has.
+    /// Two summaries of a symbol as one: each value is `self`'s, or `other`'s where `self` has none.
     fn or(self, other: SymbolSummary) -> SymbolSummary
         ensures { result ≡ first_summary self other }
     {
@@ -52,8 +52,8 @@ impl SymbolSummary {
     }
 }
 
-/// The summary of each symbol, the number of the enclosing choice of each group, how many choices there are, and the
-/// members of each choice.
+/// A summary of a listing: the summary of each symbol, the number of the enclosing choice of each group, the number of choices,
+/// and the members of each choice.
 #[derive(Drop)]
 pub(crate) struct Summary {
     pub symbols: Vec<SymbolSummary>,
@@ -62,7 +62,7 @@ pub(crate) struct Summary {
     pub members: Keyed<Sym>,
 }
 
-/// The first type that attributes give.
+/// The first type that attribute lines give, or `None`.
 fn first_type(lines: &[Line]) -> Option<Kind>
     ensures { (e : Exprs) → result ≡ slice_get (filter_map (type_in e) lines.now) 0 }
 {
@@ -81,9 +81,9 @@ fn symbols_of(
     enclosing: &[Option<u32>],
 ) -> Result<Vec<SymbolSummary>, AllocError>
     requires few { length listing.now.groups.items < 2 ^ 32 }
-    requires enclosing { (read : List Read) → RepresentsListing listing.now read → enclosing.now ≡ map (enclosing_choice (contents_of read)) (groups_in_context read) }
+    requires enclosing { (read : List CodeGroup) → RepresentsListing listing.now read → enclosing.now ≡ map (enclosing_choice (contents_of read)) (groups_in_context read) }
     requires shown { IsRepresented listing.now }
-    ensures ok { (read : List Read) → RepresentsListing listing.now read → IfOk result (λ s. s.items ≡ symbol_summaries (contents_of read) (groups_in_context read)) }
+    ensures ok { (read : List CodeGroup) → RepresentsListing listing.now read → IfOk result (λ s. s.items ≡ symbol_summaries (contents_of read) (groups_in_context read)) }
 {
     let nothing = SymbolSummary {
         first: None,
@@ -113,10 +113,10 @@ fn members_of(
     enclosing: &[Option<u32>],
 ) -> Result<Keyed<Sym>, AllocError>
     requires few { length listing.now.groups.items < 2 ^ 32 }
-    requires enclosing { (read : List Read) → RepresentsListing listing.now read → enclosing.now ≡ map (enclosing_choice (contents_of read)) (groups_in_context read) }
+    requires enclosing { (read : List CodeGroup) → RepresentsListing listing.now read → enclosing.now ≡ map (enclosing_choice (contents_of read)) (groups_in_context read) }
     requires shown { IsRepresented listing.now }
-    ensures keys { (read : List Read) → RepresentsListing listing.now read → IfOk result (λ m. m.keys.items ≡ flat_map (member_keys_at (contents_of read)) (groups_in_context read)) }
-    ensures members { (read : List Read) → RepresentsListing listing.now read → IfOk result (λ m. m.items.items ≡ flat_map (members_at (contents_of read)) (groups_in_context read)) }
+    ensures keys { (read : List CodeGroup) → RepresentsListing listing.now read → IfOk result (λ m. m.keys.items ≡ flat_map (member_keys_at (contents_of read)) (groups_in_context read)) }
+    ensures members { (read : List CodeGroup) → RepresentsListing listing.now read → IfOk result (λ m. m.items.items ≡ flat_map (members_at (contents_of read)) (groups_in_context read)) }
 {
     let mut members = Keyed::new(alloc);
     for i in 0..listing.groups.len() {
@@ -131,10 +131,10 @@ fn members_of(
 }
 
 impl Summary {
-    /// The summary of a listing. An `Err` is out of memory, which 2^32 or more statements count as.
+    /// The summary of a listing. An `Err` means out of memory, or 2^32 statements or more.
     pub(crate) fn new(alloc: Global, listing: &Listing) -> Result<Summary, AllocError>
         requires shown { IsRepresented listing.now }
-        ensures summary { (read : List Read) → RepresentsListing listing.now read → IfOk result (IsSummary read) }
+        ensures summary { (read : List CodeGroup) → RepresentsListing listing.now read → IfOk result (IsSummary read) }
         ensures few { IfOk result (λ s. length listing.now.groups.items < 2 ^ 32) }
     {
         if listing.groups.len() > u32::MAX as usize {

@@ -3,14 +3,14 @@ use kc_expr::{ExprId, NameId};
 use kc_tree_model::Sym;
 use kc_value::Kind;
 
-/// A default: its value and its condition.
+/// A default of a symbol: its value and its joined condition.
 #[derive(Clone, Copy)]
 pub struct Default {
     pub value: ExprId,
     pub condition: ExprId,
 }
 
-/// A range: its bounds, each an operand, and its condition.
+/// A range of a symbol: its bounds, each an operand, and its joined condition.
 #[derive(Clone, Copy)]
 pub struct Range {
     pub low: ExprId,
@@ -18,16 +18,16 @@ pub struct Range {
     pub condition: ExprId,
 }
 
-/// A symbol that selects or implies another, and the condition.
+/// A `select` or `imply` of a target symbol: the symbol that has the attribute, and the attribute's joined condition.
 #[derive(Clone, Copy)]
 pub struct ReverseDependency {
     pub by: Sym,
     pub condition: ExprId,
 }
 
-/// A symbol: its first place, its choice and its unit, and the attributes of all its definitions in reading order, each
-/// condition joined with the enclosing ones; `direct` has the dependency of each definition, of a member that of its
-/// definition in the choice.
+/// A symbol: its name and type, the file's number and the line of its first definition, the number of its choice if it is a
+/// member, the number of its unit, and the attributes of all its definitions in reading order, each condition joined with the
+/// enclosing ones. `direct` has the dependency of each definition, of a choice member only that of its definition in the choice.
 #[derive(Clone, Copy)]
 pub struct Symbol<'a> {
     pub name: NameId,
@@ -44,15 +44,15 @@ pub struct Symbol<'a> {
     pub direct: &'a [ExprId],
 }
 
-/// A default of a choice: the member and its condition.
+/// A default of a choice: the member that it names, and its joined condition.
 #[derive(Clone, Copy)]
 pub struct MemberDefault {
     pub member: Sym,
     pub condition: ExprId,
 }
 
-/// A choice: its place and its unit, its members in order of definition, the condition of its prompt, its defaults, and
-/// whether it is optional.
+/// A choice: its file's number and its line, the number of its unit, its members in order of definition, the joined condition of
+/// its prompt if it has one, its defaults, and whether it is optional.
 #[derive(Clone, Copy)]
 pub struct Choice<'a> {
     pub file: u32,

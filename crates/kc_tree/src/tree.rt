@@ -1,4 +1,4 @@
-//! The tree of files.
+//! The tree that Kconfig files define.
 ghost use Rattle.std.specs.Prelude.{◌≡◌, ◌<◌, ◌↔◌, IsTrue, ℕ, List, length, Some, None, IfSome, slice_get, option_map};
 ghost use Rattle.kc_expr.specs.Lookup.{index_of_name};
 ghost use Rattle.kc_tree_model.specs.TreeLookup.{IsConsistent, unit_of, index_of_unit, symbol_named};
@@ -13,7 +13,8 @@ use kc_expr::{Arena, NameId};
 use kc_tree_model::{Sym, Unit};
 use std::marker::Model;
 
-/// The tree that files define. Contracts see the names and expressions of its arena, and the tree of the definition.
+/// The tree that Kconfig files define. Contracts see it as a `TreeModel`: the names and expressions of its arena, and its
+/// symbols, choices, entries and units.
 #[derive(Drop)]
 pub struct Tree {
     parts: Parts,
@@ -39,7 +40,7 @@ impl Tree {
     ghost use Rattle.kc_tree.specs.checker.PartsView.{tree_from_rows};
     ghost use Rattle.kc_tree.specs.checker.StoredParts.{AreSoundParts};
 
-    /// The tree of its lists.
+    /// The tree that these lists store.
     pub(crate) fn of(parts: Parts) -> Tree
         requires sound { AreSoundParts parts }
         ensures value { result ≡ record { exprs = parts.arena; tree = tree_from_rows parts } }
@@ -47,7 +48,7 @@ impl Tree {
         Tree { parts }
     }
 
-    /// The arena of all names and expressions of the tree. A name that it doesn't hold is no symbol's.
+    /// The arena of all names and expressions of the tree. A name that isn't in the arena is no symbol's.
     pub fn arena(&self) -> &Arena
         ensures arena { result.now ≡ self.now.exprs }
         ensures held { (x : List ℕ) → index_of_name x self.now.exprs.names ≡ None → symbol_named self.now.tree x ≡ None }
@@ -63,7 +64,7 @@ impl Tree {
         self.parts.units.len() as u32
     }
 
-    /// Whether there are no units.
+    /// Whether the tree has no units.
     pub fn is_empty(&self) -> bool
         ensures { IsTrue result ↔ (length self.now.tree.units ≡ 0) }
     {
@@ -84,14 +85,14 @@ impl Tree {
         self.parts.choices.len() as u32
     }
 
-    /// The number of entries.
+    /// The number of entries: definitions, choices, comments, and the beginnings and ends of menus.
     pub fn entry_count(&self) -> usize
         ensures { result ≡ length self.now.tree.entries }
     {
         self.parts.entries.len()
     }
 
-    /// A unit, in the order of their numbers.
+    /// The unit with number `u`: a symbol outside choices, or a choice.
     pub fn unit(&self, u: u32) -> Unit
         requires there { u < length self.now.tree.units }
         ensures unit { slice_get self.now.tree.units u ≡ Some result }
@@ -101,7 +102,7 @@ impl Tree {
         self.parts.unit(u as usize)
     }
 
-    /// A symbol, in order of first definition.
+    /// The symbol with number `s`; symbols are numbered from 0 in order of first definition.
     pub fn symbol(&self, s: Sym) -> Symbol<'_>
         requires there { s < length self.now.tree.symbols }
         ensures symbol { slice_get self.now.tree.symbols s ≡ Some (symbol_view self.now.exprs result) }
@@ -112,7 +113,7 @@ impl Tree {
         self.parts.symbol(s.number() as usize)
     }
 
-    /// A choice, in order of their first lines.
+    /// The choice with number `c`; choices are numbered from 0 in order of their first lines.
     pub fn choice(&self, c: u32) -> Choice<'_>
         requires there { c < length self.now.tree.choices }
         ensures choice { slice_get self.now.tree.choices c ≡ Some (choice_view self.now.exprs result) }
@@ -123,7 +124,7 @@ impl Tree {
         self.parts.choice(c as usize)
     }
 
-    /// An entry, in reading order.
+    /// The entry with index `i`, from 0 in reading order.
     pub fn entry(&self, i: usize) -> Entry<'_>
         requires there { i < length self.now.tree.entries }
         ensures entry { slice_get self.now.tree.entries i ≡ Some (entry_view self.now.exprs result) }
@@ -163,7 +164,7 @@ impl Tree {
         self.parts.name(s.number() as usize)
     }
 
-    /// The number of a symbol's unit: a member's is its choice.
+    /// The number of a symbol's unit; the unit of a choice member is its choice.
     pub fn unit_of(&self, s: Sym) -> u32
         requires there { s < length self.now.tree.symbols }
         ensures unit { result ≡ unit_of self.now.tree s }

@@ -15,7 +15,8 @@ use kc_tree_model::{Sym, Unit};
 use kc_value::Text;
 use std::alloc::{AllocError, Global};
 
-/// The attributes of symbols, in reading order, each under the number of its symbol.
+/// The collected attributes of symbols, in reading order, each under the number of its symbol; a `select` or `imply` is under the
+/// number of its target.
 #[derive(Drop)]
 pub(crate) struct Attributes {
     pub prompts: Keyed<ExprId>,
@@ -26,7 +27,7 @@ pub(crate) struct Attributes {
     pub direct: Keyed<ExprId>,
 }
 
-/// The attributes of each symbol together.
+/// The attributes of all symbols, grouped by symbol; a `select` or `imply` belongs to its target.
 #[derive(Drop)]
 pub(crate) struct GroupedAttributes {
     pub prompts: Grouped<ExprId>,
@@ -57,7 +58,7 @@ impl Attributes {
     }
 }
 
-/// The attributes of each symbol together, and the members and defaults of each choice.
+/// The attributes of all symbols grouped by symbol, and the members and defaults of all choices grouped by choice.
 #[derive(Drop)]
 pub(crate) struct Lists {
     pub attributes: GroupedAttributes,
@@ -65,21 +66,21 @@ pub(crate) struct Lists {
     pub member_defaults: Grouped<MemberDefault>,
 }
 
-/// The unit of each symbol and of each choice, and for each name of the arena the symbol of that name.
+/// The unit number of each symbol and of each choice, and for each name of the arena the symbol of that name.
 #[derive(Drop)]
 pub(crate) struct Tables {
     pub units: UnitNumbers,
     pub symbol_of_name: Vec<Option<Sym>>,
 }
 
-/// The tables of a tree, made from the collected lists.
+/// The tables and the grouped lists of a tree, made from its collected lists.
 #[derive(Drop)]
 pub(crate) struct FinishedTables {
     pub tables: Tables,
     pub lists: Lists,
 }
 
-/// The lists collected from all groups.
+/// The lists collected from all groups of a listing, from which a tree is built.
 #[derive(Drop)]
 pub(crate) struct Gathered {
     pub arena: Arena,
@@ -179,7 +180,7 @@ impl Gathered {
         }
     }
 
-    /// The tree that the collected lists make. An `Err` means out of memory.
+    /// Builds the tree from its collected lists. An `Err` means out of memory.
     pub(crate) fn into_tree(self, alloc: Global) -> Result<Tree, AllocError>
         requires fits { GatheredFit self }
         requires distinct { AreDistinct self.arena.names }

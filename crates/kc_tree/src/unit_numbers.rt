@@ -9,14 +9,14 @@ use super::parts::SymbolRow;
 use kc_tree_model::Unit;
 use std::alloc::{AllocError, Global};
 
-/// The number of the unit of each symbol and of each choice; 0 if it is no unit.
+/// The unit number of each symbol and of each choice; 0 for a choice member before it gets that of its choice.
 #[derive(Drop)]
 pub(crate) struct UnitNumbers {
     pub symbols: Vec<u32>,
     pub choices: Vec<u32>,
 }
 
-/// The numbers of units, by what they are.
+/// The unit number of each symbol and choice of a list of units; 0 for a symbol that isn't in it. An `Err` means out of memory.
 pub(crate) fn number_units(
     alloc: Global,
     symbols: usize,
@@ -43,7 +43,7 @@ pub(crate) fn number_units(
     })
 }
 
-/// Gives the members of choices the units of their choices.
+/// Sets the unit number of each choice member to that of its choice.
 pub(crate) fn number_members(symbols: &[SymbolRow], numbers: &mut UnitNumbers)
     requires len { length numbers.old.symbols.items ≡ length symbols.now }
     requires there { (s c : ℕ) (r : Row) → slice_get symbols.now s ≡ Some r → r.choice ≡ Some c → c < length numbers.old.choices.items }

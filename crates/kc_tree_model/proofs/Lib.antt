@@ -5,7 +5,7 @@ mod Rows
 pub mod NestedTrees
 pub mod Consistency
 pub mod LineLaws
-pub mod NothingWanted
+pub mod AbsentFiles
 pub mod StrictTrees
 pub mod MoreFiles
 pub mod ReadingLaws

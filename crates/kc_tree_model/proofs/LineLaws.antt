@@ -1,4 +1,4 @@
--- The lines that are read are those of the grammar of lines.
+-- The lines of files that are read are those of the grammar of lines.
 pub mod CutLines
 pub mod JoinedLines
 pub mod HelpTexts

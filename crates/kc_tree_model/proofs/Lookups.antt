@@ -1,4 +1,4 @@
--- The places of the symbols and units of a consistent tree.
+-- The numbers of the symbols and units of a consistent tree.
 use Rattle.std.proofs.Common.{◌≡◌, inl, inr, ℕ, zero, suc, ◌<◌, true, cond, List, [], ◌∷◌, Option, Some, None, length, get_or, refl, sym, ◌∙◌, ap, arith}
 use Rattle.std.specs.Prelude.{slice_get, bytes_eq, nat_lt}
 use Rattle.std.proofs.lemmas.Bool.{cases_Bool, false≢true, eqb-true, eq-eqb, lt-ltb}
@@ -10,7 +10,7 @@ use Rattle.kc_tree_model.specs.declared.ids.Unit.{Unit as TreeUnit}
 use Rattle.kc_tree_model.specs.declared.ids.Unit.TheVariants.{Symbol as of_symbol, Choice as of_choice}
 use Rattle.kc_tree_model.specs.TreeLookup.{IsConsistent, is_same_unit, index_of_unit, unit_in, unit_of_symbol, unit_of, symbol_named}
 
--- an index, if it is below the length of the list
+-- an index if it is below a count, or None
 abbrev pub index_if_found : ℕ → ℕ → Option ℕ
 index_if_found place count = cond (nat_lt place count) (Some place) None
 
@@ -30,7 +30,7 @@ unit_same (of_symbol a) = eq-eqb a a refl
 unit_same (of_choice a) = eq-eqb a a refl
 
 module _ (tree : Tree) (sound : IsConsistent tree) where
-  -- a unit's place is its number
+  -- the number of a unit of a consistent tree is its index among the units
   pub place_is : (u : ℕ) (unit : TreeUnit) → slice_get tree.units u ≡ Some unit → index_of_unit tree unit ≡ u
   place_is u unit at =
       let below : u < length tree.units = inside tree.units u unit at in
@@ -45,7 +45,7 @@ module _ (tree : Tree) (sound : IsConsistent tree) where
       ])
       (λ h. ap (is_same_unit unit) (get_or_from_slice_get tree.units u unit unit at) ∙ unit_same unit)
 
-  -- a symbol is found by its name
+  -- each symbol of a consistent tree is found by its name
   pub found_by_name : (s : ℕ) (symbol : Symbol) → slice_get tree.symbols s ≡ Some symbol → symbol_named tree symbol.name ≡ Some s
   found_by_name s symbol at =
       let below : s < length tree.symbols = inside tree.symbols s symbol at in
@@ -62,7 +62,7 @@ module _ (tree : Tree) (sound : IsConsistent tree) where
       ∙ (bytes_eq-Decides symbol.name symbol.name).1 refl) in
       ap (λ k. index_if_found k (length tree.symbols)) place ∙ ap (λ t. cond t (Some s) None) (lt-ltb s (length tree.symbols) below)
 
-  -- the number of a symbol's unit
+  -- the unit of a symbol of a consistent tree has the index of its choice's unit if it is a member, or of its own unit
   pub unit_is : (s u : ℕ) (symbol : Symbol) (c : Option ℕ) → slice_get tree.symbols s ≡ Some symbol → symbol.choice ≡ c
       → slice_get tree.units u ≡ Some (unit_in s c) → unit_of tree s ≡ u
   unit_is s u symbol c at choice unit = ap (unit_of_symbol tree s) at ∙ ap (λ x. index_of_unit tree (unit_in s x)) choice ∙ place_is u (unit_in s c) unit

@@ -1,8 +1,8 @@
--- The nested tree of what was read.
+-- The nested tree that the groups of a reading without a fault form.
 pub mod OpenBlocks
 pub mod Walks
 pub mod OneListing
 pub mod OpenTrees
 pub mod LineFits
 pub mod ReadingNests
-pub mod EachFileRead
+pub mod FileCoverage

@@ -1,4 +1,4 @@
--- The reading of a tree is what the relation has, and its fault the first of the table.
+-- The reading of a tree is what the relation of reading has, and its fault is the first in the order of kinds.
 pub mod TokenFaults
 pub mod FormFaults
 pub mod TightTokens
@@ -7,6 +7,6 @@ pub mod DeepForms
 pub mod FirstFaults
 pub mod LineFaults
 pub mod SourceFaults
-pub mod RelationRead
-pub mod ReadingRelated
-pub mod TreesRelated
+pub mod ReadingCompleteness
+pub mod ReadingSoundness
+pub mod TreesOfRelation

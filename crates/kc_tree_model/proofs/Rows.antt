@@ -1,4 +1,4 @@
--- Worked rows, computed.
+-- Worked examples of trees and what is read from them, computed.
 pub mod Trees
 mod Lines
 mod Contents

@@ -24,11 +24,11 @@ use Rattle.kc_tree_model.specs.Forms.{statement_of, ◌>>=◌}
 use Rattle.kc_tree_model.specs.Blocks.{Group, GroupHead, Position, of_head, file_end}
 use Rattle.kc_tree_model.specs.Placement.{is_allowed, is_left_out, is_stray_end}
 use Rattle.kc_tree_model.specs.Limits.{FileSource, is_too_deep, is_too_many, source_fault}
-use Rattle.kc_tree_model.specs.TreeReading.{Outcome, unless, statement_by_keyword, statement_by_word, statement_of_tokens, statement_or_fault, statement_on_line, with_statement, with_group, path_to_read, continue_after_file, continue_after_source, continue_after_statement, continue_after_line, read_lines, read_file, read_root, reading}
+use Rattle.kc_tree_model.specs.TreeReading.{Outcome, fault_if, statement_by_keyword, statement_by_word, statement_of_tokens, statement_or_fault, statement_on_line, with_statement, with_group, path_to_read, continue_after_file, continue_after_source, continue_after_statement, continue_after_line, read_lines, read_file, read_root, reading}
 use Rattle.kc_tree_model.specs.Conditions.{GroupInContext}
 use Rattle.kc_tree_model.specs.Contents.{Contents, contents_of, choice_of_symbol, is_first_definition, type_given, tree_of_groups, tree_of_files}
 use Rattle.kc_tree_model.specs.TreeFaults.{when, is_other_kind, kind_of, may_follow_member, definition_faults, attribute_faults, faults_at, faults_of_lines, faults_of_head, faults_of_group, tree_faults, first_tree_fault}
-use Rattle.kc_tree_model.proofs.NestedTrees.LineFits.{unless_ok}
+use Rattle.kc_tree_model.proofs.NestedTrees.LineFits.{fault_if_ok}
 use Rattle.kc_tree_model.proofs.Consistency.Definitions.{nothing_left, no_first, nothing_mapped, not_when}
 
 -- a line that isn't left out of the strict language
@@ -63,13 +63,13 @@ kept read words.LeftOut ts h = h
 -- the statement of a line, once it is known whether it is left out
 abbrev after_test : List Group → Keyword → List Lexeme → Bool → Result (Option Statement) TreeKind
 after_test read k ts left_out =
-    unless left_out LeftOut >>= λ _. unless (not (is_allowed read k)) Misplaced >>= λ _. unless (is_stray_end read k) StrayEnd >>= λ _.
-    statement_of k ts >>= λ s. unless (is_too_deep read s) TooDeep >>= λ _. unless (is_too_many read s) TooMany >>= λ _. Ok (Some s)
+    fault_if left_out LeftOut >>= λ _. fault_if (not (is_allowed read k)) Misplaced >>= λ _. fault_if (is_stray_end read k) StrayEnd >>= λ _.
+    statement_of k ts >>= λ s. fault_if (is_too_deep read s) TooDeep >>= λ _. fault_if (is_too_many read s) TooMany >>= λ _. Ok (Some s)
 
 keyword_same : (read : List Group) (k : Keyword) (ts : List Lexeme) (s : Option Statement) → statement_by_keyword Strict read k ts ≡ Ok s
     → statement_by_keyword Linux read k ts ≡ Ok s
 keyword_same read k ts s h =
-    let strict : is_left_out Strict read k ts ≡ false = (unless_ok (is_left_out Strict read k ts) LeftOut _ s h).0 in
+    let strict : is_left_out Strict read k ts ≡ false = (fault_if_ok (is_left_out Strict read k ts) LeftOut _ s h).0 in
     ap (after_test read k ts) (kept read k ts strict) ∙ sym (ap (after_test read k ts) strict) ∙ h
 
 word_same : (read : List Group) (w : Option Keyword) (ts : List Lexeme) (s : Option Statement) → statement_by_word Strict read ts w ≡ Ok s
@@ -100,7 +100,7 @@ line_same read l s h =
     past_all (nat_lt MAX_LINE_BYTES (length l.text)) (not (is_utf8 l.text)) l.help (statement_or_fault Strict read (lexemes_from Strict 0 0 l.text))
     (statement_or_fault Linux read (lexemes_from Linux 0 0 l.text)) s (lexed_same read l.text (lexemes_from Strict 0 0 l.text) s refl) h
 
--- the same files in a language, from a first path on
+-- these paths and bytes as files in a language
 abbrev pub in_language : Language → List (List ℕ × List ℕ) → Files
 in_language language list = record { language = language; list = list }
 

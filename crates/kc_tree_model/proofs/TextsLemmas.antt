@@ -42,7 +42,7 @@ find_file path (e ∷ es) =
     find_by (bytes_eq path (string_bytes e.0)) e (lookup (λ k. bytes_eq path (string_bytes k)) es)
     ∙ ap (λ o. cond (bytes_eq path (string_bytes e.0)) (Some e.1.items) o) (find_file path es)
 
--- the path of an entry
+-- the path of the map entry with this index is that of the file with this index
 pub path_of_entry : (es : List (String Global × Vec ℕ Global)) (i : ℕ) → option_map (λ (e : String Global × Vec ℕ Global). string_bytes e.0) (slice_get es i)
     ≡ option_map (λ (f : List ℕ × List ℕ). f.0) (slice_get (map file_of es) i)
 path_of_entry [] i = refl

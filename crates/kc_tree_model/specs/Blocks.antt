@@ -1,27 +1,28 @@
--- The statements read so far, newest first, and the blocks that are open there.
+-- The statements read so far, newest first, and the blocks that are open after them.
 use Rattle.std.specs.Prelude.{ℕ, zero, suc, Bool, false, not, List, [], ◌∷◌, Option, Some, None, option_map}
 use Rattle.std.specs.List.{list_any}
 use Rattle.kc_tree_model.specs.Statements.{Head, choice, menu, condition, source, ends, Attribute, block_of_head, name_of_head, path_of_head, same_block}
 use Rattle.kc_tree_model.specs.declared.keyword.Block.{Block}
 use Rattle.kc_tree_model.specs.declared.keyword.Block.TheVariants as blocks
 
--- A statement that closes the open entry, or the end of a sourced file: such a file is a block, which its `source`
--- opens and its end closes.
+-- The beginning of a group: a statement that is no attribute, or the end of a sourced file. Such a file is a block, which its
+-- `source` opens and its end closes.
 pub data GroupHead : Type 0 where
   of_head : Head → GroupHead
   file_end : GroupHead
 
--- an attribute and its line
+-- an attribute of an entry, and the number of its line in its file, from 1
 pub record Line : Type 0 where
   pub number : ℕ
   pub attribute : Attribute
 
--- a line of a file, by the file's number and the line's
+-- a place in a tree: the number of a file, from 0, and of a line in it, from 1
 pub record Position : Type 0 where
   pub file : ℕ
   pub line : ℕ
 
--- a statement, its number among all of them, its place, and the attributes that follow it
+-- a statement or the end of a sourced file, its number among all groups in reading order, from 0, its place, and the attributes
+-- that follow it
 pub record Group : Type 0 where
   pub number : ℕ
   pub at : Position
@@ -34,7 +35,7 @@ pub data Side : Type 0 where
   closing : Side
   inside : Side
 
--- a choice, a menu, an `if` and a `source` open a block ("Menu structure")
+-- whether a statement opens or closes a block: `choice`, `menu`, `if` and `source` open one, ends close it ("Menu structure")
 abbrev pub side_of_head : Head → Side
 side_of_head choice = opening
 side_of_head (menu title) = opening
@@ -43,13 +44,13 @@ side_of_head (source path) = opening
 side_of_head (ends b) = closing
 side_of_head h = inside
 
--- the end of a sourced file closes it
+-- whether a group opens a block, closes one, or does neither; the end of a sourced file closes it
 abbrev pub side_of : GroupHead → Side
 side_of (of_head h) = side_of_head h
 side_of file_end = closing
 
--- The blocks not yet closed, innermost first. `n` counts the ends whose opening is still to come (newest first).
--- Ends of all sorts are counted alike, since an end that doesn't match its block is a StrayEnd and never gets here.
+-- The groups whose blocks are open after these groups (newest first), innermost first, without those that `n` later ends close.
+-- Ends of all sorts are counted alike, since an end that doesn't match its block is the fault `StrayEnd` and makes no group.
 abbrev pub open_blocks : ℕ → List Group → List Group
 open_blocks n [] = []
 open_blocks n (g ∷ before) = elim (side_of g.head) [
@@ -58,20 +59,20 @@ open_blocks n (g ∷ before) = elim (side_of g.head) [
   | inside ↦ open_blocks n before
 ]
 
--- a function of a statement; the end of a file has no result
+-- a function of statements, applied to a group's statement; None at the end of a sourced file
 abbrev pub from_head : {A : Type 0} → (Head → Option A) → GroupHead → Option A
 from_head f (of_head h) = f h
 from_head f file_end = None
 
--- the block that a group opens, where that is no file
+-- the menu, `if` or choice that a group opens, or None if it opens no block or a sourced file
 abbrev pub opened_block : Group → Option Block
 opened_block g = from_head block_of_head g.head
 
--- the name that a group defines
+-- the name of the symbol that a group defines, if it is a `config`
 abbrev pub defined_name : Group → Option (List ℕ)
 defined_name g = from_head name_of_head g.head
 
--- the path of the file that a group sources
+-- the path of the file that a group sources, if it is a `source`
 abbrev pub sourced_path : Group → Option (List ℕ)
 sourced_path g = from_head path_of_head g.head
 
@@ -84,19 +85,19 @@ is_some_block b (Some c) = same_block b c
 abbrev pub opens_choice : Group → Bool
 opens_choice g = is_some_block blocks.Choice (opened_block g)
 
--- whether a choice is open, here or in a file that sources this one
+-- whether a choice is open after these groups, in the file that is being read or in one that sources it
 abbrev pub in_choice : List Group → Bool
 in_choice read = list_any opens_choice (open_blocks 0 read)
 
--- the innermost open block, unless that is the file that is read
+-- the first of these open blocks and its sort, or None if there is none or it is a sourced file
 abbrev pub innermost_of : List Group → Option (Group × Block)
 innermost_of [] = None
 innermost_of (g ∷ outer) = option_map (λ b. (g, b)) (opened_block g)
 
--- the innermost open block of the file that is read
+-- the innermost block that is open after these groups in the file that is being read, if there is one
 abbrev pub innermost : List Group → Option (Group × Block)
 innermost read = innermost_of (open_blocks 0 read)
 
--- an end that doesn't match the innermost open block of its file
+-- whether an end of this block, after these groups, doesn't match the innermost open block of its file
 abbrev pub is_stray : List Group → Block → Bool
 is_stray read b = not (is_some_block b (option_map (λ (o : Group × Block). o.1) (innermost read)))

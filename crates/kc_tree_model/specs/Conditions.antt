@@ -5,27 +5,27 @@ use Rattle.kc_expr.specs.Expr.{Expr, constant, alone, both, shown}
 use Rattle.kc_tree_model.specs.Statements.{Head, choice, menu, condition, Attribute, depends_of, visible_of, prompt_of}
 use Rattle.kc_tree_model.specs.Blocks.{Group, GroupHead, of_head, file_end, Line, open_blocks}
 
--- a conjunction, joined from the left
+-- the conjunction (`&&`) of an expression and all of a list, joined from the left
 abbrev pub conjunction_from : Expr → List Expr → Expr
 conjunction_from e [] = e
 conjunction_from e (f ∷ fs) = conjunction_from (both e f) fs
 
--- a conjunction of all; of nothing it is `y`
+-- the conjunction (`&&`) of all expressions of a list, joined from the left; of none it is `y`
 abbrev pub conjunction_of : List Expr → Expr
 conjunction_of [] = alone (constant Y)
 conjunction_of (e ∷ es) = conjunction_from e es
 
--- the conditions that enclose a place, outermost first, and the enclosing choice, by the number of its group
+-- what encloses a line of a tree: the dependencies and `visible if`s, outermost first, and the choice, by its group's number
 pub record Context : Type 0 where
   pub dependencies : List Expr
   pub visibles : List Expr
   pub choice : Option ℕ
 
--- the values of one kind of attribute in a group
+-- the values that a function gives for the attributes of a group, in their order
 abbrev pub attribute_values : {A : Type 0} → (Attribute → Option A) → Group → List A
 attribute_values f g = filter_map (λ (l : Line). f l.attribute) g.attributes
 
--- the dependencies of an entry: the enclosing ones, then its own, in any order among its attributes
+-- the dependencies of an entry: the enclosing ones, then those of its own `depends on`s, wherever they are among its attributes
 abbrev pub dependencies_of : Context → Group → List Expr
 dependencies_of enclosing g = enclosing.dependencies ++ attribute_values depends_of g
 
@@ -33,59 +33,60 @@ dependencies_of enclosing g = enclosing.dependencies ++ attribute_values depends
 abbrev pub dependency_of : Context → Group → Expr
 dependency_of enclosing g = conjunction_of (dependencies_of enclosing g)
 
--- the condition of an attribute: its entry's dependency and its own `if`
+-- the condition of an attribute: the dependency of its entry and its own `if`, if it has one
 abbrev pub attribute_condition : Context → Group → Option Expr → Expr
 attribute_condition enclosing g c = conjunction_of (dependencies_of enclosing g ++ option_to_list c)
 
--- the enclosing `visible if`s as one conjunct, if there are any
+-- the conjunction of the enclosing `visible if`s as a list of one, or an empty list if there are none
 abbrev pub visible_conjunct : List Expr → List Expr
 visible_conjunct [] = []
 visible_conjunct (e ∷ es) = conjunction_from e es ∷ []
 
--- the condition of a prompt: also each enclosing `visible if` ("Menu attributes", limiting menu display)
+-- the condition of a prompt: its entry's dependency, the enclosing `visible if`s and its own `if` ("Menu attributes", limiting
+-- menu display)
 abbrev pub prompt_condition : Context → Group → Option Expr → Expr
 prompt_condition enclosing g c = conjunction_of (dependencies_of enclosing g ++ (visible_conjunct enclosing.visibles ++ option_to_list c))
 
--- the conditions of a group's prompts
+-- the conditions of the prompts of a group, in their order
 abbrev pub prompts_of : Context → Group → List Expr
 prompts_of enclosing g = map (prompt_condition enclosing g) (attribute_values prompt_of g)
 
--- a choice is shown where its prompt's condition isn't `n`, and without a prompt never ("Kconfig syntax", choices)
+-- the condition that a choice is shown: that of its first prompt isn't `n`; without a prompt, never ("Kconfig syntax", choices)
 abbrev pub shown_condition : Context → Group → Expr
 shown_condition enclosing g = unwrap_or (option_map shown (slice_get (prompts_of enclosing g) 0)) (alone (constant N))
 
--- the conditions inside a block ("Kconfig syntax", menu and if); a choice replaces all conditions outside it
+-- the conditions inside the block that a statement opens ("Kconfig syntax", menu and if); a choice replaces all outer conditions
 abbrev pub inner_context_of_head : Head → Context → Group → Context
 inner_context_of_head choice enclosing g = record { dependencies = shown_condition enclosing g ∷ []; visibles = []; choice = Some g.number }
 inner_context_of_head (menu title) enclosing g = record { dependencies = dependencies_of enclosing g; visibles = enclosing.visibles ++ attribute_values visible_of g; choice = enclosing.choice }
 inner_context_of_head (condition e) enclosing g = record { dependencies = enclosing.dependencies ++ e ∷ []; visibles = enclosing.visibles; choice = enclosing.choice }
 inner_context_of_head h enclosing g = enclosing
 
--- a sourced file replaces its `source` line and adds no condition
+-- the conditions inside the block that a group with this beginning opens; a sourced file adds none to those of its `source`
 abbrev pub inner_context_of_group_head : GroupHead → Context → Group → Context
 inner_context_of_group_head (of_head h) enclosing g = inner_context_of_head h enclosing g
 inner_context_of_group_head file_end enclosing g = enclosing
 
--- one step down into the block that a group opens
+-- the conditions inside the block that a group opens, from those that enclose the group
 abbrev pub inner_context : Context → Group → Context
 inner_context enclosing g = inner_context_of_group_head g.head enclosing g
 
--- the conditions at a place, from the blocks open there, innermost first
+-- the conditions that enclose what is inside these open blocks (innermost first)
 abbrev pub context : List Group → Context
 context [] = record { dependencies = []; visibles = []; choice = None }
 context (g ∷ outer) = inner_context (context outer) g
 
--- a group, the blocks open there, and their conditions
+-- a group, the blocks that are open at it (innermost first), and the conditions that they put on it
 pub record GroupInContext : Type 0 where
   pub group : Group
   pub opened : List Group
   pub enclosing : Context
 
--- a group among open blocks
+-- a group with these blocks open at it and their conditions
 abbrev pub group_in_context : List Group → Group → GroupInContext
 group_in_context opened g = record { group = g; opened = opened; enclosing = context opened }
 
--- all that was read, in reading order, each group at its place
+-- the groups that were read (given newest first) in reading order, each with the blocks that are open at it and their conditions
 abbrev pub groups_in_context : List Group → List GroupInContext
 groups_in_context [] = []
 groups_in_context (g ∷ before) = groups_in_context before ++ group_in_context (open_blocks 0 before) g ∷ []

@@ -17,13 +17,14 @@ use Rattle.kc_tree_model.specs.Limits.{names_defined}
 use Rattle.kc_tree_model.specs.TreeReading.{reading}
 use Rattle.kc_tree_model.specs.Conditions.{Context, context, attribute_values, dependency_of, attribute_condition, prompts_of, conjunction_of, GroupInContext, groups_in_context}
 
--- all that was read, the names of the symbols, and the groups of the choices by their numbers
+-- the contents of what was read: the groups in reading order with their conditions, the names of the symbols in order of first
+-- definition, and the numbers of the groups that open choices
 pub record Contents : Type 0 where
   pub places : List GroupInContext
   pub names : List (List ℕ)
   pub choices : List ℕ
 
--- all that was read, with its names and choices in order
+-- the contents of the groups that were read (newest first)
 abbrev pub contents_of : List Group → Contents
 contents_of read =
     let places = groups_in_context read in
@@ -33,56 +34,56 @@ contents_of read =
       choices = map (λ (p : GroupInContext). p.group.number) (filter (λ (p : GroupInContext). opens_choice p.group) places);
     }
 
--- the place of a number in a list
+-- the index of a number in a list, from 0, if it is in the list
 unfoldable pub index_of_number : ℕ → List ℕ → Option ℕ
 index_of_number n numbers = position (λ k. k == n) numbers
 
--- the number of a choice, by that of its group
+-- the number of a choice among the choices, from 0, by the number of the group that opens it
 abbrev pub choice_number : Contents → ℕ → Option ℕ
 choice_number c group = index_of_number group c.choices
 
--- whether an entry defines a name
+-- whether a group defines the symbol with this name
 abbrev pub defines : List ℕ → GroupInContext → Bool
 defines name p = elim (defined_name p.group) [ None ↦ false | Some x ↦ bytes_eq x name ]
 
--- the definitions of a symbol, in reading order
+-- the definitions of the symbol with this name, in reading order
 abbrev pub definitions_of : Contents → List ℕ → List GroupInContext
 definitions_of c name = filter (defines name) c.places
 
--- the group of the first definition
+-- the group of the first definition of the symbol with this name, if it has one
 abbrev pub first_definition : Contents → List ℕ → Option Group
 first_definition c name = option_map (λ (p : GroupInContext). p.group) (slice_get (definitions_of c name) 0)
 
--- the first given type ("Menu attributes", type definition)
+-- the first type that the definitions of the symbol with this name give, if any ("Menu attributes", type definition)
 abbrev pub type_given : Contents → List ℕ → Option Kind
 type_given c name = slice_get (flat_map (λ (p : GroupInContext). attribute_values type_of p.group) (definitions_of c name)) 0
 
--- the choice of which a definition is a member
+-- the number of the choice of which the symbol with this name is a member, if any: that of its first definition within a choice
 abbrev pub choice_of_symbol : Contents → List ℕ → Option ℕ
 choice_of_symbol c name = option_and_then (choice_number c) (slice_get (filter_map (λ (p : GroupInContext). p.enclosing.choice) (definitions_of c name)) 0)
 
--- the defaults of a definition ("Menu attributes", default value)
+-- the defaults of a definition, in order, with their whole conditions ("Menu attributes", default value)
 abbrev pub defaults_at : GroupInContext → List Default
 defaults_at p = map (λ (d : DefaultAttribute). record { value = d.value; condition = attribute_condition p.enclosing p.group d.condition }) (attribute_values default_of p.group)
 
--- the ranges of a definition ("Menu attributes", numerical ranges)
+-- the ranges of a definition, in order, with their whole conditions ("Menu attributes", numerical ranges)
 abbrev pub ranges_at : GroupInContext → List Range
 ranges_at p = map (λ (r : RangeAttribute). record { low = r.low; high = r.high; condition = attribute_condition p.enclosing p.group r.condition }) (attribute_values range_of p.group)
 
--- the reverse dependencies that symbol number `by` exerts through these `select`s or `imply`s
+-- the reverse dependencies that the symbol with this name exerts by these `select`s or `imply`s of one of its definitions
 abbrev pub reverse_dependencies_by : Contents → GroupInContext → List TargetAttribute → List ℕ → List ReverseDependency
 reverse_dependencies_by c p aims by = elim (index_of_name by c.names) [ None ↦ [] | Some s ↦ map (λ (a : TargetAttribute). record { by = s; condition = attribute_condition p.enclosing p.group a.condition }) aims ]
 
--- what a definition's `select`s or `imply`s of a name give that symbol ("Menu attributes", reverse dependencies)
+-- the reverse dependencies that a group's `select`s or `imply`s put on this name ("Menu attributes", reverse dependencies)
 abbrev pub reverse_dependencies_of : (Attribute → Option TargetAttribute) → Contents → List ℕ → GroupInContext → List ReverseDependency
 reverse_dependencies_of f c name p = elim (defined_name p.group) [ None ↦ [] | Some by ↦ reverse_dependencies_by c p (filter (λ (a : TargetAttribute). bytes_eq a.name name) (attribute_values f p.group)) by ]
 
--- the dependencies of a symbol: of a member that of its first definition, which is in the choice, else those of all
+-- the dependencies of a symbol that count, out of those of all its definitions: only the first for a member of a choice, else all
 abbrev pub own_dependencies : {A : Type 0} → (choice : Option ℕ) → List A → List A
 own_dependencies None all = all
 own_dependencies (Some k) all = take 1 all
 
--- a symbol, from all its definitions in reading order ("Menu entries"); without a type it counts as a bool
+-- the symbol with this name, from all its definitions in reading order ("Menu entries"); without a type it counts as a bool
 abbrev pub symbol_of : Contents → List ℕ → Symbol
 symbol_of c name =
     let own = definitions_of c name in
@@ -101,28 +102,28 @@ symbol_of c name =
       choice = choice_of_symbol c name;
     }
 
--- whether this choice encloses a place
+-- whether the choice that the group with this number opens encloses a group
 abbrev pub is_member_of : ℕ → GroupInContext → Bool
 is_member_of group p = elim p.enclosing.choice [ None ↦ false | Some k ↦ k == group ]
 
--- the names that a choice's members define, in order of definition
+-- the names of the members of the choice that the group with this number opens, in order of definition
 abbrev pub member_names : Contents → ℕ → List (List ℕ)
 member_names c group = filter_map (λ (p : GroupInContext). defined_name p.group) (filter (is_member_of group) c.places)
 
--- the name that an expression is, if it is one without quotes
+-- the name that an expression is, if it is one name without quotes
 abbrev pub bare_name : Expr → Option (List ℕ)
 bare_name (alone (named x)) = Some x
 bare_name e = None
 
--- a name, if it is among these
+-- this name, if it is in the list of names
 abbrev pub name_among : List (List ℕ) → List ℕ → Option (List ℕ)
 name_among names x = option_map (λ _. x) (index_of_name x names)
 
--- the member that a choice's default names: the bare name of one of the members
+-- the name of the member that a choice's default chooses, if its value is the bare name of one of these members
 abbrev pub member_named : List (List ℕ) → DefaultAttribute → Option (List ℕ)
 member_named members d = if d.single then option_and_then (name_among members) (bare_name d.value) else None
 
--- a default of a choice ("Kconfig syntax", choices)
+-- the default of a choice by the member that it names, if it names one ("Kconfig syntax", choices)
 abbrev pub member_default : Contents → GroupInContext → DefaultAttribute → Option MemberDefault
 member_default c p d =
     option_map (λ s. record { member = s; condition = attribute_condition p.enclosing p.group d.condition })
@@ -132,7 +133,7 @@ member_default c p d =
 abbrev pub is_optional_group : Group → Bool
 is_optional_group g = list_any (λ (l : Line). is_optional l.attribute) g.attributes
 
--- a choice, by the group that opens it ("Kconfig syntax", choices)
+-- the choice that a group opens ("Kconfig syntax", choices)
 abbrev pub choice_of : Contents → GroupInContext → Choice
 choice_of c p =
     record {
@@ -144,16 +145,16 @@ choice_of c p =
       optional = is_optional_group p.group;
     }
 
--- a menu's beginning or end: its title, its dependency, its `visible if` joined with the enclosing ones
+-- the begin or end entry of the menu that a group opens: its title, dependency and `visible if`s, joined with the enclosing ones
 abbrev pub menu_entry : (List ℕ → Expr → Expr → tree.Entry) → Context → Group → Option tree.Entry
 menu_entry f enclosing g = option_map (λ title. f title (dependency_of enclosing g) (conjunction_of (enclosing.visibles ++ attribute_values visible_of g))) (from_head title_of_head g.head)
 
--- a menu's end, by the menu that it ends
+-- the entry of a menu's end, by the blocks that are open before that end, innermost first: the first of them is the menu
 abbrev pub menu_end_of : List Group → Option tree.Entry
 menu_end_of [] = None
 menu_end_of (g ∷ outer) = menu_entry tree.menu_ends (context outer) g
 
--- the list of entries: each definition, choice, beginning and end of a menu, and comment ("Menu structure")
+-- the entry that a group gives: a definition, a choice, the beginning or end of a menu, or a comment ("Menu structure"), if any
 abbrev pub entry_of_head : Contents → GroupInContext → Head → Option tree.Entry
 entry_of_head c p (config name) = option_map tree.definition (index_of_name name c.names)
 entry_of_head c p choice = option_map tree.choice_begins (choice_number c p.group.number)
@@ -162,17 +163,17 @@ entry_of_head c p (comment title) = Some (tree.comment title (dependency_of p.en
 entry_of_head c p (ends blocks.Menu) = menu_end_of p.opened
 entry_of_head c p h = None
 
--- whether a place is the first definition of a name
+-- whether a group is the first definition of the symbol with this name
 abbrev pub is_first_definition : Contents → List ℕ → GroupInContext → Bool
 is_first_definition c name p = elim (first_definition c name) [ None ↦ false | Some g ↦ g.number == p.group.number ]
 
--- the unit that begins at a place: a choice, or a symbol outside choices at its first definition
+-- the unit that begins at a group: a choice, or a symbol outside choices at its first definition, if any
 abbrev pub unit_of_head : Contents → GroupInContext → Head → Option TreeUnit
 unit_of_head c p (config name) = if is_first_definition c name p && is_none (choice_of_symbol c name) then option_map of_symbol (index_of_name name c.names) else None
 unit_of_head c p choice = option_map of_choice (choice_number c p.group.number)
 unit_of_head c p h = None
 
--- what a tree holds
+-- the tree that these groups (newest first) define
 unfoldable pub tree_of_groups : List Group → Tree
 tree_of_groups read =
     let c = contents_of read in
@@ -183,6 +184,7 @@ tree_of_groups read =
       units = filter_map (λ (p : GroupInContext). from_head (unit_of_head c p) p.group.head) c.places;
     }
 
--- what the tree of these files holds; `IsTreeOfFiles` by the law `trees_are_of_the_relation`, where they have no fault
+-- the tree of these files from this first path on; if they have no fault, `IsTreeOfFiles` describes it, by the law
+-- `trees_are_of_the_relation`
 unfoldable pub tree_of_files : Files → List ℕ → Tree
 tree_of_files files root = tree_of_groups (reading files root).read

@@ -3,7 +3,7 @@ use Rattle.std.specs.Prelude.{ℕ, List, codes}
 use Rattle.kc_tree_model.specs.declared.fault.TreeKind.{TreeKind}
 use Rattle.kc_tree_model.specs.declared.fault.TreeKind.TheVariants.{NotUtf8, LineTooLong, BadToken, UnclosedQuote, UnknownStatement, Malformed, Unclosed, StrayEnd, Misplaced, NoType, TypeConflict, SecondPrompt, DefaultShape, RangeType, SelectType, ChoiceMember, ChoiceDefault, ModulesType, MissingFile, SourceLoop, TooDeep, TooMany, Cycle, LeftOut, OutOfMemory}
 
--- the name of a kind of fault of a tree
+-- the name of a kind of fault of a tree, as its bytes
 abbrev pub tree_kind_name : TreeKind → List ℕ
 tree_kind_name NotUtf8 = codes "NotUtf8"
 tree_kind_name LineTooLong = codes "LineTooLong"

@@ -1,4 +1,4 @@
--- The form of each line, by the tokens after its first word, apart from how it is read ("Kconfig syntax", "Menu attributes").
+-- The grammar of the forms of lines, by the tokens after the first word ("Kconfig syntax", "Menu attributes").
 use Rattle.std.specs.Prelude.{◌≡◌, ℕ, true, ◌==◌, List, [], ◌∷◌, ◌++◌, length, Option, Some, None, codes}
 use Rattle.kc_value.specs.declared.value.Kind.{Kind}
 use Rattle.kc_value.specs.declared.limits.TheConstants.{MAX_EXPR_DEPTH}
@@ -14,16 +14,16 @@ use Rattle.kc_tree_model.specs.declared.keyword.Keyword.{Keyword}
 use Rattle.kc_tree_model.specs.declared.keyword.Keyword.TheVariants as words
 use Rattle.kc_tree_model.specs.Forms.{path_of}
 
--- a condition; `m` in it means `m && MODULES`
+-- these tokens are an expression `E`, and this `Expr` is `E` as a condition, in which `m` means `m && MODULES`
 abbrev pub IsCondition : List Lexeme → Expr → Type 0
 IsCondition ts c = (e : Expr) × IsExpr ors MAX_EXPR_DEPTH ts e × (c ≡ conditional e)
 
--- a condition that may be left out: `[if E]`
+-- these tokens are `[if E]`: the word `if` and this condition, or no tokens and None
 pub data IsOptionalIf : List Lexeme → Option Expr → Type 0 where
   no_if : IsOptionalIf [] None
   with_if : {t : Lexeme} {ts : List Lexeme} {c : Expr} → is_the_word (codes "if") t ≡ true → IsCondition ts c → IsOptionalIf (t ∷ ts) (Some c)
 
--- `E [if E]`, where `m` in the first stays `m`
+-- these tokens are `E [if E]`: the value of the default `d`, in which `m` stays `m`, and its condition
 pub record IsDefault (ts : List Lexeme) (d : DefaultAttribute) : Type 0 where
   pub front : List Lexeme
   pub rest : List Lexeme
@@ -58,7 +58,7 @@ pub data IsForm : Keyword → List Lexeme → Statement → Type 0 where
   option_form : {t : Lexeme} → is_the_word (codes "modules") t ≡ true → IsForm words.Option (t ∷ []) (attribute modules)
   optional_form : IsForm words.Optional [] (attribute optional)
 
--- the tokens before the `if E` that a line with this keyword may have
+-- these tokens may come between this keyword and an `if E` on its line
 pub data IsBeforeIf : Keyword → List Lexeme → Type 0 where
   of_type : {k : Kind} {t : Lexeme} → is_quoted_kind t.kind ≡ true → IsBeforeIf (words.Type k) (t ∷ [])
   of_prompt : {t : Lexeme} → is_quoted_kind t.kind ≡ true → IsBeforeIf words.Prompt (t ∷ [])
@@ -68,7 +68,8 @@ pub data IsBeforeIf : Keyword → List Lexeme → Type 0 where
   of_imply : {t : Lexeme} → is_name t ≡ true → IsBeforeIf words.Imply (t ∷ [])
   of_range : {t u : Lexeme} {a b : Operand} → operand_of_lexeme t ≡ Some a → operand_of_lexeme u ≡ Some b → IsBeforeIf words.Range (t ∷ u ∷ [])
 
--- up to the last of these tokens a line with this keyword has its form, and there an expression comes
+-- a line has this keyword and then the tokens of the first list; the second list is the end of the first, where the form of the
+-- keyword has an expression, and the tokens before that end fit the form
 pub data ComesToExpr : Keyword → List Lexeme → List Lexeme → Type 0 where
   at_if : {ts : List Lexeme} → ComesToExpr words.If ts ts
   at_type_default : {k : Kind} {ts : List Lexeme} → ComesToExpr (words.DefaultType k) ts ts
@@ -77,6 +78,6 @@ pub data ComesToExpr : Keyword → List Lexeme → List Lexeme → Type 0 where
   at_visible : {t : Lexeme} {ts : List Lexeme} → is_the_word (codes "if") t ≡ true → ComesToExpr words.Visible (t ∷ ts) ts
   after_if : {k : Keyword} {front ts : List Lexeme} (t : Lexeme) → IsBeforeIf k front → is_the_word (codes "if") t ≡ true → ComesToExpr k (front ++ t ∷ ts) ts
 
--- a line with this keyword and these tokens after it comes to an expression of which an operand is too deep
+-- a line with this keyword and these tokens after it comes to an expression that has an operand nested too deep
 abbrev pub HasDeepExpr : Keyword → List Lexeme → Type 0
 HasDeepExpr k ts = (us rest : List Lexeme) × ComesToExpr k ts us × IsFirstExprFault (extent us) (TooDeep, rest)

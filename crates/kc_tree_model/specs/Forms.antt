@@ -1,5 +1,5 @@
--- The form of each line, by the tokens after its first word ("Kconfig syntax", "Menu attributes"). It computes what `FormGrammar` has, by
--- the law `forms_are_of_the_grammar`.
+-- Reads the form of each line from the tokens after its first word ("Kconfig syntax", "Menu attributes"). It computes what
+-- `FormGrammar` describes, by the law `forms_are_of_the_grammar`.
 use Rattle.std.specs.Prelude.{ℕ, Bool, ◌||◌, ◌==◌, List, [], ◌∷◌, length, drop, Option, Some, None, codes, Result, Ok, Err, if◌then◌else◌}
 use Rattle.std.specs.List.{list_any}
 use Rattle.kc_value.specs.declared.value.Kind.{Kind}
@@ -15,13 +15,13 @@ use Rattle.kc_tree_model.specs.Keywords.{is_word_kind, is_quoted_kind, is_the_wo
 use Rattle.kc_tree_model.specs.declared.keyword.Keyword.{Keyword}
 use Rattle.kc_tree_model.specs.declared.keyword.Keyword.TheVariants as words
 
--- goes on with a value; a fault stays
 infixl 10 ◌>>=◌
+-- one step of reading a form, then a second that is given the value of the first; if the first has a fault, that is the result
 abbrev pub ◌>>=◌ : {A B : Type 0} → Result A TreeKind → (A → Result B TreeKind) → Result B TreeKind
 (Ok x) >>= f = f x
 (Err e) >>= f = Err e
 
--- a fault of an expression as one of the tree
+-- the kind of fault of a tree that has the same name as this kind of fault of an expression
 abbrev pub kind_of_fault : ExprKind → TreeKind
 kind_of_fault expr_kinds.BadToken = BadToken
 kind_of_fault expr_kinds.UnclosedQuote = UnclosedQuote
@@ -30,104 +30,104 @@ kind_of_fault expr_kinds.TooDeep = TooDeep
 kind_of_fault expr_kinds.LeftOut = LeftOut
 kind_of_fault expr_kinds.OutOfMemory = OutOfMemory
 
--- an expression, whether it is one operand, and the tokens after it
+-- an expression at the front of tokens, whether it is one operand, and the tokens after it
 pub record ParsedExpr : Type 0 where
   pub expr : Expr
   pub single : Bool
   pub rest : List Lexeme
 
--- the expression at the front of the tokens ("Menu dependencies")
+-- the expression at the front of these tokens and the tokens after it, or its fault ("Menu dependencies")
 abbrev pub leading_expr : List Lexeme → Result ParsedExpr TreeKind
 leading_expr ts = elim (read_expr (extent ts)) [ Ok e ↦ Ok (record { expr = e; single = length (extent ts) == 1; rest = drop (length (extent ts)) ts }) | Err f ↦ Err (kind_of_fault f.0) ]
 
--- nothing may follow
+-- this value if no tokens of the line are left, or the fault Malformed
 abbrev pub no_more : {A : Type 0} → A → List Lexeme → Result A TreeKind
 no_more x [] = Ok x
 no_more x (t ∷ ts) = Err Malformed
 
--- a condition at the end of a line; `m` in it means `m && MODULES`
+-- the condition that these last tokens of a line are, or its fault; `m` in it means `m && MODULES`
 abbrev pub last_condition : List Lexeme → Result Expr TreeKind
 last_condition ts = leading_expr ts >>= λ r. no_more (conditional r.expr) r.rest
 
--- a condition that may be left out: `[if E]`
+-- the condition of `[if E]` at the end of a line, None if no tokens are left, or a fault
 abbrev pub optional_if : List Lexeme → Result (Option Expr) TreeKind
 optional_if [] = Ok None
 optional_if (t ∷ ts) = if is_the_word (codes "if") t then (last_condition ts >>= λ e. Ok (Some e)) else Err Malformed
 
--- what follows `config`: `NAME`
+-- the statement of a `config` line by the tokens after that word, which are `NAME`, or a fault
 abbrev pub config_line : List Lexeme → Result Statement TreeKind
 config_line [] = Err Malformed
 config_line (t ∷ ts) = if is_name t then no_more (head (config t.text)) ts else Err Malformed
 
--- what follows `choice`: nothing
+-- the statement of a `choice` line by the tokens after that word, of which there are none, or a fault
 abbrev pub choice_line : List Lexeme → Result Statement TreeKind
 choice_line ts = no_more (head choice) ts
 
--- what follows a word with a title: `Q`
+-- the statement of a line with a title by the tokens after its first word, which are one quoted text, or a fault
 abbrev pub titled_line : (List ℕ → Head) → List Lexeme → Result Statement TreeKind
 titled_line f [] = Err Malformed
 titled_line f (t ∷ ts) = if is_quoted_kind t.kind then no_more (head (f (quoted_text t.text))) ts else Err Malformed
 
--- the path that a word or a quoted text is
+-- the path that a token is, if it is a bare word or a quoted text
 abbrev pub path_of : Lexeme → Option (List ℕ)
 path_of t = if is_quoted_kind t.kind then Some (quoted_text t.text) else if is_word_kind t.kind then Some t.text else None
 
--- a path with one of `*`, `?` and `[`
+-- whether a path is a pattern: it has one of `*`, `?` and `[`
 abbrev pub is_glob : List ℕ → Bool
 is_glob path = list_any (λ c. c == 42 || (c == 63) || (c == 91)) path
 
--- `Q` or `W`
+-- the statement of a `source` line by the tokens after that word, which are one quoted text or bare word, or a fault
 abbrev pub source_line : List Lexeme → Result Statement TreeKind
 source_line [] = Err Malformed
 source_line (t ∷ ts) = elim (path_of t) [ None ↦ Err Malformed | Some path ↦ no_more (head (source path)) ts ]
 
--- what follows `prompt`: `Q [if E]`
+-- the attribute of a line with a prompt by the tokens after its first word, `Q [if E]` (`Q` a quoted text), or a fault
 abbrev pub prompt_line : (Option Expr → Attribute) → List Lexeme → Result Statement TreeKind
 prompt_line f [] = Err Malformed
 prompt_line f (t ∷ ts) = if is_quoted_kind t.kind then (optional_if ts >>= λ c. Ok (attribute (f c))) else Err Malformed
 
--- what follows a type: `[Q [if E]]`
+-- the attribute of a type line by the tokens after its first word, `[Q [if E]]` (`Q` a quoted text), or a fault
 abbrev pub type_line : Kind → List Lexeme → Result Statement TreeKind
 type_line k [] = Ok (attribute (typed k))
 type_line k (t ∷ ts) = prompt_line (typed_prompt k) (t ∷ ts)
 
--- `E [if E]`, where `m` in the first stays `m`
+-- the attribute of a line with a default by the tokens after its first word, `E [if E]`, or a fault; `m` in the value stays `m`
 abbrev pub default_line : (DefaultAttribute → Attribute) → List Lexeme → Result Statement TreeKind
 default_line f ts = do
   e ← leading_expr ts
   c ← optional_if e.rest
   Ok (attribute (f (record { value = e.expr; single = e.single; condition = c })))
 
--- what follows `select` or `imply`: `NAME [if E]`
+-- the attribute of a `select` or `imply` line by the tokens after that word, which are `NAME [if E]`, or a fault
 abbrev pub target_line : (TargetAttribute → Attribute) → List Lexeme → Result Statement TreeKind
 target_line f [] = Err Malformed
 target_line f (t ∷ ts) = if is_name t then (optional_if ts >>= λ c. Ok (attribute (f (record { name = t.text; condition = c })))) else Err Malformed
 
--- `[if E]` after two operands
+-- the attribute of a `range` line by its two operands and the tokens after them, `[if E]`; a fault if an operand is None
 abbrev pub range_of_operands : Option Operand → Option Operand → List Lexeme → Result Statement TreeKind
 range_of_operands (Some a) (Some b) ts = optional_if ts >>= λ c. Ok (attribute (range (record { low = a; high = b; condition = c })))
 range_of_operands a b ts = Err Malformed
 
--- what follows `range`: `OP OP [if E]`
+-- the attribute of a `range` line by the tokens after that word, `OP OP [if E]` (`OP` an operand), or a fault
 abbrev pub range_line : List Lexeme → Result Statement TreeKind
 range_line (t ∷ u ∷ ts) = range_of_operands (operand_of_lexeme t) (operand_of_lexeme u) ts
 range_line ts = Err Malformed
 
--- `on E` and `if E`
+-- the attribute of a line `depends on E` or `visible if E` by its second word and the tokens after its first, or a fault
 abbrev pub condition_line : List ℕ → (Expr → Attribute) → List Lexeme → Result Statement TreeKind
 condition_line word f [] = Err Malformed
 condition_line word f (t ∷ ts) = if is_the_word word t then (last_condition ts >>= λ e. Ok (attribute (f e))) else Err Malformed
 
--- the options of other tools
+-- whether a token is an option of other tools that is left out: `env`, `defconfig_list` or `allnoconfig_y`
 abbrev pub is_left_out_option : Lexeme → Bool
 is_left_out_option t = is_the_word (codes "env") t || is_the_word (codes "defconfig_list") t || is_the_word (codes "allnoconfig_y") t
 
--- what follows `option`: `modules`
+-- the attribute of an `option` line by the tokens after that word, which are `modules`, or a fault
 abbrev pub option_line : List Lexeme → Result Statement TreeKind
 option_line [] = Err Malformed
 option_line (t ∷ ts) = if is_the_word (codes "modules") t then no_more (attribute modules) ts else Err Malformed
 
--- the statement of a line with this keyword and these tokens after it; forms that are left out were refused before
+-- the statement of a line with this keyword and these tokens after it, or a fault; `is_left_out` tests for left-out forms before
 abbrev pub statement_of : Keyword → List Lexeme → Result Statement TreeKind
 statement_of words.Config ts = config_line ts
 statement_of words.Choice ts = choice_line ts

@@ -1,4 +1,4 @@
--- The first words of lines.
+-- The keywords of logical lines by their first words, and tests of tokens.
 use Rattle.std.specs.Prelude.{ℕ, Bool, true, false, not, ◌&&◌, ◌||◌, nat_lt, List, [], ◌∷◌, length, Option, None, bytes_eq, codes, if◌then◌else◌}
 use Rattle.std.specs.List.{list_all}
 use Rattle.std.specs.Map.{lookup}
@@ -11,7 +11,7 @@ use Rattle.kc_tree_model.specs.declared.keyword.Keyword.{Keyword}
 use Rattle.kc_tree_model.specs.declared.keyword.Keyword.TheVariants as words
 use Rattle.kc_tree_model.specs.declared.keyword.Block.TheVariants as blocks
 
--- the words of statements ("Kconfig syntax"), of attributes ("Menu attributes"), and those that are left out
+-- the first words of lines with their keywords: statements ("Kconfig syntax"), attributes ("Menu attributes"), left-out words
 abbrev pub keywords : List (List ℕ × Keyword)
 keywords =
     (codes "config", words.Config) ∷ (codes "menuconfig", words.Config) ∷ (codes "choice", words.Choice)
@@ -29,7 +29,7 @@ keywords =
     ∷ (codes "rsource", words.LeftOut) ∷ (codes "osource", words.LeftOut) ∷ (codes "orsource", words.LeftOut)
     ∷ (codes "optional", words.Optional) ∷ (codes "transitional", words.LeftOut) ∷ []
 
--- the entry of a table for a word
+-- the value that a table has for a word, or None if it lacks the word
 abbrev pub keyword_in_table : {A : Type 0} → List (List ℕ × A) → List ℕ → Option A
 keyword_in_table table word = lookup (λ key. bytes_eq key word) table
 
@@ -43,14 +43,14 @@ abbrev pub is_quoted_kind : TokenKind → Bool
 is_quoted_kind Quoted = true
 is_quoted_kind k = false
 
--- a bare word of these letters
+-- whether a token is the bare word with these bytes
 abbrev pub is_the_word : List ℕ → Lexeme → Bool
 is_the_word x t = is_word_kind t.kind && bytes_eq t.text x
 
--- the keyword of a line by its first token
+-- the keyword that the first token of a line is, or None if it is no keyword
 abbrev pub keyword_of : Lexeme → Option Keyword
 keyword_of t = if is_word_kind t.kind then keyword_in_table keywords t.text else None
 
--- the name of a symbol has one or more letters, digits and `_`, and is none of the three constants
+-- whether a token is the name of a symbol: a bare word of letters, digits and `_` other than the constants `n`, `m` and `y`
 abbrev pub is_name : Lexeme → Bool
 is_name t = is_word_kind t.kind && (nat_lt 0 (length t.text) && list_all is_name_byte t.text) && not (bytes_eq t.text (codes "n") || bytes_eq t.text (codes "m") || bytes_eq t.text (codes "y"))

@@ -15,7 +15,7 @@ use Rattle.kc_tree_model.specs.declared.keyword.Keyword.TheVariants as words
 use Rattle.kc_tree_model.specs.Forms.{path_of, is_glob, is_left_out_option}
 use Rattle.kc_tree_model.specs.Blocks.{Group, open_blocks, from_head, opened_block, in_choice, is_stray}
 
--- a `config`, a `choice`, a `menu` and a `comment` open an entry
+-- the entry that a statement opens, if it is a `config`, a `choice`, a `menu` or a `comment`
 abbrev pub opened_by : Head → Option OpenEntry
 opened_by (config name) = Some entries.Config
 opened_by choice = Some entries.Choice
@@ -23,12 +23,12 @@ opened_by (menu title) = Some entries.Menu
 opened_by (comment title) = Some entries.Comment
 opened_by h = None
 
--- the entry that is open after some groups, if one is
+-- the entry that is open after these groups (newest first): the one that the newest opens, if it opens one
 abbrev pub open_entry : List Group → Option OpenEntry
 open_entry [] = None
 open_entry (g ∷ before) = from_head opened_by g.head
 
--- the attributes of each entry ("Kconfig syntax": config, choice, menu, comment)
+-- whether an entry may have the attribute of this keyword ("Kconfig syntax": config, choice, menu, comment)
 abbrev pub allows_attribute : OpenEntry → Keyword → Bool
 allows_attribute entries.Config (words.Type k) = true
 allows_attribute entries.Config (words.DefaultType k) = true
@@ -52,11 +52,12 @@ allows_attribute entries.Menu words.Visible = true
 allows_attribute entries.Comment words.Depends = true
 allows_attribute e k = false
 
--- whether the open entry takes an attribute
+-- whether an entry is open after these groups and may have the attribute of this keyword
 abbrev pub open_entry_allows : List Group → Keyword → Bool
 open_entry_allows read k = elim (open_entry read) [ None ↦ false | Some e ↦ allows_attribute e k ]
 
--- all statements are allowed outside choices, some also inside, and `mainmenu` only outside every block
+-- whether the statement or attribute of this keyword is allowed after these groups: `choice` and `menu` outside choices,
+-- `mainmenu` outside every block, any other statement everywhere, and an attribute where the open entry may have it
 abbrev pub is_allowed : List Group → Keyword → Bool
 is_allowed read words.Config = true
 is_allowed read words.Choice = not (in_choice read)
@@ -73,12 +74,12 @@ abbrev pub is_choice_open : Option OpenEntry → Bool
 is_choice_open (Some entries.Choice) = true
 is_choice_open e = false
 
--- a test of the first token
+-- whether there is a first token and it passes this test
 abbrev pub first_is : (Lexeme → Bool) → List Lexeme → Bool
 first_is test [] = false
 first_is test (t ∷ ts) = test t
 
--- a path that is a pattern
+-- whether a token is a path that is a pattern
 abbrev pub is_glob_path : Lexeme → Bool
 is_glob_path t = elim (path_of t) [ None ↦ false | Some path ↦ is_glob path ]
 
@@ -87,8 +88,9 @@ abbrev pub is_strict : Language → Bool
 is_strict Strict = true
 is_strict Linux = false
 
--- forms that are left out: by their first word, and options, named and tristate choices, paths that are patterns; in the
--- strict language also a default type that is neither bool nor tristate, and optional choices
+-- whether a line after these groups, with this keyword and these tokens after it, has a form that the language leaves out: some
+-- first words, some options, named and tristate choices, paths that are patterns; in the strict language also `def_int`,
+-- `def_hex`, `def_string` and `optional`
 abbrev pub is_left_out : Language → List Group → Keyword → List Lexeme → Bool
 is_left_out language read words.LeftOut ts = true
 is_left_out language read words.Option ts = first_is is_left_out_option ts
@@ -99,7 +101,7 @@ is_left_out language read (words.DefaultType k) ts = is_strict language && not (
 is_left_out language read words.Optional ts = is_strict language
 is_left_out language read k ts = false
 
--- an end keyword that matches no open block of its file
+-- whether a keyword is an end that doesn't match the innermost open block of its file, after these groups
 abbrev pub is_stray_end : List Group → Keyword → Bool
 is_stray_end read (words.End b) = is_stray read b
 is_stray_end read k = false

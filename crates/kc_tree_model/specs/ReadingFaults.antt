@@ -1,4 +1,4 @@
--- The faults of a line and of a `source`, after the groups read before it: the condition of each kind, and the order of the kinds.
+-- The faults of a line and of a `source` after the groups read before: the condition of each kind, and the order of the kinds.
 use Rattle.std.specs.Prelude.{◌≡◌, ◌⊎◌, ℕ, ◌+◌, ◌<◌, ◌≤◌, true, false, List, [], ◌∷◌, ◌++◌, length, sum_by, Some, None}
 use Rattle.std.specs.List.{AllByRecursion}
 use Rattle.std.specs.Str.{is_utf8}
@@ -19,24 +19,24 @@ use Rattle.kc_tree_model.specs.Blocks.{Group}
 use Rattle.kc_tree_model.specs.Placement.{is_allowed, is_left_out, is_stray_end}
 use Rattle.kc_tree_model.specs.Limits.{is_too_deep, is_too_many, FileSource, is_in_list, size_in, open_files, files_read}
 
--- the tokens of a line; a help line has none
+-- a logical line has these tokens; a line of a help text has none
 pub data HasTokens (language : Language) (l : LogicalLine) (ts : List Lexeme) : Type 0 where
   help_line : l.help ≡ true → ts ≡ [] → HasTokens language l ts
   cut_line : l.help ≡ false → IsCut language 0 l.text ts → HasTokens language l ts
 
--- the first fault of a line's tokens is of this kind
+-- the first fault of the tokens of a logical line is of this kind
 abbrev pub HasTokenFault : Language → LogicalLine → ExprKind → Type 0
 HasTokenFault language l kind = (offset : ℕ) × (l.help ≡ false) × IsFirstTokenFault language 0 l.text (record { offset = offset; kind = kind })
 
--- a line begins with a keyword, and these tokens come after it
+-- a logical line begins with this keyword, and these tokens come after it
 abbrev pub BeginsWith : Language → LogicalLine → Keyword → List Lexeme → Type 0
 BeginsWith language l k ts = (t : Lexeme) × HasTokens language l (t ∷ ts) × (keyword_of t ≡ Some k)
 
--- a line has the form of its keyword, and is this statement
+-- a logical line has the form of its keyword, and is this statement
 abbrev pub HasForm : Language → LogicalLine → Statement → Type 0
 HasForm language l s = (k : Keyword) × (ts : List Lexeme) × BeginsWith language l k ts × IsForm k ts s
 
--- the condition of each kind of fault of a line, after these groups
+-- a logical line after these groups has a fault of this kind
 abbrev pub IsLineFault : Language → List Group → LogicalLine → TreeKind → Type 0
 IsLineFault language read l LineTooLong = MAX_LINE_BYTES < length l.text
 IsLineFault language read l NotUtf8 = is_utf8 l.text ≡ false
@@ -53,11 +53,11 @@ IsLineFault language read l Malformed = (k : Keyword) × (ts : List Lexeme) × B
 IsLineFault language read l TooMany = (s : Statement) × HasForm language l s × (is_too_many read s ≡ true)
 IsLineFault language read l kind = ⊥
 
--- the order of the faults of a line
+-- the kinds of faults of a line, in the order in which they count as its first
 abbrev pub line_order : List TreeKind
 line_order = LineTooLong ∷ NotUtf8 ∷ BadToken ∷ UnclosedQuote ∷ UnknownStatement ∷ LeftOut ∷ Misplaced ∷ StrayEnd ∷ TooDeep ∷ Malformed ∷ TooMany ∷ []
 
--- the condition of each kind of fault of a `source` of this path, after these groups
+-- a `source` of this path after these groups has a fault of this kind
 abbrev pub IsSourceFault : FileSource → List Group → List ℕ → TreeKind → Type 0
 IsSourceFault r read path SourceLoop = is_in_list path (open_files r read) ≡ true
 IsSourceFault r read path MissingFile = r.bytes path ≡ None
@@ -65,15 +65,15 @@ IsSourceFault r read path TooDeep = MAX_OPEN_FILES ≤ length (open_files r read
 IsSourceFault r read path TooMany = (MAX_FILES ≤ length (files_read r read)) ⊎ (MAX_TREE_BYTES < sum_by (size_in r) (files_read r read) + size_in r path)
 IsSourceFault r read path kind = ⊥
 
--- the order of the faults of a `source`
+-- the kinds of faults of a `source`, in the order in which they count as its first
 abbrev pub source_order : List TreeKind
 source_order = SourceLoop ∷ MissingFile ∷ TooDeep ∷ TooMany ∷ []
 
--- none of the conditions holds
+-- a condition on kinds of faults holds for no kind
 abbrev pub HoldsNever : (TreeKind → Type 0) → Type 0
 HoldsNever condition = (kind : TreeKind) → condition kind → ⊥
 
--- the condition of a kind holds, and of none that the order puts before it
+-- a condition on kinds of faults holds for this kind of the order and for none before it
 pub record IsFirstOf (order : List TreeKind) (condition : TreeKind → Type 0) (kind : TreeKind) : Type 0 where
   pub before : List TreeKind
   pub after : List TreeKind

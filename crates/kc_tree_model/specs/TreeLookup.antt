@@ -1,4 +1,4 @@
--- Indices of units and symbols in a tree.
+-- The numbers of units and symbols in a tree, and what holds for every tree that is read.
 use Rattle.std.specs.Prelude.{◌≡◌, ℕ, ◌<◌, ◌≤◌, Bool, true, false, not, ◌&&◌, ◌||◌, List, [], length, Option, Some, None, ◌==◌, nat_lt, nat_le, slice_get, bytes_eq}
 use Rattle.std.specs.Str.{is_utf8}
 use Rattle.std.specs.List.{position, position_or_len, list_all, list_any}
@@ -16,34 +16,34 @@ is_same_unit (of_choice a) (of_choice b) = a == b
 is_same_unit (of_symbol a) (of_choice b) = false
 is_same_unit (of_choice a) (of_symbol b) = false
 
--- the number of a unit, and the count of units if it isn't there
+-- the number of a unit in a tree, from 0, or the count of the tree's units if it isn't among them
 abbrev pub index_of_unit : Tree → TreeUnit → ℕ
 index_of_unit tree unit = position_or_len (is_same_unit unit) tree.units
 
--- a member's unit is its choice, and any other symbol is its own
+-- the unit of a symbol by its number and that of its choice, if it is a member: its choice, or the symbol itself
 abbrev pub unit_in : ℕ → Option ℕ → TreeUnit
 unit_in s None = of_symbol s
 unit_in s (Some c) = of_choice c
 
--- the number of the unit of a symbol, and the count of units if the symbol isn't there
+-- the number of the unit of a symbol, given by its number and itself, or the count of units if there is no such symbol
 abbrev pub unit_of_symbol : Tree → ℕ → Option Symbol → ℕ
 unit_of_symbol tree s None = length tree.units
 unit_of_symbol tree s (Some symbol) = index_of_unit tree (unit_in s symbol.choice)
 
--- the number of a symbol's unit
+-- the number of the unit of the symbol with this number, or the count of units if there is no such symbol
 abbrev pub unit_of : Tree → ℕ → ℕ
 unit_of tree s = unit_of_symbol tree s (slice_get tree.symbols s)
 
--- the symbol of a name, if an entry defines it
+-- the number of the symbol with this name in a tree, if an entry defines it
 abbrev pub symbol_named : Tree → List ℕ → Option ℕ
 symbol_named tree name = position (λ (s : Symbol). bytes_eq name s.name) tree.symbols
 
--- a letter, a digit or `_`
+-- whether a byte is a letter, a digit or `_`
 abbrev pub is_name_byte : ℕ → Bool
 is_name_byte b = (nat_le 97 b && nat_le b 122) || (nat_le 65 b && nat_le b 90) || (nat_le 48 b && nat_le b 57)
     || (b == 95)
 
--- the operand's own text: a name that isn't defined is its own text
+-- the text of an expression that is one name or one quoted text (an undefined name has itself as text); empty of any other
 abbrev pub own_text : Expr → List ℕ
 own_text (alone (named x)) = x
 own_text (alone (quoted x)) = x
@@ -53,17 +53,17 @@ own_text _ = []
 abbrev pub has_newline : List ℕ → Bool
 has_newline text = list_any (λ b. b == 10) text
 
--- the title of an entry
+-- the title of a menu's beginning or end or of a comment; None of any other entry
 abbrev pub title_of_entry : Entry → Option (List ℕ)
 title_of_entry (menu_begins title dependency visible) = Some title
 title_of_entry (menu_ends title dependency visible) = Some title
 title_of_entry (comment title dependency) = Some title
 title_of_entry e = None
 
--- Holds for every tree that is read: names that are words and differ, each symbol outside choices and each choice as
--- one unit, members that are bools of one choice, defaults of a choice that are its members, own texts and titles that
--- are one line of UTF-8, selectors, impliers and entries of symbols and choices that are there, an entry for each
--- symbol (the full file writes it at the first), and the limits of symbols and names.
+-- A tree is consistent, which every tree is that is read without a fault: names are words and differ, each symbol outside choices
+-- and each choice is one unit, members are bools of one choice, the defaults of a choice are its members, titles and default
+-- values of one name or text are one line of UTF-8, selectors, impliers and entries are of symbols and choices of the tree, each
+-- symbol has an entry (the full file writes it at the first), and the limits on the count of symbols and length of names hold.
 pub record IsConsistent (tree : Tree) : Type 0 where
   pub words : (s : ℕ) (symbol : Symbol) → slice_get tree.symbols s ≡ Some symbol
       → (0 < length symbol.name) × (list_all is_name_byte symbol.name ≡ true)

@@ -1,28 +1,28 @@
--- A tree: symbols, choices, entries and units, each condition joined with the enclosing ones.
+-- The data of a tree: symbols, choices, entries and units, each condition joined with the enclosing ones.
 use Rattle.std.specs.Prelude.{ℕ, Bool, List, Option}
 use Rattle.kc_value.specs.declared.value.Kind.{Kind}
 use Rattle.kc_expr.specs.Expr.{Expr, Operand}
 use Rattle.kc_tree_model.specs.declared.ids.Unit.{Unit as TreeUnit}
 
--- a default: its value and its condition
+-- a default of a symbol: its value, and its condition joined with the enclosing ones
 pub record Default : Type 0 where
   pub value : Expr
   pub condition : Expr
 
--- a range: its bounds and its condition
+-- a range of a symbol: its bounds, and its condition joined with the enclosing ones
 pub record Range : Type 0 where
   pub low : Operand
   pub high : Operand
   pub condition : Expr
 
--- a symbol that selects or implies this one, by its number, with the condition
+-- a `select` or an `imply` of a symbol: the number of the symbol that selects or implies it, and the condition
 pub record ReverseDependency : Type 0 where
   pub by : ℕ
   pub condition : Expr
 
--- a symbol: its first place, and the attributes of all its definitions in reading order, each condition joined with
--- the enclosing ones; `direct` has the dependency of each definition, of a member that of its definition in the choice, and
--- `choice` has the number of its choice
+-- a symbol: its name, its type, the file and line of its first definition, and the attributes of all its definitions in reading
+-- order, each condition joined with the enclosing ones; `direct` has the dependency of each definition, or of a member of a
+-- choice only that of its first, and `choice` has the number of the choice of which it is a member
 pub record Symbol : Type 0 where
   pub name : List ℕ
   pub kind : Kind
@@ -36,12 +36,13 @@ pub record Symbol : Type 0 where
   pub direct : List Expr
   pub choice : Option ℕ
 
--- a default of a choice: the member's number among the symbols, and its condition
+-- a default of a choice: the number of the member among the symbols, and its condition joined with the enclosing ones
 pub record MemberDefault : Type 0 where
   pub member : ℕ
   pub condition : Expr
 
--- a choice: its place, its members by their numbers among the symbols, in order of definition, and whether it is optional
+-- a choice: its file and line, its members by their numbers among the symbols, in order of definition, the condition of its first
+-- prompt, its defaults, and whether it is optional
 pub record Choice : Type 0 where
   pub file : ℕ
   pub line : ℕ
@@ -50,7 +51,8 @@ pub record Choice : Type 0 where
   pub defaults : List MemberDefault
   pub optional : Bool
 
--- an entry in reading order; a menu's second condition is its `visible if`, joined with the enclosing ones
+-- an entry of a tree: a definition of a symbol or the beginning of a choice, by its number, the beginning or the end of a menu,
+-- or a comment; `visible` has the `visible if`s of the menu joined with the enclosing ones
 pub data Entry : Type 0 where
   definition : ℕ → Entry
   choice_begins : ℕ → Entry
@@ -58,7 +60,8 @@ pub data Entry : Type 0 where
   menu_ends : (title : List ℕ) (dependency visible : Expr) → Entry
   comment : (title : List ℕ) (dependency : Expr) → Entry
 
--- symbols and choices in order of first definition, entries in reading order, units in the order of their numbers
+-- a tree: its symbols and choices in order of first definition, its entries in reading order, its units in the order of their
+-- numbers
 pub record Tree : Type 0 where
   pub symbols : List Symbol
   pub choices : List Choice

@@ -1,7 +1,7 @@
 //! The first words of lines, the blocks and the entries that statements open.
 use kc_value::Kind;
 
-/// The blocks that a statement opens and an end closes ("Menu structure").
+/// A block that a statement opens and an end statement closes ("Menu structure"): a menu, an `if` or a choice.
 #[derive(Clone, Copy, Debug, PartialEq, Eq)]
 pub enum Block {
     Menu,
@@ -9,7 +9,7 @@ pub enum Block {
     Choice,
 }
 
-/// The meaning of a first word; `menuconfig` means what `config` means.
+/// What the first word of a logical line begins: a statement or an attribute. `menuconfig` is read as `config`.
 #[derive(Clone, Copy, Debug, PartialEq, Eq)]
 pub enum Keyword {
     Config,
@@ -19,11 +19,11 @@ pub enum Keyword {
     Comment,
     Source,
     Mainmenu,
-    /// `endmenu`, `endif` or `endchoice`.
+    /// The word `endmenu`, `endif` or `endchoice`, by the block that it ends.
     End(Block),
-    /// `bool`, `tristate`, `string`, `int` or `hex`.
+    /// The word `bool`, `tristate`, `string`, `int` or `hex`, by its type.
     Type(Kind),
-    /// `def_bool`, `def_tristate`, `def_string`, `def_int` or `def_hex`.
+    /// The word `def_bool`, `def_tristate`, `def_string`, `def_int` or `def_hex`, by its type.
     DefaultType(Kind),
     Prompt,
     Default,
@@ -36,11 +36,11 @@ pub enum Keyword {
     Modules,
     Option,
     Optional,
-    /// A word of the language that this project leaves out.
+    /// The word `rsource`, `osource`, `orsource` or `transitional`: Kconfig forms that this project leaves out.
     LeftOut,
 }
 
-/// The entry that a statement opens ("Kconfig syntax": config, choice, menu, comment).
+/// The sort of an entry to which the attributes after it belong ("Kconfig syntax": config, choice, menu, comment).
 #[derive(Clone, Copy, Debug, PartialEq, Eq)]
 pub enum OpenEntry {
     Config,

@@ -8,7 +8,7 @@ use kc_value::Seed;
 use std::alloc::{AllocError, Global};
 use std::marker::Model;
 
-/// Paths and their bytes, in order of insertion, and the language in which the files are written.
+/// The Kconfig files of a tree: paths and their bytes, in order of insertion, and the language in which the files are written.
 #[derive(Drop)]
 pub struct Texts {
     alloc: Global,
@@ -27,21 +27,21 @@ impl Model for Texts {
 }
 
 impl Texts {
-    /// No files, of the strict language; their paths are hashed by the fixed seed.
+    /// An empty table of files in the strict language, which hashes paths by the fixed seed.
     pub fn new(alloc: Global) -> Texts
         ensures { result ≡ strict_files [] }
     {
         Texts::with_seed(alloc, Seed::fixed())
     }
 
-    /// No files, of the strict language; their paths are hashed by this seed.
+    /// An empty table of files in the strict language, which hashes paths by `seed`.
     pub fn with_seed(alloc: Global, seed: Seed) -> Texts
         ensures { result ≡ strict_files [] }
     {
         Texts::with_language(alloc, seed, Language::Strict)
     }
 
-    /// No files, of this language; their paths are hashed by this seed.
+    /// An empty table of files in `language`, which hashes paths by `seed`.
     pub fn with_language(alloc: Global, seed: Seed, language: Language) -> Texts
         ensures language { result.language ≡ language }
         ensures empty { result.list ≡ [] }
@@ -60,16 +60,16 @@ impl Texts {
         self.language
     }
 
-    /// The seed by which the paths are hashed. Whoever reads the files hashes their names by it too.
+    /// The seed by which the paths of files are hashed. Whoever reads the files hashes the names in them by it too.
     pub fn seed(&self) -> Seed {
         *self.files.hasher()
     }
 
-    /// Appends a new path, or replaces the bytes of a path that is there; both are copied.
+    /// Appends a file with a new path, or replaces the bytes of the file that has this path; path and bytes are copied.
     ///
     /// # Errors
     ///
-    /// `AllocError` if memory runs out; then nothing is changed.
+    /// `AllocError` if memory runs out; then the files are unchanged.
     pub fn insert(&mut self, path: &str, bytes: &[u8]) -> Result<(), AllocError>
         ensures ok { OnOk result (self.new ≡ with_file self.old path.now bytes.now) }
         ensures err { OnErr result (self.new ≡ self.old) }
@@ -80,7 +80,7 @@ impl Texts {
         Ok(())
     }
 
-    /// The bytes of a path, if it is there.
+    /// The bytes of the file with this path, or None if there is no such file.
     pub fn get(&self, path: &str) -> Option<&[u8]>
         ensures { option_map (λ b. b.now) result ≡ file_at self.now path.now }
     {
@@ -88,7 +88,7 @@ impl Texts {
         Some(bytes.as_slice())
     }
 
-    /// The position of a path among the files; of one that is absent their count.
+    /// The position of a path among the files, from 0 in order of insertion; of an absent path, the count of files.
     pub fn number_of(&self, path: &str) -> usize
         ensures { result ≡ index_of_file self.now path.now }
     {
@@ -98,7 +98,7 @@ impl Texts {
         }
     }
 
-    /// The path of a file by its position.
+    /// The path of the file at this position, from 0 in order of insertion; None past the last file.
     pub fn path_at(&self, index: u32) -> Option<&str>
         ensures { option_map (λ p. p.now) result ≡ path_at self.now index }
     {
@@ -106,7 +106,7 @@ impl Texts {
         Some(path.as_str())
     }
 
-    /// The number of files; no two have one path.
+    /// The count of files; no two have the same path.
     pub fn len(&self) -> usize
         ensures len { result ≡ length self.now.list }
         ensures distinct { HasDistinctPaths self.now }
@@ -114,7 +114,7 @@ impl Texts {
         self.files.len()
     }
 
-    /// Whether there are no files.
+    /// Whether the table holds no files.
     pub fn is_empty(&self) -> bool
         ensures { IsTrue result ↔ (self.now.list ≡ []) }
     {

@@ -3,7 +3,7 @@ use Rattle.std.proofs.Common.{◌≡◌, ℕ, suc, ◌+◌, true, false, List, �
 use Rattle.std.specs.Prelude.{option_map, ◌==◌}
 use Rattle.kc_value.specs.QuotedTexts.{closing}
 
--- a place counted from further left
+-- n added to a place, if there is one: a place counted from n bytes further left
 abbrev pub further : ℕ → Option ℕ → Option ℕ
 further n o = option_map (λ k. n + k) o
 
@@ -11,7 +11,7 @@ further_more : (n : ℕ) (o : Option ℕ) → further n (option_map suc o) ≡ f
 further_more n None = refl
 further_more n (Some k) = ap Some (omega arith)
 
--- one byte on, after a backslash or not
+-- a byte after a backslash closes no quote, so the search for the closing quote goes on with the byte after it
 pub closing_escaped : (n quote c : ℕ) (cs : List ℕ) → further n (closing quote true (c ∷ cs)) ≡ further (n + 1) (closing quote false cs)
 closing_escaped n quote c cs = further_more n (closing quote false cs)
 

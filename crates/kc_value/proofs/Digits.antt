@@ -8,12 +8,12 @@ use Rattle.std.specs.Str.Parse.{digits_value_after}
 use Rattle.std.specs.List.{list_all}
 use Rattle.kc_value.specs.checker.DigitStep.{with_digit}
 
--- digits that follow those of n
+-- the number that the digits of n and digits after them write, if it is below a limit
 abbrev pub magnitude_after : ℕ → ℕ → ℕ → List ℕ → Option ℕ
 magnitude_after base limit n ds =
     if list_all (λ c. is_digit c base) ds && nat_lt (digits_value_after base n ds) limit then Some (digits_value_after base n ds) else None
 
--- further digits don't make a number less
+-- digits that are appended to a number don't make it less
 pub no_less : (base n : ℕ) (ds : List ℕ) → 1 ≤ base → n ≤ digits_value_after base n ds
 no_less base n [] h = omega arith
 no_less base n (c ∷ cs) h =
@@ -21,7 +21,7 @@ no_less base n (c ∷ cs) h =
     let m : n * 1 ≤ n * base = mul-le-mul_left n h in
     omega (arith, r, m)
 
--- a number at the limit or above leads to none
+-- digits that are appended to a number at the limit or above it write no number below the limit
 pub none_above : (base limit n : ℕ) (ds : List ℕ) → 1 ≤ base → limit ≤ n → magnitude_after base limit n ds ≡ None
 none_above base limit n ds h k =
     let r = no_less base n ds h in
@@ -50,12 +50,12 @@ some_from true limit m r base cs e =
     elim (nat_lt m limit) as (λ t. cond t (Some m) None ≡ Some r → magnitude_after base limit m cs ≡ magnitude_after base limit r cs)
     [ true ↦ λ k. let q : m ≡ r = cc in rw q refl | false ↦ λ k. cc ] e
 
--- where a digit follows, reading goes on after it
+-- where a digit can be appended to n, digits are read after n as those past the first are read after n with that digit
 pub goes_on : (base limit n c r : ℕ) (cs : List ℕ) → with_digit base limit n c ≡ Some r → magnitude_after base limit n (c ∷ cs)
     ≡ magnitude_after base limit r cs
 goes_on base limit n c r cs e = some_from (is_digit c base) limit (n * base + digit_value c) r base cs e
 
--- no digit is left
+-- a number below the limit with no digits appended is that number
 pub whole : (base limit n : ℕ) → n < limit → magnitude_after base limit n [] ≡ Some n
 whole base limit n h = let e : nat_lt n limit ≡ true = lt-ltb _ _ h in rw e refl
 

@@ -58,7 +58,7 @@ first_kept false b bs rest h a =
 wide_kept : (escaped : Bool) (c : ℕ) (rest : List ℕ) → IsWide c → unescaped escaped (encode_utf8 c ++ rest) ≡ encode_utf8 c ++ unescaped false rest
 wide_kept escaped c rest w = rw w.parts (first_kept escaped w.first w.more rest w.high w.all)
 
--- a character after a backslash is itself
+-- a character after a backslash represents itself
 pub escaped_char : (c : ℕ) (rest : List ℕ) → unescaped true (encode_utf8 c ++ rest) ≡ encode_utf8 c ++ unescaped false rest
 escaped_char c rest = at_size (ltb c 128) refl
   where
@@ -66,7 +66,7 @@ escaped_char c rest = at_size (ltb c 128) refl
     at_size true e = rw (encode_ascii c (ltb-true c 128 e)) refl
     at_size false e = wide_kept true c rest (wide c (ltb-false c 128 e))
 
--- so is one that is no backslash
+-- a character that is no backslash, and follows none, represents itself
 pub plain_char : (c : ℕ) (rest : List ℕ) → (c ≡ 92 → ⊥) → unescaped false (encode_utf8 c ++ rest) ≡ encode_utf8 c ++ unescaped false rest
 plain_char c rest n = at_size (ltb c 128) refl
   where
@@ -77,7 +77,7 @@ plain_char c rest n = at_size (ltb c 128) refl
 pub backslash : (rest : List ℕ) → unescaped false (encode_utf8 92 ++ rest) ≡ unescaped true rest
 backslash rest = rw (encode_ascii 92 (omega arith)) refl
 
--- the characters of a text spell it
+-- the encodings of the characters of a text in UTF-8 are its bytes
 pub chars_spell : (text : List ℕ) → IsUtf8 text → encode_utf8_all (chars text) ≡ text
 chars_spell text u = rw (← u.1.1) (ap encode_utf8_all (chars-encodes u.0 u.1.0))
 
@@ -107,7 +107,7 @@ module _ (cs read all : List ℕ) (escaped : Bool) (n m c : ℕ) (so_far : read 
       ∙ ap (λ t. read ++ t) (sym (char_read escaped refl h) ∙ ap (unescaped escaped) (sym (spelled_from cs n m c within here next_place)))
       ∙ so_far
 
--- no character is left
+-- where no character of a text is left to unescape, the text that was read so far is all
 pub step_end : (cs read all : List ℕ) (escaped : Bool) (n : ℕ) → read ++ unescaped escaped (encode_utf8_all (drop n cs)) ≡ all → n ≡ length cs → read ≡ all
 step_end cs read all escaped n h e = sym (append-nil read) ∙ ap (λ t. read ++ t)
     (sym (none_left escaped (encode_utf8_all (drop n cs)) (ap encode_utf8_all (drop_of_length-le cs (omega (arith, e)))))) ∙ h
@@ -116,6 +116,6 @@ step_end cs read all escaped n h e = sym (append-nil read) ∙ ap (λ t. read ++
     none_left true bs e = rw e refl
     none_left false bs e = rw e refl
 
--- nothing is read yet
+-- the encodings of a text's characters represent between quotes what the text's bytes represent
 pub step_start : (text : List ℕ) → IsUtf8 text → unescaped false (encode_utf8_all (chars text)) ≡ unescaped false text
 step_start text u = ap (unescaped false) (chars_spell text u)

@@ -7,7 +7,7 @@ use Rattle.std.proofs.lemmas.List.{flat_map_more, take_all, take_more}
 use Rattle.std.proofs.Math.Seq.{take-append_seam}
 use Rattle.kc_value.specs.QuotedTexts.{escaped_byte, quoted}
 
--- bytes in front stay as they were
+-- bytes stay at the front when others are appended
 pub still_there : (base more now : List ℕ) → now ≡ base ++ more → take (length base) now ≡ base
 still_there base more now e = ap (λ t. take (length base) t) e ∙ take-append_seam base more
 
@@ -23,7 +23,7 @@ spelled_on base xs now next i l e n =
     n ∙ ap (λ t. t ++ escaped_byte (get_or xs i 0)) e ∙ append_assoc base (34 ∷ flat_map escaped_byte (take i xs)) (escaped_byte (get_or xs i 0))
     ∙ ap (λ t. base ++ t) on ∙ ap (λ t. base ++ 34 ∷ flat_map escaped_byte t) (sym (take_more xs i 0 l))
 
--- which bytes are escaped
+-- a `"` is a byte that gets a backslash in front
 pub quote_escaped : (x : ℕ) → x ≡ 34 → (x == 34 || (x == 92)) ≡ true
 quote_escaped x e = rw e refl
 
@@ -33,7 +33,7 @@ backslash_escaped x e = rw e refl
 pub none_escaped : (x : ℕ) → (x ≡ 34 → ⊥) → (x ≡ 92 → ⊥) → (x == 34 || (x == 92)) ≡ false
 none_escaped x p q = rw (ne_eqb x 34 p, ne_eqb x 92 q) refl
 
--- with a backslash before a quote and a backslash
+-- a `"` or a backslash is spelled as a backslash and itself, after the spelling of the bytes before it
 pub spelled_pair : (base xs now mid next : List ℕ) (i : ℕ) → i < length xs → (get_or xs i 0 == 34 || (get_or xs i 0 == 92)) ≡ true
     → now ≡ base ++ 34 ∷ flat_map escaped_byte (take i xs) → mid ≡ now ++ 92 ∷ [] → next ≡ mid ++ get_or xs i 0 ∷ []
     → next ≡ base ++ 34 ∷ flat_map escaped_byte (take (i + 1) xs)
@@ -42,14 +42,14 @@ spelled_pair base xs now mid next i l t e m n =
     spelled_on base xs now next i l e (n ∙ ap (λ z. z ++ get_or xs i 0 ∷ []) m ∙ append_assoc now (92 ∷ []) (get_or xs i 0 ∷ [])
     ∙ ap (λ z. now ++ z) (sym pair))
 
--- and alone otherwise
+-- a byte other than a `"` and a backslash is spelled alone, after the spelling of the bytes before it
 pub spelled_plain : (base xs now next : List ℕ) (i : ℕ) → i < length xs → (get_or xs i 0 == 34 || (get_or xs i 0 == 92)) ≡ false
     → now ≡ base ++ 34 ∷ flat_map escaped_byte (take i xs) → next ≡ now ++ get_or xs i 0 ∷ [] → next ≡ base ++ 34 ∷ flat_map escaped_byte (take (i + 1) xs)
 spelled_plain base xs now next i l t e n =
     let plain : escaped_byte (get_or xs i 0) ≡ get_or xs i 0 ∷ [] = rw t refl in
     spelled_on base xs now next i l e (n ∙ ap (λ z. now ++ z) (sym plain))
 
--- the closing quote after them all
+-- a closing `"` after the spelling of all bytes of a text ends its quoted spelling
 pub all_spelled : (base xs text now next : List ℕ) (i : ℕ) → length xs ≤ i → xs ≡ text → now ≡ base ++ 34 ∷ flat_map escaped_byte (take i xs)
     → next ≡ now ++ 34 ∷ [] → next ≡ base ++ quoted text
 all_spelled base xs text now next i l same e n =

@@ -7,7 +7,7 @@ use Rattle.kc_value.specs.Number.{magnitude, without_prefix, hex_text, loose_num
 use Rattle.kc_value.specs.NumberGrammar.{Writes, IsInt, IsPrefixed, decimal, negative, IsHex, bare, prefixed, IsLoose, int, hex}
 use Rattle.kc_value.proofs.NumberLaws.{magnitude_writes, writes_magnitude, under, mapped, int_sound, int_complete}
 
--- a text has the prefix, or is what is left without it
+-- a text begins with `0x` or `0X`, and `without_prefix` gives the rest; or it gives the text itself
 pub data Front (text : List ℕ) : Type 0 where
   with_prefix : (rest : List ℕ) → IsPrefixed text rest → without_prefix text ≡ rest → Front text
   none : without_prefix text ≡ text → Front text

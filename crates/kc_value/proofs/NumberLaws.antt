@@ -24,7 +24,7 @@ parts true true false v n e = cc
 parts true false c v n e = cc
 parts false b c v n e = cc
 
--- a magnitude is digits that write it
+-- where digits have a magnitude below a limit, they write that number, and it is below the limit
 pub magnitude_writes : (base limit : ℕ) (ds : List ℕ) (n : ℕ) → magnitude base limit ds ≡ Some n → Writes base ds n × (n < limit)
 magnitude_writes base limit ds n h =
     let (a, b, c, e) = parts (ltb 0 (length ds)) (list_all (λ c. is_digit c base) ds) (ltb (digits_value base ds) limit) (digits_value base ds) n h in

@@ -18,11 +18,11 @@ escapes_body : (text : List ℕ) → IsBody 34 (flat_map escaped_byte text) text
 escapes_body [] = none
 escapes_body (c ∷ cs) = body_at (eqb c 34 || eqb c 92) c (flat_map escaped_byte cs) cs refl (escapes_body cs)
 
--- a quoted spelling represents its text
+-- the quoted spelling of a text represents that text
 pub spelled : (text : List ℕ) → IsQuoted (quoted text) text
 spelled text = (flat_map escaped_byte text, refl, escapes_body text)
 
--- a body represents its text without escapes
+-- the text that a body between quotes represents is the one that `unescaped` gives
 pub body_means : (quote : ℕ) (body means : List ℕ) → IsBody quote body means → unescaped false body ≡ means
 body_means quote body means none = refl
 body_means quote body means (plain {c = c} {bs = bs} {cs = cs} q s h) = rw s (ap (λ t. c ∷ t) (body_means quote bs cs h))
@@ -31,30 +31,30 @@ body_means quote body means (pair {c = c} {bs = bs} {cs = cs} h) = ap (λ t. c �
 same_tail : (c d : ℕ) (xs ys : List ℕ) → c ∷ xs ≡ d ∷ ys → xs ≡ ys
 same_tail c d xs ys e = cc
 
--- no text represents two
+-- no quoted text represents two texts
 pub one_meaning : (whole a b : List ℕ) → IsQuoted whole a → IsQuoted whole b → a ≡ b
 one_meaning whole a b (x, p, h) (y, q, k) =
     let e : x ≡ y = append_cancel_right x y (34 ∷ []) (same_tail 34 34 (x ++ 34 ∷ []) (y ++ 34 ∷ []) (sym p ∙ q)) in
     sym (body_means 34 x a h) ∙ ap (unescaped false) e ∙ body_means 34 y b k
 
--- a body is closed by the quote after it
+-- a body between quotes is closed by the quote directly after it
 pub body_closes : (quote : ℕ) (body means rest : List ℕ) → eqb 92 quote ≡ false → IsBody quote body means
     → closing quote false (body ++ quote ∷ rest) ≡ Some (suc (length body))
 body_closes quote body means rest d none = let same : eqb quote quote ≡ true = eq-eqb quote quote refl in rw same refl
 body_closes quote body means rest d (plain {c = c} {bs = bs} {cs = cs} q s h) = rw (q, s) (ap (option_map suc) (body_closes quote bs cs rest d h))
 body_closes quote body means rest d (pair {c = c} {bs = bs} {cs = cs} h) = rw d (ap (λ o. option_map suc (option_map suc o)) (body_closes quote bs cs rest d h))
 
--- what is closed, after a backslash or not
-abbrev pub behind : Bool → List ℕ → List ℕ
-behind true body = 92 ∷ body
-behind false body = body
+-- a body with a backslash in front if the flag is true, else as it is
+abbrev pub with_backslash_if : Bool → List ℕ → List ℕ
+with_backslash_if true body = 92 ∷ body
+with_backslash_if false body = body
 
 pub record IsClosed (quote : ℕ) (escaped : Bool) (bytes : List ℕ) (n : ℕ) : Type 0 where
   pub body : List ℕ
   pub rest : List ℕ
   pub parts : bytes ≡ body ++ quote ∷ rest
   pub len : n ≡ suc (length body)
-  pub is_body : IsBody quote (behind escaped body) (unescaped escaped body)
+  pub is_body : IsBody quote (with_backslash_if escaped body) (unescaped escaped body)
 
 one_more : (o : Option ℕ) (n : ℕ) → option_map suc o ≡ Some n → (m : ℕ) × (o ≡ Some m) × (n ≡ suc m)
 one_more None n e = cc
@@ -87,7 +87,7 @@ closed_at false quote c cs n ih e g =
     let (m, k, f) = one_more (closing quote (eqb c 92) cs) n g in
     closed_plain (eqb c 92) quote c cs n m e refl f (ih m k)
 
--- the bytes before a closing quote are a body
+-- the bytes before a closing quote are a body, with a backslash put in front of it if one came before the bytes
 pub closed : (quote : ℕ) (escaped : Bool) (bytes : List ℕ) (n : ℕ) → closing quote escaped bytes ≡ Some n → IsClosed quote escaped bytes n
 closed quote true [] n h = cc
 closed quote false [] n h = cc
@@ -101,7 +101,7 @@ opened : (text : List ℕ) → get_or text 0 0 ≡ 34 → text ≡ 34 ∷ drop 1
 opened [] e = absurd (omega (arith, e))
 opened (c ∷ cs) e = ap (λ d. d ∷ cs) e
 
--- no text is quoted whose first byte is no quote
+-- a text whose first byte is no `"` is no quoted text
 pub not_opened : (text means : List ℕ) → (get_or text 0 0 ≡ 34 → ⊥) → IsQuoted text means → ⊥
 not_opened text means n (x, p, h) = n (ap (λ t. get_or t 0 0) p)
 
@@ -112,7 +112,7 @@ closes_last : (text means : List ℕ) → IsQuoted text means → closing 34 fal
 closes_last text means (x, p, h) =
     ap (λ t. closing 34 false (drop 1 t)) p ∙ body_closes 34 x means [] refl h ∙ ap Some (omega (arith, ap length p, length-append x (34 ∷ [])))
 
--- nor one that nothing closes, or that is closed before its end
+-- a text without a closing quote is no quoted text
 pub not_closed : (text means : List ℕ) → closing 34 false (drop 1 text) ≡ None → IsQuoted text means → ⊥
 not_closed text means n q = let e = closes_last text means q in cc
 
@@ -126,7 +126,7 @@ nil_of : (xs : List ℕ) → length xs ≡ 0 → xs ≡ []
 nil_of [] e = refl
 nil_of (x ∷ xs) e = absurd (omega (arith, e))
 
--- the body of a text that is closed by its last byte
+-- a text that begins with a `"` and is closed by its last byte has a body between the two quotes
 pub body_between : (text : List ℕ) (n : ℕ) → get_or text 0 0 ≡ 34 → closing 34 false (drop 1 text) ≡ Some n → length text ≤ n + 1
     → HasBody text (take (n - 1) (drop 1 text))
 body_between text n e k l = by_parts (closed 34 false (drop 1 text) n k)
@@ -140,7 +140,7 @@ body_between text n e k l = by_parts (closed 34 false (drop 1 text) n k)
         ∙ take-append_seam c.body (34 ∷ []) in
         rw middle (record { parts = opened text e ∙ ap (λ t. 34 ∷ t) all; is_body = c.is_body })
 
--- where the text may be cut
+-- a text that begins with a `"` can be cut after it without splitting a character
 pub cut_first : (text : List ℕ) → IsUtf8 text → get_or text 0 0 ≡ 34 → IsCharBoundary text 1
 cut_first text u e = IsCharBoundary-after_ascii text 0 u (let l = ap length (opened text e) in omega (arith, l)) (omega (arith, e))
 
@@ -150,6 +150,6 @@ cut_last text n p h e =
     let last : get_or text n 0 ≡ 34 = ap (λ i. get_or text i 0) (sym at) ∙ sym (get_or-drop 1 text (n - 1) 0) ∙ e in
     IsCharBoundary-before_ascii text n h (omega (arith, last))
 
--- what `&bytes[1..]` is, where the bytes are those of a text
+-- the slice `&bytes[1..]` of the bytes of a text is the text without its first byte
 pub rest_of : (bytes text : List ℕ) → bytes ≡ text → take (length bytes - 1) (drop 1 bytes) ≡ drop 1 text
 rest_of bytes text e = rw e (rw (← length-drop 1 text) (take-length (drop 1 text)))

@@ -3,34 +3,34 @@ use Rattle.std.specs.Prelude.{Bool, true, false}
 use Rattle.kc_value.specs.declared.value.Kind.{Kind}
 use Rattle.kc_value.specs.declared.value.Kind.TheVariants.{Bool as Boolean, Tristate, Text, Int, Hex}
 
--- the type is bool
+-- whether a type is bool
 abbrev pub is_bool : Kind → Bool
 is_bool Boolean = true
 is_bool _ = false
 
--- the type is tristate
+-- whether a type is tristate
 abbrev pub is_tristate : Kind → Bool
 is_tristate Tristate = true
 is_tristate _ = false
 
--- the values of bools and tristates are tristates, those of the others are texts
+-- whether the values of a type are tristate values (bool, tristate) and not texts (string, int, hex)
 abbrev pub is_tri_kind : Kind → Bool
 is_tri_kind Boolean = true
 is_tri_kind Tristate = true
 is_tri_kind _ = false
 
--- strings, whose values are texts of any form
+-- whether a type is string, whose values are texts of any form
 abbrev pub is_text_kind : Kind → Bool
 is_text_kind Text = true
 is_text_kind _ = false
 
--- ints and hexes
+-- whether a type is int or hex
 abbrev pub is_number : Kind → Bool
 is_number Int = true
 is_number Hex = true
 is_number _ = false
 
--- two types are the same
+-- whether two types are the same
 abbrev pub same_kind : Kind → Kind → Bool
 same_kind Boolean Boolean = true
 same_kind Tristate Tristate = true

@@ -2,7 +2,7 @@ pub mod Kinds
 pub mod Number
 pub mod NumberGrammar
 pub mod Streams
-pub mod BytesRead
+pub mod ReaderFailures
 pub mod QuotedTexts
 pub mod TestScripts
 pub mod Tri

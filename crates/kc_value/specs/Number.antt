@@ -8,47 +8,47 @@ use Rattle.kc_value.specs.declared.limits.TheConstants.{MAX_NUMBER_BYTES}
 use Rattle.kc_value.specs.declared.value.Kind.{Kind}
 use Rattle.kc_value.specs.declared.value.Kind.TheVariants.{Int, Hex}
 
--- one or more digits of a base, that write a number below a limit
+-- the number that one or more digits of a base write, if it is below a limit; None for every other text
 abbrev pub magnitude : ℕ → ℕ → List ℕ → Option ℕ
 magnitude base limit digits =
     if nat_lt 0 (length digits) && list_all (λ c. is_digit c base) digits && nat_lt (digits_value base digits) limit then Some (digits_value base digits) else None
 
--- an optional minus, then decimal digits
+-- the number of decimal digits, with a minus in front or without, if its magnitude is below 2^63
 abbrev pub signed_text : List ℕ → Option ℤ
 signed_text [] = None
 signed_text (c ∷ cs) = if c == 45 then option_map (λ n. neg_ℤ (pos n)) (magnitude 10 (2 ^ 63) cs) else option_map pos (magnitude 10 (2 ^ 63) (c ∷ cs))
 
--- the text without `0x` or `0X` in front
+-- a text without the `0x` or `0X` at its front, if it has one
 abbrev pub without_prefix : List ℕ → List ℕ
 without_prefix (a ∷ b ∷ rest) = if a == 48 && (b == 120) then rest else if a == 48 && (b == 88) then rest else (a ∷ b ∷ rest)
 without_prefix rest = rest
 
--- the number of an int text
+-- the number of an int text, which has at most `MAX_NUMBER_BYTES` bytes; None for every other text
 unfoldable pub int_text : List ℕ → Option ℤ
 int_text text = if nat_le (length text) MAX_NUMBER_BYTES then signed_text text else None
 
--- the number of a hex text
+-- the number of a hex text, which has at most `MAX_NUMBER_BYTES` bytes; None for every other text
 unfoldable pub hex_text : List ℕ → Option ℤ
 hex_text text = if nat_le (length text) MAX_NUMBER_BYTES then option_map pos (magnitude 16 (2 ^ 64) (without_prefix text)) else None
 
--- hex where a text begins with the prefix, else int
+-- the number of a text that isn't of an int or hex symbol: read as a hex text if it begins with `0x` or `0X`, else as an int text
 unfoldable pub loose_number : List ℕ → Option ℤ
 loose_number text = if nat_lt (length (without_prefix text)) (length text) then hex_text text else int_text text
 
--- the number that a text is for a kind
+-- the number that a text is for an int or a hex symbol, by the symbol's type; None for the other types
 abbrev pub number_of_text : Kind → List ℕ → Option ℤ
 number_of_text Int text = int_text text
 number_of_text Hex text = hex_text text
 number_of_text _ text = None
 
--- the numbers of a kind that can be printed
+-- a number can be printed for a type: of a magnitude below 2^63 for int, from 0 to 2^64 - 1 for hex, none for other types
 abbrev pub IsPrintable : Kind → ℤ → Type 0
 IsPrintable Int n = unsigned_abs n < 2 ^ 63
 IsPrintable Hex n = (pos 0 ≤ℤ n) × (n <ℤ pos (2 ^ 64))
 IsPrintable _ n = ⊥
 
--- the one text of a number, without leading zeros: `0x` and lower-case digits for hex, else decimal digits after a
--- minus where it is negative
+-- the canonical text of a number for a type, without leading zeros: `0x` and lower-case hex digits for hex, else decimal digits
+-- after a minus where it is negative
 abbrev pub number_spelling : Kind → ℤ → List ℕ
 number_spelling Hex n = 48 ∷ 120 ∷ digits 16 false (unsigned_abs n)
 number_spelling _ n = signed_decimal n

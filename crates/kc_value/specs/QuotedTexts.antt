@@ -2,32 +2,34 @@
 use Rattle.std.specs.Prelude.{◌≡◌, ℕ, suc, List, [], ◌∷◌, ◌++◌, Bool, true, false, ◌||◌, ◌==◌, Option, Some, None, option_map, if◌then◌else◌}
 use Rattle.std.specs.List.{flat_map}
 
--- a quote or a backslash is escaped by a backslash
+-- the bytes that spell a byte between quotes: a `"` or a backslash with a backslash in front, any other byte alone
 abbrev pub escaped_byte : ℕ → List ℕ
 escaped_byte c = if c == 34 || (c == 92) then 92 ∷ c ∷ [] else c ∷ []
 
--- the one spelling of a text in quotes
+-- the quoted spelling of a text: between two `"`, with a backslash before each `"` and each backslash
 abbrev pub quoted : List ℕ → List ℕ
 quoted text = 34 ∷ (flat_map escaped_byte text ++ 34 ∷ [])
 
--- the body between quotes, and the text that it represents: characters other than the quote and the backslash, and
--- pairs of a backslash and a character
+-- bytes are the body between two quotes, and represent a text: a pair of a backslash and a character represents that character,
+-- any other character than the quote represents itself
 pub data IsBody (quote : ℕ) : List ℕ → List ℕ → Type 0 where
   none : IsBody quote [] []
   plain : {c : ℕ} {bs cs : List ℕ} → (c == quote) ≡ false → (c == 92) ≡ false → IsBody quote bs cs → IsBody quote (c ∷ bs) (c ∷ cs)
   pair : {c : ℕ} {bs cs : List ℕ} → IsBody quote bs cs → IsBody quote (92 ∷ c ∷ bs) (c ∷ cs)
 
--- a text is a quoted spelling of another
+-- a text is a quoted text that represents another text: a body, which represents the latter, between two `"`
 abbrev pub IsQuoted : List ℕ → List ℕ → Type 0
 IsQuoted text means = (body : List ℕ) × (text ≡ 34 ∷ (body ++ 34 ∷ [])) × IsBody 34 body means
 
--- how many bytes there are up to and including the closing quote; a byte after a backslash closes nothing
+-- the count of bytes after an opening quote up to and including the closing one; a byte after a backslash closes nothing, nor
+-- does the first byte if the flag is true
 abbrev pub closing : ℕ → Bool → List ℕ → Option ℕ
 closing quote escaped [] = None
 closing quote true (c ∷ cs) = option_map suc (closing quote false cs)
 closing quote false (c ∷ cs) = if c == quote then Some 1 else option_map suc (closing quote (c == 92) cs)
 
--- the text between quotes: a pair of a backslash and a character is that character
+-- the text that a body between quotes represents: a pair of a backslash and a character represents that character; the flag says
+-- that a backslash is before the first character
 abbrev pub unescaped : Bool → List ℕ → List ℕ
 unescaped escaped [] = []
 unescaped true (c ∷ cs) = c ∷ unescaped false cs

@@ -1,17 +1,16 @@
-//! Values of symbols, number and quoted texts, and the readers and writers of every crate above.
+//! Values of symbols, number texts and quoted texts, limits, and the readers and writers that the other crates use.
 #![tactic(auto)]
 
-mod bytes_read;
 mod limits;
 mod number;
 mod quoted_texts;
+mod reader_bytes;
 mod seed;
 mod streams;
 mod test_streams;
 mod tri;
 mod value;
 
-pub use bytes_read::{ReadBytes, ReadEnd, read_up_to};
 pub use limits::{
     MAX_BUNDLE_BYTES, MAX_CHOICES, MAX_CONFIG_BYTES, MAX_CONFIG_LINES, MAX_EXPR_DEPTH, MAX_FILES,
     MAX_LINE_BYTES, MAX_NAME_BYTES, MAX_NUMBER_BYTES, MAX_OPEN_BLOCKS, MAX_OPEN_FILES,
@@ -21,6 +20,7 @@ pub use number::{hex_of, int_of, loose_number_of, number_text, number_texts_are_
 pub use quoted_texts::{
     closing_quote, push_escaped, quoted_texts_read_back, read_quoted, unescape,
 };
+pub use reader_bytes::{ReadBytes, ReadEnd, read_up_to};
 pub use seed::Seed;
 pub use streams::{Failed, FromRead, Sink, Source, ToWrite};
 pub use test_streams::{Bounded, Script, Then};

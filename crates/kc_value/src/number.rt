@@ -1,4 +1,4 @@
-//! Number texts.
+//! Number texts: int and hex texts as they are read and printed.
 ghost use Rattle.std.specs.Prelude.{◌≡◌, ◌^◌, ◌<◌, ◌≤◌, ◌↔◌, ℕ, ℤ, List, Some, IfOk, string_bytes};
 ghost use Rattle.kc_value.specs.checker.DigitStep.{with_digit};
 ghost use Rattle.kc_value.specs.Number.{magnitude, int_text, hex_text, loose_number, without_prefix, number_of_text, number_spelling, IsPrintable};
@@ -9,7 +9,7 @@ use super::value::Kind;
 use itoa::Buffer;
 use std::alloc::{AllocError, Global};
 
-/// One digit more after a number.
+/// The number with one more digit at its end; `None` if the byte is no digit of the base, or the number has over 64 bits.
 fn push_digit(value: u64, byte: u8, base: u32) -> Option<u64>
     requires low { 2 ≤ base }
     requires high { base ≤ 36 }
@@ -19,7 +19,7 @@ fn push_digit(value: u64, byte: u8, base: u32) -> Option<u64>
     value.checked_mul(base as u64)?.checked_add(digit as u64)
 }
 
-/// Digits of a base, one or more, that write a number of 64 bits.
+/// The number that one or more digits of a base write; `None` for every other text, and for a number of over 64 bits.
 fn digits(text: &[u8], base: u32) -> Option<u64>
     requires low { 2 ≤ base }
     requires high { base ≤ 36 }
@@ -83,7 +83,8 @@ pub fn hex_of(text: &[u8]) -> Option<i128>
     Some(value as i128)
 }
 
-/// The number of a text of no known type: a hex text after `0x` or `0X`, else an int text.
+/// The number of a text that isn't of an int or a hex symbol: a text that begins with `0x` or `0X` is read as a hex text, any
+/// other as an int text. `None` if it has no number as such a text.
 #[tactic(auto, unfolding(crate::specs::Number::loose_number))]
 pub fn loose_number_of(text: &[u8]) -> Option<i128>
     ensures { result ≡ loose_number text.now }
@@ -95,16 +96,16 @@ pub fn loose_number_of(text: &[u8]) -> Option<i128>
     }
 }
 
-/// The three readings above are those of the grammars: a text is read as a number exactly where the grammar has it
-/// as that number.
+/// `int_text`, `hex_text` and `loose_number` read a text as a number exactly where the text has that number by the grammars
+/// `IsInt`, `IsHex` and `IsLoose`.
 pub fn number_texts_are_the_grammars()
     ensures int { (text : List ℕ) (z : ℤ) → (int_text text ≡ Some z) ↔ IsInt text z }
     ensures hex { (text : List ℕ) (z : ℤ) → (hex_text text ≡ Some z) ↔ IsHex text z }
     ensures loose { (text : List ℕ) (z : ℤ) → (loose_number text ≡ Some z) ↔ IsLoose text z }
 {}
 
-/// The one text of a number of an int or a hex symbol, without leading zeros: decimal digits after a minus where it
-/// is negative, or `0x` and lower-case hex digits. An `Err` means out of memory.
+/// The canonical text of a number of an int or a hex symbol, without leading zeros: decimal digits, after a minus where it is
+/// negative, for an int; `0x` and lower-case hex digits for a hex. An `Err` means out of memory.
 pub fn number_text(alloc: Global, kind: Kind, value: i128) -> Result<String, AllocError>
     requires fits { IsPrintable kind value }
     ensures text { IfOk result (λ t. string_bytes t ≡ number_spelling kind value) }

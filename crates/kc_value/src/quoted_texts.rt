@@ -5,8 +5,8 @@ ghost use Rattle.kc_value.specs.checker.Bodies.{HasBody};
 
 use std::alloc::{AllocError, Global};
 
-/// Appends the quoted spelling of a text: between two `"`, with a `\` before each `"` and each `\`. An `Err` means out
-/// of memory, and leaves the bytes as they were.
+/// Appends to `out` the quoted spelling of a text: between two `"`, with a `\` before each `"` and each `\`. An `Err` means out
+/// of memory, and leaves `out` as it was.
 pub fn push_escaped(out: &mut Vec<u8>, text: &str) -> Result<(), AllocError>
     ensures ok { OnOk result (out.new.items ≡ out.old.items ++ quoted text.now) }
     ensures err { OnErr result (out.new.items ≡ out.old.items) }
@@ -19,7 +19,7 @@ pub fn push_escaped(out: &mut Vec<u8>, text: &str) -> Result<(), AllocError>
     pushed
 }
 
-/// As `push_escaped`, but an `Err` may leave a part after the bytes.
+/// Appends to `out` the quoted spelling of a text. An `Err` means out of memory, and may leave a part of the spelling there.
 fn push_quoted(out: &mut Vec<u8>, text: &str) -> Result<(), AllocError>
     ensures ok { OnOk result (out.new.items ≡ out.old.items ++ quoted text.now) }
     ensures kept { take (length out.old.items) out.new.items ≡ out.old.items }
@@ -35,8 +35,8 @@ fn push_quoted(out: &mut Vec<u8>, text: &str) -> Result<(), AllocError>
     Ok(())
 }
 
-/// How many bytes reach up to the closing quote and with it, after an opening one. A byte after a backslash closes
-/// nothing. `None` where nothing closes.
+/// The count of bytes after an opening quote up to and including the closing one. A byte after a backslash closes nothing. `None`
+/// if there is no closing quote.
 pub fn closing_quote(quote: u8, bytes: &[u8]) -> Option<usize>
     ensures place { result ≡ closing quote false bytes.now }
     ensures within { IfSome result (λ n. (0 < n) × (n ≤ length bytes.now)) }
@@ -55,7 +55,8 @@ pub fn closing_quote(quote: u8, bytes: &[u8]) -> Option<usize>
     None
 }
 
-/// The text between quotes, with the character alone for each backslash and character. An `Err` means out of memory.
+/// The text that the characters between two quotes represent: a pair of a backslash and a character represents that character,
+/// any other character itself. An `Err` means out of memory.
 pub fn unescape(alloc: Global, text: &str) -> Result<String, AllocError>
     ensures { IfOk result (λ t. string_bytes t ≡ unescaped false text.now) }
 {
@@ -72,7 +73,7 @@ pub fn unescape(alloc: Global, text: &str) -> Result<String, AllocError>
     Ok(read)
 }
 
-/// The part of a text between its `"`.
+/// The part of a quoted text between its two `"`; `None` if the text isn't quoted.
 fn body_of(text: &str) -> Option<&str>
     ensures body { IfSome result (λ b. HasBody text.now b.now) }
     ensures none { IfNone result ((means : List ℕ) → IsQuoted text.now means → ⊥) }
@@ -88,8 +89,8 @@ fn body_of(text: &str) -> Option<&str>
     Some(&text[1..n])
 }
 
-/// The text that a quoted one represents: `"`, then characters other than `"` and `\` or a `\` and any character,
-/// then `"`. `None` for every other text. An `Err` means out of memory.
+/// The text that a quoted text represents. A quoted text is a `"`, then characters other than `"` and `\` or pairs of a `\` and
+/// any character, then a `"`. `None` for every other text. An `Err` means out of memory.
 pub fn read_quoted(alloc: Global, text: &str) -> Result<Option<String>, AllocError>
     ensures read { IfOk result (λ o. IfSome o (λ t. IsQuoted text.now (string_bytes t))) }
     ensures none { IfOk result (λ o. IfNone o ((means : List ℕ) → IsQuoted text.now means → ⊥)) }
@@ -100,7 +101,7 @@ pub fn read_quoted(alloc: Global, text: &str) -> Result<Option<String>, AllocErr
     }
 }
 
-/// A quoted spelling is read back as its text, and no text is read as two.
+/// The quoted spelling of a text represents that text, and no quoted text represents two texts.
 pub fn quoted_texts_read_back()
     ensures spelled { (text : List ℕ) → IsQuoted (quoted text) text }
     ensures one { (whole a b : List ℕ) → IsQuoted whole a → IsQuoted whole b → a ≡ b }

@@ -1,14 +1,14 @@
 //! How names are hashed.
 use std::hash::{BuildHasher, DefaultHasher, Hasher};
 
-/// A seed of hashes. Where it is made anew for each run, nobody can choose names that collide.
+/// The seed of a hash function. If it is random in each run, nobody can choose names whose hashes collide.
 #[derive(Clone, Copy)]
 pub struct Seed {
     start: DefaultHasher,
 }
 
 impl Seed {
-    /// One fixed seed, equal in each run.
+    /// A fixed seed, which is the same in each run.
     pub fn fixed() -> Seed {
         Seed {
             start: DefaultHasher::new(),

@@ -6,31 +6,31 @@ ghost use Rattle.kc_value.specs.Streams.{failures_after_read, failures_after_wri
 
 use std::io::{Read, Write};
 
-/// A read or a write failed.
+/// The error of a read or a write that failed.
 #[derive(Clone, Copy, Debug, PartialEq, Eq)]
 pub struct Failed;
 
-/// A reader of bytes.
+/// A reader of bytes. Contracts see the bytes that it has left, if they are known, and how many of its reads failed.
 pub trait Source {
-    /// The bytes that it has left, if they are known.
+    /// The bytes that the reader has left, if they are known.
     ghost left: { Self → Option (List ℕ) };
 
-    /// How many of its reads failed, up to 2^64 - 1.
+    /// How many reads of the reader failed, up to 2^64 - 1.
     ghost failures: { Self → ℕ };
 
-    /// Reads some bytes to the front of `buf`. 0 for a buffer that isn't empty is the end.
+    /// Reads some bytes to the front of `buf`, and returns their count, which for a buffer that isn't empty is 0 only at the end.
     fn read_some(&mut self, buf: &mut [u8]) -> Result<usize, Failed>
         ensures bound { ReadsAtMost result buf.new }
         ensures bytes { ReadConsumes (left self.old) (left self.new) result buf.new }
         ensures failures { failures self.new ≡ failures_after_read (failures self.old) result };
 }
 
-/// A writer of bytes.
+/// A writer of bytes. Contracts see the bytes that it took, if they are known, and how many of its writes failed.
 pub trait Sink {
-    /// The bytes that it took, if they are known.
+    /// The bytes that the writer took, if they are known.
     ghost taken: { Self → Option (List ℕ) };
 
-    /// How many of its writes failed or took nothing, up to 2^64 - 1.
+    /// How many writes of the writer failed or took none of one or more bytes, up to 2^64 - 1.
     ghost failures: { Self → ℕ };
 
     /// Writes some bytes from the front of `bytes`. A failed write takes nothing.
@@ -40,7 +40,7 @@ pub trait Sink {
         ensures failures { failures self.new ≡ failures_after_write (failures self.old) result bytes.now };
 }
 
-/// A reader of the standard library.
+/// A reader of the standard library (`Read`) as a `Source`, with the count of its failed reads.
 #[derive(Drop)]
 pub struct FromRead<R> {
     inner: R,
@@ -48,7 +48,7 @@ pub struct FromRead<R> {
 }
 
 impl<R: Read> FromRead<R> {
-    /// A reader whose count begins at 0.
+    /// Wraps a reader of the standard library; its count of failed reads begins at 0.
     pub fn new(inner: R) -> FromRead<R>
         ensures left { ⟦<FromRead<R> as Source>⟧.left result ≡ R.remaining inner }
         ensures failures { ⟦<FromRead<R> as Source>⟧.failures result ≡ 0 }
@@ -73,7 +73,7 @@ impl<R: Read> Source for FromRead<R> {
     }
 }
 
-/// A writer of the standard library.
+/// A writer of the standard library (`Write`) as a `Sink`, with the count of its failed writes.
 #[derive(Drop)]
 pub struct ToWrite<W> {
     inner: W,
@@ -81,7 +81,7 @@ pub struct ToWrite<W> {
 }
 
 impl<W: Write> ToWrite<W> {
-    /// A writer whose count begins at 0.
+    /// Wraps a writer of the standard library; its count of failed writes begins at 0.
     pub fn new(inner: W) -> ToWrite<W>
         ensures taken { ⟦<ToWrite<W> as Sink>⟧.taken result ≡ W.contents inner }
         ensures failures { ⟦<ToWrite<W> as Sink>⟧.failures result ≡ 0 }

@@ -7,7 +7,8 @@ ghost use Rattle.kc_value.specs.TestScripts.{script_bytes_left};
 use super::streams::{Failed, Sink, Source};
 use std::alloc::{AllocError, Global};
 
-/// The behaviour of a script after its bytes: it ends, fails at each read, fails once and then ends, or begins anew.
+/// The behaviour of a `Script` after its last byte: it ends, fails at each read, fails once and then ends, or begins again with
+/// its first byte.
 #[derive(Clone, Copy, Debug, PartialEq, Eq)]
 pub enum Then {
     End,
@@ -16,7 +17,7 @@ pub enum Then {
     Again,
 }
 
-/// A reader that gives listed bytes, at most `most` per read, then ends, fails or begins anew.
+/// A reader for tests that gives the bytes of a list, at most `most` per read, and then ends, fails or begins again.
 #[derive(Drop)]
 pub struct Script {
     bytes: Vec<u8>,
@@ -29,7 +30,7 @@ pub struct Script {
 }
 
 impl Script {
-    /// A reader of these bytes, at most `most` a read.
+    /// A reader that gives `bytes`, at most `most` per read, and then behaves as `then` says.
     pub fn new(bytes: Vec<u8>, most: usize, then: Then) -> Script
         requires some { 0 < most }
         ensures left { ⟦<Script as Source>⟧.left result ≡ script_bytes_left then bytes.items }
@@ -86,7 +87,7 @@ fn copy_front(bytes: &[u8], most: usize, buf: &mut [u8]) -> usize
     n
 }
 
-/// The behaviour of a writer of bounded room when it is full.
+/// What a writer of bounded room (`Bounded`) does at a write when it is full.
 #[derive(Clone, Copy, Debug, PartialEq, Eq)]
 pub(crate) enum WhenFull {
     TakesNone,
@@ -94,7 +95,7 @@ pub(crate) enum WhenFull {
     FailsOnce,
 }
 
-/// A writer of bounded room, got when it is made, that then fails or takes none.
+/// A writer for tests with a bounded room, allocated when it is created, that fails or takes no bytes when it is full.
 #[derive(Drop)]
 pub struct Bounded {
     bytes: Vec<u8>,
@@ -108,7 +109,8 @@ pub struct Bounded {
 }
 
 impl Bounded {
-    /// A writer that takes `room` bytes, and then fails or takes none. An `Err` means out of memory.
+    /// A writer that takes `room` bytes, and then fails at each write if `fails`, else takes no bytes. An `Err` means out of
+    /// memory.
     pub fn new(alloc: Global, room: usize, fails: bool) -> Result<Bounded, AllocError>
         ensures taken { IfOk result (λ s. ⟦<Bounded as Sink>⟧.taken s ≡ Some []) }
         ensures failures { IfOk result (λ s. ⟦<Bounded as Sink>⟧.failures s ≡ 0) }
@@ -121,8 +123,8 @@ impl Bounded {
         Bounded::of(alloc, room, room, full)
     }
 
-    /// A writer that takes up to `first` bytes, fails once, takes up to `room` in all, and then fails. An `Err` means out
-    /// of memory.
+    /// A writer that takes up to `first` bytes, fails once, takes up to `room` bytes in all, and then fails at each write. An
+    /// `Err` means out of memory.
     pub fn failing_once(alloc: Global, first: usize, room: usize) -> Result<Bounded, AllocError>
         requires within { first ≤ room }
         ensures taken { IfOk result (λ s. ⟦<Bounded as Sink>⟧.taken s ≡ Some []) }
@@ -145,7 +147,7 @@ impl Bounded {
         })
     }
 
-    /// The bytes that it took.
+    /// The bytes that the writer took, in order.
     pub fn bytes(&self) -> &[u8]
         ensures { ⟦<Bounded as Sink>⟧.taken self.now ≡ Some result.now }
     {

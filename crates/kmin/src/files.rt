@@ -19,7 +19,7 @@ pub(crate) struct Disk<'a> {
 }
 
 impl<'a> Disk<'a> {
-    /// The files, with a new seed.
+    /// The files and the environment of the system, with a new seed.
     pub(crate) fn new(runtime: &'a HostRuntime) -> Disk<'a> {
         Disk {
             runtime,

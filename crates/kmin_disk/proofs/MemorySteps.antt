@@ -20,7 +20,7 @@ pub bytes_eq-other : (p q : List ℕ) → p ≢ q → bytes_eq p q ≡ false
 bytes_eq-other p q other =
     elim (bytes_eq p q) as (λ b. Decides b (p ≡ q) → b ≡ false) [ true ↦ λ d. absurd (other (d.0 refl)) | false ↦ λ d. refl ] (bytes_eq-Decides p q)
 
--- the newest content of a history that isn't empty
+-- a content that is added to a history that isn't empty is its newest content
 pub newest-with_newest : (content before : Content) (history : History) → newest history ≡ Some before → newest (with_newest content history) ≡ Some content
 newest-with_newest content before [] known = (cc)
 newest-with_newest content before (last ∷ earlier) known = refl
@@ -30,7 +30,7 @@ pub history_from-append : (history : History) (events : List Event) (event : Eve
 history_from-append history [] event path = refl
 history_from-append history (first ∷ events) event path = history_from-append (history_after first path history) events event path
 
--- the history of a path that holds a content now
+-- after a path of a disk in memory got a content, its history is the earlier one with this content as the newest
 pub holds_there : (old new : List Event) (path : List ℕ) (content : MemoryContent) → AppendsHolds old new path content
     → (memory_state new).history path ≡ with_newest (content_view content) ((memory_state old).history path)
 holds_there old new path content adds =
@@ -39,7 +39,7 @@ holds_there old new path content adds =
     ∙ (history_from-append (nothing ∷ []) old adds.event path ∙ (adds.change path before
     ∙ ap (λ (b : Bool). if b then with_newest (content_view content) before else before) (bytes_eq-self path)))
 
--- the history of every other path
+-- after a path of a disk in memory got a content, the history of every other path is unchanged
 pub holds_elsewhere : (old new : List Event) (path : List ℕ) (content : MemoryContent) → AppendsHolds old new path content → (place : List ℕ) → place ≢ path
     → (memory_state new).history place ≡ (memory_state old).history place
 holds_elsewhere old new path content adds place other =
@@ -48,7 +48,7 @@ holds_elsewhere old new path content adds place other =
     ∙ (history_from-append (nothing ∷ []) old adds.event place ∙ (adds.change place before
     ∙ ap (λ (b : Bool). if b then with_newest (content_view content) before else before) (bytes_eq-other path place (λ e. other (sym e)))))
 
--- a new file is made in memory
+-- a disk in memory whose log gets an unfinished file at a path that held nothing has created that new file
 pub creates_in_memory : (old new : List Event) (path new_path : List ℕ) (made : MemoryNewFile) → AppendsHolds old new new_path Unfinished
     → string_bytes made.path ≡ new_path → string_bytes made.target ≡ path → made.bytes.items ≡ [] → new_path ≢ path
     → newest ((memory_state old).history new_path) ≡ Some nothing → Creates (memory_state old) (memory_state new) path new_path (memory_draft made)
@@ -64,7 +64,7 @@ creates_in_memory old new path new_path made adds own target empty apart free = 
   empty = λ known. ap Some empty;
 }
 
--- a new file is removed in memory
+-- a disk in memory whose log gets `Nothing` at the path of a new file has removed that file
 pub removes_in_memory : (old new : List Event) (made : MemoryNewFile) → AppendsHolds old new (string_bytes made.path) Nothing
     → Removes (memory_state old) (memory_state new) (memory_draft made)
 removes_in_memory old new made adds = record {
@@ -73,7 +73,7 @@ removes_in_memory old new made adds = record {
   others = holds_elsewhere old new (string_bytes made.path) Nothing adds;
 }
 
--- the history of any path after a rename
+-- the history of any path of a disk in memory after a rename, by its history before it
 pub renamed_history : (old new : List Event) (made : MemoryNewFile) → AppendsRename old new made → (place : List ℕ)
     → (memory_state new).history place ≡ (if bytes_eq (string_bytes made.target) place then with_newest (file made.bytes.items)
     ((memory_state old).history place) else (if bytes_eq (string_bytes made.path) place then with_newest nothing ((memory_state old).history place)
@@ -83,7 +83,7 @@ renamed_history old new made adds place =
     ap (λ (es : List Event). history_from (nothing ∷ []) es place) adds.appended
     ∙ (history_from-append (nothing ∷ []) old adds.event place ∙ adds.change place before)
 
--- a log with a content more
+-- a log that gets an event by which a path holds a content is one that `AppendsHolds` describes
 pub appends_holds : (old new : List Event) (event : Event) (at path : List ℕ) (content : MemoryContent)
     → ((any : List ℕ) (history : History) → history_after event any history ≡ (if bytes_eq at any then with_newest (content_view content) history else history))
     → at ≡ path → new ≡ old ++ event ∷ [] → AppendsHolds old new path content
@@ -93,7 +93,7 @@ appends_holds old new event at path content change is appended = record {
   appended = appended;
 }
 
--- a log with a rename more
+-- a log that gets an event by which a new file is renamed to its target is one that `AppendsRename` describes
 pub appends_rename : (old new : List Event) (event : Event) (from to bytes : List ℕ) (made : MemoryNewFile)
     → ((any : List ℕ) (history : History) → history_after event any history ≡ (if bytes_eq to any then with_newest (file bytes) history
     else (if bytes_eq from any then with_newest nothing history else history))) → from ≡ string_bytes made.path → to ≡ string_bytes made.target
@@ -104,7 +104,7 @@ appends_rename old new event from to bytes made change is_from is_to are_bytes a
   appended = appended;
 }
 
--- a new file is renamed in memory
+-- a disk in memory whose log gets the rename of a new file has renamed that file, if its path isn't its target
 pub renames_in_memory : (old new : List Event) (made : MemoryNewFile) → string_bytes made.path ≢ string_bytes made.target → AppendsRename old new made
     → Renames (memory_state old) (memory_state new) (memory_draft made)
 renames_in_memory old new made apart adds =
@@ -126,7 +126,7 @@ renames_in_memory old new made apart adds =
           ∙ ap (λ (b : Bool). if b then with_newest nothing h else h) (bytes_eq-other own place (λ e. not_own (sym e)))));
     }
 
--- the newest content after one change more
+-- the newest content of a path after `index + 1` events of a log, by its newest content after `index` events
 pub newest-next : (events : List Event) (index : ℕ) (event : Event) (path : List ℕ) (before after : Content) → index < length events
     → event ≡ get_or events index event → ((history : History) → newest history ≡ Some before → newest (history_after event path history) ≡ Some after)
     → newest (history_from (nothing ∷ []) (take index events) path) ≡ Some before → newest (history_from (nothing ∷ []) (take (index + 1) events) path)

@@ -7,7 +7,7 @@ use Rattle.kmin_disk.specs.Contents.{nothing, file, unfinished}
 use Rattle.kmin_disk.specs.Disks.{DiskState, History, Stays, IsUnchanged, Replaces, Leaves, with_newest, newest}
 use Rattle.kmin_disk.specs.NewFiles.{Draft, Creates, Renames, Removes, IsSameDraft, Takes, and_then, after_rename}
 
--- a place is one given or another
+-- two places are equal or different
 pub same_place_or_other : (p q : List ℕ) → (p ≡ q) ⊎ (p ≢ q)
 same_place_or_other p q =
     elim (bytes_eq p q) as (λ b. Decides b (p ≡ q) → (p ≡ q) ⊎ (p ≢ q)) [
@@ -18,14 +18,14 @@ same_place_or_other p q =
 pub Stays-refl : (old new : History) → new ≡ old → Stays old new
 Stays-refl old new same = record { same_content = ap newest same; same_history = λ some. same }
 
--- a place where nothing was, and where a new file came and went
+-- a place that held nothing is as it was after a new file was created at it and removed
 pub Stays-passed : (old : History) → (newest old ≢ None → newest old ≡ Some nothing) → Stays old (with_newest nothing (with_newest unfinished old))
 Stays-passed [] free = record { same_content = refl; same_history = λ some. refl }
 Stays-passed (content ∷ before) free =
     let is : Some content ≡ Some nothing = free (λ e. let z : Some content ≡ None = e in cc) in
     record { same_content = sym is; same_history = λ some. absurd (some is) }
 
--- the place of a new file that came and went
+-- the place of a new file is as it was after the file was created and removed
 pub own_place_stays : (a b c : DiskState) (path new_path : List ℕ) (draft last : Draft) → Creates a b path new_path draft → last.own ≡ draft.own
     → c.history last.own ≡ with_newest nothing (b.history last.own) → (place : List ℕ) → place ≡ draft.own → Stays (a.history place) (c.history place)
 own_place_stays a b c path new_path draft last made own gone place is =
@@ -33,7 +33,7 @@ own_place_stays a b c path new_path draft last made own gone place is =
     ap c.history (sym own) ∙ (gone ∙ (ap (λ o. with_newest nothing (b.history o)) own ∙ ap (with_newest nothing) made.made)) in
     subst (λ p. Stays (a.history p) (c.history p)) (sym is) (subst (Stays (a.history draft.own)) (sym now) (Stays-passed (a.history draft.own) made.free))
 
--- a new file was made and removed again
+-- a disk is unchanged after a new file was created and removed
 pub unchanged_by_removal : (a b c : DiskState) (path new_path : List ℕ) (draft last : Draft) → Creates a b path new_path draft → IsSameDraft draft last
     → Removes b c last → IsUnchanged a c
 unchanged_by_removal a b c path new_path draft last made same gone = record {
@@ -44,7 +44,7 @@ unchanged_by_removal a b c path new_path draft last made same gone = record {
   ];
 }
 
--- a new file was made and left
+-- a disk on which a new file was created has that one file more, as `Leaves` says
 pub leaves_new_file : (a b : DiskState) (path new_path : List ℕ) (draft : Draft) → Creates a b path new_path draft → Leaves a b new_path
 leaves_new_file a b path new_path draft made = record {
   places = made.places;
@@ -61,7 +61,7 @@ after_rename-begun begun bytes (content ∷ before) empty =
     let is : begun ≡ Some [] = empty (λ e. let z : Some content ≡ None = e in cc) in
     ap (λ some. after_rename (and_then some bytes) (content ∷ before)) is
 
--- a new file was made, took all bytes and was renamed
+-- a new file that was created, took all bytes and was renamed to its target has replaced the file at the target's path
 pub replaces_by_rename : (a b c : DiskState) (path new_path bytes : List ℕ) (draft last : Draft) → Creates a b path new_path draft → Takes draft last bytes
     → Renames b c last → Replaces a c path bytes
 replaces_by_rename a b c path new_path bytes draft last made took renamed =

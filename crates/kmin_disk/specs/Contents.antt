@@ -3,7 +3,8 @@ use Rattle.std.specs.Prelude.{◌≡◌, ℕ, List, Option, Some, None}
 use Rattle.kmin_disk.specs.declared.kind.FileKind.{FileKind}
 use Rattle.kmin_disk.specs.declared.kind.FileKind.TheVariants.{Missing, Regular, NotRegular}
 
--- a name holds nothing, a regular file of these bytes, a new file that isn't finished, or anything else: a link, a folder, a pipe, a device
+-- what a name in a folder holds: nothing, a regular file of these bytes, a new file that isn't finished, or anything else (a
+-- link, a folder, a pipe or a device)
 pub data Content : Type 0 where
   nothing : Content
   file : (bytes : List ℕ) → Content
@@ -18,18 +19,19 @@ IsOfKind (Some (file bytes)) kind = kind ≡ Regular
 IsOfKind (Some unfinished) kind = kind ≡ Regular
 IsOfKind (Some special) kind = kind ≡ NotRegular
 
--- the known result of opening a content for reading: none known, no reader, or a reader of these bytes
+-- the outcome of opening a file of this content for reading: `None` if it isn't known, `Some None` if the file can't be opened,
+-- `Some (Some bytes)` for a reader that has these bytes left
 abbrev pub readable : Option Content → Option (Option (List ℕ))
 readable (Some nothing) = Some None
 readable (Some (file bytes)) = Some (Some bytes)
 readable _ = None
 
--- a file opens as is known: there is no reader, or one that has these bytes left
+-- the outcome of opening a file is as expected, if one is expected: no reader, or a reader with these bytes left
 abbrev pub OpensAs : Option (Option (List ℕ)) → Option (Option (List ℕ)) → Type 0
 OpensAs None reader = Unit {0}
 OpensAs (Some None) reader = reader ≡ None
 OpensAs (Some (Some bytes)) reader = reader ≡ Some (Some bytes)
 
--- a reader may get exactly these bytes, as far as the content is known
+-- reading a file of this content may give exactly these bytes, as far as the content is known
 abbrev pub MayRead : Option Content → List ℕ → Type 0
 MayRead content bytes = OpensAs (readable content) (Some (Some bytes))

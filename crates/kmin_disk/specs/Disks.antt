@@ -2,21 +2,22 @@
 use Rattle.std.specs.Prelude.{◌≡◌, ◌≢◌, ℕ, List, [], ◌∷◌, Option, Some, None}
 use Rattle.kmin_disk.specs.Contents.{Content, nothing, file, unfinished}
 
--- all that a name has held, the newest first; empty where nothing is known of it
+-- all contents that a name in a folder has held, the newest first; empty if nothing is known of the name
 abbrev pub History : Type 0
 History = List Content
 
--- the present content of a name, if it is known
+-- the present content of a name with this history; `None` if it isn't known
 abbrev pub newest : History → Option Content
 newest [] = None
 newest (content ∷ before) = Some content
 
--- a history with one more content, if the history is known
+-- a history with one more content, as its newest; a history of which nothing is known stays empty
 abbrev pub with_newest : Content → History → History
 with_newest content [] = []
 with_newest content (last ∷ before) = content ∷ last ∷ before
 
--- The place to which each path leads, and the history of each place. A place is a name in a folder, to which several paths may lead.
+-- The state of a disk: the place to which each path leads, and the history of each place. A place is a name in a folder, to which
+-- several paths may lead.
 pub record DiskState : Type 0 where
   pub place : List ℕ → List ℕ
   pub history : List ℕ → History
@@ -25,23 +26,25 @@ pub record DiskState : Type 0 where
 abbrev pub content_at : DiskState → List ℕ → Option Content
 content_at disk path = newest (disk.history (disk.place path))
 
--- A place is as it was: its newest content is the same, and unless that is nothing, its history is too.
+-- A name in a folder holds what it held: its newest content is the same, and unless that is `nothing`, its history is too.
 pub record Stays (old new : History) : Type 0 where
   pub same_content : newest new ≡ newest old
   pub same_history : newest old ≢ Some nothing → new ≡ old
 
--- Every place is as it was.
+-- Every path of a disk leads to the same name in a folder as before, and every name in a folder holds what it held.
 pub record IsUnchanged (old new : DiskState) : Type 0 where
   pub places : (path : List ℕ) → new.place path ≡ old.place path
   pub histories : (place : List ℕ) → Stays (old.history place) (new.history place)
 
--- The place of a path got a file of these bytes as its newest content, and every other place is as it was.
+-- The name in a folder to which a path leads got a file of these bytes as its newest content; every other name holds what it
+-- held.
 pub record Replaces (old new : DiskState) (path bytes : List ℕ) : Type 0 where
   pub places : (any : List ℕ) → new.place any ≡ old.place any
   pub target : new.history (old.place path) ≡ with_newest (file bytes) (old.history (old.place path))
   pub others : (place : List ℕ) → place ≢ old.place path → Stays (old.history place) (new.history place)
 
--- The place of a path, where nothing was, got a new file that isn't finished, and every other place has its history.
+-- The name in a folder to which a path leads, where nothing was, got a new file that isn't finished; every other name has the
+-- same history as before.
 pub record Leaves (old new : DiskState) (path : List ℕ) : Type 0 where
   pub places : (any : List ℕ) → new.place any ≡ old.place any
   pub free : newest (old.history (old.place path)) ≢ None → content_at old path ≡ Some nothing

@@ -8,13 +8,14 @@ use Rattle.kmin_disk.specs.declared.fault.ReplaceFault.TheVariants.{NotRegular, 
 use Rattle.kmin_disk.specs.declared.fault.UpdateFault.{UpdateFault}
 use Rattle.kmin_disk.specs.declared.fault.UpdateFault.TheVariants.{Unread, Replace}
 
--- the count of failures after making a new file: a name in use is no failure
+-- a disk's count of failed calls after creating a new file, by the count before and the result: a name in use is no failure
 abbrev pub failures_after_create : {T : Type 0} → ℕ → Result T CreateFault → ℕ
 failures_after_create n (Ok new) = n
 failures_after_create n (Err Taken) = n
 failures_after_create n (Err Failed) = one_failure_more n
 
--- the count of failures after a fault of replacing: one more for a failed call, and one for the failed removal of the new file
+-- a disk's count of failed calls after a fault of replacing a file: one more if a call failed, two more if the new file couldn't
+-- be removed either
 abbrev pub failures_of_fault : ℕ → ReplaceFault → ℕ
 failures_of_fault n NotRegular = n
 failures_of_fault n Unchanged = one_failure_more n
@@ -23,17 +24,18 @@ failures_of_fault n (Left new_path) = one_failure_more (one_failure_more n)
 failures_of_fault n FolderNotSynced = one_failure_more n
 failures_of_fault n OutOfMemory = n
 
--- the count of failures after replacing a file: none more if it is replaced
+-- a disk's count of failed calls after replacing a file, by the count before and the result: the same if the file is replaced
 abbrev pub failures_after_replace : {T : Type 0} → ℕ → Result T ReplaceFault → ℕ
 failures_after_replace n (Ok done) = n
 failures_after_replace n (Err fault) = failures_of_fault n fault
 
--- the count of failures after a fault of updating: as after replacing; a failed read isn't counted
+-- a disk's count of failed calls after a fault of updating a file: as after the fault of replacing it; a failed read isn't
+-- counted
 abbrev pub failures_of_update : ℕ → UpdateFault → ℕ
 failures_of_update n Unread = n
 failures_of_update n (Replace fault) = failures_of_fault n fault
 
--- the count of failures after updating a file: none more if it has its bytes
+-- a disk's count of failed calls after updating a file, by the count before and the result: the same if the file has its bytes
 abbrev pub failures_after_update : {T : Type 0} → ℕ → Result T UpdateFault → ℕ
 failures_after_update n (Ok done) = n
 failures_after_update n (Err fault) = failures_of_update n fault

@@ -17,7 +17,7 @@ pub trait ReadDisk {
     /// The reader of an open file.
     type File: Source + Drop;
 
-    /// The place to which each path leads, and the history of each place, as far as it is known.
+    /// The name in a folder to which each path leads, and the history of each name, as far as it is known.
     ghost state: { Self → DiskState };
 
     /// The seed of this run. Names of new files are made from it.

@@ -12,13 +12,13 @@ pub enum CreateFault {
     Failed,
 }
 
-/// Why a file wasn't replaced, or not for good.
+/// Why a file wasn't replaced, or why the replacement may not last a power cut.
 #[derive(Debug, Drop, PartialEq, Eq, Error)]
 pub enum ReplaceFault {
     /// The path leads to a link, a folder, a pipe or a device. Nothing changed.
     #[error("NotRegular")]
     NotRegular,
-    /// A call failed. Nothing changed.
+    /// A call failed. Nothing changed: a new file that had been created is removed.
     #[error("Write")]
     Unchanged,
     /// Each of the names that were tried for a new file is in use. Nothing changed.
@@ -35,13 +35,13 @@ pub enum ReplaceFault {
     OutOfMemory,
 }
 
-/// Why a file wasn't updated to given bytes, or not for good.
+/// Why a file wasn't updated to given bytes, or why the update may not last a power cut.
 #[derive(Debug, Drop, PartialEq, Eq, Error)]
 pub enum UpdateFault {
-    /// A read of the present file failed, before it was known whether it has the bytes. Nothing changed.
+    /// A read of the file failed before it was known whether the file already has the given bytes. Nothing changed.
     #[error("Write")]
     Unread,
-    /// The file has other bytes or is missing, and wasn't replaced, or not for good.
+    /// The file is missing, can't be opened, isn't regular or has other bytes, and replacing it ended with this fault.
     #[error("{0}")]
     Replace(ReplaceFault),
 }

@@ -1,9 +1,9 @@
 //! Kinds of files.
 
-/// The kind of the file at a path, where a link at its end isn't followed.
+/// The kind of the file at a path. A link at the end of the path isn't followed.
 #[derive(Clone, Copy, Debug, PartialEq, Eq)]
 pub enum FileKind {
-    /// No file that can be found.
+    /// No file was found at the path.
     Missing,
     /// A regular file.
     Regular,

@@ -10,7 +10,7 @@ use crate::kind::FileKind;
 use kc_value::{Failed, Seed, Source};
 use std::alloc::{AllocError, Global};
 
-/// The content of a path of a disk in memory. A file is `Unfinished` from its making until it is renamed.
+/// What a path of a disk in memory holds. A new file is `Unfinished` from its creation until it is renamed.
 #[derive(Clone, Copy)]
 pub(crate) enum MemoryContent<'a> {
     Nothing,
@@ -59,7 +59,7 @@ impl<'a> Event<'a> {
     }
 }
 
-/// A disk in memory, which begins empty. Each path is a place of its own. The bytes of all files are borrowed, so a
+/// A disk in memory, which begins empty. No two paths lead to the same file. The bytes of all files are borrowed, so a
 /// rename fails unless the new file has the bytes of one of `texts`.
 #[derive(Drop)]
 pub struct MemoryDisk<'a> {
@@ -85,7 +85,7 @@ pub struct MemoryNewFile {
 /// A rename on a disk in memory whose folder isn't synced yet.
 pub struct MemoryRename {}
 
-/// A reader of a file of a disk in memory, whose reads fail after a chosen number.
+/// A reader of a file of a disk in memory. After a chosen number of reads, all others fail.
 #[derive(Drop)]
 pub struct MemoryFile<'a> {
     left: &'a [u8],
@@ -113,7 +113,8 @@ impl Source for MemoryFile<'_> {
 }
 
 impl<'a> MemoryDisk<'a> {
-    /// An empty disk, on which a write takes at most `most` bytes.
+    /// An empty disk in memory, on which a write takes at most `most` bytes. The new files that can be renamed are those with the
+    /// bytes of one of `texts`.
     pub fn new(alloc: Global, texts: &'a [&'a [u8]], most: usize) -> MemoryDisk<'a>
         ensures state { ⟦<MemoryDisk<'a> as ReadDisk>⟧.state result ≡ memory_state [] }
         ensures failures { ⟦<MemoryDisk<'a> as WriteDisk>⟧.failures result ≡ 0 }
@@ -130,12 +131,12 @@ impl<'a> MemoryDisk<'a> {
         }
     }
 
-    /// Adds a regular file of these bytes.
+    /// Adds a regular file of these bytes at a path.
     pub fn add_file(&mut self, path: &str, bytes: &'a [u8]) -> Result<(), AllocError> {
         self.add(path, MemoryContent::File(bytes))
     }
 
-    /// Adds a file that isn't regular: a link, a folder, a pipe or a device.
+    /// Adds at a path a file that isn't regular: a link, a folder, a pipe or a device.
     pub fn add_special(&mut self, path: &str) -> Result<(), AllocError> {
         self.add(path, MemoryContent::Special)
     }
@@ -151,7 +152,7 @@ impl<'a> MemoryDisk<'a> {
         Ok(())
     }
 
-    /// Lets `calls` more calls that change files pass, and then the next `failing` ones fail.
+    /// Lets the next `calls` calls that change files pass, and the `failing` ones after them fail.
     pub fn fail_after(&mut self, calls: u64, failing: u64) {
         self.calls_before_failing = calls;
         self.failing_calls = failing;
@@ -170,12 +171,12 @@ impl<'a> MemoryDisk<'a> {
         }
     }
 
-    /// The number of changes so far: files added, made, renamed and removed.
+    /// The number of changes of the disk so far: files added, created, renamed and removed.
     pub fn changes(&self) -> usize {
         self.log.len()
     }
 
-    /// The number of calls that failed.
+    /// The number of calls of the disk that failed so far.
     pub fn failures(&self) -> u64 {
         self.failed
     }

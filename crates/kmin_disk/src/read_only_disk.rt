@@ -5,14 +5,14 @@ use crate::disk::ReadDisk;
 use crate::kind::FileKind;
 use kc_value::Seed;
 
-/// A disk whose files can only be read: code that has no other can't change a file.
+/// A disk whose files can only be read: code that is given no other disk can't change a file.
 #[derive(Drop)]
 pub struct ReadOnly<'a, D> {
     disk: &'a D,
 }
 
 impl<'a, D: ReadDisk> ReadOnly<'a, D> {
-    /// The files of `disk`, for reading alone.
+    /// A disk that has the files of `disk` and can only be read.
     pub fn new(disk: &'a D) -> ReadOnly<'a, D>
         ensures { ⟦<ReadOnly<'a, D> as ReadDisk>⟧.state result ≡ D.state disk.now }
     {

@@ -28,7 +28,7 @@ pub struct SystemFile {
     size: usize,
 }
 
-/// A new file, and the file that it is to replace, if there is one.
+/// A new file on the disk of the system, and the metadata of the file that it is to replace, if there is one.
 #[derive(Drop)]
 pub struct SystemNewFile {
     file: File,
@@ -53,7 +53,7 @@ impl Source for SystemFile {
 }
 
 impl<'a> SystemDisk<'a> {
-    /// The disk of the system, with no failed call.
+    /// The disk of the system, with no failed call so far. The names of its new files depend on `seed`.
     pub fn new(runtime: &'a HostRuntime, seed: Seed) -> SystemDisk<'a>
         ensures { ⟦<SystemDisk<'a> as WriteDisk>⟧.failures result ≡ 0 }
     {

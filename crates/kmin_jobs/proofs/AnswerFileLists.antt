@@ -7,7 +7,7 @@ use Rattle.kc_macros_model.specs.declared.fault.AnswersFault.{AnswersFault}
 use Rattle.kc_macros_model.specs.AnswerFiles.{Recorded, complete, cut_by, answers_read}
 use Rattle.kc_macros.specs.ReadAnswers.{AreRecorded, IsRefused, ReadsToEnd, end_of_file}
 use Rattle.kmin_jobs.specs.FileContents.{FileContent}
-use Rattle.kmin_tidy.specs.MinimalFiles.{AreKnownBytes}
+use Rattle.kmin_tidy.specs.KnownBytes.{AreKnownBytes}
 use Rattle.kmin_disk.specs.Contents.{OpensAs}
 use Rattle.kmin_tidy.specs.StandardError.{TakesLines}
 use Rattle.kmin_jobs.specs.MacroReports.{answers_line}
@@ -19,21 +19,21 @@ use Rattle.kmin_jobs.specs.between.AnswerSteps as steps
 use Rattle.kmin_tidy.proofs.WriterLemmas.{lines_append}
 use Rattle.kmin_jobs.proofs.Sequences.{rest_of, whole_content}
 
--- files after files
+-- answer files that add to earlier answers, and then more of them, do so as one list of files
 pub record_append : (content_of : List ℕ → FileContent) (xs ys : List (List ℕ)) (a b c : Recorded) → FilesRecord content_of xs a b
     → FilesRecord content_of ys b c → FilesRecord content_of (xs ++ ys) a c
 record_append content_of xs ys a b c (none recorded) k = k
 record_append content_of xs ys a b c (file path bytes paths earlier middle recorded m r h) k =
     file path bytes (paths ++ ys) earlier middle c m r (record_append content_of paths ys middle b c h k)
 
--- one file that was opened and read
+-- an answer file that was opened, read and accepted adds to earlier answers as a list of one file
 pub recorded_from : (content_of : List ℕ → FileContent) (path : List ℕ) (before after : Option (List ℕ)) (earlier recorded : Recorded)
     → OpensAs (content_of path) (Some before) → AreRecorded before after earlier recorded → FilesRecord content_of (path ∷ []) earlier recorded
 recorded_from content_of path before after earlier recorded o r =
     file path r.bytes [] earlier recorded recorded (whole_content (content_of path) before after r.bytes o r.consumed r.ended) r.read (none recorded)
 
 module _ (content : FileContent) (path : List ℕ) (before after : Option (List ℕ)) (opens : OpensAs content (Some before)) (earlier : Recorded) where
-  -- a file that was refused, by what cut it
+  -- an answer file that is refused ends a job, by what ended the reading
   refused_by : (failed failed_after : ℕ) (bytes : List ℕ) (fault : AnswersFault) (cut : Option AnswersKind) → Consumes before after bytes
       → ReadsToEnd after failed failed_after bytes cut → answers_read (end_of_file cut) bytes earlier ≡ Err fault
       → StopsAtAnswers content earlier path (answers_status fault.kind) (answers_line path fault.line fault.kind)
@@ -76,7 +76,7 @@ module _ (content : FileContent) (path : List ℕ) (before after : Option (List 
   by_kind f g line TooLarge (steps.for_memory e) = cc
   by_kind f g line TooLarge (steps.refused r) = refused_file f g (record { line = line; kind = TooLarge }) r refl
 
-  -- a file that was opened and not read
+  -- an answer file that was opened, but not accepted, ends a run with the lines that were reported
   pub stopped_reading : (read_failed read_failed_after status : ℕ) (taken taken_after : Option (List ℕ)) (failed failed_after : ℕ)
       → StopsReading path before after read_failed read_failed_after earlier status taken failed taken_after failed_after
       → (lines : List (List ℕ)) × StopsAtAnswersPath content earlier path status lines × TakesLines taken failed lines taken_after failed_after
@@ -87,14 +87,14 @@ module _ (content : FileContent) (path : List ℕ) (before after : Option (List 
     s.reported,
   )
 
--- at a file after others that were recorded
+-- a job that ends at an answer file, after others that were accepted, ends among its answer files
 path_stops : (content_of : List ℕ → FileContent) (front back all : List (List ℕ)) (path : List ℕ) (earlier : Recorded) (status : ℕ) (lines : List (List ℕ))
     → all ≡ front ++ (path ∷ back) → FilesRecord content_of front [] earlier → StopsAtAnswersPath (content_of path) earlier path status lines
     → StopsAmongAnswers content_of all status lines
 path_stops content_of front back all path earlier status lines e r (steps.at_file line s l) = stops.at_file front back path line earlier e r s l
 path_stops content_of front back all path earlier status lines e r (steps.for_memory s l) = stops.for_memory s l
 
--- what follows from a fact, where the call succeeded
+-- if a fact holds where a call succeeded, so does another one that follows from it
 pub on_ok_map : {T E : Type 0} (r : Result T E) (P Q : Type 0) → (P → Q) → OnOk r P → OnOk r Q
 on_ok_map (Ok x) P Q f h = f h
 on_ok_map (Err e) P Q f h = tt
@@ -105,7 +105,7 @@ pub reports_fault : (left left_after : Option (List ℕ)) (failed failed_after :
 reports_fault left left_after failed failed_after earlier fault (inl e) = steps.for_memory e
 reports_fault left left_after failed failed_after earlier fault (inr r) = steps.refused r
 
--- the end at a file after others that were recorded, with the lines that were reported before
+-- a job that ends at an answer file, after others that were accepted without a report, ends among its answer files
 pub stopped_later : (content_of others : List ℕ → FileContent) → others ≡ content_of → (front back all : List (List ℕ)) (path : List ℕ) (earlier : Recorded)
     (status : ℕ) (taken middle taken_after : Option (List ℕ)) (failed failed_middle failed_after : ℕ)
     → all ≡ front ++ (path ∷ back) → FilesRecord content_of front [] earlier → TakesLines taken failed [] middle failed_middle
@@ -118,7 +118,7 @@ stopped_later content_of others same front back all path earlier status taken mi
   lines_append taken middle failed failed_middle [] h.0 taken_after failed_after before h.2,
 )
 
--- a fault that is no failed read and no lack of memory
+-- the exit status for a fault of an answer file that is neither a failed read nor lack of memory is 4
 pub other_status : (kind : AnswersKind) → (kind ≡ Read → ⊥) → (kind ≡ OutOfMemory → ⊥) → 4 ≡ answers_status kind
 other_status Read h k = absurd (h refl)
 other_status OutOfMemory h k = absurd (k refl)

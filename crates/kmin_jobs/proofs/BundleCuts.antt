@@ -9,11 +9,11 @@ use Rattle.kmin_jobs.specs.between.LineEnds.{is_inline}
 use Rattle.kmin_jobs.proofs.LineLaws.{lines_of_run}
 
 -- lines after a newline are lines of their own
-behind_cases : (c : ℕ) (b : Bool) (ls ms ns : List (List ℕ)) → ls ≡ ms ++ ns → 0 < length ms
+append_cases : (c : ℕ) (b : Bool) (ls ms ns : List (List ℕ)) → ls ≡ ms ++ ns → 0 < length ms
     → cond b ([] ∷ ls) (onto_first c ls) ≡ cond b ([] ∷ ms) (onto_first c ms) ++ ns
-behind_cases c b ls [] ns e h = absurd (omega arith)
-behind_cases c true ls (m ∷ ms) ns e h = rw e refl
-behind_cases c false ls (m ∷ ms) ns e h = rw e refl
+append_cases c b ls [] ns e h = absurd (omega arith)
+append_cases c true ls (m ∷ ms) ns e h = rw e refl
+append_cases c false ls (m ∷ ms) ns e h = rw e refl
 
 some_front : (c : ℕ) (b : Bool) (ls : List (List ℕ)) → 0 < length (cond b ([] ∷ ls) (onto_first c ls))
 some_front c true ls = omega arith
@@ -24,15 +24,15 @@ some_lines : (front : List ℕ) → 0 < length (file_lines (front ++ 10 ∷ []))
 some_lines [] = omega arith
 some_lines (c ∷ cs) = some_front c (c == 10) (file_lines (cs ++ 10 ∷ []))
 
-pub lines_behind : (front rest : List ℕ) → file_lines (front ++ 10 ∷ rest) ≡ file_lines (front ++ 10 ∷ []) ++ file_lines rest
-lines_behind [] rest = refl
-lines_behind (c ∷ cs) rest =
-    behind_cases c (c == 10) (file_lines (cs ++ 10 ∷ rest)) (file_lines (cs ++ 10 ∷ [])) (file_lines rest) (lines_behind cs rest) (some_lines cs)
+pub lines_after_newline : (front rest : List ℕ) → file_lines (front ++ 10 ∷ rest) ≡ file_lines (front ++ 10 ∷ []) ++ file_lines rest
+lines_after_newline [] rest = refl
+lines_after_newline (c ∷ cs) rest =
+    append_cases c (c == 10) (file_lines (cs ++ 10 ∷ rest)) (file_lines (cs ++ 10 ∷ [])) (file_lines rest) (lines_after_newline cs rest) (some_lines cs)
 
--- the lines of whole lines and of what follows
+-- the lines of a text that begins with whole lines are those, and then those of the rest
 pub lines_whole : (front rest : List ℕ) → HasWholeLines front → file_lines (front ++ rest) ≡ file_lines front ++ file_lines rest
 lines_whole front rest (inl e) = rw e refl
-lines_whole front rest (inr w) = rw (w.1, append_assoc) (lines_behind w.0 rest)
+lines_whole front rest (inr w) = rw (w.1, append_assoc) (lines_after_newline w.0 rest)
 
 all_both : (f : List ℕ → Bool) (ls ms : List (List ℕ)) → list_all f ls ≡ true → list_all f ms ≡ true → list_all f (ls ++ ms) ≡ true
 all_both f [] ms h k = k

@@ -32,7 +32,7 @@ use Rattle.kmin_tidy.proofs.WriterLemmas.{lines_append}
 use Rattle.kmin_jobs.proofs.Sequences.{stopped_at, stopped_path, loaded_from, loaded_one}
 use Rattle.kmin_jobs.proofs.JobOutputs.{resolved}
 
--- a configuration in memory that wasn't read
+-- a bundle's configuration that wasn't accepted ends the run among its configuration files, with the lines that were reported
 pub memory_stops : (text : List ℕ) (left : Option (List ℕ)) (format plain : FileFormat) (tree : Tree) (path : List ℕ) (after : Option (List ℕ))
     (read_failed read_failed_after status : ℕ) (taken taken_after : Option (List ℕ)) (failed failed_after : ℕ)
     → format ≡ plain → left ≡ Some text → StopsLoad format tree path left after read_failed read_failed_after status taken failed taken_after failed_after
@@ -43,7 +43,7 @@ memory_stops text left format plain tree path after f g status taken taken_after
     stopped_path (bundle_content text) (bundle_content text) plain false tree status taken failed taken_after failed_after path refl
     (stopped_at (Some (Some text)) plain tree path (Some text) after refl false f g status taken taken_after failed failed_after k)
 
--- a configuration in memory that was read
+-- a bundle's configuration that was read and accepted is loaded as the one configuration file of the run
 pub memory_loaded : (text : List ℕ) (left : Option (List ℕ)) (format plain : FileFormat) (tree : Tree) (path : List ℕ) (after : Option (List ℕ))
     (before users : List (Option UserValue)) (fragment : Fragment) (taken taken_after : Option (List ℕ)) (failed failed_after : ℕ)
     → format ≡ plain → left ≡ Some text → IsReadAs format tree left after fragment
@@ -55,7 +55,7 @@ memory_loaded text left format plain tree path after before users fragment taken
     loaded_one (bundle_content text) (bundle_content text) plain false tree path before users fragment taken taken_after failed failed_after refl
     (loaded_from (Some (Some text)) plain tree path (Some text) after refl taken taken_after failed failed_after fragment k t) (λ s. cc) u
 
--- the full file of a configuration
+-- the full file of the configuration of a bundle is that of the one solution of its assignment
 pub full_answers : (text : List ℕ) (format : FileFormat) (bytes : List ℕ) (config : Configured) (settled : Settled) (taken taken_after : Option (List ℕ))
     (failed failed_after : ℕ)
     → config.system ≡ settled → format ≡ plain_format → IsSolved config
@@ -121,7 +121,7 @@ module _ (bundle tree configuration : List ℕ) (parts : IsBundle bundle tree co
           failed_after before h.2,
     )
 
--- a run on a bundle ended, and its last line is reported
+-- a run on a bundle that ended early, and then reported its last line, ends as `StopsOnBundle` defines, with all these lines
 pub bundle_ends : (left left_after : Option (List ℕ)) (stop : RunError) (status : ℕ) (taken middle taken_after : Option (List ℕ))
     (failed failed_middle failed_after : ℕ)
     → status ≡ status_of stop

@@ -14,7 +14,7 @@ with_more : (fs gs : List ExpandedFile) (texts : Files) → with_expanded_files 
 with_more [] gs texts = refl
 with_more (f ∷ fs) gs texts = with_more fs gs (with_expanded_file f texts)
 
--- one file more
+-- texts with the first n + 1 of some expanded files are those with the first n, and the file at place n
 pub with_next : (files : List ExpandedFile) (n : ℕ) (texts : Files) → n < length files
     → with_expanded_files (take (n + 1) files) texts ≡ with_file_at (slice_get files n) (with_expanded_files (take n files) texts)
 with_next files n texts h =
@@ -26,7 +26,7 @@ with_next files n texts h =
     ap (λ k. with_expanded_files (take k files) texts) next ∙ ap (λ fs. with_expanded_files fs texts) (take-suc files n none h)
     ∙ with_more (take n files) (f ∷ []) texts ∙ sym (ap (λ o. with_file_at o before) at)
 
--- the name of a file by its number
+-- the name, in messages, of the file of a number is the name of its key
 pub named_at : (files : List ExpandedFile) (texts : Files) (number : ℕ) → path_at (named_texts files texts) number
     ≡ option_map (name_of_key files) (path_at texts number)
 named_at files texts number =
@@ -38,7 +38,7 @@ named_at files texts number =
     twice None = refl
     twice (Some f) = refl
 
--- no texts in a language
+-- texts in a language that have no files are `no_texts` of that language
 pub are_no_texts : (texts : Files) (language : Language) → texts.language ≡ language → texts.list ≡ [] → texts ≡ no_texts language
 are_no_texts texts language e f =
     ap (λ (l : Language). record { language = l; list = texts.list }) e ∙ ap (λ (fs : List (List ℕ × List ℕ)). record { language = language; list = fs }) f

@@ -25,7 +25,7 @@ pub found_name : (texts : Files) (expanded : Option (Bor (List ExpandedFile))) (
 found_name texts expanded files number key name e k h =
     rw e (ap (λ (n : List ℕ). Some n) h ∙ ap (option_map (name_of_key files.now)) k ∙ sym (named_at files.now texts number))
 
--- a borrowed text, or another one
+-- a borrowed text, with another one as its default, has the content of the first with that of the other as its default
 pub text_or : (found : Option (Bor (List ℕ))) (other : Bor (List ℕ)) (path : Option (List ℕ)) → option_map (λ (b : Bor (List ℕ)). b.now) found ≡ path
     → (unwrap_or found other).now ≡ unwrap_or path other.now
 text_or None other path e = rw (← e) refl

@@ -36,7 +36,7 @@ use Rattle.kmin_jobs.specs.between.RunErrors.{status_of}
 use Rattle.kmin_tidy.proofs.WriterLemmas.{lines_append}
 use Rattle.kmin_jobs.proofs.Sequences.{mean_again}
 
--- the solution that a configuration of a known tree has
+-- a configuration that was loaded from files has the one solution of the assignment of these files
 pub resolved : (content_of : List ℕ → FileContent) (settings : Settings) (config : Configured) (settled : Settled) (paths : List (List ℕ))
     (taken taken_after : Option (List ℕ)) (failed failed_after : ℕ)
     → config.system ≡ settled → profile_of settled ≡ settings.profile → IsSolved config
@@ -71,7 +71,7 @@ answers_files content_of settings verb exit_code config settled paths text statu
       l.reported,
     )
 
--- the text of `min`, if it is made
+-- the output of the verb `min`, if memory sufficed for it, is the canonical file of the values
 pub canonical_text : (format : FileFormat) (profile : Profile) (tree : Tree) (users : List (Option UserValue)) (values : List UnitValue) (verb : Verb)
     (r : Result (Vec ℕ Global) AllocError) (a : Result AnswerText AllocError)
     → verb ≡ Min
@@ -83,7 +83,7 @@ canonical_text format profile tree users values verb r (Err e) m h k = tt
 canonical_text format profile tree users values verb r (Ok answer) m h k =
     let made : IsCanonicalText format profile tree values answer.text.items = rw k at h in λ settings p q. rw (m, p, q) made
 
--- the status of a list is 0 or 1
+-- the exit status of a command that lists something is at most 1
 pub status_at_most_one : {A : Type 0} (says_so : Bool) (listed : List A) → status_of_list says_so listed ≤ 1
 status_at_most_one false listed = omega arith
 status_at_most_one true [] = omega arith
@@ -122,7 +122,7 @@ answers_comparison content_of others settings left right settled a b text status
       lines_append taken middle failed failed_middle _ _ taken_after failed_after hl.reported hr.reported,
     )
 
--- no texts
+-- texts without files match what is known of the files below any root
 pub below_none : (content_of : List ℕ → FileContent) (root : List ℕ) (language : Language) (texts : Files) → texts.language ≡ language → texts.list ≡ []
     → AreTextsBelow content_of root language texts
 below_none content_of root language texts e f = record {
@@ -185,7 +185,7 @@ module _ (known : Known) (others : List ℕ → FileContent) (settings : Setting
     lines_append taken middle failed failed_middle t.lines h.0 taken_after failed_after before h.2,
   )
 
--- nothing more was reported
+-- a writer that took some lines, and then nothing, took these lines
 pub lines_kept : (before middle after : Option (List ℕ)) (failed failed_middle failed_after : ℕ) (lines : List (List ℕ))
     → TakesLines before failed lines middle failed_middle → TakesLines middle failed_middle [] after failed_after
     → TakesLines before failed lines after failed_after
@@ -202,7 +202,7 @@ small (suc (suc n)) h = absurd (omega arith)
 pub no_other_status : (n : ℕ) → n ≤ 1 → (n ≢ 0) × (n ≢ 1) → ⊥
 no_other_status n h k = elim (small n h) [ inl e ↦ k.0 e | inr e ↦ k.1 e ]
 
--- a write of an output failed
+-- a command that failed to write its output, and reported that, ends as `Stops` defines, with all lines that were reported
 pub write_stops : (known : Known) (settings : Settings) (task : Task) (text : List ℕ) (made status : ℕ) (taken middle taken_after : Option (List ℕ))
     (failed failed_middle failed_after : ℕ)
     → status ≡ 5
@@ -217,7 +217,7 @@ write_stops known settings task text made status taken middle taken_after failed
       (lines_append taken middle failed failed_middle (w.0.lines ++ w.1) (output_line ∷ []) taken_after failed_after w.4 h)),
 )
 
--- a job ended, and its last line is reported
+-- a command that ended before it had an output, and then reported its last line, ends as `Stops` defines, with all these lines
 pub job_ends : (known : Known) (settings : Settings) (task : Task) (stop : RunError) (status : ℕ) (taken middle taken_after : Option (List ℕ))
     (failed failed_middle failed_after : ℕ)
     → status ≡ status_of stop

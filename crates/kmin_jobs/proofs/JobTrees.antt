@@ -14,7 +14,7 @@ use Rattle.kmin_jobs.specs.declared.expanded_trees.ExpandedTexts.{ExpandedTexts}
 use Rattle.kmin_jobs.specs.FileContents.{Known, AreTextsBelow}
 use Rattle.kmin_jobs.specs.JobAnswers.{AreJobAnswers}
 use Rattle.kmin_jobs.specs.JobTexts.{TreeTexts, AreExpandedTexts, AreTextsOfJob, as_they_are, expanded, expanded_texts, named_texts}
-use Rattle.kmin_jobs.specs.TreesBelow.{contents_below}
+use Rattle.kmin_jobs.specs.TreeFolders.{contents_below}
 use Rattle.kmin_jobs.specs.Answers.{AreAccepted}
 use Rattle.kmin_jobs.specs.MacroReports.{macro_notice_line}
 use Rattle.kmin_tidy.specs.StandardError.{TakesLines}
@@ -29,7 +29,7 @@ use Rattle.kmin_jobs.specs.between.TreeStops.{StopsAtTexts}
 use Rattle.kmin_jobs.specs.between.TreeStops as tree_stops
 use Rattle.kmin_tidy.proofs.WriterLemmas.{lines_append}
 
--- texts as they are
+-- the texts of a tree without expansion: they are named by their paths, and there are no notices
 abbrev pub plain_texts : Files → TreeTexts
 plain_texts texts = record { texts = texts; names = texts; lines = [] }
 
@@ -38,7 +38,7 @@ pub are_plain : (known : Known) (settings : Settings) (texts : Files) → settin
     → AreTextsOfJob known settings (plain_texts texts)
 are_plain known settings texts e h = as_they_are e h refl refl
 
--- texts end a job, whatever made them
+-- texts that end a run end the job at its tree, whether macros are expanded or not
 texts_stop : (known : Known) (settings : Settings) (t : TreeTexts) (status : ℕ) (more lines : List (List ℕ)) → AreTextsOfJob known settings t
     → StopsAtTexts t.texts t.names settings.tree status more → lines ≡ t.lines ++ more → StopsAtTree known settings status lines
 texts_stop known settings t status more lines h (tree_stops.at_texts line r s l) e = stops.at_texts t line h r s (e ∙ ap (λ ls. t.lines ++ ls) l)
@@ -46,7 +46,7 @@ texts_stop known settings t status more lines h (tree_stops.for_memory s l) e =
     stops.for_memory t h s (e ∙ ap (λ ls. t.lines ++ ls) l ∙ append-nil t.lines)
 
 module _ (known : Known) (settings : Settings) (taken taken_after : Option (List ℕ)) (failed failed_after : ℕ) where
-  -- without the stage
+  -- without the expansion of macros
   module _ (e : settings.expansion ≡ None) where
     pub plain_accepted : (r : Result Settled RunError)
         → IfOk r (λ settled. (texts : Files) × AreTextsBelow known.content settings.root settings.language texts
@@ -65,7 +65,7 @@ module _ (known : Known) (settings : Settings) (taken taken_after : Option (List
     plain_stopped (Err stop) h =
         (h.1, texts_stop known settings (plain_texts h.0) (status_of stop) h.1 h.1 (are_plain known settings h.0 e h.2) h.3 refl, h.4)
 
-  -- with the stage
+  -- with the expansion of macros
   module _ (expansion : Expansion) (e : settings.expansion ≡ Some expansion) where
     pub expanded_accepted : (r : Result Settled RunError)
         → IfOk r (λ settled. (t : TreeTexts) × AreExpandedTexts known settings.root settings.tree settings.language expansion t

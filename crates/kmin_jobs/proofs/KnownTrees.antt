@@ -26,13 +26,13 @@ without_fault : (texts : Files) (first : List ℕ) → first_tree_fault texts fi
 unfolding first_tree_fault
 without_fault texts first e = by_fault texts.language (reading texts first) (reading texts first).fault refl e
 
-met_none : (o : Outcome) → o.fault ≡ None → LacksNoFile o
-met_none o e = λ fault h. (let z : Some fault ≡ None = sym h ∙ e in cc)
+no_fault_lacks_no_file : (o : Outcome) → o.fault ≡ None → LacksNoFile o
+no_fault_lacks_no_file o e = λ fault h. (let z : Some fault ≡ None = sym h ∙ e in cc)
 
 known_reading : (bytes : List ℕ → Option (List ℕ)) (texts : Files) (first : List ℕ) → AreAmong (file_at texts) bytes → (reading texts first).fault ≡ None
     → reading_from (record { language = texts.language; bytes = bytes; number = index_of_file texts; root = first }) ≡ reading texts first
 unfolding reading
-known_reading bytes texts first among e = more_files texts.language (file_at texts) bytes (index_of_file texts) first among (met_none (reading texts first) e)
+known_reading bytes texts first among e = more_files texts.language (file_at texts) bytes (index_of_file texts) first among (no_fault_lacks_no_file (reading texts first) e)
 
 pub known_tree : KnownFilesDetermineTheTree
 unfolding tree_of_files

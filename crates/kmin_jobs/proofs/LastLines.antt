@@ -9,14 +9,14 @@ use Rattle.kmin_tidy.specs.Reports.{fault_line}
 use Rattle.kmin_jobs.specs.between.LoadStops.{load_lines, load_status}
 use Rattle.kmin_jobs.specs.between.RunErrors.{status_of}
 
--- nothing follows but where memory ran out
+-- a run that ended for another reason than lack of memory has no last line
 pub last_lines_none : (stop : RunError) → (stop ≡ Memory → ⊥) → last_lines (status_of stop) ≡ []
 last_lines_none Tree h = refl
 last_lines_none Configuration h = refl
 last_lines_none Failed h = refl
 last_lines_none Memory h = absurd (h refl)
 
--- each fault has a line, unless memory ran out
+-- a fault of a configuration file that isn't lack of memory has one line of standard error
 pub load_lines_one : (path : List ℕ) (number : ℕ) (kind : LoadKind) → (kind ≡ OutOfMemory → ⊥) → load_lines path number kind ≡ fault_line path number kind ∷ []
 load_lines_one path number Malformed h = refl
 load_lines_one path number NotUtf8 h = refl

@@ -23,12 +23,12 @@ or_assoc : (a b c : Option Answer) → or_else (or_else a b) c ≡ or_else a (or
 or_assoc None b c = refl
 or_assoc (Some a) b c = refl
 
--- an answer in front by a test
+-- the first of two answers, where the first of them depends on a test
 pub or_in_front : (t : Bool) (a : Answer) (b c : Option Answer) → or_else (if t then Some a else b) c ≡ (if t then Some a else or_else b c)
 or_in_front true a b c = refl
 or_in_front false a b c = refl
 
--- one definition more
+-- with one definition more at the end, its name has its value as the answer, and any other name the answer that it had
 pub defined_more : (ds : List Definition) (d : Definition) (name : List ℕ)
     → defined_answer (ds ++ d ∷ []) name ≡ (if bytes_eq name d.name then Some (Some d.value) else defined_answer ds name)
 defined_more [] d name = refl
@@ -144,7 +144,7 @@ module _ (variable_of : List ℕ → VariableContent) (xs ys : List (List ℕ)) 
         (sym (list_any-append (λ y. bytes_eq y question) xs ys));
   }
 
--- each answer of a job
+-- the answers of a job's answer files, with those of its definitions and its environment, are the answers of the job
 pub answers_of_job : (content_of : List ℕ → FileContent) (variable_of : List ℕ → VariableContent) (expansion : Expansion) (recorded defined answers : Recorded)
     → FilesRecord content_of expansion.answers [] recorded
     → ((question : List ℕ) → keyword_in_table defined question ≡ or_else (defined_answer expansion.definitions question) (keyword_in_table recorded question))
@@ -159,7 +159,7 @@ answers_of_job content_of variable_of expansion recorded defined answers f d l =
       ∙ or_assoc (defined_answer expansion.definitions question) (keyword_in_table recorded question) (lent_answer expansion.environment l.values question);
 }
 
--- one definition more, over earlier answers
+-- the answers with the first k + 1 definitions are those with the first k, and that of the definition at place k
 pub defined_next : (definitions : List DeclaredDefinition) (k : ℕ) (absent : DeclaredDefinition) (before answers : Recorded) → k < length definitions
     → ((question : List ℕ) → keyword_in_table answers question ≡ or_else (defined_answer (map definition_view (take k definitions)) question)
     (keyword_in_table before question))

@@ -9,7 +9,7 @@ pub mod CycleLines
 pub mod Sequences
 pub mod AnswerFileLists
 pub mod LentAnswers
-pub mod TreesBelow
+pub mod TreeFolders
 pub mod ExpandedTexts
 pub mod FileNameLemmas
 pub mod JobTrees

@@ -8,7 +8,7 @@ use Rattle.kc_rules_model.specs.declared.values.UnitValue.{UnitValue}
 use Rattle.kc_rules_model.specs.SymbolValues.{value_of_symbol}
 use Rattle.kc_rules_model.specs.Reports.{symbol_numbers}
 use Rattle.kc_minimal.specs.between.DifferenceViews.{difference_view}
-use Rattle.kc_minimal.specs.declared.difference.Difference.{Difference as ToldDifference}
+use Rattle.kc_minimal.specs.declared.difference.Difference.{Difference as DifferenceRef}
 use Rattle.kc_minimal_model.specs.Differences.{Difference, is_same_value, difference_at, differences}
 use Rattle.kmin_jobs.specs.Answers.{difference_line}
 use Rattle.kc_dotconfig_model.specs.declared.format.Strings.{Strings}
@@ -18,7 +18,7 @@ flat_map_append : {A : Type 0} (f : A → List ℕ) (xs ys : List A) → flat_ma
 flat_map_append f [] ys = refl
 flat_map_append f (x ∷ xs) ys = rw (flat_map_append f xs ys, append_assoc) refl
 
--- one line more
+-- the lines of the first k + 1 elements of a list are those of the first k, and the line of the element at place k
 pub line_more : {A : Type 0} (f : A → List ℕ) (xs : List A) (k : ℕ) (d : A) (text after : List ℕ) → k < length xs
     → text ≡ flat_map f (take k xs) → after ≡ text ++ f (get_or xs k d) → after ≡ flat_map f (take (k + 1) xs)
 line_more f xs k d text after h e a =
@@ -51,26 +51,26 @@ found_at tree v w s = difference_at s (value_of_symbol tree v s) (value_of_symbo
 -- the lines of differences by their symbols
 lines_of : (strings : Strings) (tree : Tree) (v w : List UnitValue) (found : Option Difference) (rest : List Difference)
     → ((d : Difference) → found ≡ Some d → difference_line strings tree d ≡ line_between strings tree v w d.symbol)
-    → flat_map (difference_line strings tree) rest ≡ flat_map (λ (d : ToldDifference). line_between strings tree v w d.symbol) (map difference_view rest)
-    → flat_map (difference_line strings tree) (cons_option found rest) ≡ flat_map (λ (d : ToldDifference). line_between strings tree v w d.symbol)
+    → flat_map (difference_line strings tree) rest ≡ flat_map (λ (d : DifferenceRef). line_between strings tree v w d.symbol) (map difference_view rest)
+    → flat_map (difference_line strings tree) (cons_option found rest) ≡ flat_map (λ (d : DifferenceRef). line_between strings tree v w d.symbol)
     (map difference_view (cons_option found rest))
 lines_of strings tree v w None rest h e = e
 lines_of strings tree v w (Some d) rest h e = rw (h d refl, e) refl
 
 pub difference_lines_are : (strings : Strings) (tree : Tree) (v w : List UnitValue) (numbers : List ℕ)
     → flat_map (difference_line strings tree) (filter_map (found_at tree v w) numbers)
-    ≡ flat_map (λ (d : ToldDifference). line_between strings tree v w d.symbol) (map difference_view (filter_map (found_at tree v w) numbers))
+    ≡ flat_map (λ (d : DifferenceRef). line_between strings tree v w d.symbol) (map difference_view (filter_map (found_at tree v w) numbers))
 difference_lines_are strings tree v w [] = refl
 difference_lines_are strings tree v w (s ∷ numbers) =
     lines_of strings tree v w (found_at tree v w s) (filter_map (found_at tree v w) numbers)
     (λ d e. has_values strings tree v w s (value_of_symbol tree v s) (value_of_symbol tree w s) d refl refl e) (difference_lines_are strings tree v w numbers)
 
--- the lines of all differences of two valuations
-pub compared_text : (strings : Strings) (tree whole : Tree) (v w a b : List UnitValue) (listed given : List ToldDifference) (text : List ℕ)
+-- the lines of all differences that were found between two valuations are those of `difference_line`
+pub compared_text : (strings : Strings) (tree whole : Tree) (v w a b : List UnitValue) (listed given : List DifferenceRef) (text : List ℕ)
     → whole ≡ tree → a ≡ v → b ≡ w → given ≡ listed → listed ≡ map difference_view (differences tree v w)
-    → text ≡ flat_map (λ (d : ToldDifference). line_between strings whole a b d.symbol) given
+    → text ≡ flat_map (λ (d : DifferenceRef). line_between strings whole a b d.symbol) given
     → text ≡ flat_map (difference_line strings tree) (differences tree v w)
 compared_text strings tree whole v w a b listed given text t e f g l h =
-    let k : text ≡ flat_map (λ (d : ToldDifference). line_between strings tree v w d.symbol) (map difference_view (differences tree v w)) =
+    let k : text ≡ flat_map (λ (d : DifferenceRef). line_between strings tree v w d.symbol) (map difference_view (differences tree v w)) =
     rw (t, e, f, g, l) at h in
     k ∙ sym (difference_lines_are strings tree v w (symbol_numbers tree))

@@ -10,7 +10,7 @@ use Rattle.kmin_words.specs.Jobs.{Questions}
 use Rattle.kmin_jobs.specs.declared.run_error.RunError.{RunError}
 use Rattle.kmin_jobs.specs.FileContents.{Known}
 use Rattle.kmin_jobs.specs.JobAnswers.{AreJobAnswers}
-use Rattle.kmin_jobs.specs.TreesBelow.{contents_below}
+use Rattle.kmin_jobs.specs.TreeFolders.{contents_below}
 use Rattle.kmin_jobs.specs.Reports.{last_lines}
 use Rattle.kmin_tidy.specs.Reports.{output_line}
 use Rattle.kmin_tidy.specs.StandardError.{TakesLines}
@@ -18,14 +18,14 @@ use Rattle.kmin_jobs.specs.WantedQuestions.{AreAsked, StopsWanting, at_write, qu
 use Rattle.kmin_jobs.specs.between.RunErrors.{status_of}
 use Rattle.kmin_tidy.proofs.WriterLemmas.{lines_append}
 
--- the open questions, after the answers are read
+-- the result of an expansion with the answers of a job is that of the command `wants`
 pub are_asked : (known others : Known) (questions : Questions) (answers : Recorded) (asked : Result (List (List ℕ)) Fault) → others ≡ known
     → AreJobAnswers known.content known.variable questions.expansion answers → AreWanted (contents_below others questions.root) answers questions.tree asked
     → AreAsked known questions asked
 are_asked known others questions answers asked same a w =
     record { answers = answers; answered = a; wanted = subst (λ (k : Known). AreWanted (contents_below k questions.root) answers questions.tree asked) same w }
 
--- a write of the questions failed
+-- a run of `wants` that failed to write its output, and reported that, ends as `StopsWanting` defines, with all these lines
 pub write_stops : (known : Known) (questions : Questions) (asked : List (List ℕ)) (status : ℕ) (taken middle taken_after : Option (List ℕ))
     (failed failed_middle failed_after : ℕ)
     → status ≡ 5 → AreAsked known questions (Ok asked) → TakesLines taken failed [] middle failed_middle
@@ -37,7 +37,7 @@ write_stops known questions asked status taken middle taken_after failed failed_
   rw e (lines_append taken middle failed failed_middle [] (output_line ∷ []) taken_after failed_after before h),
 )
 
--- the listing ended, and its last line is reported
+-- a run of `wants` that ended early, and then reported its last line, ends as `StopsWanting` defines, with all these lines
 pub questions_end : (known : Known) (questions : Questions) (stop : RunError) (status : ℕ) (taken middle taken_after : Option (List ℕ))
     (failed failed_middle failed_after : ℕ)
     → status ≡ status_of stop
@@ -50,7 +50,7 @@ questions_end known questions stop status taken middle taken_after failed failed
   lines_append taken middle failed failed_middle w.0 (last_lines status) taken_after failed_after w.2 h,
 )
 
--- the lines of questions, by the vectors that hold them
+-- the lines of questions that are held in vectors are those of the vectors' elements
 pub mapped_lines : (asked : List (Vec ℕ Global)) → flat_map (λ (q : Vec ℕ Global). question_line q.items) asked ≡ questions_text (items_of asked)
 mapped_lines [] = refl
 mapped_lines (q ∷ qs) = ap (λ text. question_line q.items ++ text) (mapped_lines qs)

@@ -17,7 +17,7 @@ use Rattle.kmin_tidy.proofs.WriterLemmas.{lines_append}
 module _ (known : Known) (settings : Settings) (task : Task) (path : List ℕ) (old new : Disk) (stop : RunError) (status : ℕ)
     (is : status ≡ status_of stop)
     (taken : Option (List ℕ)) (failed : ℕ) (last : Option (List ℕ)) (failed_last : ℕ) where
-  -- the job ended before it had an answer, and its last line is reported
+  -- a command with an output file that ended before it had an output, and then reported its last line, ends as `SaveEnds` defines
   pub ends_before : (middle : Option (List ℕ)) (failed_middle : ℕ) → new ≡ old
       → (own : List (List ℕ)) × StopsBefore known settings task (status_of stop) own × TakesLines taken failed own middle failed_middle
       → TakesLines middle failed_middle (last_lines status) last failed_last
@@ -28,7 +28,7 @@ module _ (known : Known) (settings : Settings) (task : Task) (path : List ℕ) (
     lines_append taken middle failed failed_middle w.0 (last_lines status) last failed_last w.2 h,
   )
 
-  -- the file couldn't be given the answer, and why is reported
+  -- a command that couldn't update its output file, and reported why, ends as `SaveEnds` defines
   pub ends_at_file : (text : List ℕ) (made : ℕ) (answered reported : Option (List ℕ)) (failed_answered failed_reported : ℕ)
       → (t : TreeTexts) × (notices : List (List ℕ)) × AreTextsOfJob known settings t × Answer known.content settings t.texts task text made notices
       × TakesLines taken failed (t.lines ++ notices) answered failed_answered

@@ -20,7 +20,7 @@ use Rattle.kc_dotconfig.specs.ReadResults.{IsReadAs, IsRefused, ReportsFault}
 use Rattle.kmin_jobs.specs.declared.run_error.RunError.{RunError}
 use Rattle.kmin_jobs.specs.declared.run_error.RunError.TheVariants.{Memory}
 use Rattle.kmin_jobs.specs.FileContents.{FileContent}
-use Rattle.kmin_tidy.specs.MinimalFiles.{AreKnownBytes}
+use Rattle.kmin_tidy.specs.KnownBytes.{AreKnownBytes}
 use Rattle.kmin_disk.specs.Contents.{OpensAs}
 use Rattle.kmin_jobs.specs.Reports.{file_notices, notice_lines}
 use Rattle.kmin_tidy.specs.Reports.{notice_line, fault_line}
@@ -35,7 +35,7 @@ use Rattle.kmin_jobs.specs.between.LoadStops.{StopsLoad, StopsAtPath, at_file, f
 use Rattle.kmin_jobs.specs.between.RunErrors.{status_of}
 use Rattle.kmin_tidy.proofs.WriterLemmas.{lines_append}
 
--- the bytes that were read of an opened file begin what is known of it; at its end they are all of it
+-- the bytes that were read of an opened file are the first bytes of its content, as far as that is known
 pub rest_of : (content : FileContent) (before after : Option (List ℕ)) (bytes : List ℕ) → OpensAs content (Some before) → Consumes before after bytes
     → (rest : List ℕ) × AreKnownBytes content (bytes ++ rest)
 rest_of None before after bytes o h = ([], tt)
@@ -57,7 +57,7 @@ whole_content (Some (Some known)) before after bytes o h e =
     let s : before ≡ Some known = cc in
     sym (whole_memory known after bytes (rw s at h) e)
 
--- the lines of the notices of what was read are those of the file
+-- the map of a composition of two functions is one map after another
 pub map_twice : {A B C : Type 0} (f : B → C) (g : A → B) (xs : List A) → map (λ x. f (g x)) xs ≡ map f (map g xs)
 map_twice f g [] = refl
 map_twice f g (x ∷ xs) = ap (λ ys. f (g x) ∷ ys) (map_twice f g xs)
@@ -68,7 +68,7 @@ notices_are path fragment meanings e = map_twice (notice_line path) notice_pair 
 
 module _ (content : FileContent) (format : FileFormat) (tree : Tree) (path : List ℕ) (before after : Option (List ℕ))
     (opens : OpensAs content (Some before)) where
-  -- a file that was opened and read
+  -- a configuration file that was opened, read and accepted, and whose notices were reported, is loaded
   pub loaded_from : (taken taken_after : Option (List ℕ)) (failed failed_after : ℕ) (fragment : Fragment) → IsReadAs format tree before after fragment
       → TakesLines taken failed (fragment_notices path fragment) taken_after failed_after
       → IsLoaded content format tree path fragment taken failed taken_after failed_after
@@ -77,7 +77,7 @@ module _ (content : FileContent) (format : FileFormat) (tree : Tree) (path : Lis
     meanings = r.meanings;
     matches = whole_content content before after r.known opens r.consumed r.ended;
     accepted = r.accepted;
-    means = r.says;
+    means = r.has_meaning;
     users = r.users;
     noted = r.noted;
     reported = subst (λ lines. TakesLines taken failed lines taken_after failed_after) (notices_are path fragment r.meanings r.noted) t;
@@ -112,7 +112,7 @@ module _ (content : FileContent) (format : FileFormat) (tree : Tree) (path : Lis
   by_kind strict f g TooManyLines number t = refused_file strict TooManyLines number t refl refl
   by_kind strict f g TooLarge number t = refused_file strict TooLarge number t refl refl
 
-  -- a file that was opened and not read
+  -- a configuration file that was opened, but not accepted, ends a run with the lines that were reported
   pub stopped_at : (strict : Bool) (read_failed read_failed_after status : ℕ) (taken taken_after : Option (List ℕ)) (failed failed_after : ℕ)
       → StopsLoad format tree path before after read_failed read_failed_after status taken failed taken_after failed_after
       → (lines : List (List ℕ)) × StopsAtPath content format strict tree path status lines × TakesLines taken failed lines taken_after failed_after
@@ -142,7 +142,7 @@ stopped_noticed content format strict tree path fragment status taken taken_afte
   l.reported,
 )
 
--- meanings by what is known of the same files
+-- configuration files have the same meanings by all functions that give the same known contents
 pub mean_again : (content_of others : List ℕ → FileContent) (format : FileFormat) (strict : Bool) (tree : Tree) (paths : List (List ℕ))
     (meanings : List (List LineMeaning))
     → ((path : List ℕ) → others path ≡ content_of path) → FilesMean others format strict tree paths meanings
@@ -284,7 +284,7 @@ module _ (content_of others : List ℕ → FileContent) (format : FileFormat) (s
       → (lines : List (List ℕ)) × StopsAmongFiles content_of format strict tree all status lines × TakesLines taken failed lines taken_after failed_after
   stopped_for_memory xs more all before users e s l = (notice_lines xs l.meanings, stops.for_memory xs more l.meanings e l.mean s refl, l.reported)
 
--- an error that is known, or that has a property
+-- the error of a result that is known to be `Err e` has every property that e has
 pub if_err : {T E : Type 0} (r : Result T E) (e : E) (P : E → Type 0) → r ≡ Err e → P e → IfErr r P
 if_err r e P same h = rw same h
 
@@ -300,13 +300,13 @@ pub both_ok : {T E : Type 0} (r : Result T E) (P Q R : T → Type 0) → ((x : T
 both_ok (Ok x) P Q R f h k = f x h k
 both_ok (Err e) P Q R f h k = tt
 
--- an error made of memory that was refused
+-- the error of a result that failed for lack of memory has every property that all errors of the exit status 6 have
 pub memory_err : {T : Type 0} (r : Result T RunError) (P : RunError → Type 0) → IsErr r × IsErrAnd r (λ stop. stop ≡ Memory)
     → ((stop : RunError) → status_of stop ≡ 6 → P stop) → IfErr r P
 memory_err (Ok x) P h f = tt
 memory_err (Err stop) P h f = f stop (ap status_of h.1)
 
--- the paths up to one more, and those after it
+-- the first k + 1 paths of a list are the first k, and the path at place k
 pub paths_next : (paths : List (Bor (List ℕ))) (k : ℕ) (d : Bor (List ℕ)) → k < length paths
     → map (λ (path : Bor (List ℕ)). path.now) (take (k + 1) paths) ≡ map (λ (path : Bor (List ℕ)). path.now) (take k paths) ++ ((get_or paths k d).now ∷ [])
 paths_next paths k d h =

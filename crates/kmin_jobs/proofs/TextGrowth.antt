@@ -84,7 +84,7 @@ inserted content_of root p b texts h k = record {
       (at_inserted p b q c texts.list e);
 }
 
--- equal known files, in an equal language
+-- texts that match what is known of the files below a root do so by all functions that give the same known contents
 pub below_again : (content_of others : List ℕ → FileContent) (root : List ℕ) (was language : Language) (texts : Files) → was ≡ language
     → ((path : List ℕ) → others path ≡ content_of path) → AreTextsBelow content_of root was texts → AreTextsBelow others root language texts
 below_again content_of others root was language texts e same h =

@@ -63,14 +63,14 @@ module _ (s : Settings) (old new : Disk) (paths : List (List ℕ)) (reports : Li
   stops_small (at_write between front back path text earlier made p t b u r e) = omega arith
   stops_small (at_left between front back path new_path text earlier made p t b l r e) = omega arith
 
-  -- the status of a run over files
+  -- the exit status of a run over files is at most 6
   pub ends_small : (taken taken_after : Option (List ℕ)) (failed failed_after : ℕ) → Ends s old new paths taken taken_after failed failed_after reports status
       → status ≤ 6
   ends_small taken taken_after failed failed_after (whole text t a f) = rw t.status_is (small (status_of t.files) (of_files t.files))
   ends_small taken taken_after failed failed_after (part text earlier made count t c a f r e) = omega arith
   ends_small taken taken_after failed failed_after (stopped k a f) = stops_small k
 
-  -- on no other status than of files something is written
+  -- a run over files with another exit status than 0, 1, 4 or 5 writes nothing to standard output
   pub ends_unwritten : (taken taken_after : Option (List ℕ)) (failed failed_after : ℕ)
       → Ends s old new paths taken taken_after failed failed_after reports status
       → status ≢ 0 → status ≢ 1 → status ≢ 4 → status ≢ 5 → taken_after ≡ taken
@@ -83,22 +83,22 @@ module _ (s : Settings) (old new : Disk) (paths : List (List ℕ)) (reports : Li
   ends_unwritten taken taken_after failed failed_after (part text earlier made count t c a f r e) n0 n1 n4 n5 = absurd (n5 e)
   ends_unwritten taken taken_after failed failed_after (stopped k a f) n0 n1 n4 n5 = a
 
--- the known content of standard input, by what it has left
+-- reading standard input agrees with what is known of it
 pub input_opens : (left : Option (List ℕ)) → OpensAs (option_map (λ (bytes : List ℕ). Some bytes) left) (Some left)
 input_opens None = tt
 input_opens (Some bytes) = refl
 
--- `-` is standard input
+-- a list of paths whose own path is `-` has the content of standard input
 pub opens_input : (content_of : List ℕ → FileContent) (left : Option (List ℕ)) (path : List ℕ) → bytes_eq path (codes "-") ≡ true
     → OpensAs (list_content content_of left path) (Some left)
 opens_input content_of left path e = rw e (input_opens left)
 
--- any other path is that of a file
+-- a list of paths whose own path isn't `-` has the content of the file at that path
 pub opens_file : (content_of : List ℕ → FileContent) (left reader : Option (List ℕ)) (path : List ℕ) → bytes_eq path (codes "-") ≡ false
     → OpensAs (content_of path) (Some reader) → OpensAs (list_content content_of left path) (Some reader)
 opens_file content_of left reader path e o = rw e o
 
--- what a run goes by, over a settled tree
+-- the settings of a run of `tidy_files` over a settled tree are those of the command `tidy` over that tree
 pub settings_are : (settled : Settled) (format : Format) (settings : jobs.Settings) (flags : TidyFlags) (options : TidyOptions)
     → profile_of settled ≡ settings.profile → file_format format ≡ settings.format → options ≡ options_of settings.strict flags
     → settings_of settled format options ≡ run_settings settings flags (tree_of_settled settled)
@@ -108,7 +108,7 @@ settings_are settled format settings flags options p q o =
     ∙ ap (λ o. record { format = settings.format; profile = settings.profile; tree = tree_of_settled settled; options = o }) o
 
 module _ (taken middle taken_after : Option (List ℕ)) (failed failed_middle failed_after : ℕ) (status : ℕ) where
-  -- the tree ended the run, and its last line is reported
+  -- a run of `tidy` that ended at its tree, and then reported its last line, ends as `PathsEnd` defines
   pub tree_ends : (known : Known) (settings : jobs.Settings) (flags : TidyFlags) (paths : List (List ℕ)) (old : Outside) (stop : RunError)
       → status ≡ errors.status_of stop
       → (lines : List (List ℕ)) × StopsAtTree known settings (errors.status_of stop) lines × TakesLines taken failed lines middle failed_middle
@@ -120,7 +120,7 @@ module _ (taken middle taken_after : Option (List ℕ)) (failed failed_middle fa
     lines_append taken middle failed failed_middle w.0 (last_lines status) taken_after failed_after w.2 h,
   )
 
-  -- the files were gone over
+  -- a run of `tidy` whose tree was accepted, and whose files `tidy_files` went over, ends as `PathsEnd` defines
   pub went_over : (known : Known) (settings : jobs.Settings) (flags : TidyFlags) (settled : Settled) (format : Format) (options : TidyOptions)
       (paths : List (List ℕ)) (old new : Outside)
       → profile_of settled ≡ settings.profile → file_format format ≡ settings.format → options ≡ options_of settings.strict flags
@@ -143,7 +143,7 @@ module _ (taken middle taken_after : Option (List ℕ)) (failed failed_middle fa
         lines_append taken middle failed failed_middle accepted.0.lines ends.0 taken_after failed_after accepted.3 ends.2,
       )
 
-  -- the list ended the run, and its last line is reported
+  -- a run of `tidy` that ended at its list, and then reported its last line, ends as `TidyEnds` defines
   pub list_ends : (known : Known) (left : Option (List ℕ)) (t : Tidying) (old : Outside) (stop : RunError)
       → status ≡ errors.status_of stop
       → (lines : List (List ℕ)) × StopsAtList known.content left t.list (errors.status_of stop) lines × TakesLines taken failed lines middle failed_middle
@@ -155,7 +155,7 @@ module _ (taken middle taken_after : Option (List ℕ)) (failed failed_middle fa
     lines_append taken middle failed failed_middle w.0 (last_lines status) taken_after failed_after w.2 h,
   )
 
-  -- the list was read, with no line, and what is known of the files stayed
+  -- a run of `tidy` that read its list without a report ends as the rest of the run does
   pub read_before : (known others : Known) (left : Option (List ℕ)) (t : Tidying) (bytes : List ℕ) (old new : Outside) → others ≡ known
       → AreListBytes known.content left t.list bytes → TakesLines taken failed [] middle failed_middle
       → (AreListBytes others.content left t.list bytes
@@ -168,7 +168,7 @@ module _ (taken middle taken_after : Option (List ℕ)) (failed failed_middle fa
         lines_append taken middle failed failed_middle [] ended.0 taken_after failed_after before ended.2,
       )
 
--- a path in the list is refused
+-- a run of `tidy` that reported a malformed path in its list, and ended with the status 2, ends as `TidyEnds` defines
 pub malformed_ends : (taken taken_after : Option (List ℕ)) (failed failed_after status : ℕ) (known : Known) (left : Option (List ℕ)) (t : Tidying)
     (bytes : List ℕ) (old : Outside) → AreListBytes known.content left t.list bytes → AreMalformed (listed_paths t.list bytes) → status ≡ 2
     → TakesLine taken failed malformed_line taken_after failed_after
@@ -179,7 +179,7 @@ malformed_ends taken taken_after failed failed_after status known left t bytes o
   lines_one taken taken_after failed failed_after malformed_line h,
 )
 
--- the paths are the files, and then those of the list
+-- a run of `tidy` over its files and the paths in its list, as one list of paths, ends as `TidyEnds` defines
 pub over_all : (known : Known) (left : Option (List ℕ)) (t : Tidying) (bytes : List ℕ) (old new : Outside) (lines : List (List ℕ)) (status : ℕ)
     (ended_by_nul : Bool) (files paths : List (List ℕ)) → ended_by_nul ≡ is_ended_by_nul t.list → files ≡ t.files
     → AreListBytes known.content left t.list bytes → AreNamed (paths_in ended_by_nul bytes) → paths ≡ files ++ paths_in ended_by_nul bytes
@@ -190,7 +190,7 @@ over_all known left t bytes old new lines status ended_by_nul files paths e f b 
     over_paths bytes b (subst (λ ended. AreNamed (paths_in ended bytes)) e n)
     (subst (λ paths. PathsEnd known t.settings t.flags paths old new lines status) all h)
 
--- the disk stays, or writing was asked for
+-- of two facts, one of which holds with a flag and the other without it, one holds
 pub by_asking : {P Q : Type 0} (write : Bool) → (write ≡ false → P) → (write ≡ true → Q) → P ⊎ Q
 by_asking true stays asked = inr (asked refl)
 by_asking false stays asked = inl (stays refl)

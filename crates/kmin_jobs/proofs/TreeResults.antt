@@ -5,7 +5,7 @@ use Rattle.kc_tree_model.specs.Trees.{Tree}
 use Rattle.kc_tree_model.specs.TreeFaults.{first_tree_fault}
 use Rattle.kc_tree_model.specs.Contents.{tree_of_files}
 use Rattle.kc_tree_model.specs.TreesOfFiles.{IsTreeOfFiles, IsReportedFault}
-use Rattle.kc_tree_model.proofs.ReadingLaws.TreesRelated.{tree_related, reported_related}
+use Rattle.kc_tree_model.proofs.ReadingLaws.TreesOfRelation.{tree_related, reported_related}
 use Rattle.kc_tree_model.specs.declared.fault.TreeFault.{TreeFault}
 use Rattle.kc_rules_model.specs.Dependencies.{dependencies}
 use Rattle.kc_rules.specs.declared.fault.SettleFault.{SettleFault}
@@ -20,7 +20,7 @@ use Rattle.kmin_jobs.specs.between.Readings.{IsRead}
 use Rattle.kmin_jobs.specs.between.RunErrors.{status_of}
 use Rattle.kmin_jobs.specs.between.TreeStops.{StopsAtTexts, at_texts, for_memory, settle_status, settle_lines}
 
--- a tree that isn't settled ends a run by its cycle, or for lack of memory
+-- a tree that can't be settled ends a run by its cycle, or for lack of memory
 pub settle_stops : (texts names : Files) (first : List ℕ) (tree : Tree) (fault : SettleFault) (stop : RunError) → first_tree_fault texts first ≡ None
     → tree ≡ tree_of_files texts first
     → ReportsTreeCycle (length tree.units) (dependencies tree) fault → status_of stop ≡ settle_status fault

@@ -6,32 +6,34 @@ use Rattle.kc_macros_model.specs.declared.fault.AnswersFault.{AnswersFault}
 use Rattle.kc_macros_model.specs.Limits.{max_answer_bytes}
 use Rattle.kc_macros_model.specs.AnswerFiles.{Recorded, FileEnd, complete, cut_by, answers_read}
 use Rattle.kmin_jobs.specs.FileContents.{FileContent}
-use Rattle.kmin_tidy.specs.MinimalFiles.{AreKnownBytes}
+use Rattle.kmin_tidy.specs.KnownBytes.{AreKnownBytes}
 use Rattle.kmin_disk.specs.Contents.{OpensAs}
 use Rattle.kmin_jobs.specs.JobAnswers.{FilesRecord}
 use Rattle.kmin_jobs.specs.MacroReports.{answers_line}
 
--- the exit status for a fault of an answer file
+-- the exit status for a fault of an answer file: 5 for a failed read, 6 for lack of memory, and 4 for any other fault
 abbrev pub answers_status : AnswersKind → ℕ
 answers_status Read = 5
 answers_status OutOfMemory = 6
 answers_status _ = 4
 
--- the end of a reading agrees with the bytes that were read of a file and the rest of it: it is at the end of the file, at a failed read, or past the limit
+-- a read of an answer file that took these bytes and left this rest can have this `FileEnd`: the end of the file, a failed read,
+-- or more than `max_answer_bytes` bytes
 abbrev pub IsReadUntil : FileEnd → (bytes rest : List ℕ) → Type 0
 IsReadUntil complete bytes rest = rest ≡ []
 IsReadUntil (cut_by Read) bytes rest = Unit {0}
 IsReadUntil (cut_by TooLarge) bytes rest = max_answer_bytes < length bytes
 IsReadUntil (cut_by kind) bytes rest = ⊥
 
--- An answer file, after earlier ones, ends a job with this status and this line: by its first fault, or since it can't be opened.
+-- An answer file, after the answers of earlier ones, ends a job with this status and this line of standard error: for its first
+-- fault, or since it can't be opened.
 pub data StopsAtAnswers (content : FileContent) (earlier : Recorded) (path : List ℕ) (status : ℕ) (line : List ℕ) : Type 0 where
   refused : (bytes rest : List ℕ) (end : FileEnd) (fault : AnswersFault) → AreKnownBytes content (bytes ++ rest) → IsReadUntil end bytes rest
       → answers_read end bytes earlier ≡ Err fault → status ≡ answers_status fault.kind → line ≡ answers_line path fault.line fault.kind
       → StopsAtAnswers content earlier path status line
   unopened : OpensAs content None → status ≡ 5 → line ≡ answers_line path 0 Read → StopsAtAnswers content earlier path status line
 
--- A job ends among its answer files: at one of them, or since memory ran out.
+-- A job ends among its answer files, with this status and these lines of standard error: at one of them, or since memory ran out.
 pub data StopsAmongAnswers (content_of : List ℕ → FileContent) (paths : List (List ℕ)) (status : ℕ) (lines : List (List ℕ)) : Type 0 where
   at_file : (front back : List (List ℕ)) (path line : List ℕ) (recorded : Recorded) → paths ≡ front ++ path ∷ back
       → FilesRecord content_of front [] recorded → StopsAtAnswers (content_of path) recorded path status line

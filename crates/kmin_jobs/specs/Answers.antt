@@ -25,18 +25,19 @@ use Rattle.kmin_words.specs.Jobs.{Settings, Task, over, compare}
 use Rattle.kmin_words.specs.declared.job.Verb.{Verb}
 use Rattle.kmin_words.specs.declared.job.Verb.TheVariants.{Min, Full, Missed, Check}
 use Rattle.kmin_jobs.specs.FileContents.{FileContent}
-use Rattle.kmin_tidy.specs.MinimalFiles.{AreKnownBytes}
+use Rattle.kmin_tidy.specs.KnownBytes.{AreKnownBytes}
 use Rattle.kmin_jobs.specs.Reports.{name_at, notice_lines}
 use Rattle.kmin_jobs.specs.Strictness.{AllowsNotices}
 use Rattle.kmin_jobs.specs.Statuses.{status_of_list, listed}
 
--- Texts are accepted as this tree: reading them has no fault, and no unit depends on itself.
+-- Texts are accepted as this tree: reading them has no fault, and no symbol or choice depends on itself.
 pub record AreAccepted (texts : Files) (first : List ℕ) (tree : Tree) : Type 0 where
   pub read : first_tree_fault texts first ≡ None
   pub tree_is : tree ≡ tree_of_files texts first
   pub settled : IsSettledTree tree
 
--- Configuration files, whose bytes match their known content, are accepted, none is refused for its notices, and these are the meanings of the lines of each.
+-- Configuration files, whose bytes match what is known of them, are accepted, none is refused for its notices, and these are the
+-- meanings of the lines of each.
 pub data FilesMean (content_of : List ℕ → FileContent) (format : FileFormat) (strict : Bool) (tree : Tree) : List (List ℕ) → List (List LineMeaning) → Type 0 where
   none : FilesMean content_of format strict tree [] []
   file : (path bytes : List ℕ) (paths : List (List ℕ)) (meanings : List LineMeaning) (others : List (List LineMeaning))
@@ -44,25 +45,26 @@ pub data FilesMean (content_of : List ℕ → FileContent) (format : FileFormat)
       → AllowsNotices strict (notices_from 1 meanings)
       → FilesMean content_of format strict tree paths others → FilesMean content_of format strict tree (path ∷ paths) (meanings ∷ others)
 
--- an assignment, overridden by those of files, one after another
+-- an assignment, overridden by those of several configuration files, one after another
 abbrev pub overlaid_by : Tree → List (Option UserValue) → List (List LineMeaning) → List (Option UserValue)
 overlaid_by tree users [] = users
 overlaid_by tree users (meanings ∷ others) = overlaid_by tree (overlay (file_assignment tree meanings) users) others
 
--- the assignment of files, each of which overrides those before it
+-- the assignment of several configuration files, each of which overrides those before it
 abbrev pub files_assignment : Tree → List (List LineMeaning) → List (Option UserValue)
 files_assignment tree meanings = overlaid_by tree (empty_assignment tree) meanings
 
--- The files are accepted with these meanings, and their assignment has this one solution.
+-- The configuration files at these paths are accepted, their lines have these meanings, and `values` is the one solution of their
+-- assignment.
 pub record Resolve (content_of : List ℕ → FileContent) (settings : Settings) (tree : Tree) (paths : List (List ℕ)) (meanings : List (List LineMeaning)) (values : List UnitValue) : Type 0 where
   pub mean : FilesMean content_of settings.format settings.strict tree paths meanings
   pub gives : UniquelySolves (length tree.units) (rule settings.profile tree) (files_assignment tree meanings) values
 
--- a line with the text `front` and the name of a symbol
+-- a line of a list of symbols: the text `front`, the name of a symbol, and a newline
 abbrev pub name_line : List ℕ → Tree → ℕ → List ℕ
 name_line front tree s = front ++ (name_at tree s ++ 10 ∷ [])
 
--- `NAME: LEFT -> RIGHT`, with values spelled as in a file
+-- the line of `compare` for a symbol whose values differ: `NAME: LEFT -> RIGHT`, with values spelled as in a configuration file
 abbrev pub difference_line : Strings → Tree → Difference → List ℕ
 difference_line strings tree d = name_at tree d.symbol ++ (codes ": " ++ (spelled strings d.left.kind d.left.text
     ++ (codes " -> " ++ (spelled strings d.right.kind d.right.text ++ 10 ∷ []))))
@@ -74,7 +76,8 @@ IsTextOfVerb settings tree users values Full text = text ≡ full_file settings.
 IsTextOfVerb settings tree users values Missed text = text ≡ flat_map (name_line [] tree) (missed tree users values)
 IsTextOfVerb settings tree users values Check text = text ≡ flat_map (name_line (codes "unmet ") tree) (unmet tree values)
 
--- The output, the status and the lines of notices of a command: of a verb over one configuration of all files, or of a comparison of two with one file each.
+-- A command has this output, this status and these lines of notices: a verb over one configuration of all its files, or the
+-- comparison of two configurations of one file each.
 pub data Answer (content_of : List ℕ → FileContent) (settings : Settings) (texts : Files) (task : Task) (text : List ℕ) (status : ℕ) (notices : List (List ℕ)) : Type 0 where
   of_files : (tree : Tree) (verb : Verb) (paths : List (List ℕ)) (exit_code : Bool) (meanings : List (List LineMeaning)) (values : List UnitValue)
       → task ≡ over verb paths exit_code → AreAccepted texts settings.tree tree → Resolve content_of settings tree paths meanings values

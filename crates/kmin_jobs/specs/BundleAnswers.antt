@@ -17,42 +17,43 @@ use Rattle.kmin_jobs.specs.Bundles.{IsBundle, ReadsToEnd}
 use Rattle.kmin_jobs.specs.Answers.{Answer, AreAccepted}
 use Rattle.kmin_jobs.specs.Stops.{RefusesTexts, StopsAmongFiles}
 
--- the options of a bundle
+-- the options of a run on a bundle: a tree in the strict language that begins at `Kconfig`, without the expansion of macros
 abbrev pub bundle_settings : Settings
 bundle_settings = record { root = []; tree = codes "Kconfig"; language = Strict; format = plain_format; profile = Present; strict = false; expansion = None }
 
--- the command of a bundle: the full file of its configuration
+-- the command of a run on a bundle: the full file of the one configuration file `config`
 abbrev pub bundle_task : Task
 bundle_task = over Full (codes "config" ∷ []) false
 
--- the one file of a bundle's tree
+-- the files of a bundle's tree: one file of this text with the path `Kconfig`
 abbrev pub bundle_files : List ℕ → Files
 bundle_files tree = strict_files ((codes "Kconfig", tree) ∷ [])
 
--- the one configuration of a bundle
+-- what is known of the configuration file of a bundle: it has these bytes, whatever its path
 abbrev pub bundle_content : List ℕ → List ℕ → FileContent
 bundle_content configuration path = Some (Some configuration)
 
--- the line of a fault of a bundle as a whole
+-- the line of standard error for a fault of a bundle as a whole: `bundle:0: KIND`
 abbrev pub bundle_line : LoadKind → List ℕ
 bundle_line kind = fault_line (codes "bundle") 0 kind
 
--- the line of a bundle that has too many bytes
+-- the line of standard error for a bundle that has too many bytes
 abbrev pub large_line : List ℕ
 large_line = bundle_line TooLarge
 
--- the line of a bundle that can't be read
+-- the line of standard error for a bundle that can't be read to its end
 abbrev pub unread_line : List ℕ
 unread_line = bundle_line Read
 
--- The output for a bundle: the full file of its configuration over its tree, and the lines of its notices.
+-- A run on this bundle has this output, the full file of its configuration over its tree, and these lines of notices.
 pub record AnswersBundle (bundle text : List ℕ) (notices : List (List ℕ)) : Type 0 where
   pub tree : List ℕ
   pub configuration : List ℕ
   pub parts : IsBundle bundle tree configuration
   pub answers : Answer (bundle_content configuration) bundle_settings (bundle_files tree) bundle_task text 0 notices
 
--- A bundle ends without an output, with this status and these lines before those of `last_lines`: its tree or configuration is refused, or memory ran out.
+-- A run on this bundle ends without an output, with this status and these lines of standard error before those of `last_lines`:
+-- its tree or its configuration is refused, or memory ran out.
 pub data StopsInBundle (bundle : List ℕ) (status : ℕ) (lines : List (List ℕ)) : Type 0 where
   at_tree : (tree configuration line : List ℕ) → IsBundle bundle tree configuration
       → RefusesTexts (bundle_files tree) (bundle_files tree) (codes "Kconfig") line → status ≡ 3 → lines ≡ line ∷ [] → StopsInBundle bundle status lines
@@ -62,7 +63,8 @@ pub data StopsInBundle (bundle : List ℕ) (status : ℕ) (lines : List (List �
       → StopsInBundle bundle status lines
   for_memory : status ≡ 6 → lines ≡ [] → StopsInBundle bundle status lines
 
--- A run on a bundle ends early, with this status and these lines: it is too large, a read fails, it has no output, a write fails, or memory ran out.
+-- A run on a bundle ends early, with this status and these lines of standard error before those of `last_lines`: the bundle is
+-- too large, a read fails, there is no output, a write fails, or memory ran out.
 pub data StopsOnBundle (left left_after : Option (List ℕ)) (status : ℕ) (lines : List (List ℕ)) : Type 0 where
   too_large : (bytes : List ℕ) → Consumes left left_after bytes → MAX_BUNDLE_BYTES < length bytes → status ≡ 4 → lines ≡ large_line ∷ []
       → StopsOnBundle left left_after status lines
@@ -74,7 +76,7 @@ pub data StopsOnBundle (left left_after : Option (List ℕ)) (status : ℕ) (lin
       → StopsOnBundle left left_after status lines
   for_memory : status ≡ 6 → lines ≡ [] → StopsOnBundle left left_after status lines
 
--- a bundle was read to its end, and the writer took the first bytes of its full file
+-- a bundle was read to its end, and standard output took the first bytes of its output, the full file of its configuration
 pub record WritesPart (left_before left_after taken_before taken_after : Option (List ℕ)) : Type 0 where
   pub bundle : List ℕ
   pub whole : ReadsToEnd left_before left_after bundle

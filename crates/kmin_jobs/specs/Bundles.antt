@@ -4,19 +4,19 @@ use Rattle.std.specs.List.{list_all}
 use Rattle.std.specs.Io.KnownBytes.{Consumes, IsAtEnd}
 use Rattle.kc_dotconfig_model.specs.ConfigFiles.{file_lines}
 
--- the line that ends the tree: `%%`
+-- the line between the tree and the configuration of a bundle: `%%`
 abbrev pub marker : List ℕ
 marker = 37 ∷ 37 ∷ []
 
--- a text begins with a line, which has a newline or ends the text, and then comes the rest
+-- a text consists of this line, a newline and this rest; or of this line alone, and the rest is empty
 abbrev pub BeginsWithLine : (text line rest : List ℕ) → Type 0
 BeginsWithLine text line rest = (text ≡ line ++ 10 ∷ rest) ⊎ ((text ≡ line) × (rest ≡ []))
 
--- a text of whole lines: empty, or with a newline at its end
+-- a text consists of whole lines: it is empty, or has a newline at its end
 abbrev pub HasWholeLines : List ℕ → Type 0
 HasWholeLines text = (text ≡ []) ⊎ ((front : List ℕ) × (text ≡ front ++ 10 ∷ []))
 
--- no line of a text is the marker
+-- whether no line of a text is the line `%%`
 abbrev pub has_no_marker : List ℕ → Bool
 has_no_marker text = list_all (λ line. not (bytes_eq line marker)) (file_lines text)
 
@@ -26,6 +26,6 @@ pub data IsBundle (bundle tree configuration : List ℕ) : Type 0 where
       → IsBundle bundle tree configuration
   unparted : IsTrue (has_no_marker tree) → bundle ≡ tree → configuration ≡ [] → IsBundle bundle tree configuration
 
--- the bytes are all that a reader had left, if that is known
+-- these bytes are all that a reader had left, and it is at its end, as far as that is known
 abbrev pub ReadsToEnd : (before after : Option (List ℕ)) → List ℕ → Type 0
 ReadsToEnd before after bytes = Consumes before after bytes × IsAtEnd after

@@ -5,30 +5,30 @@ use Rattle.kc_expr.specs.declared.language.Language.{Language}
 use Rattle.kc_tree_model.specs.TreeFiles.{Files, file_at}
 use Rattle.kc_expansion.specs.TreeContents.{FolderContent}
 
--- the content of a path: not known, no such file, or its bytes
+-- what is known of the file at a path: nothing (`None`), that it can't be opened (`Some None`), or its bytes
 abbrev pub FileContent : Type 0
 FileContent = Option (Option (List ℕ))
 
--- bytes agree with a content, if it is known; of a file of more than `MAX_TREE_BYTES` bytes they are the first `MAX_TREE_BYTES` and one more
+-- these bytes agree with what is known of a file: they are all its bytes, but no more than the first `MAX_TREE_BYTES` + 1
 abbrev pub MatchContentStart : FileContent → List ℕ → Type 0
 MatchContentStart None bytes = Unit {0}
 MatchContentStart (Some None) bytes = ⊥
 MatchContentStart (Some (Some content)) bytes = bytes ≡ take (MAX_TREE_BYTES + 1) content
 
--- the path, for the system, of a file of a tree: below its root
+-- the path, for the system, of a file of a tree: the root, a slash, and its path in the tree
 abbrev pub path_below : List ℕ → List ℕ → List ℕ
 path_below root path = root ++ 47 ∷ path
 
--- the texts of a tree are in this language, and each matches the known content of its path below the root
+-- the texts of a tree are in this language, and each matches what is known of the file at its path below the root
 pub record AreTextsBelow (content_of : List ℕ → FileContent) (root : List ℕ) (language : Language) (texts : Files) : Type 0 where
   pub in_language : texts.language ≡ language
   pub content : (path bytes : List ℕ) → file_at texts path ≡ Some bytes → MatchContentStart (content_of (path_below root path)) bytes
 
--- a variable of the environment: not known, not set, or its value
+-- what is known of a variable of the environment: nothing (`None`), that it isn't set (`Some None`), or its value
 abbrev pub VariableContent : Type 0
 VariableContent = Option (Option (List ℕ))
 
--- a value, or that there is none, agrees with a variable, if that is known
+-- a value of a variable of the environment, `None` if it isn't set, agrees with what is known of the variable
 abbrev pub MatchVariable : VariableContent → Option (List ℕ) → Type 0
 MatchVariable None value = Unit {0}
 MatchVariable (Some known) value = value ≡ known
@@ -40,6 +40,6 @@ pub record Known : Type 0 where
   pub names : List ℕ → FolderContent
   pub variable : List ℕ → VariableContent
 
--- all that is known of the surroundings of a job, from its parts
+-- all that is known of the surroundings of a job, from what is known of files, regular files, the names in folders, and variables
 abbrev pub known_by : (List ℕ → FileContent) → (List ℕ → FileContent) → (List ℕ → FolderContent) → (List ℕ → VariableContent) → Known
 known_by content regular names variable = record { content = content; regular = regular; names = names; variable = variable }

@@ -8,40 +8,43 @@ use Rattle.kc_macros_model.specs.Programs.{Answer}
 use Rattle.kc_macros_model.specs.AnswerFiles.{Recorded, complete, answers_read}
 use Rattle.kmin_words.specs.Jobs.{Definition, Expansion}
 use Rattle.kmin_jobs.specs.FileContents.{FileContent, VariableContent, MatchVariable}
-use Rattle.kmin_tidy.specs.MinimalFiles.{AreKnownBytes}
+use Rattle.kmin_tidy.specs.KnownBytes.{AreKnownBytes}
 
--- Answer files, whose bytes match their known content, are accepted, and add to what earlier ones recorded.
+-- Answer files, whose bytes match what is known of them, are accepted, and their answers added to `earlier` give `recorded`.
 pub data FilesRecord (content_of : List ℕ → FileContent) : List (List ℕ) → (earlier recorded : Recorded) → Type 0 where
   none : (recorded : Recorded) → FilesRecord content_of [] recorded recorded
   file : (path bytes : List ℕ) (paths : List (List ℕ)) (earlier middle recorded : Recorded) → AreKnownBytes (content_of path) bytes
       → answers_read complete bytes earlier ≡ Ok middle → FilesRecord content_of paths middle recorded → FilesRecord content_of (path ∷ paths) earlier recorded
 
--- the first answer, or if there is none the other one
+-- the first of two answers that there is, if any
 abbrev pub or_else : Option Answer → Option Answer → Option Answer
 or_else (Some a) other = Some a
 or_else None other = other
 
--- the answer of definitions to a name: the value of its last one
+-- the answer that definitions give to a name: the value of the last one for it, if there is one
 abbrev pub defined_answer : List Definition → (name : List ℕ) → Option Answer
 defined_answer [] name = None
 defined_answer (d ∷ ds) name = or_else (defined_answer ds name) (if bytes_eq name d.name then Some (Some d.value) else None)
 
--- the answer of a variable of the environment: its value; one with a newline, or with more than `max_text_bytes` bytes, counts as not set
+-- the answer of a variable of the environment: its value; one with a newline, or with more than `max_text_bytes` bytes, counts as
+-- not set
 abbrev pub answer_of_variable : Option (List ℕ) → Answer
 answer_of_variable None = None
 answer_of_variable (Some value) = if has_newline value || nat_lt max_text_bytes (length value) then None else Some value
 
--- the answer of the environment, which it gives to these names alone
+-- the answer that the environment, whose variables have these values, gives to a name; none unless the name is one of `names`
 abbrev pub lent_answer : (names : List (List ℕ)) → (values : List ℕ → Option (List ℕ)) → (name : List ℕ) → Option Answer
 lent_answer names values name = if is_in_list name names then Some (answer_of_variable (values name)) else None
 
--- the answer to a question: of the definitions, else of the answer files, else of the environment
+-- the answer to a question: that of the definitions, or without one that of the answer files, or without one that of the
+-- environment
 abbrev pub answer_to : Expansion → Recorded → (values : List ℕ → Option (List ℕ)) → (question : List ℕ) → Option Answer
 answer_to expansion recorded values question =
     or_else (defined_answer expansion.definitions question)
     (or_else (keyword_in_table recorded question) (lent_answer expansion.environment values question))
 
--- each question has the answer of a job's definitions, answer files and environment, whose values agree with what is known of it
+-- each question has the answer of a job's definitions, answer files and environment; files and variables agree with what is known
+-- of them
 pub record AreJobAnswers (content_of : List ℕ → FileContent) (variable_of : List ℕ → VariableContent) (expansion : Expansion) (answers : Recorded) : Type 0 where
   pub recorded : Recorded
   pub files : FilesRecord content_of expansion.answers [] recorded

@@ -9,17 +9,19 @@ use Rattle.kc_tree_model.specs.Contents.{tree_of_groups}
 use Rattle.kmin_jobs.specs.FileContents.{FileContent, AreTextsBelow, path_below}
 use Rattle.kmin_jobs.specs.Answers.{AreAccepted}
 
--- the known bytes of a file, up to one more than a tree may have
+-- the known bytes of a file, but no more than the first `MAX_TREE_BYTES` + 1; `None` if they aren't known, or the file can't be
+-- opened
 abbrev pub known_bytes : FileContent → Option (List ℕ)
 known_bytes None = None
 known_bytes (Some None) = None
 known_bytes (Some (Some content)) = Some (take (MAX_TREE_BYTES + 1) content)
 
--- the tree of files in a language, of which each path has these bytes and this number
+-- the tree in this language whose first file is at the path `first`, where a file at a path has these bytes and this number
 abbrev pub tree_of_bytes : Language → (bytes : List ℕ → Option (List ℕ)) → (number : List ℕ → ℕ) → (first : List ℕ) → Tree
 tree_of_bytes language bytes number first = tree_of_groups (reading_from (record { language = language; bytes = bytes; number = number; root = first })).read
 
--- Where each path below the root is known, accepted texts, whichever they are, have the tree of the known bytes, by the numbers of their files.
+-- Where the file at each path below the root is known, all texts that are accepted have the tree of the known bytes, with the
+-- numbers that the texts give to the files.
 abbrev pub KnownFilesDetermineTheTree : Type 0
 KnownFilesDetermineTheTree = (content_of : List ℕ → FileContent) (root first : List ℕ) (texts : Files) (tree : Tree)
     → ((path : List ℕ) → content_of (path_below root path) ≢ None) → AreTextsBelow content_of root texts.language texts → AreAccepted texts first tree

@@ -2,7 +2,7 @@ pub mod Reports
 pub mod Bundles
 pub mod FileContents
 pub mod MacroReports
-pub mod TreesBelow
+pub mod TreeFolders
 pub mod JobAnswers
 pub mod JobTexts
 pub mod AnswerStops

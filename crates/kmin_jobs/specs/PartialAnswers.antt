@@ -6,7 +6,7 @@ use Rattle.kmin_jobs.specs.FileContents.{Known}
 use Rattle.kmin_jobs.specs.JobTexts.{TreeTexts, AreTextsOfJob}
 use Rattle.kmin_jobs.specs.Answers.{Answer}
 
--- the writer took the first bytes of the output of a command over the texts of its tree, and not all of them
+-- standard output took the first bytes of the output of a command over the texts of its tree, but not all of them
 pub record AnswersInPart (known : Known) (settings : Settings) (task : Task) (taken taken_after : Option (List ℕ)) : Type 0 where
   pub read : TreeTexts
   pub are : AreTextsOfJob known settings read

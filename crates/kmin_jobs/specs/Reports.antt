@@ -11,69 +11,69 @@ use Rattle.kc_dotconfig_model.specs.ConfigFiles.{notices_from}
 use Rattle.kc_tree_model.specs.FaultNames.{tree_kind_name}
 use Rattle.kmin_tidy.specs.Reports.{place_line, notice_line, memory_line}
 
--- the path of the file of this number; the first file's if there is none
+-- the path of the file of this number in a tree; the path `first` of the first file if there is no number, or no such file
 abbrev pub path_or_first : Files → (first : List ℕ) → Option ℕ → List ℕ
 path_or_first texts first None = first
 path_or_first texts first (Some number) = unwrap_or (path_at texts number) first
 
--- the line of a fault of a tree
+-- the line of standard error for a fault of a tree: `FILE:LINE: KIND`
 abbrev pub tree_fault_line : Files → (first : List ℕ) → TreeFault → List ℕ
 tree_fault_line texts first fault = place_line (path_or_first texts first fault.file) fault.line (tree_kind_name fault.kind)
 
--- the name of a symbol
+-- the name of the symbol of this number in a tree; empty if there is none
 abbrev pub name_at : Tree → ℕ → List ℕ
 name_at tree s = elim (slice_get tree.symbols s) [ None ↦ [] | Some symbol ↦ symbol.name ]
 
--- the name of the first member of a choice
+-- the name of the first member of a choice; empty if there is no choice, or it has no members
 abbrev pub first_member_name : Tree → Option Choice → List ℕ
 first_member_name tree None = []
 first_member_name tree (Some choice) = elim (slice_get choice.members 0) [ None ↦ [] | Some s ↦ name_at tree s ]
 
--- a unit in the line of a cycle: ` NAME`, or of a choice ` choice:MEMBER`
+-- a symbol or a choice in the line of a cycle: ` NAME`, or ` choice:MEMBER` with the name of the choice's first member
 abbrev pub unit_text : Tree → Option TreeUnit → List ℕ
 unit_text tree None = []
 unit_text tree (Some (of_symbol s)) = codes " " ++ name_at tree s
 unit_text tree (Some (of_choice c)) = codes " choice:" ++ first_member_name tree (slice_get tree.choices c)
 
--- the file and the line of a symbol's first definition
+-- the number of the file and the line of a symbol's first definition; zeros if there is no symbol
 abbrev pub symbol_place : Option Symbol → ℕ × ℕ
 symbol_place None = (0, 0)
 symbol_place (Some symbol) = (symbol.file, symbol.line)
 
--- the file and the line of a choice
+-- the number of the file and the line of a choice; zeros if there is no choice
 abbrev pub choice_place : Option Choice → ℕ × ℕ
 choice_place None = (0, 0)
 choice_place (Some choice) = (choice.file, choice.line)
 
--- the file and the line at which a unit begins
+-- the number of the file and the line at which a symbol or a choice begins; zeros if there is neither
 abbrev pub unit_place : Tree → Option TreeUnit → ℕ × ℕ
 unit_place tree None = (0, 0)
 unit_place tree (Some (of_symbol s)) = symbol_place (slice_get tree.symbols s)
 unit_place tree (Some (of_choice c)) = choice_place (slice_get tree.choices c)
 
--- the units of a cycle, each after a space
+-- the symbols and choices of a cycle, by their numbers as units of the tree, each after a space
 abbrev pub units_text : Tree → List ℕ → List ℕ
 units_text tree units = flat_map (λ u. unit_text tree (slice_get tree.units u)) units
 
--- the file and the line of a cycle: those of its first unit
+-- the number of the file and the line of a cycle: those of its first symbol or choice
 abbrev pub cycle_place : Tree → List ℕ → ℕ × ℕ
 cycle_place tree units = unit_place tree (option_and_then (slice_get tree.units) (slice_get units 0))
 
--- the line of a cycle: `FILE:LINE: Cycle A B`
+-- the line of standard error for a cycle: `FILE:LINE: Cycle A B`
 abbrev pub cycle_line : Files → (first : List ℕ) → Tree → List ℕ → List ℕ
 cycle_line texts first tree units =
     place_line (path_or_first texts first (Some (cycle_place tree units).0)) (cycle_place tree units).1 (codes "Cycle" ++ units_text tree units)
 
--- the lines of a file's notices
+-- the lines of standard error for the notices of a configuration file, from the meanings of its lines
 abbrev pub file_notices : (path : List ℕ) → List LineMeaning → List (List ℕ)
 file_notices path meanings = map (notice_line path) (notices_from 1 meanings)
 
--- the lines of the notices of several files, in order
+-- the lines of standard error for the notices of several configuration files, in order, from the meanings of their lines
 abbrev pub notice_lines : (paths : List (List ℕ)) → List (List LineMeaning) → List (List ℕ)
 notice_lines [] meanings = []
 notice_lines (path ∷ paths) [] = []
 notice_lines (path ∷ paths) (meanings ∷ others) = file_notices path meanings ++ notice_lines paths others
 
--- the lines after all others, by the exit status: status 6 has the line where memory ran out
+-- the last lines of standard error of a run, by its exit status: `out of memory` for 6, and none for any other
 abbrev pub last_lines : (status : ℕ) → List (List ℕ)
 last_lines status = if status == 6 then memory_line ∷ [] else []

@@ -19,7 +19,7 @@ use Rattle.kmin_jobs.specs.Reports.{last_lines}
 use Rattle.kmin_jobs.specs.Stops.{StopsBefore}
 use Rattle.kmin_jobs.specs.TidyRuns.{Outside, EndsWriting}
 
--- the lines for an output file that wasn't replaced, or not for good
+-- the lines of standard error for an output file that wasn't replaced, or not for good; none where memory ran out
 abbrev pub replace_lines : (path : List ℕ) → ReplaceFault → List (List ℕ)
 replace_lines path NotRegular = not_regular_line path ∷ []
 replace_lines path Unchanged = write_line path ∷ []
@@ -28,7 +28,7 @@ replace_lines path (Left new_path) = left_line (string_bytes new_path) ∷ []
 replace_lines path FolderNotSynced = write_line path ∷ []
 replace_lines path OutOfMemory = []
 
--- the lines for an output file that wasn't updated, or not for good
+-- the lines of standard error for an output file that wasn't updated, or not for good; none where memory ran out
 abbrev pub update_lines : (path : List ℕ) → UpdateFault → List (List ℕ)
 update_lines path Unread = write_line path ∷ []
 update_lines path (Replace fault) = replace_lines path fault
@@ -42,18 +42,19 @@ replace_status (Left new_path) = 5
 replace_status FolderNotSynced = 5
 replace_status OutOfMemory = 6
 
--- the exit status for an output file that wasn't updated, or not for good
+-- the exit status for an output file that wasn't updated, or not for good: 6 if memory ran out, and 5 if not
 abbrev pub update_status : UpdateFault → ℕ
 update_status Unread = 5
 update_status (Replace fault) = replace_status fault
 
--- The output file has the text: it had it before, or was replaced. It was no link, folder, pipe or device, and no call failed.
+-- The output file at a path has this text, from before or by a replacement. The path led to no link, folder, pipe or device, and
+-- no call failed.
 pub record IsSaved (old new : Disk) (path text : List ℕ) : Type 0 where
   pub updates : Updates old.state new.state path text
   pub regular : content_at old.state path ≢ Some special
   pub unfailed : new.failures ≡ old.failures
 
--- The output file doesn't have the text, or not for good, with this fault. A file that had the text already is unchanged.
+-- The update of the output file at a path to this text ended with this fault. A file that had the text already is unchanged.
 pub record IsUnsaved (old new : Disk) (path text : List ℕ) (fault : UpdateFault) : Type 0 where
   pub leaves : UpdateLeaves old.state new.state path text fault
   pub equal : content_at old.state path ≡ Some (file text) → new.state ≡ old.state
@@ -61,7 +62,8 @@ pub record IsUnsaved (old new : Disk) (path text : List ℕ) (fault : UpdateFaul
   pub refused : content_at old.state path ≡ Some special → fault ≡ Replace NotRegular
   pub failed : new.failures ≡ failures_of_update old.failures fault
 
--- A command with an output file ends: the file has the output, or the command ended without one and the disk is unchanged, or the file couldn't be updated.
+-- A command with an output file ends, with this status and these lines of standard error: the file has the output, or the command
+-- ended without one and the disk is unchanged, or the file couldn't be updated.
 pub data SaveEnds (known : Known) (settings : Settings) (task : Task) (path : List ℕ) (old new : Disk) (lines : List (List ℕ)) (status : ℕ) : Type 0 where
   saved : (t : TreeTexts) (text : List ℕ) (notices : List (List ℕ)) → AreTextsOfJob known settings t
       → Answer known.content settings t.texts task text status notices → IsSaved old new path text → lines ≡ t.lines ++ notices
@@ -78,6 +80,6 @@ abbrev pub EndsSaving : Known → (old new : Outside) → (status : ℕ) → Typ
 EndsSaving known old new status = (settings : Settings) × (task : Task) × (path : List ℕ) × (lines : List (List ℕ))
     × SaveEnds known settings task path old.disk new.disk lines status × (new.taken ≡ old.taken) × (new.failures ≡ old.failures)
 
--- a command that may change files ended with this status: `tidy`, or one with an output file
+-- a command that may change files ended with this status: `tidy --write`, or one with an output file
 abbrev pub EndsChanging : Known → (left : Option (List ℕ)) → (old new : Outside) → (status : ℕ) → Type 0
 EndsChanging known left old new status = EndsWriting known left old new status ⊎ EndsSaving known old new status

@@ -1,5 +1,5 @@
--- The exit status of commands that list something: 1 if `compare` or `wants` lists anything, and if `missed` or `check` does with `--exit-code`. `min` and
--- `full` list nothing. The status of `tidy` is `status_of` of kmin_tidy.
+-- The exit status of commands that list something: 1 if `compare` or `wants` lists anything, and if `missed` or `check` does with
+-- `--exit-code`. `min` and `full` list nothing. The status of `tidy` is `status_of` of kmin_tidy.
 use Rattle.std.specs.Prelude.{ℕ, Bool, true, false, List, [], ◌∷◌, Option}
 use Rattle.kc_tree_model.specs.Trees.{Tree}
 use Rattle.kc_rules_model.specs.Reports.{unmet}
@@ -9,13 +9,13 @@ use Rattle.kc_dotconfig_model.specs.MissedAssignments.{missed}
 use Rattle.kmin_words.specs.declared.job.Verb.{Verb}
 use Rattle.kmin_words.specs.declared.job.Verb.TheVariants.{Min, Full, Missed, Check}
 
--- 1 if something is listed and the status is to report it, else 0
+-- the exit status of a command that lists something: 1 if it is to report that by its status and anything is listed, 0 if not
 abbrev pub status_of_list : {A : Type 0} → (exit_code : Bool) → (listed : List A) → ℕ
 status_of_list false listed = 0
 status_of_list true [] = 0
 status_of_list true (x ∷ xs) = 1
 
--- the symbols that a verb lists, of a tree, an assignment and its values
+-- the numbers of the symbols that a verb lists, for a tree, an assignment and its values; `min` and `full` list none
 abbrev pub listed : Tree → List (Option UserValue) → List UnitValue → Verb → List ℕ
 listed tree users values Min = []
 listed tree users values Full = []

@@ -18,11 +18,11 @@ use Rattle.kc_macros_model.specs.AnswerFiles.{Recorded}
 use Rattle.kc_expansion.specs.Expansions.{IsExpansion}
 use Rattle.kmin_words.specs.Jobs.{Expansion, Settings, Task, paths_of}
 use Rattle.kmin_jobs.specs.FileContents.{FileContent, Known}
-use Rattle.kmin_tidy.specs.MinimalFiles.{AreKnownBytes}
+use Rattle.kmin_tidy.specs.KnownBytes.{AreKnownBytes}
 use Rattle.kmin_disk.specs.Contents.{OpensAs}
 use Rattle.kmin_jobs.specs.JobAnswers.{AreJobAnswers}
 use Rattle.kmin_jobs.specs.JobTexts.{TreeTexts, AreTextsOfJob}
-use Rattle.kmin_jobs.specs.TreesBelow.{contents_below}
+use Rattle.kmin_jobs.specs.TreeFolders.{contents_below}
 use Rattle.kmin_jobs.specs.AnswerStops.{StopsAmongAnswers}
 use Rattle.kmin_jobs.specs.MacroReports.{macro_fault_line, macro_notice_line}
 use Rattle.kmin_jobs.specs.Reports.{tree_fault_line, cycle_line, file_notices, notice_lines}
@@ -30,7 +30,8 @@ use Rattle.kmin_tidy.specs.Reports.{fault_line, output_line}
 use Rattle.kmin_jobs.specs.Strictness.{RefusesNotices}
 use Rattle.kmin_jobs.specs.Answers.{AreAccepted, FilesMean, Answer}
 
--- Texts are refused as a tree, with this line, in which files have their names in `names`: by their first fault, or by a cycle of their units.
+-- Texts are refused as a tree, with this line of standard error, in which files have their names in `names`: for their first
+-- fault, or for a cycle of symbols and choices.
 pub data RefusesTexts (texts names : Files) (first line : List ℕ) : Type 0 where
   faulty : (fault : TreeFault) → first_tree_fault texts first ≡ Some fault → line ≡ tree_fault_line names first fault
       → RefusesTexts texts names first line
@@ -38,7 +39,8 @@ pub data RefusesTexts (texts names : Files) (first line : List ℕ) : Type 0 whe
       → IsNamedCycle (length tree.units) (dependencies tree) units → IsCycle (length tree.units) (dependencies tree) units
       → line ≡ cycle_line names first tree units → RefusesTexts texts names first line
 
--- A configuration file ends a command: by its first fault, by a read that fails before one, since it can't be opened, or by its notices, each with its line.
+-- A configuration file ends a command, with this status and these lines of standard error: at its first fault, at a failed read
+-- before any fault, since it can't be opened, or since it is refused for its notices.
 pub data StopsAtFile (content : FileContent) (format : FileFormat) (strict : Bool) (tree : Tree) (path : List ℕ) (status : ℕ) (lines : List (List ℕ)) : Type 0 where
   refused : (bytes : List ℕ) (kind : LoadKind) (number : ℕ) → AreKnownBytes content bytes
       → IsFirstFault format tree complete bytes kind number → status ≡ 4 → lines ≡ fault_line path number kind ∷ []
@@ -52,7 +54,8 @@ pub data StopsAtFile (content : FileContent) (format : FileFormat) (strict : Boo
       → FileMeans format tree bytes meanings → RefusesNotices strict (notices_from 1 meanings) → status ≡ 4
       → lines ≡ file_notices path meanings → StopsAtFile content format strict tree path status lines
 
--- A command ends among its configuration files, after the notices of the earlier ones: at one of them, or since memory ran out.
+-- A command ends among its configuration files, with this status and these lines of standard error, the first of which are the
+-- notices of earlier files: at one of the files, or since memory ran out.
 pub data StopsAmongFiles (content_of : List ℕ → FileContent) (format : FileFormat) (strict : Bool) (tree : Tree) (paths : List (List ℕ)) (status : ℕ) (lines : List (List ℕ)) : Type 0 where
   at_file : (front back : List (List ℕ)) (path : List ℕ) (own : List (List ℕ)) (meanings : List (List LineMeaning)) → paths ≡ front ++ path ∷ back
       → FilesMean content_of format strict tree front meanings → StopsAtFile (content_of path) format strict tree path status own
@@ -62,7 +65,8 @@ pub data StopsAmongFiles (content_of : List ℕ → FileContent) (format : FileF
       → FilesMean content_of format strict tree front meanings → status ≡ 6 → lines ≡ notice_lines front meanings
       → StopsAmongFiles content_of format strict tree paths status lines
 
--- A command ends at the expansion of its tree: among its answer files, by the fault of the expansion after its notices, or since memory ran out.
+-- A command ends at the expansion of its tree's macros, with this status and these lines of standard error: among its answer
+-- files, at a fault of the expansion, after its notices, or since memory ran out.
 pub data StopsInExpansion (known : Known) (root first : List ℕ) (expansion : Expansion) (status : ℕ) (lines : List (List ℕ)) : Type 0 where
   among_answers : StopsAmongAnswers known.content expansion.answers status lines → StopsInExpansion known root first expansion status lines
   at_fault : (answers : Recorded) (notices : List Notice) (fault : Fault) → AreJobAnswers known.content known.variable expansion answers
@@ -70,7 +74,8 @@ pub data StopsInExpansion (known : Known) (root first : List ℕ) (expansion : E
       → status ≡ 3 → lines ≡ map macro_notice_line notices ++ macro_fault_line fault ∷ [] → StopsInExpansion known root first expansion status lines
   for_memory : status ≡ 6 → lines ≡ [] → StopsInExpansion known root first expansion status lines
 
--- A command ends at its tree: in its expansion, by its texts, which are refused, or since memory ran out while they are read.
+-- A command ends at its tree, with this status and these lines of standard error: in the expansion of macros, since the texts are
+-- refused as a tree, or since memory ran out while they were read.
 pub data StopsAtTree (known : Known) (settings : Settings) (status : ℕ) (lines : List (List ℕ)) : Type 0 where
   in_expansion : (expansion : Expansion) → settings.expansion ≡ Some expansion
       → StopsInExpansion known settings.root settings.tree expansion status lines → StopsAtTree known settings status lines
@@ -78,7 +83,8 @@ pub data StopsAtTree (known : Known) (settings : Settings) (status : ℕ) (lines
       → status ≡ 3 → lines ≡ t.lines ++ line ∷ [] → StopsAtTree known settings status lines
   for_memory : (t : TreeTexts) → AreTextsOfJob known settings t → status ≡ 6 → lines ≡ t.lines → StopsAtTree known settings status lines
 
--- A command ends before it has an output: at its tree, among its configuration files, or since memory ran out.
+-- A command ends before it has an output, with this status and these lines of standard error: at its tree, among its
+-- configuration files, or since memory ran out.
 pub data StopsBefore (known : Known) (settings : Settings) (task : Task) (status : ℕ) (lines : List (List ℕ)) : Type 0 where
   at_tree : StopsAtTree known settings status lines → StopsBefore known settings task status lines
   among_files : (t : TreeTexts) (tree : Tree) (more : List (List ℕ)) → AreTextsOfJob known settings t → AreAccepted t.texts settings.tree tree
@@ -86,7 +92,8 @@ pub data StopsBefore (known : Known) (settings : Settings) (task : Task) (status
       → StopsBefore known settings task status lines
   for_memory : status ≡ 6 → lines ≡ [] → StopsBefore known settings task status lines
 
--- A command ends before it has an output, or at a failed write of its output.
+-- A command ends without its whole output, with this status and these lines of standard error: before it has an output, or at a
+-- failed write of the output.
 pub data Stops (known : Known) (settings : Settings) (task : Task) (status : ℕ) (lines : List (List ℕ)) : Type 0 where
   before_answer : StopsBefore known settings task status lines → Stops known settings task status lines
   at_write : (t : TreeTexts) (text : List ℕ) (made : ℕ) (notices : List (List ℕ)) → AreTextsOfJob known settings t

@@ -2,10 +2,10 @@
 use Rattle.std.specs.Prelude.{◌≡◌, ◌≢◌, Bool, true, []}
 use Rattle.kmin_tidy.specs.Options.{Notices}
 
--- a file isn't refused for these notices
+-- a configuration file isn't refused for these notices of its lines
 abbrev pub AllowsNotices : (strict : Bool) → Notices → Type 0
 AllowsNotices strict notices = strict ≡ true → notices ≡ []
 
--- a file is refused for these notices
+-- a configuration file is refused for these notices of its lines
 abbrev pub RefusesNotices : (strict : Bool) → Notices → Type 0
 RefusesNotices strict notices = (strict ≡ true) × (notices ≢ [])

@@ -15,57 +15,60 @@ use Rattle.kmin_words.specs.declared.job.TidyFlags.{TidyFlags}
 use Rattle.kmin_words.specs.Jobs.{Settings, PathList, Tidying}
 use Rattle.kmin_jobs.specs.declared.tidy_command.TheConstants.{MAX_LIST_BYTES}
 use Rattle.kmin_jobs.specs.FileContents.{FileContent, Known}
-use Rattle.kmin_tidy.specs.MinimalFiles.{AreKnownBytes}
+use Rattle.kmin_tidy.specs.KnownBytes.{AreKnownBytes}
 use Rattle.kmin_jobs.specs.JobTexts.{TreeTexts, AreTextsOfJob}
 use Rattle.kmin_jobs.specs.Answers.{AreAccepted}
 use Rattle.kmin_jobs.specs.Reports.{last_lines}
 use Rattle.kmin_tidy.specs.Reports.{fault_line}
 use Rattle.kmin_jobs.specs.Stops.{StopsAtTree}
 
--- the content of a list, as far as it is known: that of standard input if its path is `-`, and else that of the file
+-- what is known of the list of `tidy --from`: its content is that of standard input if its path is `-`, or that of the file at
+-- its path
 abbrev pub list_content : (content_of : List ℕ → FileContent) → (left : Option (List ℕ)) → (path : List ℕ) → FileContent
 list_content content_of left path = if bytes_eq path (codes "-") then option_map (λ (bytes : List ℕ). Some bytes) left else content_of path
 
--- bytes agree with the content of the list, if that is known; without a list there are none
+-- these bytes agree with what is known of the list of `tidy --from`; without a list there are none
 abbrev pub MatchList : (content_of : List ℕ → FileContent) → (left : Option (List ℕ)) → Option PathList → (bytes : List ℕ) → Type 0
 MatchList content_of left None bytes = bytes ≡ []
 MatchList content_of left (Some list) bytes = AreKnownBytes (list_content content_of left list.path) bytes
 
--- bytes are those of the list, and no more than a list may have
+-- these bytes are those of the list of `tidy --from`, and no more than `MAX_LIST_BYTES`; without a list there are none
 pub record AreListBytes (content_of : List ℕ → FileContent) (left : Option (List ℕ)) (list : Option PathList) (bytes : List ℕ) : Type 0 where
   pub known : MatchList content_of left list bytes
   pub within : length bytes ≤ MAX_LIST_BYTES
 
--- whether the paths of a list end with the byte 0 in place of a newline
+-- whether the paths in the list of `tidy --from` end with the byte 0 in place of a newline; false without a list
 abbrev pub is_ended_by_nul : Option PathList → Bool
 is_ended_by_nul None = false
 is_ended_by_nul (Some list) = list.ended_by_nul
 
--- the paths that a list of these bytes names
+-- the paths in the list of `tidy --from`, if these are its bytes
 abbrev pub listed_paths : Option PathList → (bytes : List ℕ) → List (List ℕ)
 listed_paths list bytes = paths_in (is_ended_by_nul list) bytes
 
--- each path is UTF-8 and has no newline
+-- each of these paths is UTF-8 and has no newline
 pub record AreNamed (paths : List (List ℕ)) : Type 0 where
   pub utf8 : list_all is_utf8 paths ≡ true
   pub one_line : list_all is_one_line paths ≡ true
 
--- some path isn't UTF-8 or has a newline
+-- one of these paths isn't UTF-8 or has a newline
 abbrev pub AreMalformed : (paths : List (List ℕ)) → Type 0
 AreMalformed paths = (list_all is_utf8 paths ≡ false) ⊎ (list_all is_one_line paths ≡ false)
 
--- the line of a list with a path that isn't UTF-8 or has a newline
+-- the line of standard error for a list with a path that isn't UTF-8 or has a newline: `from: Malformed`
 abbrev pub malformed_line : List ℕ
 malformed_line = codes "from: Malformed\n"
 
--- A list can't be read, with this status and these lines: it has too many bytes, it can't be opened or read, or memory ran out.
+-- The list of `tidy --from` can't be read, with this status and these lines of standard error: it has too many bytes, it can't be
+-- opened or read, or memory ran out.
 pub data StopsReadingList (content : FileContent) (path : List ℕ) (status : ℕ) (lines : List (List ℕ)) : Type 0 where
   too_large : (front rest : List ℕ) → AreKnownBytes content (front ++ rest) → MAX_LIST_BYTES < length front → status ≡ 4
       → lines ≡ fault_line path 0 TooLarge ∷ [] → StopsReadingList content path status lines
   unread : status ≡ 5 → lines ≡ fault_line path 0 Read ∷ [] → StopsReadingList content path status lines
   for_memory : status ≡ 6 → lines ≡ [] → StopsReadingList content path status lines
 
--- A list ends a run, with this status and these lines before those of `last_lines`: it can't be read, a path in it is refused, or memory ran out.
+-- The list of `tidy --from` ends a run, with this status and these lines of standard error before those of `last_lines`: it can't
+-- be read, a path in it is refused, or memory ran out.
 pub data StopsAtList (content_of : List ℕ → FileContent) (left : Option (List ℕ)) (list : Option PathList) (status : ℕ) (lines : List (List ℕ)) : Type 0 where
   reading : (named : PathList) → list ≡ Some named → StopsReadingList (list_content content_of left named.path) named.path status lines
       → StopsAtList content_of left list status lines
@@ -73,11 +76,11 @@ pub data StopsAtList (content_of : List ℕ → FileContent) (left : Option (Lis
       → lines ≡ malformed_line ∷ [] → StopsAtList content_of left list status lines
   for_memory : status ≡ 6 → lines ≡ [] → StopsAtList content_of left list status lines
 
--- the options of a run over files, by those of the command
+-- the options of `tidy_files`, from those of the command `tidy`
 abbrev pub options_of : (strict : Bool) → TidyFlags → TidyOptions
 options_of strict flags = record { write = flags.write; drop = flags.drop; strict = strict }
 
--- the settings of a run over files, by those of the command and its tree
+-- the settings of a run of `tidy_files`, from the options of the command `tidy` and its tree
 abbrev pub run_settings : Settings → TidyFlags → Tree → RunSettings
 run_settings settings flags tree = record { format = settings.format; profile = settings.profile; tree = tree; options = options_of settings.strict flags }
 
@@ -87,18 +90,19 @@ pub record Outside : Type 0 where
   pub taken : Option (List ℕ)
   pub failures : ℕ
 
--- all that a run changes, from its parts
+-- all that a run changes, from its parts: the disk, the bytes that standard output took, and the count of its failed writes
 abbrev pub outside_of : Disk → (taken : Option (List ℕ)) → (failures : ℕ) → Outside
 outside_of disk taken failures = record { disk = disk; taken = taken; failures = failures }
 
--- A run over files ended as `tidy_files` promises: each place is as it was or has its minimal file, and nothing changes if each file is minimal or refused.
+-- A run over files ended as `tidy_files` promises: at each path all is as it was, or a file was replaced by its minimal file, or
+-- an unfinished new file was left; and nothing changes if each file is minimal or refused.
 pub record GoesOver (s : RunSettings) (old new : Outside) (paths : List (List ℕ)) (reports : List (List ℕ)) (status : ℕ) : Type 0 where
   pub ends : Ends s old.disk new.disk paths old.taken new.taken old.failures new.failures reports status
   pub became : (place : List ℕ) → Became s (old.disk.state.history place) (new.disk.state.history place)
   pub again : AreTidy s old.disk.state paths → new.disk.state ≡ old.disk.state
   pub silent : AreTidy s old.disk.state paths → Appends old.taken new.taken []
 
--- The files of these paths are tidied over the tree of the command; or the tree is refused, and nothing changes.
+-- The command `tidy` over these paths ends: the files are tidied; or its tree is refused or memory ran out, and nothing changes.
 pub data PathsEnd (known : Known) (settings : Settings) (flags : TidyFlags) (paths : List (List ℕ)) (old new : Outside) (lines : List (List ℕ)) (status : ℕ) : Type 0 where
   at_tree : (own : List (List ℕ)) → StopsAtTree known settings status own → lines ≡ own ++ last_lines status → new ≡ old
       → PathsEnd known settings flags paths old new lines status
@@ -106,7 +110,8 @@ pub data PathsEnd (known : Known) (settings : Settings) (flags : TidyFlags) (pat
       → AreAccepted texts.texts settings.tree tree → GoesOver (run_settings settings flags tree) old new paths reports status
       → lines ≡ texts.lines ++ reports → PathsEnd known settings flags paths old new lines status
 
--- The files of the command are tidied, and then those that its list names; or the list is refused, and nothing changes.
+-- The command `tidy` ends: its files are tidied, and then those that its list names; or the list or the tree is refused or memory
+-- ran out, and nothing changes.
 pub data TidyEnds (known : Known) (left : Option (List ℕ)) (t : Tidying) (old new : Outside) (lines : List (List ℕ)) (status : ℕ) : Type 0 where
   at_list : (own : List (List ℕ)) → StopsAtList known.content left t.list status own → lines ≡ own ++ last_lines status → new ≡ old
       → TidyEnds known left t old new lines status

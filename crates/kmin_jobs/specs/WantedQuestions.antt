@@ -8,26 +8,27 @@ use Rattle.kc_expansion.specs.Expansions.{AreWanted}
 use Rattle.kmin_words.specs.Jobs.{Questions}
 use Rattle.kmin_jobs.specs.FileContents.{Known}
 use Rattle.kmin_jobs.specs.JobAnswers.{AreJobAnswers}
-use Rattle.kmin_jobs.specs.TreesBelow.{contents_below}
+use Rattle.kmin_jobs.specs.TreeFolders.{contents_below}
 use Rattle.kmin_jobs.specs.AnswerStops.{StopsAmongAnswers}
 use Rattle.kmin_jobs.specs.MacroReports.{macro_fault_line}
 use Rattle.kmin_tidy.specs.Reports.{output_line}
 
--- the questions of a tree's macros that are open, or if there are none the fault of the expansion
+-- the result of the command `wants` for a tree: the open questions of its macros, or if there are none the fault of the expansion
 pub record AreAsked (known : Known) (questions : Questions) (asked : Result (List (List ℕ)) Fault) : Type 0 where
   pub answers : Recorded
   pub answered : AreJobAnswers known.content known.variable questions.expansion answers
   pub wanted : AreWanted (contents_below known questions.root) answers questions.tree asked
 
--- the line of a question
+-- the line of standard output for a question: its text and a newline
 abbrev pub question_line : List ℕ → List ℕ
 question_line question = question ++ 10 ∷ []
 
--- the lines of questions
+-- the lines of standard output for questions, in order
 abbrev pub questions_text : List (List ℕ) → List ℕ
 questions_text asked = flat_map question_line asked
 
--- The command `wants` ends early: at an answer file, by the fault of an expansion without open questions, at a failed write, or since memory ran out.
+-- The command `wants` ends early, with this status and these lines of standard error: among its answer files, at the fault of an
+-- expansion without open questions, at a failed write, or since memory ran out.
 pub data StopsWanting (known : Known) (questions : Questions) (status : ℕ) (lines : List (List ℕ)) : Type 0 where
   among_answers : StopsAmongAnswers known.content questions.expansion.answers status lines → StopsWanting known questions status lines
   at_fault : (fault : Fault) → AreAsked known questions (Err fault) → status ≡ 3 → lines ≡ macro_fault_line fault ∷ []
@@ -36,7 +37,7 @@ pub data StopsWanting (known : Known) (questions : Questions) (status : ℕ) (li
       → StopsWanting known questions status lines
   for_memory : status ≡ 6 → lines ≡ [] → StopsWanting known questions status lines
 
--- the writer took the first bytes of the list of open questions, and not all of them
+-- standard output took the first bytes of the list of open questions, but not all of them
 pub record AsksInPart (known : Known) (questions : Questions) (taken taken_after : Option (List ℕ)) : Type 0 where
   pub asked : List (List ℕ)
   pub are : AreAsked known questions (Ok asked)

@@ -31,7 +31,8 @@ use kc_value::{Seed, Sink, Source};
 use kmin_disk::MemoryReader;
 use std::alloc::Global;
 
-/// Reads a bundle and writes its full file.
+/// Reads a bundle from `input`, and writes the full file of its configuration to `out`. Reports its notices and its fault to
+/// `err`.
 pub(crate) fn run_bundle<I: Source, O: Sink, E: Sink>(
     alloc: Global,
     seed: Seed,
@@ -62,7 +63,7 @@ fn bundle_text<E: Sink>(
     err: &mut E,
 ) -> Result<Vec<u8>, RunError>
     ensures ok { IfOk result (λ text. (notices : List (List ℕ)) × AnswersBundle bundle.now text.items notices × TakesLines (E.taken err.old) (E.failures err.old) notices (E.taken err.new) (E.failures err.new)) }
-    ensures failed { result ≢ Err RunError.Failed }
+    ensures unfailed { result ≢ Err RunError.Failed }
     ensures stopped { IfErr result (λ stop. (lines : List (List ℕ)) × StopsInBundle bundle.now (status_of stop) lines × TakesLines (E.taken err.old) (E.failures err.old) lines (E.taken err.new) (E.failures err.new)) }
 {
     let (tree, configuration) = cut(bundle);
@@ -108,7 +109,7 @@ fn full_over<E: Sink>(
     err: &mut E,
 ) -> Result<Vec<u8>, RunError>
     ensures ok { IfOk result (λ text. (meanings : List (List LineMeaning)) × (values : List UnitValue) × Resolve (bundle_content configuration.now) (record bundle_settings { profile = profile_of settled.now }) (tree_of_settled settled.now) (codes "config" ∷ []) meanings values × (text.items ≡ full_file plain_format (tree_of_settled settled.now) values) × TakesLines (E.taken err.old) (E.failures err.old) (notice_lines (codes "config" ∷ []) meanings) (E.taken err.new) (E.failures err.new)) }
-    ensures failed { result ≢ Err RunError.Failed }
+    ensures unfailed { result ≢ Err RunError.Failed }
     ensures stopped { IfErr result (λ stop. (lines : List (List ℕ)) × StopsAmongFiles (bundle_content configuration.now) plain_format false (tree_of_settled settled.now) (codes "config" ∷ []) (status_of stop) lines × TakesLines (E.taken err.old) (E.failures err.old) lines (E.taken err.new) (E.failures err.new)) }
 {
     let format = Format::plain();

@@ -76,40 +76,9 @@ fn report_notices<E: Sink>(path: &str, notices: &[Notice], err: &mut E)
     }
 }
 
-/// Reads the assignments of a configuration file by its path. Reports its notices, or its fault.
+/// Reads the assignments of a configuration file by its path. Reports the file's notices, or its fault. Under `strict` a file that
+/// has a notice is refused.
 fn load_path<F: Files, E: Sink>(
-    alloc: Global,
-    settled: &Settled,
-    settings: &Settings<'_>,
-    path: &str,
-    files: &mut F,
-    err: &mut E,
-) -> Result<Fragment, RunError>
-    ensures same { (other : List ℕ) → F.content_of files.new other ≡ F.content_of files.old other }
-    ensures fits { IfOk result (λ f. FitsTree (tree_of_settled settled.now) f.assigns.items) }
-    ensures loaded { IfOk result (λ f. IsLoaded (F.content_of files.old path.now) (file_format settings.now.format) (tree_of_settled settled.now) path.now f (E.taken err.old) (E.failures err.old) (E.taken err.new) (E.failures err.new)) }
-    ensures stopped { IfErr result (λ stop. (lines : List (List ℕ)) × StopsAtPath (F.content_of files.old path.now) (file_format settings.now.format) settings.now.strict (tree_of_settled settled.now) path.now (status_of stop) lines × TakesLines (E.taken err.old) (E.failures err.old) lines (E.taken err.new) (E.failures err.new)) }
-{
-    match files.reader_for(path) {
-        Some(mut reader) => load(alloc, settled, &settings.format, path, &mut reader, err),
-        None => {
-            let kind = LoadKind::Read;
-            write_report(
-                Report::FileFault {
-                    path,
-                    line: 0,
-                    kind,
-                },
-                err,
-            );
-            Err(RunError::Failed)
-        }
-    }
-}
-
-/// Reads the assignments of a configuration file by its path, unless it is refused for its notices under `strict`.
-/// Reports its notices, or its fault.
-fn load_allowed<F: Files, E: Sink>(
     alloc: Global,
     settled: &Settled,
     settings: &Settings<'_>,
@@ -123,11 +92,27 @@ fn load_allowed<F: Files, E: Sink>(
     ensures allowed { IfOk result (λ f. AllowsNotices settings.now.strict (map notice_pair f.notices.items)) }
     ensures stopped { IfErr result (λ stop. (lines : List (List ℕ)) × StopsAtPath (F.content_of files.old path.now) (file_format settings.now.format) settings.now.strict (tree_of_settled settled.now) path.now (status_of stop) lines × TakesLines (E.taken err.old) (E.failures err.old) lines (E.taken err.new) (E.failures err.new)) }
 {
-    let fragment = load_path(alloc, settled, settings, path, files, err)?;
-    if settings.strict && !fragment.notices.is_empty() {
-        return Err(RunError::Configuration);
+    match files.reader_for(path) {
+        Some(mut reader) => {
+            let fragment = load(alloc, settled, &settings.format, path, &mut reader, err)?;
+            if settings.strict && !fragment.notices.is_empty() {
+                return Err(RunError::Configuration);
+            }
+            Ok(fragment)
+        }
+        None => {
+            let kind = LoadKind::Read;
+            write_report(
+                Report::FileFault {
+                    path,
+                    line: 0,
+                    kind,
+                },
+                err,
+            );
+            Err(RunError::Failed)
+        }
     }
-    Ok(fragment)
 }
 
 /// The configuration of one file. Reports the file's notices, and why it is refused.
@@ -145,7 +130,7 @@ pub(crate) fn configured_by<'a, F: Files, E: Sink>(
     ensures loaded { IfOk result (λ config. AreLoaded (F.content_of files.old) (file_format settings.now.format) settings.now.strict (tree_of_settled settled.now) (path.now ∷ []) (empty_assignment (tree_of_settled settled.now)) config.users (E.taken err.old) (E.failures err.old) (E.taken err.new) (E.failures err.new)) }
     ensures stopped { IfErr result (λ stop. (lines : List (List ℕ)) × StopsAmongFiles (F.content_of files.old) (file_format settings.now.format) settings.now.strict (tree_of_settled settled.now) (path.now ∷ []) (status_of stop) lines × TakesLines (E.taken err.old) (E.failures err.old) lines (E.taken err.new) (E.failures err.new)) }
 {
-    let fragment = load_allowed(alloc, settled, settings, path, files, err)?;
+    let fragment = load_path(alloc, settled, settings, path, files, err)?;
     let config = Config::of(alloc, settled, &fragment);
     drop(fragment);
     Ok(config?)
@@ -171,7 +156,7 @@ fn overlaid<'a, F: Files, E: Sink>(
 {
     let mut config = begun;
     for path in paths {
-        let fragment = load_allowed(alloc, settled, settings, path, files, err)?;
+        let fragment = load_path(alloc, settled, settings, path, files, err)?;
         config.merge(&fragment)?;
     }
     Ok(config)

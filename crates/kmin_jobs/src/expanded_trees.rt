@@ -7,7 +7,7 @@ ghost use Rattle.kc_expansion.specs.Expansions.{IsExpansion, AreWanted, tree_of,
 ghost use Rattle.kc_tree_model.specs.TreeFiles.{with_file};
 ghost use Rattle.kmin_jobs.specs.FileContents.{known_by};
 ghost use Rattle.kmin_jobs.specs.JobTexts.{expanded_texts};
-ghost use Rattle.kmin_jobs.specs.TreesBelow.{contents_below};
+ghost use Rattle.kmin_jobs.specs.TreeFolders.{contents_below};
 ghost use Rattle.kmin_jobs.specs.MacroReports.{macro_notice_line};
 ghost use Rattle.kmin_tidy.specs.StandardError.{TakesLines};
 ghost use Rattle.kmin_jobs.specs.between.FilesByPlace.{with_file_at};
@@ -17,7 +17,7 @@ ghost use Rattle.kmin_jobs.specs.between.RunErrors.{status_of};
 use crate::files::Files;
 use crate::report::{Report, write_report};
 use crate::run_error::RunError;
-use crate::tree_below::{TreeBelow, text_of};
+use crate::tree_folder::{TreeFolder, text_of};
 use kc_expansion::{ExpandedTree, Expansion, expand, wants};
 use kc_expr::Language;
 use kc_macros::{Answers, MacroFault, MacroNotice};
@@ -26,7 +26,7 @@ use kc_value::{Seed, Sink};
 use kmin_words::Settings;
 use std::alloc::{AllocError, Global};
 
-/// An expanded tree, and its files as the texts that are read.
+/// A tree whose macros are expanded, and its expanded files as the texts to read as a Kconfig tree.
 #[derive(Drop)]
 pub(crate) struct ExpandedTexts {
     pub(crate) tree: ExpandedTree,
@@ -82,7 +82,7 @@ fn expansion_below<F: Files>(
     ensures same { (path : List ℕ) → F.content_of files.new path ≡ F.content_of files.old path }
     ensures expanded { IfOk result (λ e. IsExpansion (contents_below (known_by (F.content_of files.old) (F.regular_content_of files.old) (F.names_of files.old) (F.variable_of files.old)) root.now) answers.now first.now (map notice_of e.notices.items) (tree_of e.tree)) }
 {
-    let mut tree = TreeBelow { files, root };
+    let mut tree = TreeFolder { files, root };
     expand(alloc, &mut tree, first.as_bytes(), answers)
 }
 
@@ -96,7 +96,7 @@ pub(crate) fn wanted_below<F: Files>(
 ) -> Result<Result<Vec<Vec<u8>>, MacroFault>, AllocError>
     ensures { IfOk result (λ w. AreWanted (contents_below (known_by (F.content_of files.old) (F.regular_content_of files.old) (F.names_of files.old) (F.variable_of files.old)) root.now) answers.now first.now (questions_of w)) }
 {
-    let mut tree = TreeBelow { files, root };
+    let mut tree = TreeFolder { files, root };
     wants(alloc, &mut tree, first.as_bytes(), answers)
 }
 

@@ -23,7 +23,7 @@ fn name_of_key<'a>(tree: &'a ExpandedTree, key: &'a str) -> &'a [u8]
 }
 
 impl<'a> FileNames<'a> {
-    /// Files are named by their paths among the texts.
+    /// The names of the files of a tree without expansion: their paths among the texts.
     pub(crate) fn of_texts(texts: &'a Texts) -> FileNames<'a>
         ensures { names_of result ≡ texts.now }
     {
@@ -33,7 +33,7 @@ impl<'a> FileNames<'a> {
         }
     }
 
-    /// Files are named by the paths that were read for their keys.
+    /// The names of the files of an expanded tree: the paths that were read for their keys.
     pub(crate) fn of_expanded(texts: &'a Texts, tree: &'a ExpandedTree) -> FileNames<'a>
         ensures { names_of result ≡ named_texts tree.now texts.now }
     {
@@ -43,7 +43,7 @@ impl<'a> FileNames<'a> {
         }
     }
 
-    /// The name of the file of this number among the texts.
+    /// The name, in messages, of the file of this number among the texts; `None` if there is no such file.
     pub(crate) fn name_at(&self, number: u32) -> Option<&'a [u8]>
         ensures { option_map (λ name. name.now) result ≡ path_at (names_of self.now) number }
     {

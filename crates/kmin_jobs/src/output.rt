@@ -11,7 +11,7 @@ use crate::run_error::RunError;
 use kc_minimal::{WriteFault, write_out};
 use kc_value::Sink;
 
-/// Writes the output of a job. Reports a failed write.
+/// Writes the output of a command to `out`. Reports a failed write to `err`.
 pub(crate) fn write_answer<O: Sink, E: Sink>(
     text: &[u8],
     out: &mut O,

@@ -19,9 +19,9 @@ use kmin_disk::{ReplaceFault, UpdateFault, WriteDisk, update};
 use kmin_words::Saving;
 use std::alloc::Global;
 
-/// Runs a command over configuration files, writes its output to a file of the disk, and returns the exit status: 0
-/// done or equal, 1 a comparison found differences, 3 tree refused, 4 configuration file or answer file refused, 5 a
-/// read or write failed, or the path of the output leads to no regular file, 6 out of memory.
+/// Runs a command over configuration files, writes its output to a file of the disk, and returns the exit status: 0 done or
+/// equal, 1 a comparison found differences, or symbols are listed with `--exit-code`, 3 tree refused, 4 configuration file or
+/// answer file refused, 5 a read or write failed, or the path of the output leads to no regular file, 6 out of memory.
 ///
 /// The output file is written last: where there is no output, it is as it was. It is replaced whole or not at all, as
 /// by [`update`], so it may be one of the files that were read.

@@ -8,7 +8,7 @@ use std::alloc::{AllocError, Global};
 /// The keyword of a line that sources a file.
 const SOURCE: &[u8] = b"source";
 
-/// The paths that file `number` of the texts sources and the texts lack; `None` after the last file.
+/// The paths that lines of file `number` of the texts seem to source, and that the texts lack; `None` after the last file.
 pub(crate) fn absent_paths_of_file(
     alloc: Global,
     texts: &Texts,

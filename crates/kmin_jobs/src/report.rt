@@ -9,7 +9,6 @@ ghost use Rattle.kmin_tidy.specs.Reports.{place_line};
 ghost use Rattle.kmin_tidy.specs.StandardError.{TakesWhole, TakesPart, TakesLine};
 ghost use Rattle.kmin_jobs.specs.between.ReportLines.{report_line};
 
-use crate::macro_names::{answers_kind_name, macro_kind_name, macro_notice_name};
 use crate::symbol_lines::name_of;
 use itoa::Buffer;
 use kc_dotconfig::{LoadKind, NoticeKind};
@@ -19,7 +18,7 @@ use kc_tree::{Tree, TreeKind, Unit};
 use kc_value::Sink;
 use kmin_tidy::write_pieces;
 
-/// An event with a line on standard error; it borrows what it names.
+/// An event that a line on standard error reports.
 #[derive(Drop)]
 pub(crate) enum Report<'a> {
     /// A fault of a tree.
@@ -28,7 +27,7 @@ pub(crate) enum Report<'a> {
         line: u32,
         kind: TreeKind,
     },
-    /// Units of a tree that depend on each other in a circle, at the place of the first.
+    /// Symbols and choices of a tree that depend on each other in a circle, at the file and line of the first.
     Cycle {
         path: &'a [u8],
         line: u32,
@@ -41,7 +40,7 @@ pub(crate) enum Report<'a> {
         line: u32,
         kind: LoadKind,
     },
-    /// A line of a configuration file that assigns nothing.
+    /// A notice of a configuration file: a line with an unknown symbol, or with a value that isn't of its symbol's type.
     Notice {
         path: &'a str,
         line: u32,
@@ -53,17 +52,17 @@ pub(crate) enum Report<'a> {
         line: u32,
         kind: AnswersKind,
     },
-    /// A notice of the macros of a tree.
+    /// A notice of the expansion of a tree's macros.
     MacroNotice(&'a MacroNotice),
-    /// A fault of the macros of a tree.
+    /// A fault of the expansion of a tree's macros.
     MacroFault(&'a MacroFault),
     /// A write of the output failed.
     OutputFault,
     /// The path of the output file leads to a link, a folder, a pipe or a device.
     NotRegular(&'a str),
-    /// The output file of this path can't be written, or not for good.
+    /// The output file at this path couldn't be updated, or not for good.
     Unwritten(&'a str),
-    /// The new file of this path couldn't be removed.
+    /// The new file at this path, which was to replace a file, couldn't be removed.
     Left(&'a str),
     /// Memory ran out.
     OutOfMemory,
@@ -98,7 +97,7 @@ fn write_line<W: Sink>(report: &Report<'_>, sink: &mut W) -> Result<(), WriteFau
             write_place(path.as_bytes(), *line, kind.name(), sink)
         }
         Report::AnswersFault { path, line, kind } => {
-            write_place(path.as_bytes(), *line, answers_kind_name(*kind), sink)
+            write_place(path.as_bytes(), *line, kind.name(), sink)
         }
         Report::MacroNotice(notice) => write_macro_notice(notice, sink),
         Report::MacroFault(fault) => write_macro_fault(fault, sink),
@@ -161,7 +160,7 @@ fn write_macro_notice<W: Sink>(notice: &MacroNotice, sink: &mut W) -> Result<(),
     ensures part { OnErr result (TakesPart (W.taken sink.old) (W.failures sink.old) (macro_notice_line (notice_of notice.now)) (W.taken sink.new) (W.failures sink.new)) }
 {
     let path = notice.file.as_slice();
-    let kind = macro_notice_name(notice.kind);
+    let kind = notice.kind.name();
     write_message(path, notice.line, kind, notice.text.as_slice(), sink)
 }
 
@@ -171,7 +170,7 @@ fn write_macro_fault<W: Sink>(fault: &MacroFault, sink: &mut W) -> Result<(), Wr
     ensures part { OnErr result (TakesPart (W.taken sink.old) (W.failures sink.old) (macro_fault_line (fault_of fault.now)) (W.taken sink.new) (W.failures sink.new)) }
 {
     let path = fault.file.as_slice();
-    let kind = macro_kind_name(fault.kind);
+    let kind = fault.kind.name();
     write_message(path, fault.line, kind, fault.text.as_slice(), sink)
 }
 

@@ -5,7 +5,7 @@ ghost use Rattle.kmin_jobs.specs.declared.run_error.RunError.TheVariants.{Memory
 
 use std::alloc::{AllocError, AllocFailed};
 
-/// Why a run ends early. All but `Memory` has been reported on standard error.
+/// Why a run ends early. Every error but `Memory` was reported on standard error before.
 #[derive(Clone, Copy, Debug, PartialEq, Eq)]
 pub(crate) enum RunError {
     /// The tree is refused.

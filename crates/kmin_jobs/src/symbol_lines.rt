@@ -5,7 +5,7 @@ ghost use Rattle.kc_rules.specs.between.SettledViews.{tree_of_settled};
 ghost use Rattle.kmin_jobs.specs.Answers.{name_line};
 ghost use Rattle.kmin_jobs.specs.Reports.{name_at};
 ghost use Rattle.kmin_jobs.specs.between.Lines.{line_between};
-ghost use Rattle.kc_minimal.specs.declared.difference.Difference.{Difference as ToldDifference};
+ghost use Rattle.kc_minimal.specs.declared.difference.Difference.{Difference as DifferenceRef};
 
 use kc_dotconfig::Strings;
 use kc_minimal::{Difference, push_spelled};
@@ -34,7 +34,7 @@ fn push_name_line(out: &mut Vec<u8>, front: &str, tree: &Tree, s: Sym) -> Result
     Ok(())
 }
 
-/// A line for each symbol, with the text `front` and its name.
+/// The text with a line for each of these symbols, in order: the text `front` and the name of the symbol.
 pub(crate) fn name_lines(
     alloc: Global,
     front: &str,
@@ -77,7 +77,7 @@ fn push_difference(
     Ok(())
 }
 
-/// A line `NAME: LEFT -> RIGHT` for each symbol whose values differ.
+/// The text with a line `NAME: LEFT -> RIGHT` for each of these differences of two valuations, in order.
 pub(crate) fn difference_lines(
     alloc: Global,
     strings: Strings,
@@ -86,7 +86,7 @@ pub(crate) fn difference_lines(
     right: &[UnitValue],
     differences: &[Difference],
 ) -> Result<Vec<u8>, AllocError>
-    ensures { IfOk result (λ text. text.items ≡ flat_map (λ (d : ToldDifference). line_between strings (tree_of_settled settled.now) left.now right.now d.symbol) differences.now) }
+    ensures { IfOk result (λ text. text.items ≡ flat_map (λ (d : DifferenceRef). line_between strings (tree_of_settled settled.now) left.now right.now d.symbol) differences.now) }
 {
     let mut text = Vec::new(alloc);
     for difference in differences {

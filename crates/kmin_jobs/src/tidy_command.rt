@@ -7,7 +7,7 @@ ghost use Rattle.kmin_lines.specs.Lists.{paths_in, is_one_line};
 ghost use Rattle.kmin_tidy.specs.Steps.{disk_of};
 ghost use Rattle.kmin_words.specs.Jobs.{list_view, settings_view, tidying_view};
 ghost use Rattle.kmin_jobs.specs.FileContents.{FileContent, known_by};
-ghost use Rattle.kmin_tidy.specs.MinimalFiles.{AreKnownBytes};
+ghost use Rattle.kmin_tidy.specs.KnownBytes.{AreKnownBytes};
 ghost use Rattle.kmin_disk.specs.Contents.{OpensAs};
 ghost use Rattle.kmin_tidy.specs.Reports.{fault_line};
 ghost use Rattle.kmin_tidy.specs.StandardError.{TakesLine, TakesLines};
@@ -33,7 +33,7 @@ const MAX_LIST_BYTES: usize = 67_108_864;
 
 /// Tidies the files of the command on the disk, and then those that its list names, and returns the exit status: 2 a
 /// path in the list isn't UTF-8 or has a newline, 3 tree refused, 4 list too large, 5 list can't be read, 6 out of
-/// memory, and else the status of `tidy_files`. Where the list or the tree is refused, no file is read.
+/// memory, and else the status of `tidy_files`. Where the list or the tree is refused, no configuration file is read.
 ///
 /// The list is read from `files`, or if its path is `-`, from `input`.
 pub fn tidy<F: Files, D: WriteDisk, I: Source, O: Sink, E: Sink>(

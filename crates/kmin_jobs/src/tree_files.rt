@@ -19,7 +19,7 @@ const MAX_FILE_BYTES: usize = MAX_TREE_BYTES + 1;
 /// than 32 files are open at a time.
 const MAX_ROUNDS: u32 = 64;
 
-/// The files of a tree, and the result of reading them.
+/// The texts of a tree's files, and the result of reading them as a tree.
 #[derive(Drop)]
 pub(crate) struct TreeReading {
     pub(crate) texts: Texts,
@@ -54,8 +54,8 @@ impl Room {
     }
 }
 
-/// The files of a tree, and the result of reading them: the first file and the files that the lines of its files seem
-/// to source, and if one is missing then, those that a reading wants. Files that can't be opened or read are missing.
+/// The files of a tree, and the result of reading them. The first file is opened, and files that `source` lines seem to name; if
+/// the reading lacks a file, further ones are added until it lacks none that can be opened and read.
 pub(crate) fn gather<F: Files>(
     alloc: Global,
     root: &str,

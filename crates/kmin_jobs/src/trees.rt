@@ -18,7 +18,7 @@ use kc_tree::{Texts, Tree, TreeFault, TreeKind, Unit, read_tree};
 use kc_value::Sink;
 use std::alloc::Global;
 
-/// The result of reading texts as a tree.
+/// The result of reading texts as a tree, from the file at the path `first` on.
 pub(crate) fn read_texts(alloc: Global, texts: &Texts, first: &str) -> Result<Tree, TreeFault>
     ensures { IsRead texts.now first.now result }
 {

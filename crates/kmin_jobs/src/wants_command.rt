@@ -29,8 +29,8 @@ use std::alloc::{AllocError, Global};
 /// the exit status: 0 no question, 1 some questions, 3 no question but a fault of the expansion, 4 answer file refused,
 /// 5 a read or write failed, 6 out of memory.
 ///
-/// The output is complete before the first write. Standard error gets a line `FILE:LINE: KIND` or `FILE:LINE: KIND
-/// TEXT` for the fault, and no notices; a failed write there has no influence.
+/// The output is complete before the first write. Standard error gets a line `FILE:LINE: KIND` or
+/// `FILE:LINE: KIND TEXT` for the fault, and no notices; a failed write there has no influence.
 pub fn list_questions<F: Files, O: Sink, E: Sink>(
     alloc: Global,
     questions: &Questions<'_>,

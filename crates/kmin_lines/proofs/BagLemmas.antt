@@ -1,4 +1,4 @@
--- Lines that are counted, and taken away.
+-- The counts of a bag of lines after one line is added or taken away.
 use Rattle.std.proofs.Common.{◌≡◌, ℕ, ◌+◌, ◌-◌, ◌<◌, ◌≤◌, ◌==◌, Bool, true, false, cond, List, [], ◌∷◌, ◌++◌, Option, Some, length, refl, sym, ap, ◌∙◌, arith}
 use Rattle.std.specs.Prelude.{unwrap_or}
 use Rattle.std.specs.Str.{bytes_eq}
@@ -8,11 +8,11 @@ use Rattle.std.proofs.lemmas.List.{length-map}
 use Rattle.kmin_lines.specs.Lines.{without_one, pieces, lines_of, without_carriage_return}
 use Rattle.kmin_lines.specs.checker.Bags.{times_among}
 
--- 1 for a line that is another one, and 0 for any other
+-- 1 if a line equals another one, else 0
 abbrev pub one_if : (line other : List ℕ) → ℕ
 one_if line other = cond (bytes_eq line other) 1 0
 
--- one line more
+-- a line appended to a list of lines adds 1 to the occurrences of the lines that equal it, and 0 to those of others
 pub times_append : (lines : List (List ℕ)) (other line : List ℕ) → times_among (lines ++ other ∷ []) line ≡ times_among lines line + one_if line other
 times_append [] other line = omega arith
 times_append (first ∷ lines) other line = let h = times_append lines other line in omega arith
@@ -26,7 +26,7 @@ bytes_eq_turned x y = by_tests (bytes_eq x y) (bytes_eq y x) refl refl
     by_tests true false e f = let z : true ≡ false = sym ((bytes_eq-Decides y x).1 (sym ((bytes_eq-Decides x y).0 e))) ∙ f in cc
     by_tests false true e f = let z : true ≡ false = sym ((bytes_eq-Decides x y).1 (sym ((bytes_eq-Decides y x).0 f))) ∙ e in cc
 
--- a line that isn't there takes none away
+-- taking away a line that isn't in a list of lines leaves the list as it is
 absent_by : (line other : List ℕ) (lines : List (List ℕ)) (b : Bool) → cond b 1 0 + times_among lines line ≡ 0
     → (times_among lines line ≡ 0 → without_one line lines ≡ lines)
     → cond b lines (other ∷ without_one line lines) ≡ other ∷ lines
@@ -37,7 +37,7 @@ pub absent : (line : List ℕ) (lines : List (List ℕ)) → times_among lines l
 absent line [] none = refl
 absent line (other ∷ lines) none = absent_by line other lines (bytes_eq line other) none (absent line lines)
 
--- a line that is there takes one away
+-- taking away a line that is in a list of lines makes the list one line shorter
 shorter_by : (line other : List ℕ) (lines : List (List ℕ)) (b : Bool) → 0 < cond b 1 0 + times_among lines line
     → (0 < times_among lines line → length (without_one line lines) + 1 ≡ length lines)
     → length (cond b lines (other ∷ without_one line lines)) + 1 ≡ length (other ∷ lines)
@@ -48,7 +48,7 @@ pub shorter : (line : List ℕ) (lines : List (List ℕ)) → 0 < times_among li
 shorter line [] some = absurd (omega arith)
 shorter line (other ∷ lines) some = shorter_by line other lines (bytes_eq line other) some (shorter line lines)
 
--- and is there once less, and the others as often as before
+-- taking one occurrence of a line out of a list lowers the count of that line by 1, and keeps the counts of the other lines
 fewer_by : (line other any : List ℕ) (lines : List (List ℕ)) (b : Bool) → bytes_eq line other ≡ b → 0 < cond b 1 0 + times_among lines line
     → (0 < times_among lines line → times_among (without_one line lines) any + one_if any line ≡ times_among lines any)
     → times_among (cond b lines (other ∷ without_one line lines)) any + one_if any line ≡ one_if any other + times_among lines any
@@ -74,7 +74,7 @@ pub times-le-length : (lines : List (List ℕ)) (line : List ℕ) → times_amon
 times-le-length [] line = omega arith
 times-le-length (other ∷ lines) line = let h = times-le-length lines line in let k = one_at_most (bytes_eq line other) in omega arith
 
--- a count after its line was set
+-- the count `n` of any line grows by 1 if it is the line whose count was raised by 1 (`b`), and stays if it is another line
 pub set_more : (b : Bool) (count n : ℕ) (o : Option ℕ) → (b ≡ true → n ≡ count) → n ≡ unwrap_or o 0 → unwrap_or (cond b (Some (count + 1)) o) 0 ≡ n + cond b 1 0
 set_more true count n o h e = let k = h refl in omega arith
 set_more false count n o h e = sym e ∙ (omega arith)
@@ -84,7 +84,7 @@ pub set_less : (b : Bool) (count n m : ℕ) (o : Option ℕ) → 0 < count → (
 set_less true count n m o some h e f = let k = h refl in omega arith
 set_less false count n m o some h e f = sym e ∙ omega arith
 
--- how often each line is there, after one was added
+-- where a bag counts the lines of a list, and the count of one line is raised by 1, it counts the list with that line appended
 pub added : (before after : List ℕ → Option ℕ) (lines : List (List ℕ)) (line : List ℕ) (count : ℕ)
     → ((any : List ℕ) → unwrap_or (before any) 0 ≡ times_among lines any)
     → count ≡ unwrap_or (before line) 0 → ((any : List ℕ) → after any ≡ cond (bytes_eq line any) (Some (count + 1)) (before any))
@@ -96,7 +96,7 @@ added before after lines line count each is sets any =
     ∙ ap (λ b. times_among lines any + cond b 1 0) (bytes_eq_turned line any)
     ∙ sym (times_append lines line any)
 
--- and after one was taken away
+-- where a bag counts the lines of a list, and the count of one of them is lowered by 1, it counts the list without one such line
 pub taken : (before after : List ℕ → Option ℕ) (lines : List (List ℕ)) (line : List ℕ) (count : ℕ)
     → ((any : List ℕ) → unwrap_or (before any) 0 ≡ times_among lines any)
     → 0 < count → count ≡ unwrap_or (before line) 0 → ((any : List ℕ) → after any ≡ cond (bytes_eq line any) (Some (count - 1)) (before any))

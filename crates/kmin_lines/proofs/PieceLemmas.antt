@@ -1,4 +1,4 @@
--- Texts and their pieces.
+-- Texts and the pieces into which an end byte cuts them; lines and the carriage returns at their ends.
 use Rattle.std.proofs.Common.{◌≡◌, ℕ, zero, suc, ◌-◌, ◌<◌, ◌==◌, Bool, true, false, cond, List, [], ◌∷◌, ◌++◌, length, refl, sym, ap, ◌∙◌, take, drop, get_or, arith}
 use Rattle.std.specs.List.{onto_first}
 use Rattle.std.proofs.Math.Seq.{take-suc}
@@ -11,7 +11,7 @@ onto_next : (ender c : ℕ) (cs front back : List ℕ) (b : Bool) → (c == ende
 onto_next ender c cs front back true e other h = absurd (other e)
 onto_next ender c cs front back false e other h = rw h refl
 
--- a run without the byte, and then the byte
+-- where the first byte `ender` of a text is at `at`, the first piece is the bytes before it, and the bytes after it give the rest
 pub pieces_at : (ender : ℕ) (text : List ℕ) (at : ℕ) → at < length text → ((k : ℕ) → k < at → (get_or text k 0 == ender) ≡ true → ⊥)
     → (get_or text at 0 == ender) ≡ true
     → pieces ender text ≡ take at text ∷ pieces ender (drop (suc at) text)
@@ -21,7 +21,7 @@ pieces_at ender (c ∷ cs) (suc n) l before found =
     onto_next ender c cs (take n cs) (drop (suc n) cs) (c == ender) refl (before 0 (omega arith))
     (pieces_at ender cs n (omega arith) (λ k h. before (suc k) (omega arith)) found)
 
--- a text without the byte is one piece
+-- a text that isn't empty and has no byte `ender` is one piece
 pub one_piece : (ender : ℕ) (text : List ℕ) → 0 < length text → ((k : ℕ) → k < length text → (get_or text k 0 == ender) ≡ true → ⊥)
     → pieces ender text ≡ text ∷ []
 one_piece ender [] some none = absurd (omega arith)
@@ -29,20 +29,20 @@ one_piece ender (c ∷ []) some none = rw (false_from_ne_true (c == ender) (none
 one_piece ender (c ∷ d ∷ cs) some none =
     onto_next ender c (d ∷ cs) (d ∷ cs) [] (c == ender) refl (none 0 (omega arith)) (one_piece ender (d ∷ cs) (omega arith) (λ k h. none (suc k) (omega arith)))
 
--- what is left of a text from a place on
+-- taking `length text - n` bytes of a text after its first `n` bytes takes all the bytes after those
 pub rest_from : (n : ℕ) (text : List ℕ) → take (length text - n) (drop n text) ≡ drop n text
 rest_from n text = grind (arith, common_steps)
 
 pub rest_from_end : (text : List ℕ) → take (length text - length text) (drop (length text) text) ≡ []
 rest_from_end text = grind (arith, common_steps)
 
--- a carriage return at the end of a line is left out
+-- `without_carriage_return` leaves out a carriage return at the end of a line
 return_left_out : (front : List ℕ) → without_carriage_return (front ++ 13 ∷ []) ≡ front
 return_left_out [] = refl
 return_left_out (b ∷ []) = refl
 return_left_out (b ∷ c ∷ front) = ap (λ line. b ∷ line) (return_left_out (c ∷ front))
 
--- any other byte isn't
+-- `without_carriage_return` keeps any other byte at the end of a line
 last_kept : (front : List ℕ) (last : ℕ) → (last == 13) ≡ false → without_carriage_return (front ++ last ∷ []) ≡ front ++ last ∷ []
 last_kept [] last other = rw other refl
 last_kept (b ∷ []) last other = rw other refl

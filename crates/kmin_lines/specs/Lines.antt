@@ -3,12 +3,12 @@ use Rattle.std.specs.Prelude.{ℕ, List, [], ◌∷◌, ◌==◌, length, map, i
 use Rattle.std.specs.List.{onto_first}
 use Rattle.std.specs.Str.{bytes_eq}
 
--- the pieces of a text: a byte ends each, and the last may lack it
+-- the pieces of a text, each ended by the byte `ender`, which isn't part of the piece; the last piece may lack that byte
 abbrev pub pieces : (ender : ℕ) → List ℕ → List (List ℕ)
 pieces ender [] = []
 pieces ender (b ∷ bytes) = if b == ender then [] ∷ pieces ender bytes else onto_first b (pieces ender bytes)
 
--- a line without a carriage return at its end
+-- a line without the carriage return at its end, if it has one
 abbrev pub without_carriage_return : List ℕ → List ℕ
 without_carriage_return [] = []
 without_carriage_return (b ∷ []) = if b == 13 then [] else b ∷ []
@@ -18,16 +18,16 @@ without_carriage_return (b ∷ c ∷ line) = b ∷ without_carriage_return (c �
 abbrev pub lines_of : List ℕ → List (List ℕ)
 lines_of text = map without_carriage_return (pieces 10 text)
 
--- lines without the first one that equals this line, if there is one
+-- a list of lines without the first one that equals the line `line`, if there is one
 abbrev pub without_one : (line : List ℕ) → List (List ℕ) → List (List ℕ)
 without_one line [] = []
 without_one line (other ∷ lines) = if bytes_eq line other then lines else other ∷ without_one line lines
 
--- the lines that are left when each of the others takes one equal line away
+-- the lines of a list that are left when each line of `others` takes away one line that equals it
 abbrev pub left_over : List (List ℕ) → (others : List (List ℕ)) → List (List ℕ)
 left_over lines [] = lines
 left_over lines (other ∷ others) = left_over (without_one other lines) others
 
--- how many lines of a text aren't in another one, where each line of that one counts once
+-- how many lines of a text aren't in the text `other`, where each line of `other` matches at most one equal line
 abbrev pub count_lines_not_in : (text other : List ℕ) → ℕ
 count_lines_not_in text other = length (left_over (lines_of text) (lines_of other))

@@ -1,19 +1,19 @@
--- The paths of a list.
+-- The paths in the bytes of a list of paths.
 use Rattle.std.specs.Prelude.{ℕ, Bool, not, List, [], ◌∷◌, ◌==◌, true, false, filter}
 use Rattle.std.specs.List.{list_all}
 use Rattle.kmin_lines.specs.Lines.{pieces}
 
--- the byte that ends a path: NUL or a newline
+-- the byte that ends each path in a list of paths: NUL if `ended_by_nul`, else a newline
 abbrev pub ender_of : (ended_by_nul : Bool) → ℕ
 ender_of true = 0
 ender_of false = 10
 
--- a path that isn't empty
+-- whether a path isn't empty
 abbrev pub has_bytes : List ℕ → Bool
 has_bytes [] = false
 has_bytes (b ∷ path) = true
 
--- the paths of a list, in order; empty ones are passed over
+-- the paths in the bytes of a list of paths, in order; empty paths are left out, and the last path may lack its end byte
 abbrev pub paths_in : (ended_by_nul : Bool) → (list : List ℕ) → List (List ℕ)
 paths_in ended_by_nul list = filter has_bytes (pieces (ender_of ended_by_nul) list)
 

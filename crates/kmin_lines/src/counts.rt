@@ -7,18 +7,18 @@ use crate::pieces::{first_piece, trim_carriage_return};
 use kc_value::Seed;
 use std::alloc::{AllocError, Global};
 
-/// How many lines differ between an old and a new text.
+/// How many lines of an old text aren't in a new one, and how many of the new text aren't in the old one.
 #[derive(Clone, Copy, Debug, PartialEq, Eq)]
 pub struct LineCounts {
-    /// The lines of the old text that aren't in the new one.
+    /// The number of lines of the old text that aren't in the new text.
     pub out: usize,
-    /// The lines of the new text that aren't in the old one.
+    /// The number of lines of the new text that aren't in the old text.
     pub in_: usize,
 }
 
-/// Counts the lines of each of two texts that aren't in the other; a line that occurs more than once counts as often.
+/// Counts the lines of each of two texts that aren't in the other; each line matches at most one equal line of the other text.
 /// The order of lines doesn't count, nor do carriage returns at their ends. Lines are hashed by `seed`. Takes time in
-/// proportion to the texts.
+/// proportion to the lengths of the texts.
 ///
 /// # Errors
 ///
@@ -37,7 +37,7 @@ pub fn count_lines(
     Ok(LineCounts { out, in_ })
 }
 
-/// How many lines of a text aren't in another one.
+/// How many lines of the text `text` aren't in the text `other`, where each line of `other` matches at most one equal line.
 fn lines_not_in(alloc: Global, seed: Seed, text: &[u8], other: &[u8]) -> Result<usize, AllocError>
     ensures { IfOk result (λ count. count ≡ count_lines_not_in text.now other.now) }
 {

@@ -26,7 +26,7 @@ impl<'a> LineBag<'a> {
         }
     }
 
-    /// The bag of the lines of a text.
+    /// The bag of the lines of a text, without carriage returns at their ends; lines are hashed by `seed`.
     pub(crate) fn of(alloc: Global, seed: Seed, text: &'a [u8]) -> Result<LineBag<'a>, AllocError>
         ensures { IfOk result (λ bag. HasLines bag (lines_of text.now)) }
     {
@@ -39,14 +39,14 @@ impl<'a> LineBag<'a> {
         Ok(bag)
     }
 
-    /// The number of lines, each counted as often as it occurs.
+    /// The number of lines in the bag, each counted as often as it occurs.
     pub(crate) fn len(&self) -> usize
         ensures { (lines : List (List ℕ)) → HasLines self.now lines → result ≡ length lines }
     {
         self.len
     }
 
-    /// The number of occurrences of a line.
+    /// The number of occurrences of a line in the bag.
     fn times(&self, line: &[u8]) -> usize
         ensures { result ≡ times_in self.now line.now }
     {
@@ -56,7 +56,7 @@ impl<'a> LineBag<'a> {
         }
     }
 
-    /// Adds a line.
+    /// Adds one occurrence of a line to the bag.
     fn add(&mut self, line: &'a [u8]) -> Result<(), AllocError>
         ensures { OnOk result ((lines : List (List ℕ)) → HasLines self.old lines → length lines + 1 < 2 ^ 64 → HasLines self.new (lines ++ line.now ∷ [])) }
     {
@@ -66,7 +66,7 @@ impl<'a> LineBag<'a> {
         Ok(())
     }
 
-    /// Takes one occurrence of a line away, if there is one.
+    /// Takes one occurrence of a line out of the bag, if the bag has one.
     pub(crate) fn take(&mut self, line: &'a [u8]) -> Result<(), AllocError>
         ensures { OnOk result ((lines : List (List ℕ)) → HasLines self.old lines → HasLines self.new (without_one line.now lines)) }
     {

@@ -1,4 +1,4 @@
-//! Lists of paths.
+//! Lists of paths: the paths in the bytes of a list, each ended by a newline or by NUL.
 ghost use Rattle.std.specs.Prelude.{◌≡◌, true, false, map, IfOk, IsErrOf};
 ghost use Rattle.std.specs.List.{list_all};
 ghost use Rattle.std.specs.Str.{is_utf8};
@@ -13,10 +13,10 @@ use thiserror::Error;
 /// Why a list of paths is refused. A fault's text is its name.
 #[derive(Clone, Copy, Debug, PartialEq, Eq, Error)]
 pub enum ListFault {
-    /// A path isn't UTF-8.
+    /// A path of the list isn't UTF-8.
     #[error("NotUtf8")]
     NotUtf8,
-    /// A path has a newline.
+    /// A path of the list, whose paths are ended by NUL, has a newline.
     #[error("HasNewline")]
     HasNewline,
     /// Memory ran out.
@@ -32,8 +32,8 @@ impl<T: Drop> From<AllocFailed<T>> for ListFault {
     }
 }
 
-/// The paths of a list in order: a line each, or with `ended_by_nul` each ended by the byte 0; the last needs no end.
-/// Empty ones are passed over.
+/// The paths of a list, in order: one per line, or each ended by a zero byte if `ended_by_nul`; the last path needs no end.
+/// Empty paths are left out.
 ///
 /// # Errors
 ///
@@ -57,7 +57,7 @@ pub fn listed_paths(alloc: Global, list: &[u8], ended_by_nul: bool) -> Result<Ve
     Ok(paths)
 }
 
-/// The byte that ends a path.
+/// The byte that ends each path in a list of paths: NUL if `ended_by_nul`, else a newline.
 fn ender_of(ended_by_nul: bool) -> u8
     ensures { result ≡ ender_of ended_by_nul }
 {

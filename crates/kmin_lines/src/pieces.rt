@@ -1,11 +1,11 @@
-//! Texts cut into pieces, each of which a byte ends.
+//! Texts cut into pieces, each ended by a byte.
 ghost use Rattle.std.specs.Prelude.{◌≡◌, ◌∷◌, [], ◌<◌, length, IfSome, IfNone};
 ghost use Rattle.kmin_lines.specs.Lines.{pieces, without_carriage_return};
 
 use bstr::ByteSlice;
 
-/// The bytes before the first byte `ender`, and those after it; without such a byte all bytes and none. An empty text
-/// has no piece.
+/// The bytes of a text before its first byte `ender`, and the bytes after that; without such a byte, the whole text and no bytes.
+/// `None` for an empty text.
 pub(crate) fn first_piece(text: &[u8], ender: u8) -> Option<(&[u8], &[u8])>
     ensures piece { IfSome result (λ found. pieces ender text.now ≡ found.0.now ∷ pieces ender found.1.now) }
     ensures shorter { IfSome result (λ found. length found.1.now < length text.now) }

@@ -1,4 +1,4 @@
--- Consequences of the end of a run.
+-- What holds of the disk and the output when a run over files ends.
 use Rattle.std.proofs.Common.{◌≡◌, ◌≢◌, ℕ, true, false, List, [], ◌∷◌, ◌++◌, Option, Some, None, inl, inr, refl, sym, ap, ◌∙◌, subst, length, arith, append-nil, string_bytes}
 use Rattle.std.specs.Io.KnownBytes.{Appends}
 use Rattle.std.proofs.KnownBytes.{Appends-nil}
@@ -36,7 +36,7 @@ module _ (s : Settings) (a : Disk) where
   tidies_tidy b paths text reports status t tidy =
       run_tidy s a b t.files text reports t.run (subst (AreTidy s a.state) (sym t.paths_are) tidy)
 
-  -- the place of a new file that is left
+  -- a place that held nothing, and at which a new file is left, has changed as `Became` allows
   new_place : (before between after : History) → IsKept s before between → after ≡ with_newest unfinished between
       → (newest between ≢ None → newest between ≡ Some nothing)
       → Became s before after
@@ -72,7 +72,7 @@ module _ (s : Settings) (a : Disk) where
   stops_became b paths reports status (at_left between front back path new_path text earlier made e t asked l r n) place =
       left_became between b path new_path place l (tidies_kept between front text earlier made t place)
 
-  -- each place is as before, has its minimal file more, or a new file
+  -- after a run, each place is as before, has its minimal file as its newest content, or has an unfinished new file
   pub ends_became : (b : Disk) (paths reports : List (List ℕ)) (taken after : Option (List ℕ)) (failed failed_after status : ℕ)
       → Ends s a b paths taken after failed failed_after reports status → (place : List ℕ) → Became s (a.state.history place) (b.state.history place)
   ends_became b paths reports taken after failed failed_after status (whole text t w f) place = inl (tidies_kept b paths text reports status t place)
@@ -91,7 +91,7 @@ module _ (s : Settings) (a : Disk) where
   stops_unasked b paths reports status (at_left between front back path new_path text earlier made e t asked l r n) unasked =
       absurd (asked_not between path asked unasked)
 
-  -- where files aren't replaced, nothing changes
+  -- a run without `write` leaves the disk unchanged
   pub ends_unasked : (b : Disk) (paths reports : List (List ℕ)) (taken after : Option (List ℕ)) (failed failed_after status : ℕ)
       → Ends s a b paths taken after failed failed_after reports status → s.options.write ≡ false → b ≡ a
   ends_unasked b paths reports taken after failed failed_after status (whole text t w f) unasked = tidies_unasked b paths text reports status t unasked
@@ -125,7 +125,7 @@ module _ (s : Settings) (a : Disk) where
   stops_again b paths reports status (at_left between front back path new_path text earlier made e t asked l r n) tidy =
       absurd (to_be_replaced_not between paths front back path (tidies_front between paths front (path ∷ back) text earlier made e t tidy).0 e tidy asked)
 
-  -- over tidy places nothing is replaced
+  -- a run over files that are all minimal or refused already leaves the disk unchanged
   pub ends_again : (b : Disk) (paths reports : List (List ℕ)) (taken after : Option (List ℕ)) (failed failed_after status : ℕ)
       → Ends s a b paths taken after failed failed_after reports status → AreTidy s a.state paths → b ≡ a
   ends_again b paths reports taken after failed failed_after status (whole text t w f) tidy = (tidies_tidy b paths text reports status t tidy).0
@@ -133,7 +133,7 @@ module _ (s : Settings) (a : Disk) where
       (tidies_tidy b paths text earlier made t tidy).0
   ends_again b paths reports taken after failed failed_after status (stopped h same f) tidy = stops_again b paths reports status h tidy
 
-  -- and nothing is written
+  -- a run over files that are all minimal or refused already writes nothing to standard output
   pub ends_silent : (b : Disk) (paths reports : List (List ℕ)) (taken after : Option (List ℕ)) (failed failed_after status : ℕ)
       → Ends s a b paths taken after failed failed_after reports status → AreTidy s a.state paths → Appends taken after []
   ends_silent b paths reports taken after failed failed_after status (whole text t w f) tidy =
@@ -143,7 +143,7 @@ module _ (s : Settings) (a : Disk) where
   ends_silent b paths reports taken after failed failed_after status (stopped h same f) tidy =
       subst (λ later. Appends taken later []) (sym same) (Appends-nil taken)
 
--- how a run ends whose text is written
+-- a run that went over all its files, and whose text was then written whole or in part, ends as `Ends` says
 pub ends_written : (s : Settings) (a b : Disk) (paths : List (List ℕ)) (tidied : Tidied) (earlier own : List (List ℕ)) (taken after : Option (List ℕ))
     (failed failed_after status : ℕ)
     → Tidies s a b paths tidied.text.items earlier tidied.status → IsWrittenOut tidied taken after failed failed_after own status
@@ -155,7 +155,7 @@ ends_written s a b paths tidied earlier own taken after failed failed_after stat
 ends_written s a b paths tidied earlier own taken after failed failed_after status t (written.part count l w f r n) =
     part tidied.text.items earlier tidied.status count t l w f (ap (λ rs. earlier ++ rs) r) n
 
--- how a run ends that ended early
+-- a run that ended early, and then wrote the line of the reason to standard error, ends as `Ends` says
 pub ends_early : (s : Settings) (a b : Disk) (paths : List (List ℕ)) (earlier : List (List ℕ)) (stop : Stop) (taken : Option (List ℕ)) (failed status : ℕ)
     → StopsRun s a b paths earlier stop → status ≡ status_of_stop stop → Ends s a b paths taken taken failed failed (earlier ++ stop_line stop ∷ []) status
 ends_early s a b paths earlier Memory taken failed status (results.before_write between front back text made e t same is) n =

@@ -1,4 +1,4 @@
--- The step of one file, from what its parts return.
+-- Facts for `tidy_file`: from the results of its parts to a `Step` of the run.
 use Rattle.std.proofs.Common.{◌≡◌, ◌≢◌, ℕ, Bool, true, false, List, [], ◌∷◌, ◌++◌, Option, Some, None, map, length, refl, sym, ap, ◌∙◌, subst, inl, inr}
 use Rattle.std.specs.Str.{bytes_eq}
 use Rattle.std.proofs.lemmas.Slice.Eq.{bytes_eq-Decides}
@@ -43,32 +43,32 @@ use Rattle.kmin_tidy.specs.declared.file_step.FileEnd.{FileEnd}
 use Rattle.kmin_tidy.specs.declared.stop.Stop.{Stop}
 use Rattle.kmin_tidy.proofs.RefusalLemmas.{refused_by, lines_of_problem, lines_of_notices}
 
--- bytes that `==` finds equal, or not
+-- bytes for which the test `==` gives `false` differ
 pub differ : (least bytes : List ℕ) (test : Bool) → test ≡ bytes_eq least bytes → test ≡ false → least ≢ bytes
 differ least bytes test e f = λ same. let h : bytes_eq least bytes ≡ true = (bytes_eq-Decides least bytes).1 same in cc
 
 pub agree : (least bytes : List ℕ) (test : Bool) → test ≡ bytes_eq least bytes → test ≡ true → least ≡ bytes
 agree least bytes test e t = (bytes_eq-Decides least bytes).0 (sym e ∙ t)
 
--- what is of no known kind isn't known to be special
+-- a content that may be of another kind than `NotRegular` isn't known to be `special`
 pub kind_not_special : (content : Option Content) (kind : FileKind) → IsOfKind content kind → kind ≢ KindNotRegular → content ≢ Some special
 kind_not_special content kind k other = λ e. other (subst (λ c. IsOfKind c kind) e k)
 
 module _ (s : Settings) (a : Disk) (path : List ℕ) (report : FileReport) where
-  -- a link, a folder, a pipe or a device
+  -- under `write`, the step of a path that leads to a link, a folder, a pipe or a device is its refusal
   pub not_regular_step : s.options.write ≡ true → IsOfKind (content_at a.state path) KindNotRegular → report.notices.items ≡ []
       → report.problem ≡ Some ProblemNotRegular → report.outcome ≡ Failed → Step s a a path [] (report_lines path report) report.outcome
   not_regular_step w k n p o =
       refused (not_regular_line path) (refusals.not_regular w k o refl) refl refl (lines_of_problem path report ProblemNotRegular n p)
 
-  -- a file with a fault
+  -- the step of a file that can't be read or isn't accepted is its refusal, with the line of the fault
   pub fault_step : (fault : LoadFault) → MayBeRead s a.state path → IsFaulty s.format s.tree (readable (content_at a.state path)) fault.kind fault.line
       → IsRefusedAs fault report → Step s a a path [] (report_lines path report) report.outcome
   fault_step fault may faulty r =
       refused (fault_line path fault.line fault.kind) (refused_by s a.state path fault.kind fault.line report.outcome may faulty r.outcome) refl refl
       (lines_of_problem path report (Fault fault) r.notices r.problem)
 
-  -- the lines of a report by the notices of a fragment
+  -- the lines of a report without a problem are those of the notices of the file's fragment
   lines_by : (fragment : Fragment) → report.notices.items ≡ fragment.notices.items → report.problem ≡ None
       → report_lines path report ≡ notice_lines path (map notice_pair fragment.notices.items)
   lines_by fragment n p = lines_of_notices path report p ∙ ap (λ ns. notice_lines path (map notice_pair ns)) n
@@ -79,7 +79,7 @@ module _ (s : Settings) (a : Disk) (path : List ℕ) (report : FileReport) where
       ap (λ q. notice_lines path (map notice_pair report.notices.items) ++ problem_lines path q) p
       ∙ ap (λ ns. notice_lines path (map notice_pair ns) ++ problem_lines path (Some problem)) n
 
-  -- a file that is refused for its notices
+  -- the step of an accepted file that is refused for its notices reports the notices, and leaves the disk unchanged
   pub notices_step : (bytes : List ℕ) (fragment : Fragment) → IsReadAt s a.state path bytes → IsFragmentOf s.format s.tree bytes fragment
       → refuses_notices s.options ≡ true → map notice_pair fragment.notices.items ≢ [] → report.notices.items ≡ fragment.notices.items → report.problem ≡ None
       → report.outcome ≡ Refused → Step s a a path [] (report_lines path report) report.outcome
@@ -92,7 +92,7 @@ module _ (s : Settings) (a : Disk) (path : List ℕ) (report : FileReport) where
       })
       some asked refl refl (lines_by fragment n p) o
 
-  -- a file whose minimal file is known
+  -- the step of an accepted file that isn't refused, from the result of comparing it with its minimal file and replacing it
   pub rewritten_step : (b : Disk) (bytes least line : List ℕ) (fragment : Fragment) (end : FileEnd)
       → Minimises s a.state path bytes least (map notice_pair fragment.notices.items) → IsRewritten s.options.write a b path bytes least line end
       → report.notices.items ≡ fragment.notices.items → report.problem ≡ end.problem → report.outcome ≡ end.outcome
@@ -108,14 +108,14 @@ module _ (s : Settings) (a : Disk) (path : List ℕ) (report : FileReport) where
       unwritten bytes least (map notice_pair fragment.notices.items) (record { minimises = m; differs = ne }) w u l
       (lines_with fragment Write n (p ∙ q)) (r ∙ o)
 
--- a run that ends at a file whose minimal file is known
+-- a run that ends at the comparison of a file with its minimal file, or at its replacement, ends at that file
 pub stops_rewrite : (s : Settings) (a b : Disk) (path bytes least : List ℕ) (notices : Notices) (stop : Stop) → Minimises s a.state path bytes least notices
     → StopsRewrite s.options.write a b path bytes least stop → StopsFile s a b path stop
 stops_rewrite s a b path bytes least notices stop m (inl h) = inl h
 stops_rewrite s a b path bytes least notices stop m (inr h) =
     inr (record { asked = h.0; bytes = bytes; least = least; notices = notices; differs = record { minimises = m; differs = h.1 } }, h.2)
 
--- the minimal file of what a fragment gives
+-- the canonical text of the values that a fragment alone gives is the minimal file of the fragment's bytes
 pub has_minimal_file : (settled now : Settled) (format : Format) (options : TidyOptions) (bytes text : List ℕ) (fragment : Fragment)
     (users : List (Option UserValue)) (values : List UnitValue)
     → is_prefix (file_format format).prefix ≡ true → now ≡ settled → IsFragmentOf (file_format format) (tree_of_settled settled) bytes fragment
@@ -130,7 +130,7 @@ has_minimal_file settled now format options bytes text fragment users values val
     reads = record {
       utf8 = accepted_utf8 (file_format format) (tree_of_settled settled) bytes valid f.accepted;
       meanings = f.meanings;
-      says = f.means;
+      has_meaning = f.means;
       gives = subst (λ us. UniquelySolves (length (tree_of_settled settled).units) (rule (profile_of settled) (tree_of_settled settled)) us values)
           (held ∙ f.users)
           (subst (λ sys. UniquelySolves (length (tree_of_settled sys).units) (rule (profile_of sys) (tree_of_settled sys)) users values) same gives);
@@ -140,7 +140,7 @@ has_minimal_file settled now format options bytes text fragment users values val
   notices_are = f.noted;
 }
 
--- what a fault of replacing leaves
+-- after a fault of replacing a file that lets the run go on, the file counts as not replaced, or not for good
 pub written_by : (a b : Disk) (path least : List ℕ) (fault : ReplaceFault) (end : FileEnd) → FaultLeaves a.state b.state path least fault
     → b.failures ≡ failures_of_fault a.failures fault → (fault ≡ NotRegular → IsOfKind (content_at a.state path) KindNotRegular)
     → (fault ≡ NamesTaken → HasTakenName a.state path) → IsFailedBy fault end → IsWritten a b path least end
@@ -161,13 +161,13 @@ stopped_by a b path least (Left new_path) stop l f h =
 stopped_by a b path least FolderNotSynced stop l f h = absurd h
 stopped_by a b path least OutOfMemory stop l f h = subst (StopsWrite a b path) (sym h) l
 
--- a file is replaced or not where its bytes aren't those of its minimal file
+-- the result of an attempt to replace a file by a minimal file of other bytes is one that `IsRewritten` allows
 pub rewritten_by : (a b : Disk) (path bytes least line : List ℕ) (end : FileEnd) → least ≢ bytes → line ≡ difference_line path bytes least
     → IsWritten a b path least end → IsRewritten true a b path bytes least line end
 rewritten_by a b path bytes least line end ne l (results.in_place r f p o) = results.replaced ne refl r f l p o
 rewritten_by a b path bytes least line end ne l (results.not_in_place u p o) = results.unwritten ne refl u l p o
 
--- a map of some elements has some
+-- the map of a list that isn't empty isn't empty
 pub map_some : {A B : Type 0} (f : A → B) (xs : List A) → xs ≢ [] → map f xs ≢ []
 map_some f [] h = λ e. h refl
 map_some f (x ∷ xs) h = λ e. let z : f x ∷ map f xs ≡ [] = e in (cc)

@@ -10,17 +10,17 @@ use Rattle.kmin_tidy.specs.Runs.{HoldsMinimalFile}
 pub stays_same : (old new : History) → new ≡ old → Stays old new
 stays_same old new same = record { same_content = ap newest same; same_history = λ some. same }
 
--- a minimal file is its own, by whatever values it is read
+-- a file that is the minimal file of some values is its own minimal file
 pub minimal_once : (s : Settings) (bytes least : List ℕ) (notices : Notices) → IsMinimalFile s bytes → HasMinimalFile s bytes least notices → least ≡ bytes
 minimal_once s bytes least notices own m = m.canonical.is ∙ own.1.once m.values m.loads.reads
 
--- what has a minimal file of other bytes is no minimal file
+-- a file whose minimal file has other bytes isn't the minimal file of any values
 pub minimal_not : (s : Settings) (bytes read least : List ℕ) (notices : Notices) → read ≡ bytes → IsMinimalFile s bytes → HasMinimalFile s read least notices
     → least ≢ read → ⊥
 minimal_not s bytes read least notices e own m other =
     other (minimal_once s bytes least notices own (subst (λ b. HasMinimalFile s b least notices) e m) ∙ sym e)
 
--- what was written is a minimal file
+-- the minimal file of a file is the minimal file of some values
 pub written_minimal : (s : Settings) (bytes least : List ℕ) (notices : Notices) → HasMinimalFile s bytes least notices → IsMinimalFile s least
 written_minimal s bytes least notices m = (m.values, m.canonical)
 
@@ -63,7 +63,7 @@ minimised_twice s (content ∷ before) b c m k =
     let read : k.bytes ≡ m.least = subst (λ h. IsReadAs (newest h) k.bytes) m.replaced k.read in
     absurd (minimal_not s m.least k.bytes k.least k.notices read (written_minimal s m.bytes m.least m.notices m.minimal) k.minimal k.differs)
 
--- what became of a place, after what became of it before
+-- a place that is as it was or got its minimal file, in one part of a run and in the next, is or did so over both
 pub kept_after : (s : Settings) (a b c : History) → IsKept s a b → IsKept s b c → IsKept s a c
 kept_after s a b c (inl h) (inl k) = inl (stays_stays a b c h k)
 kept_after s a b c (inl h) (inr k) = inr (stays_minimised s a b c h k)
@@ -77,14 +77,14 @@ holds_written s (content ∷ before) least own = (least, refl, own)
 holds_some : (s : Settings) (content : Content) (before : History) → HoldsMinimalFile s (content ∷ before) → Some content ≢ Some nothing
 holds_some s content before h = read_some (Some content) h.0 h.1
 
--- a minimal file stays one
+-- a place that holds a minimal file still does after a change that `IsKept` allows
 pub minimal_kept : (s : Settings) (old new : History) → IsKept s old new → HoldsMinimalFile s old → HoldsMinimalFile s new
 minimal_kept s [] new (inl k) h = subst (HoldsMinimalFile s) (sym (k.same_history (λ e. let z : None ≡ Some nothing = e in (cc)))) h
 minimal_kept s (content ∷ before) new (inl k) h = subst (HoldsMinimalFile s) (sym (k.same_history (holds_some s content before h))) h
 minimal_kept s old new (inr m) h =
     subst (HoldsMinimalFile s) (sym m.replaced) (holds_written s old m.least (written_minimal s m.bytes m.least m.notices m.minimal))
 
--- a place with a minimal file holds one, whatever is known of it
+-- a place from which the bytes of a minimal file may be read holds a minimal file
 pub holds_read : (s : Settings) (history : History) (bytes : List ℕ) → IsReadAs (newest history) bytes → IsMinimalFile s bytes → HoldsMinimalFile s history
 holds_read s [] bytes r own = tt
 holds_read s (content ∷ before) bytes r own = (bytes, r, own)

@@ -12,10 +12,10 @@ use Rattle.kc_dotconfig.specs.declared.fragment.Fragment.{Fragment}
 use Rattle.kc_dotconfig.specs.Fragments.{FitsTree}
 use Rattle.kc_dotconfig.specs.ReadResults.{IsReadAs, IsRefused, ReportsFault}
 use Rattle.kmin_disk.specs.Contents.{OpensAs}
-use Rattle.kmin_tidy.specs.MinimalFiles.{AreKnownBytes}
+use Rattle.kmin_tidy.specs.KnownBytes.{AreKnownBytes}
 use Rattle.kmin_tidy.specs.checker.Readings.{IsFragmentOf, IsFaultOf, IsFaultOfPart, in_front, at_failure, no_memory, IsFaulty, refused, unread, for_memory}
 
--- the bytes that were read of an opened file begin what is known of it
+-- the bytes that were read of an opened file are the first bytes of its content, as far as that is known
 pub rest_of : (known : Option (Option (List ℕ))) (before after : Option (List ℕ)) (bytes : List ℕ) → OpensAs known (Some before) → Consumes before after bytes
     → (rest : List ℕ) × AreKnownBytes known (bytes ++ rest)
 rest_of None before after bytes o h = ([], tt)
@@ -29,7 +29,7 @@ whole_memory : (text : List ℕ) (after : Option (List ℕ)) (bytes : List ℕ) 
 whole_memory text None bytes h e = absurd h
 whole_memory text (Some rest) bytes h e = h ∙ ap (λ z. bytes ++ z) e ∙ append-nil bytes
 
--- and at its end they are all of it
+-- the bytes that were read of an opened file up to its end are its whole content, as far as that is known
 pub whole_content : (known : Option (Option (List ℕ))) (before after : Option (List ℕ)) (bytes : List ℕ) → OpensAs known (Some before)
     → Consumes before after bytes → IsAtEnd after → AreKnownBytes known bytes
 whole_content None before after bytes o h e = tt
@@ -38,7 +38,7 @@ whole_content (Some (Some known)) before after bytes o h e =
     let s : before ≡ Some known = cc in
     sym (whole_memory known after bytes (rw s at h) e)
 
--- a whole file that was read
+-- the fragment of a file that was read to its end is that of the file's bytes
 pub fragment_of_read : (format : FileFormat) (tree : Tree) (bytes : List ℕ) (before after : Option (List ℕ)) (f : Fragment) → before ≡ Some bytes
     → IsReadAs format tree before after f → FitsTree tree f.assigns.items → IsFragmentOf format tree bytes f
 fragment_of_read format tree bytes before after f is r fits =
@@ -46,7 +46,7 @@ fragment_of_read format tree bytes before after f is r fits =
     record {
       accepted = subst (IsAccepted format tree) (sym e) r.accepted;
       meanings = r.meanings;
-      means = subst (λ b. FileMeans format tree b r.meanings) (sym e) r.says;
+      means = subst (λ b. FileMeans format tree b r.meanings) (sym e) r.has_meaning;
       users = r.users;
       noted = r.noted;
       fits = fits;
@@ -81,7 +81,7 @@ module _ (format : FileFormat) (tree : Tree) (bytes : List ℕ) where
       → ReportsFault format tree before after 0 0 kind number → IsFaultOf format tree bytes kind number
   fault_of_whole before after kind number is t = whole_kind after kind number (subst (λ b. ReportsFault format tree b after 0 0 kind number) is t)
 
-  -- the byte after a part wasn't read
+  -- the bytes of a part are those that were read of it, and those that are left
   part_front : (rest known : List ℕ) → Consumes (Some (bytes ++ 0 ∷ [])) (Some (rest ++ 0 ∷ [])) known → bytes ≡ known ++ rest
   part_front rest known h = append_cancel_right bytes (known ++ rest) (0 ∷ []) (h ∙ sym (append_assoc known rest (0 ∷ [])))
 
@@ -118,17 +118,17 @@ module _ (format : FileFormat) (tree : Tree) (bytes : List ℕ) where
       part_kind rest f g kind number
       (subst (λ b. ReportsFault format tree b (Some (rest ++ 0 ∷ [])) f g kind number) (is ∙ ap (λ b. Some (b ++ 0 ∷ [])) same) t)
 
-  -- a part is never read to its end
+  -- a file in which a read fails is never read to its end and accepted
   pub part_not_read : (before : Option (List ℕ)) (rest : List ℕ) (f : Fragment) → IsReadAs format tree before (Some (rest ++ 0 ∷ [])) f → ⊥
   part_not_read before rest f r = never_at_end rest r.ended
 
--- the fault of a file by the fault of its bytes
+-- a fault of the bytes of a whole file is a fault of that file
 pub faulty_whole : (format : FileFormat) (tree : Tree) (known : Option (Option (List ℕ))) (bytes : List ℕ) (kind : LoadKind) (number : ℕ)
     → AreKnownBytes known bytes → IsFaultOf format tree bytes kind number → IsFaulty format tree known kind number
 faulty_whole format tree known bytes kind number k (inl is) = for_memory is
 faulty_whole format tree known bytes kind number k (inr t) = refused bytes k t.0 t.1
 
--- and by the fault of its first bytes
+-- a fault of the first bytes of a file, after which a read failed, is a fault of that file
 pub faulty_part : (format : FileFormat) (tree : Tree) (known : Option (Option (List ℕ))) (bytes rest : List ℕ) (kind : LoadKind) (number : ℕ)
     → AreKnownBytes known (bytes ++ rest) → IsFaultOfPart format tree bytes kind number → IsFaulty format tree known kind number
 faulty_part format tree known bytes rest kind number k (in_front other first) = refused (bytes ++ rest) k other (first rest)
@@ -136,7 +136,7 @@ faulty_part format tree known bytes rest kind number k (at_failure front back e 
     unread front (back ++ rest) (subst (AreKnownBytes known) (ap (λ b. b ++ rest) e ∙ append_assoc front back rest) k) first is
 faulty_part format tree known bytes rest kind number k (no_memory is) = for_memory is
 
--- the fault of a file that was opened, by the fault of its bytes
+-- a fault of the bytes that were read of an opened file, up to its end or to a failed read, is a fault of that file
 pub faulty_read : (format : FileFormat) (tree : Tree) (known : Option (Option (List ℕ))) (before after : Option (List ℕ)) (bytes : List ℕ) (kind : LoadKind)
     (number : ℕ) (Ended : Type 0)
     → OpensAs known (Some before) → Consumes before after bytes → (Ended → IsAtEnd after)
@@ -147,7 +147,7 @@ faulty_read format tree known before after bytes kind number Ended opens consume
     let w = rest_of known before after bytes opens consumed in
     faulty_part format tree known bytes w.0 kind number w.1 h
 
--- what a result has, by what it had
+-- if the value of a result has a property P, and P implies Q, it has Q
 pub if_ok_map : {T E : Type 0} (r : Result T E) (P Q : T → Type 0) → ((x : T) → P x → Q x) → IfOk r P → IfOk r Q
 if_ok_map (Ok x) P Q f h = f x h
 if_ok_map (Err e) P Q f h = tt

@@ -17,12 +17,12 @@ use Rattle.kmin_tidy.specs.declared.outcome.FileOutcome.TheVariants.{Refused, Fa
 use Rattle.kmin_tidy.specs.declared.report.Problem.{Problem}
 use Rattle.kmin_tidy.specs.declared.report.FileReport.{FileReport}
 
--- the outcome of a file by the kind of its fault
+-- a file with a fault of this kind has this outcome: `Failed` for a failed read, and `Refused` for all but lack of memory
 abbrev pub IsOutcomeOf : LoadKind → FileOutcome → Type 0
 IsOutcomeOf kind outcome = ((kind ≡ Read) × (outcome ≡ Failed)) ⊎ ((kind ≢ Read) × (kind ≢ OutOfMemory) × (outcome ≡ Refused))
 
 module _ (s : Settings) (disk : DiskState) (path : List ℕ) (kind : LoadKind) (number : ℕ) (outcome : FileOutcome) where
-  -- a file with a fault is refused with its line
+  -- a file that can't be read or isn't accepted is refused, with the line of its fault on standard error
   pub refused_by : MayBeRead s disk path → IsFaulty s.format s.tree (readable (content_at disk path)) kind number → IsOutcomeOf kind outcome
       → IsRefused s disk path outcome (fault_line path number kind)
   refused_by may (refused bytes known other first) (inl is) = absurd (other is.0)
@@ -36,20 +36,20 @@ module _ (s : Settings) (disk : DiskState) (path : List ℕ) (kind : LoadKind) (
   refused_by may (for_memory memory) (inl is) = let z : Read ≡ OutOfMemory = sym is.0 ∙ memory in (cc)
   refused_by may (for_memory memory) (inr is) = absurd (is.1 memory)
 
--- the lines of a report with one problem
+-- the report of a file with a problem and without notices has the line of the problem alone
 pub lines_of_problem : (path : List ℕ) (report : FileReport) (problem : Problem) → report.notices.items ≡ [] → report.problem ≡ Some problem
     → report_lines path report ≡ problem_line path problem ∷ []
 lines_of_problem path report problem no_notices is =
     ap (λ ns. notice_lines path (map notice_pair ns) ++ problem_lines path report.problem) no_notices ∙ ap (problem_lines path) is
 
--- and with none
+-- the report of a file without a problem has the lines of its notices alone
 pub lines_of_notices : (path : List ℕ) (report : FileReport) → report.problem ≡ None
     → report_lines path report ≡ notice_lines path (map notice_pair report.notices.items)
 lines_of_notices path report is =
     ap (λ p. notice_lines path (map notice_pair report.notices.items) ++ problem_lines path p) is ∙ append-nil
     (notice_lines path (map notice_pair report.notices.items))
 
--- one map after another
+-- the map of a composition of two functions is one map after another
 pub map_twice : {A B C : Type 0} (f : B → C) (g : A → B) (xs : List A) → map (λ x. f (g x)) xs ≡ map f (map g xs)
 map_twice f g [] = refl
 map_twice f g (x ∷ xs) = ap (λ ys. f (g x) ∷ ys) (map_twice f g xs)

@@ -37,15 +37,15 @@ with_last NotMinimal rest after last e = ap (max 1) e ∙ max_one rest last
 with_last Refused rest after last e = refl
 with_last Failed rest after last e = refl
 
--- one file more
+-- the status of a run with one file more follows from the status before it and the outcome of that file
 pub status_last : (files : List DoneFile) (last : DoneFile) → status_of (files ++ last ∷ []) ≡ status_after (status_of files) last.1
 status_last [] last = first_status last.1
 status_last (first ∷ files) last = with_last first.1 (status_of files) (status_of (files ++ last ∷ [])) last.1 (status_last files last)
 
--- the status of a file that was refused or failed stays
+-- a status of 4 or more stays, whatever the outcome of the next file
 pub high_status : (status : ℕ) (outcome : FileOutcome) → 4 ≤ status → status ≡ status_after status outcome
 high_status status outcome h = grind (arith, nat_tests)
 
--- and any lower one gives way
+-- for a status below 4, the status after one file more is the one that `status_by` gives
 pub low_status : (status : ℕ) (outcome : FileOutcome) → status < 4 → status_by status outcome ≡ status_after status outcome
 low_status status outcome h = grind (arith, nat_tests)

@@ -15,14 +15,14 @@ use Rattle.kmin_tidy.specs.Refusals.{IsRefused}
 use Rattle.kmin_tidy.proofs.KeptPlaces.{stays_same, minimal_not, written_minimal, holds_read, holds_written}
 
 module _ (s : Settings) (a b : Disk) (path : List ℕ) where
-  -- nothing changed
+  -- on a disk that is unchanged, each place is as it was
   pub same_kept : b ≡ a → (place : List ℕ) → IsKept s (a.state.history place) (b.state.history place)
   same_kept e place = inl (stays_same (a.state.history place) (b.state.history place) (ap (λ (d : Disk). d.state.history place) e))
 
   pub unchanged_kept : IsUnchanged a.state b.state → (place : List ℕ) → IsKept s (a.state.history place) (b.state.history place)
   unchanged_kept u place = inl (u.histories place)
 
-  -- the file of a path was replaced by its minimal file
+  -- replacing the file at a path by its minimal file changes the place of that path alone, as `IsKept` allows
   pub replaced_kept : (bytes least : List ℕ) (notices : Notices) → Differs s a.state path bytes least notices → Replaces a.state b.state path least
       → (place : List ℕ) → IsKept s (a.state.history place) (b.state.history place)
   replaced_kept bytes least notices d r place =
@@ -46,7 +46,7 @@ module _ (s : Settings) (a b : Disk) (path : List ℕ) where
   unwritten_kept bytes least notices d (not_regular u k f) place = unchanged_kept u place
   unwritten_kept bytes least notices d (unsynced r f) place = replaced_kept bytes least notices d r place
 
-  -- what a step makes of each place
+  -- after one file of a run, each place is as before, or its file was replaced by its minimal file
   pub step_kept : (line : List ℕ) (reports : List (List ℕ)) (outcome : FileOutcome) → Step s a b path line reports outcome
       → (place : List ℕ) → IsKept s (a.state.history place) (b.state.history place)
   step_kept line reports outcome (refused report r e l k) place = same_kept e place
@@ -65,7 +65,7 @@ module _ (s : Settings) (a b : Disk) (path : List ℕ) where
   unwritten_places least (not_regular u k f) any = u.places any
   unwritten_places least (unsynced r f) any = r.places any
 
-  -- paths lead where they led
+  -- each path leads to the same place before and after one file of a run
   pub step_places : (line : List ℕ) (reports : List (List ℕ)) (outcome : FileOutcome) → Step s a b path line reports outcome
       → (any : List ℕ) → b.state.place any ≡ a.state.place any
   step_places line reports outcome (refused report r e l k) any = same_places e any
@@ -75,7 +75,7 @@ module _ (s : Settings) (a b : Disk) (path : List ℕ) where
   step_places line reports outcome (replaced bytes least notices d w r f l k o) any = r.places any
   step_places line reports outcome (unwritten bytes least notices d w u l k o) any = unwritten_places least u any
 
-  -- where files aren't replaced, nothing changes
+  -- without `write`, one file of a run leaves the disk unchanged
   pub step_unasked : (line : List ℕ) (reports : List (List ℕ)) (outcome : FileOutcome) → Step s a b path line reports outcome
       → s.options.write ≡ false → b ≡ a
   step_unasked line reports outcome (refused report r e l k) unasked = e
@@ -91,7 +91,7 @@ module _ (s : Settings) (a b : Disk) (path : List ℕ) where
   refused_not_minimal line outcome (refusals.unopened may opens o l) m = let z : Failed ≡ Minimal = sym o ∙ m in (cc)
   refused_not_minimal line outcome (refusals.not_regular w k o l) m = let z : Failed ≡ Minimal = sym o ∙ m in (cc)
 
-  -- a file with the outcome `Minimal` is a minimal file
+  -- after one file of a run with the outcome `Minimal`, its path leads to a minimal file
   pub step_minimal : (line : List ℕ) (reports : List (List ℕ)) (outcome : FileOutcome) → Step s a b path line reports outcome
       → outcome ≡ Minimal → HoldsMinimalFile s (b.state.history (b.state.place path))
   step_minimal line reports outcome (refused report r e l k) m = absurd (refused_not_minimal report outcome r m)
@@ -117,13 +117,13 @@ tidy_content s (Some (file known)) bytes least notices (inr refuses) r m allowed
 tidy_content s (Some unfinished) bytes least notices t r m allowed other = t
 tidy_content s (Some special) bytes least notices t r m allowed other = t
 
--- where a path leads to a tidy content, its file doesn't differ
+-- a path that leads to no file, or to a minimal or refused one, has no minimal file of other bytes
 pub tidy_same : (s : Settings) (disk : DiskState) (path bytes least : List ℕ) (notices : Notices) → IsTidy s (content_at disk path)
     → Differs s disk path bytes least notices → ⊥
 tidy_same s disk path bytes least notices t d =
     tidy_content s (content_at disk path) bytes least notices t d.minimises.read.bytes_are d.minimises.minimal d.minimises.allowed d.differs
 
--- and the file has no line and is left as it is
+-- a path that leads to no file, or to a minimal or refused one, has no line of standard output, and leaves the disk unchanged
 pub step_tidy : (s : Settings) (a b : Disk) (path line : List ℕ) (reports : List (List ℕ)) (outcome : FileOutcome) → Step s a b path line reports outcome
     → IsTidy s (content_at a.state path) → (b ≡ a) × (line ≡ [])
 step_tidy s a b path line reports outcome (refused report r e l k) t = (e, l)

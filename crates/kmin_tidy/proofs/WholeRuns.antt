@@ -14,11 +14,11 @@ use Rattle.kmin_tidy.specs.declared.stop.Stop.TheVariants.{Memory}
 use Rattle.kmin_tidy.proofs.StatusLemmas.{status_last}
 use Rattle.kmin_tidy.proofs.RunLemmas.{map_last, run_minimal}
 
--- no file yet
+-- a run over no files leaves the disk unchanged, writes nothing and has the status 0
 pub tidies_none : (s : Settings) (a : Disk) → Tidies s a a [] [] [] 0
 tidies_none s a = record { files = []; paths_are = refl; run = none; status_is = refl; minimal = tt }
 
--- one file more
+-- a whole run and the step of one file after it are a whole run over its paths and the path of that file
 pub tidies_more : (s : Settings) (a b c : Disk) (paths all : List (List ℕ)) (path text line whole : List ℕ) (reports own every : List (List ℕ))
     (status after : ℕ) (outcome : FileOutcome)
     → Tidies s a b paths text reports status → Step s b c path line own outcome → all ≡ paths ++ path ∷ [] → whole ≡ text ++ line → every ≡ reports ++ own
@@ -34,34 +34,34 @@ tidies_more s a b c paths all path text line whole reports own every status afte
       minimal = run_minimal s a c files whole every run;
     }
 
--- the first paths, and one more
+-- the first i + 1 paths of a list are the first i, and the path at place i
 pub paths_next : (paths : List (Bor (List ℕ))) (i : ℕ) (d : Bor (List ℕ)) → i < length paths
     → paths_of (take (i + 1) paths) ≡ paths_of (take i paths) ++ (get_or paths i d).now ∷ []
 paths_next paths i d h =
     ap paths_of (take_more paths i d h) ∙ map-append (λ (p : Bor (List ℕ)). p.now) (take i paths) (get_or paths i d ∷ [])
 
--- a path between those before it and those after it
+-- a list of paths is those before place i, the path at place i, and those after it
 pub paths_at : (paths : List (Bor (List ℕ))) (i : ℕ) (d : Bor (List ℕ)) → i < length paths
     → paths_of paths ≡ paths_of (take i paths) ++ (get_or paths i d).now ∷ paths_of (drop (suc i) paths)
 paths_at paths i d h =
     ap paths_of (sym (take-append-drop i paths)) ∙ map-append (λ (p : Bor (List ℕ)). p.now) (take i paths) (drop i paths)
     ∙ ap (λ ps. paths_of (take i paths) ++ paths_of ps) (drop-cons paths i d h)
 
--- a run that ends at a file
+-- a run that went over the files before a path, and ends at the file of that path, ends early as `StopsRun` says
 pub stops_run : (s : Settings) (a b c : Disk) (paths front back : List (List ℕ)) (path text : List ℕ) (earlier : List (List ℕ)) (made : ℕ) (stop : Stop)
     → paths ≡ front ++ path ∷ back → Tidies s a b front text earlier made → StopsFile s b c path stop → StopsRun s a c paths earlier stop
 stops_run s a b c paths front back path text earlier made stop e t (inl h) = before_write b front (path ∷ back) text made e t h.1 h.0
 stops_run s a b c paths front back path text earlier made stop e t (inr h) = at_write b front back path text made e t h.0 h.1
 
--- a run that ends before its first file
+-- a run for which memory runs out before its first file ends early, and leaves the disk unchanged
 pub stops_first : (s : Settings) (a : Disk) (paths : List (List ℕ)) → StopsRun s a a paths [] Memory
 stops_first s a paths = before_write a [] paths [] 0 refl (tidies_none s a) refl refl
 
--- what memory that ran out leaves
+-- the reason of a result that failed for lack of memory has every property that `Memory` has
 pub memory_stop : {T : Type 0} (r : Result T Stop) (P : Stop → Type 0) → IsErr r × IsErrAnd r (λ stop. stop ≡ Memory) → P Memory → IfErr r P
 memory_stop (Ok x) P h k = tt
 memory_stop (Err stop) P h k = subst P (sym h.1) k
 
--- an error that is known
+-- the error of a result that is known to be `Err e` has every property that e has
 pub if_err : {T E : Type 0} (r : Result T E) (e : E) (P : E → Type 0) → r ≡ Err e → P e → IfErr r P
 if_err r e P same h = rw same h

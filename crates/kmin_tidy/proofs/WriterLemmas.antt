@@ -8,7 +8,7 @@ use Rattle.std.proofs.lemmas.List.{take-append-le, map-append}
 use Rattle.std.proofs.Math.Seq.{take-append-add, take-suc}
 use Rattle.kmin_tidy.specs.StandardError.{TakesWhole, TakesPart, TakesLine, TakesLines, none, one_more, Rises}
 
--- nothing is taken of the empty text
+-- a writer takes the empty text whole, and is as before
 pub whole_none : (before : Option (List ℕ)) (failed : ℕ) → TakesWhole before failed [] before failed
 whole_none before failed = record { appends = Appends-nil before; unfailed = refl }
 
@@ -53,7 +53,7 @@ flat_map_next f xs i d h =
     rw n (ap (flat_map f) (take-suc xs i d h) ∙ flat_map-append f (take i xs) (get_or xs i d ∷ [])
     ∙ ap (λ z. flat_map f (take i xs) ++ z) (append-nil (f (get_or xs i d))))
 
--- one text more of a list
+-- a writer that took the texts of the first i elements of a list whole, and then the next one, took those of the first i + 1
 pub whole_next : {A : Type 0} (f : A → List ℕ) (xs : List A) (i : ℕ) (d : A) (before middle after : Option (List ℕ)) (failed failed_middle failed_after : ℕ)
     → i < length xs
     → TakesWhole before failed (flat_map f (take i xs)) middle failed_middle → TakesWhole middle failed_middle (f (get_or xs i d)) after failed_after
@@ -70,12 +70,12 @@ part_next f xs i d before middle after failed failed_middle failed_after n h k =
     subst (λ text. TakesPart before failed text after failed_after) (sym (flat_map_at f xs i d n))
     (part_more before after failed failed_after _ _ (whole_part before middle after failed failed_middle failed_after _ _ h k))
 
--- one line
+-- a writer that took one line took the list of that line alone
 pub lines_one : (before after : Option (List ℕ)) (failed failed_after : ℕ) (line : List ℕ)
     → TakesLine before failed line after failed_after → TakesLines before failed (line ∷ []) after failed_after
 lines_one before after failed failed_after line h = one_more [] (line ∷ []) line before after failed failed_after none h refl
 
--- lines after lines
+-- a writer that took some lines and then more took all of them, in order
 pub lines_append : (before middle : Option (List ℕ)) (failed failed_middle : ℕ) (lines more : List (List ℕ)) (after : Option (List ℕ)) (failed_after : ℕ)
     → TakesLines before failed lines middle failed_middle → TakesLines middle failed_middle more after failed_after
     → TakesLines before failed (lines ++ more) after failed_after
@@ -86,7 +86,7 @@ lines_append before middle failed failed_middle lines more after failed_after h 
     (lines_append before middle failed failed_middle lines some last failed_last h k) t
     (ap (λ all. lines ++ all) e ∙ sym (append_assoc lines some (line ∷ [])))
 
--- one line more of a list
+-- a writer that took the lines of the first i elements of a list, and then the next one, took those of the first i + 1
 pub lines_next : {A : Type 0} (f : A → List ℕ) (xs : List A) (i : ℕ) (d : A) (before middle after : Option (List ℕ)) (failed failed_middle failed_after : ℕ)
     → i < length xs
     → TakesLines before failed (map f (take i xs)) middle failed_middle → TakesLine middle failed_middle (f (get_or xs i d)) after failed_after
@@ -96,7 +96,7 @@ lines_next f xs i d before middle after failed failed_middle failed_after n h k 
     one_more (map f (take i xs)) (map f (take (i + 1) xs)) (f (get_or xs i d)) middle after failed_middle failed_after h k
     (rw m (ap (map f) (take-suc xs i d n) ∙ map-append f (take i xs) (get_or xs i d ∷ [])))
 
--- what doesn't depend on the error
+-- a fact that doesn't depend on the error holds where a result is an `Err`
 pub on_err : {T E : Type 0} (r : Result T E) (P : Type 0) → P → OnErr r P
 on_err (Ok x) P h = tt
 on_err (Err e) P h = h

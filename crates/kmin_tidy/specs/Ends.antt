@@ -11,7 +11,8 @@ use Rattle.kmin_tidy.specs.StandardError.{Rises}
 use Rattle.kmin_tidy.specs.Steps.{Disk}
 use Rattle.kmin_tidy.specs.Runs.{Tidies}
 
--- Files are replaced, and this one isn't its own minimal file.
+-- The option `--write` is given, and the file at this path is accepted, isn't refused for its notices, and differs from its
+-- minimal file.
 pub record IsToBeReplaced (s : Settings) (disk : Disk) (path : List ℕ) : Type 0 where
   pub asked : s.options.write ≡ true
   pub bytes : List ℕ
@@ -19,13 +20,14 @@ pub record IsToBeReplaced (s : Settings) (disk : Disk) (path : List ℕ) : Type 
   pub notices : Notices
   pub differs : Differs s disk.state path bytes least notices
 
--- A new file is left in the folder of a path, after two failed calls.
+-- Replacing the file at `path` failed, and so did removing its new file, which is left at `new_path` in the same folder.
 pub record LeavesNewFile (old new : Disk) (path new_path : List ℕ) : Type 0 where
   pub leaves : Leaves old.state new.state new_path
   pub named : IsNewPath path new_path
   pub failures : new.failures ≡ one_failure_more (one_failure_more old.failures)
 
--- A run tidied the first of its paths. Then memory ran out, before a file was replaced or while it was, or a new file couldn't be removed.
+-- A run went over the first of its paths and ended early: memory ran out before or during the replacement of a file (status 6),
+-- or a new file couldn't be removed (status 5).
 pub data Stops (s : Settings) (old new : Disk) (paths : List (List ℕ)) (reports : List (List ℕ)) (status : ℕ) : Type 0 where
   before_write : (between : Disk) (front back : List (List ℕ)) (text : List ℕ) (earlier : List (List ℕ)) (made : ℕ)
       → paths ≡ front ++ back → Tidies s old between front text earlier made → new ≡ between
@@ -39,7 +41,8 @@ pub data Stops (s : Settings) (old new : Disk) (paths : List (List ℕ)) (report
       → LeavesNewFile between new path new_path
       → reports ≡ earlier ++ left_line new_path ∷ [] → status ≡ 5 → Stops s old new paths reports status
 
--- A run ends: its text is written whole, or in part since a write failed; or it stopped early, and nothing is written.
+-- A run over files ends: its text is written to standard output whole, or in part since a write failed; or the run ended early,
+-- and nothing is written to standard output.
 pub data Ends (s : Settings) (old new : Disk) (paths : List (List ℕ)) (taken taken_after : Option (List ℕ)) (failed failed_after : ℕ)
     (reports : List (List ℕ)) (status : ℕ) : Type 0 where
   whole : (text : List ℕ) → Tidies s old new paths text reports status → Appends taken taken_after text

@@ -1,4 +1,5 @@
 pub mod Options
+pub mod KnownBytes
 pub mod MinimalFiles
 pub mod Reports
 pub mod StandardError

@@ -10,7 +10,7 @@ use Rattle.kc_dotconfig_model.specs.declared.format.Format.{Format}
 use Rattle.kc_dotconfig_model.specs.between.Formats.{file_format}
 use Rattle.kmin_tidy.specs.declared.options.TidyOptions.{TidyOptions}
 
--- the settings of a run: the form of configuration files, the profile, the tree, and the options
+-- the settings of a run: the format of configuration files, the profile (how `imply` acts), the Kconfig tree, and the options
 pub record Settings : Type 0 where
   pub format : FileFormat
   pub profile : Profile
@@ -26,14 +26,14 @@ settings_of settled format options = record {
   options = options;
 }
 
--- notices of lines, each with the number of its line and its kind
+-- notices of the lines of a configuration file, each as the number of its line, counted from 1, and its kind
 abbrev pub Notices : Type 0
 Notices = List (ℕ × NoticeKind)
 
--- a file with a notice is refused: under `strict`, and where it would be written without its line unless `drop` is given
+-- whether a file with a notice is refused: if `strict` is set, or if `write` is set and `drop` isn't
 abbrev pub refuses_notices : TidyOptions → Bool
 refuses_notices options = options.strict || (options.write && not options.drop)
 
--- a file with these notices isn't refused for them
+-- under these options, a file with these notices isn't refused for them
 abbrev pub Allows : TidyOptions → Notices → Type 0
 Allows options notices = refuses_notices options ≡ true → notices ≡ []

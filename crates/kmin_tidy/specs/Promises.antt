@@ -7,7 +7,7 @@ use Rattle.kmin_disk.specs.Disks.{DiskState, History, Stays, newest, with_newest
 use Rattle.kmin_tidy.specs.Options.{Settings, Notices, refuses_notices}
 use Rattle.kmin_tidy.specs.MinimalFiles.{IsReadAs, HasMinimalFile, IsMinimalFile}
 
--- The file of a place was replaced by its minimal file.
+-- A name in a folder held a file that was accepted but not minimal, and this file was replaced by its minimal file.
 pub record IsMinimised (s : Settings) (old new : History) : Type 0 where
   pub bytes : List ℕ
   pub least : List ℕ
@@ -17,34 +17,35 @@ pub record IsMinimised (s : Settings) (old new : History) : Type 0 where
   pub differs : least ≢ bytes
   pub replaced : new ≡ with_newest (file least) old
 
--- A place is as it was, or its file was replaced by its minimal file.
+-- A name in a folder holds what it held before, or its file was replaced by its minimal file.
 abbrev pub IsKept : Settings → (old new : History) → Type 0
 IsKept s old new = Stays old new ⊎ IsMinimised s old new
 
--- a new file is left where nothing was
+-- a name in a folder that held nothing now holds a new file that isn't finished
 abbrev pub IsLeft : (old new : History) → Type 0
 IsLeft old new = (newest old ≡ Some nothing) × (newest new ≡ Some unfinished)
 
--- A place after a run: as it was, with its minimal file, or with a new file left.
+-- After a run, a name in a folder holds what it held before, its file was replaced by its minimal file, or it held nothing and
+-- now holds an unfinished new file.
 abbrev pub Became : Settings → (old new : History) → Type 0
 Became s old new = IsKept s old new ⊎ IsLeft old new
 
--- bytes aren't accepted, or are refused for their notices
+-- a file of these bytes isn't accepted as a configuration file, or is refused for its notices
 abbrev pub IsRefusedFile : Settings → (bytes : List ℕ) → Type 0
 IsRefusedFile s bytes = (least : List ℕ) (notices : Notices) → HasMinimalFile s bytes least notices
     → (refuses_notices s.options ≡ true) × (notices ≢ [])
 
--- a content is known: no file, or one that is a minimal file or refused
+-- what is at a path is known: no file, a minimal file, or a file that is refused
 abbrev pub IsTidy : Settings → Option Content → Type 0
 IsTidy s (Some nothing) = Unit {0}
 IsTidy s (Some (file bytes)) = IsMinimalFile s bytes ⊎ IsRefusedFile s bytes
 IsTidy s _ = ⊥
 
--- each path leads to no file, or to one that is known, and is minimal or refused
+-- each path is known to lead to no file, or to a file that is minimal or refused
 abbrev pub AreTidy : Settings → DiskState → List (List ℕ) → Type 0
 AreTidy s disk paths = AllByRecursion (λ path. IsTidy s (newest (disk.history (disk.place path)))) paths
 
--- Two files give every symbol the same value exactly if their minimal files have the same bytes.
+-- Two accepted files give every symbol the same value exactly if their minimal files have the same bytes.
 abbrev pub MinimalFilesAreEqual : Type 0
 MinimalFilesAreEqual = (s : Settings) (a b least_a least_b : List ℕ) (m n : Notices) → (left : HasMinimalFile s a least_a m)
     → (right : HasMinimalFile s b least_b n) → HaveSameValues s.tree left.values right.values ↔ (least_a ≡ least_b)

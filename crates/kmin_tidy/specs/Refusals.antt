@@ -12,7 +12,8 @@ use Rattle.kmin_tidy.specs.Reports.{fault_line, not_regular_line}
 use Rattle.kmin_tidy.specs.declared.outcome.FileOutcome.{FileOutcome}
 use Rattle.kmin_tidy.specs.declared.outcome.FileOutcome.TheVariants.{Refused, Failed}
 
--- The file at a path is refused: by its first fault, by a read that fails before one, since it can't be opened, or under `write` since it isn't regular.
+-- The file at a path is refused, with this outcome and this line of standard error: it has a first fault, a read fails before
+-- one, it can't be opened, or under the option `--write` it isn't a regular file.
 pub data IsRefused (s : Settings) (disk : DiskState) (path : List ℕ) (outcome : FileOutcome) (line : List ℕ) : Type 0 where
   faulty : (bytes : List ℕ) (kind : LoadKind) (number : ℕ) → IsReadAt s disk path bytes
       → IsFirstFault s.format s.tree complete bytes kind number → outcome ≡ Refused → line ≡ fault_line path number kind

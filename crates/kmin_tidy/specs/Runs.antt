@@ -9,15 +9,16 @@ use Rattle.kmin_tidy.specs.Steps.{Disk, Step}
 use Rattle.kmin_tidy.specs.declared.outcome.FileOutcome.{FileOutcome}
 use Rattle.kmin_tidy.specs.declared.outcome.FileOutcome.TheVariants.{Minimal, NotMinimal, Refused, Failed}
 
--- the path of a file with its outcome
+-- a file that a run went over: its path and its outcome
 abbrev pub DoneFile : Type 0
 DoneFile = List ℕ × FileOutcome
 
--- the path of a file that was gone over
+-- the path of a file that a run went over
 abbrev pub path_of : DoneFile → List ℕ
 path_of done = done.0
 
--- One file after another, each over the disk of its turn.
+-- A run goes over files one after another, each on the disk that those before it left. It has this disk at the end, these files
+-- with their outcomes, this text for standard output and these lines of standard error.
 pub data Run (s : Settings) (old : Disk) : Disk → List DoneFile → (text : List ℕ) → (reports : List (List ℕ)) → Type 0 where
   none : Run s old old [] [] []
   one_more : (between new : Disk) (files all : List DoneFile) (path text line whole : List ℕ) (reports own every : List (List ℕ)) (outcome : FileOutcome)
@@ -25,32 +26,33 @@ pub data Run (s : Settings) (old : Disk) : Disk → List DoneFile → (text : Li
       → all ≡ files ++ (path, outcome) ∷ [] → whole ≡ text ++ line → every ≡ reports ++ own
       → Run s old new all whole every
 
--- the status of files, given the outcome of the first and the status of the others
+-- the status of a run, from the outcome of its first file and the status of a run over its other files
 abbrev pub status_with : FileOutcome → (rest : ℕ) → ℕ
 status_with Minimal rest = rest
 status_with NotMinimal rest = max 1 rest
 status_with Refused rest = 4
 status_with Failed rest = 5
 
--- the status of a run: of the first file that is refused or failed, else 1 where a file isn't minimal
+-- the status of a run: that of the first file that is refused (4) or failed (5); if none is, 1 if a file isn't minimal, else 0
 abbrev pub status_of : List DoneFile → ℕ
 status_of [] = 0
 status_of (done ∷ files) = status_with done.1 (status_of files)
 
--- a place holds a minimal file, if anything is known of it
+-- a name in a folder holds a minimal file, as far as its content is known
 abbrev pub HoldsMinimalFile : Settings → History → Type 0
 HoldsMinimalFile s [] = Unit {0}
 HoldsMinimalFile s (content ∷ before) = (bytes : List ℕ) × IsReadAs (Some content) bytes × IsMinimalFile s bytes
 
--- each file with the outcome `Minimal` is a minimal file
+-- each file of a run with the outcome `Minimal` is a minimal file on this disk, as far as its content is known
 abbrev pub AreMinimal : Settings → DiskState → List DoneFile → Type 0
 AreMinimal s disk files = AllByRecursion (λ done. done.1 ≡ Minimal → HoldsMinimalFile s (disk.history (disk.place done.0))) files
 
--- the paths of a list of texts
+-- the paths of a list of borrowed texts, in order
 abbrev pub paths_of : List (Bor (List ℕ)) → List (List ℕ)
 paths_of paths = map (λ (path : Bor (List ℕ)). path.now) paths
 
--- A whole run over these paths: its text, its lines of standard error and its status. At its end each file with the outcome `Minimal` is a minimal file.
+-- A run goes over all files of these paths, with this text for standard output, these lines of standard error and this status. At
+-- its end each file with the outcome `Minimal` is a minimal file.
 pub record Tidies (s : Settings) (old new : Disk) (paths : List (List ℕ)) (text : List ℕ) (reports : List (List ℕ)) (status : ℕ) : Type 0 where
   pub files : List DoneFile
   pub paths_are : map path_of files ≡ paths

@@ -2,7 +2,7 @@
 use Rattle.std.specs.Prelude.{◌≡◌, ℕ, ◌<◌, ◌-◌, ◌^◌, ◌⊎◌, List, [], ◌∷◌, ◌++◌, Option, length, take}
 use Rattle.std.specs.Io.KnownBytes.{Appends}
 
--- a count of failures rose, unless it had reached its limit
+-- a count of failed writes rose, unless it was at its limit, 2 ^ 64 - 1
 abbrev pub Rises : (before after : ℕ) → Type 0
 Rises before after = before < 2 ^ 64 - 1 → before < after
 
@@ -23,7 +23,7 @@ abbrev pub TakesLine : Option (List ℕ) → ℕ → List ℕ → Option (List �
 TakesLine before failed line after failed_after =
     TakesWhole before failed line after failed_after ⊎ TakesPart before failed line after failed_after
 
--- a writer took these lines in order, and nothing else
+-- a writer took these lines in order, each to its end or up to a write that failed, and nothing else
 pub data TakesLines (before : Option (List ℕ)) (failed : ℕ) : List (List ℕ) → Option (List ℕ) → ℕ → Type 0 where
   none : TakesLines before failed [] before failed
   one_more : (lines all : List (List ℕ)) (line : List ℕ) (middle after : Option (List ℕ)) (failed_middle failed_after : ℕ)

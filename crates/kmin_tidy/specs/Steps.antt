@@ -12,7 +12,7 @@ use Rattle.kmin_tidy.specs.Reports.{difference_line, notice_lines, write_line}
 use Rattle.kmin_tidy.specs.declared.outcome.FileOutcome.{FileOutcome}
 use Rattle.kmin_tidy.specs.declared.outcome.FileOutcome.TheVariants.{Minimal, NotMinimal, Refused, Failed}
 
--- what is known of a disk, and how many of its calls failed
+-- the state of a disk, as far as it is known, and how many calls to the disk failed
 pub record Disk : Type 0 where
   pub state : DiskState
   pub failures : ℕ
@@ -21,7 +21,8 @@ pub record Disk : Type 0 where
 abbrev pub disk_of : DiskState → ℕ → Disk
 disk_of state failures = record { state = state; failures = failures }
 
--- A file isn't replaced: a call failed, all names tried for the new file are in use, or it isn't regular by now; or it is, and its folder couldn't be synced.
+-- The file at a path couldn't be replaced, or not for good: a call failed, all names tried for the new file are in use, or the
+-- file isn't regular by now; or it was replaced, and its folder couldn't be synced.
 pub data IsUnwritten (old new : Disk) (path least : List ℕ) : Type 0 where
   call_failed : IsUnchanged old.state new.state → new.failures ≡ one_failure_more old.failures → IsUnwritten old new path least
   names_taken : IsUnchanged old.state new.state → HasTakenName old.state path → new.failures ≡ old.failures
@@ -31,7 +32,8 @@ pub data IsUnwritten (old new : Disk) (path least : List ℕ) : Type 0 where
   unsynced : Replaces old.state new.state path least → new.failures ≡ one_failure_more old.failures
       → IsUnwritten old new path least
 
--- One file of a run, which depends on nothing but its bytes: the disk after it, its line of standard output, its lines of standard error and its outcome.
+-- What a run does with one file, whatever its other files are: the disk after it, its line of standard output, its lines of
+-- standard error and its outcome.
 pub data Step (s : Settings) (old new : Disk) (path line : List ℕ) (reports : List (List ℕ)) (outcome : FileOutcome) : Type 0 where
   -- the file isn't accepted
   refused : (report : List ℕ) → IsRefused s old.state path outcome report → new ≡ old → line ≡ []

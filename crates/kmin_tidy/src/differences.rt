@@ -8,7 +8,7 @@ use kc_value::Seed;
 use kmin_lines::{LineCounts, count_lines};
 use std::alloc::{AllocError, Global};
 
-/// Appends the line of a file of these bytes, which aren't those of its minimal file.
+/// Appends to `text` the line of standard output for a file of these bytes, which aren't those of its minimal file `least`.
 pub(crate) fn push_difference_line(
     alloc: Global,
     seed: Seed,
@@ -23,7 +23,7 @@ pub(crate) fn push_difference_line(
     push_line(path, counts, text)
 }
 
-/// Appends the line of a file with these counts of lines.
+/// Appends to `text` the line of standard output for a file with these counts of lines.
 fn push_line(path: &str, counts: LineCounts, text: &mut Vec<u8>) -> Result<(), AllocError>
     ensures { OnOk result (text.new.items ≡ text.old.items ++ (path.now ++ (codes ": " ++ (difference counts.out counts.in_ ++ codes "\n")))) }
 {

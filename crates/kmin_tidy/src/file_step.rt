@@ -1,4 +1,4 @@
-//! One file of a run: it is read, compared with its minimal file, and replaced where that is asked for.
+//! One file of a run: it is read, compared with its minimal file, and replaced under the option `--write`.
 ghost use Rattle.std.specs.Prelude.{◌≡◌, ◌≢◌, ◌++◌, [], ℕ, List, map, true, false, Some, None, IfOk, IfErr};
 ghost use Rattle.kc_dotconfig_model.specs.between.Formats.{file_format};
 ghost use Rattle.kc_dotconfig.specs.ConfigStates.{tree_in};
@@ -25,8 +25,8 @@ use kc_minimal::minimal_text;
 use kmin_disk::{FileKind, ReadDisk, ReplaceFault, WriteDisk, replace};
 use std::alloc::{AllocError, Global};
 
-/// Tidies one file: appends its line of standard output if it isn't minimal, replaces it where that is asked for, and
-/// returns its report. The files before it have no influence.
+/// Tidies one file and returns its report. If it isn't minimal, its line of standard output is appended to `text`, and it is
+/// replaced if `options.write` is set. The files before it have no influence.
 pub(crate) fn tidy_file<D: WriteDisk>(
     alloc: Global,
     config: &mut Config<'_>,
@@ -222,8 +222,8 @@ fn minimal_of(
     minimal_text(alloc, config, format)
 }
 
-/// Compares a file with its minimal file. Where they differ, appends the file's line, and replaces it where that is
-/// asked for.
+/// Compares a file with its minimal file. Where they differ, appends the file's line to `text`, and replaces the file if
+/// `options.write` is set.
 fn rewrite<D: WriteDisk>(
     alloc: Global,
     options: TidyOptions,

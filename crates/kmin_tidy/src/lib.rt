@@ -1,4 +1,4 @@
-//! Compares configuration files with their minimal files, and replaces them where that is asked for.
+//! Compares configuration files with their minimal files, and replaces them if that is an option of the run.
 #![tactic(auto)]
 
 mod accepted_file;

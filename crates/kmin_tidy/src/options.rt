@@ -6,16 +6,16 @@ ghost use Rattle.std.specs.Prelude.{◌≡◌};
 pub struct TidyOptions {
     /// Whether a file that isn't minimal is replaced by its minimal file.
     pub write: bool,
-    /// Whether a file with notices is replaced too, without the lines that have them.
+    /// Whether, if `write` is set, a file with notices is replaced too, without the lines that have the notices.
     pub drop: bool,
-    /// Whether a file with a notice is refused.
+    /// Whether a file with a notice is refused, whatever the other options.
     pub strict: bool,
 }
 
 impl TidyOptions {
     ghost use Rattle.kmin_tidy.specs.Options.{refuses_notices};
 
-    /// Whether a file with a notice is refused: under `strict`, and under `write` without `drop`.
+    /// Whether a file with a notice is refused: if `strict` is set, or if `write` is set and `drop` isn't.
     pub(crate) fn refuses_notices(self) -> bool
         ensures { result ≡ refuses_notices self }
     {

@@ -8,9 +8,9 @@ pub enum FileOutcome {
     Minimal,
     /// The file isn't minimal, and files aren't replaced.
     NotMinimal,
-    /// The file is refused as a configuration file.
+    /// The file isn't accepted as a configuration file, or is refused for its notices.
     Refused,
-    /// The file couldn't be read or replaced.
+    /// The file couldn't be read or replaced, or its folder couldn't be synced after it.
     Failed,
 }
 

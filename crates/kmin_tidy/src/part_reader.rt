@@ -11,7 +11,7 @@ pub(crate) struct PartReader<'a> {
 }
 
 impl<'a> PartReader<'a> {
-    /// A reader that has these bytes left.
+    /// A reader that gives these bytes, and then fails.
     pub(crate) fn new(bytes: &'a [u8]) -> PartReader<'a>
         ensures { result.rest.now ≡ bytes.entry.now }
     {

@@ -21,7 +21,7 @@ pub(crate) enum Problem {
     Fault(LoadFault),
     /// The file is a link, a folder, a pipe or a device.
     NotRegular,
-    /// The file couldn't be replaced, or not for good.
+    /// The file couldn't be replaced, or its folder couldn't be synced after it.
     Write,
 }
 
@@ -72,7 +72,7 @@ fn write_problem<E: Sink>(path: &str, problem: Problem, err: &mut E)
     }
 }
 
-/// Writes the last line of a run that ends early.
+/// Writes the last line of standard error of a run that ends early: the reason.
 pub(crate) fn report_stop<E: Sink>(stop: &Stop, err: &mut E)
     ensures { TakesLine (E.taken err.old) (E.failures err.old) (stop_line stop.now) (E.taken err.new) (E.failures err.new) }
 {
@@ -82,7 +82,7 @@ pub(crate) fn report_stop<E: Sink>(stop: &Stop, err: &mut E)
     }
 }
 
-/// Writes that the output can't be written.
+/// Writes the line of standard error that says that standard output can't be written.
 pub(crate) fn report_output<E: Sink>(err: &mut E)
     ensures { TakesLine (E.taken err.old) (E.failures err.old) output_line (E.taken err.new) (E.failures err.new) }
 {
@@ -116,7 +116,8 @@ fn write_line<E: Sink>(pieces: &[&[u8]], err: &mut E)
     let _ = write_pieces(pieces, err);
 }
 
-/// Writes the pieces of a line, one after another, up to the first write that fails.
+/// Writes pieces of a text one after another, up to the first write that fails or takes nothing. On an `Err` the sink took only
+/// the first bytes of the text: some pieces whole, and `written` bytes of the next piece.
 pub fn write_pieces<W: Sink>(pieces: &[&[u8]], sink: &mut W) -> Result<(), WriteFault>
     ensures whole { OnOk result (TakesWhole (W.taken sink.old) (W.failures sink.old) (flat_map (λ (piece : Bor (List ℕ)). piece.now) pieces.now)
         (W.taken sink.new) (W.failures sink.new)) }

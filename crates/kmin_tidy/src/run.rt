@@ -21,11 +21,11 @@ use kc_value::Sink;
 use kmin_disk::WriteDisk;
 use std::alloc::Global;
 
-/// Goes over configuration files, each by itself, over the tree `settled`. Returns the exit status.
+/// Compares configuration files, each by itself, with their minimal files over the tree `settled`. Returns the exit status.
 ///
 /// With `write` each file that isn't its own minimal file is replaced by it, whole or not at all; without it nothing on
 /// the disk changes. A file that can't be read or isn't accepted is left as it is, and so is one with notices under
-/// `strict`, and with `write` unless `drop` is given. Nothing but its own bytes decides what becomes of a file.
+/// `strict`, and with `write` unless `drop` is given. The other files have no influence on what becomes of a file.
 ///
 /// Standard output `out` has a line for each file that isn't minimal, `FILE: K out, L in` or `FILE: order`, in the order
 /// of `paths`. It is written once, at the end, and not at all where the run ends early. Standard error `err` has the
@@ -33,8 +33,8 @@ use std::alloc::Global;
 /// for a new file that couldn't be removed, `output: Write` and `out of memory`.
 ///
 /// The status is 6 where memory ran out and 5 where a new file is left, which both end the run, and 5 where the output
-/// can't be written. Else it is that of the first file that isn't accepted or replaced: 4 for what its bytes are, 5 for
-/// a failed read or write. Else it is 1 where a file isn't minimal and isn't replaced, and 0.
+/// can't be written. Else the first file that is refused or fails decides it: 4 where the file is refused for its bytes, 5
+/// where it can't be read or replaced. Else it is 1 where a file isn't minimal and isn't replaced, and 0 otherwise.
 pub fn tidy_files<D: WriteDisk, O: Sink, E: Sink>(
     alloc: Global,
     settled: &Settled,

@@ -9,7 +9,7 @@ use std::alloc::AllocError;
 pub(crate) enum Stop {
     /// Memory ran out.
     Memory,
-    /// The new file at this path couldn't be removed.
+    /// The new file at this path, which was to replace a file, couldn't be removed.
     Left(String),
 }
 

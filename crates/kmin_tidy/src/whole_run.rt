@@ -16,14 +16,14 @@ use kc_value::Sink;
 use kmin_disk::WriteDisk;
 use std::alloc::Global;
 
-/// The text of a run, and its exit status.
+/// The text for standard output of a run over all its files, and its exit status.
 #[derive(Drop)]
 pub(crate) struct Tidied {
     pub(crate) text: Vec<u8>,
     pub(crate) status: u8,
 }
 
-/// Tidies files one after another. The report of each is written before the next file is read.
+/// Tidies the files at `paths` one after another. The report of each is written to `err` before the next file is read.
 pub(crate) fn tidy_all<D: WriteDisk, E: Sink>(
     alloc: Global,
     settled: &Settled,

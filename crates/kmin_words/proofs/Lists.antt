@@ -12,12 +12,13 @@ pub filter_map_map : {X Y Z : Type 0} (h : Y → Option Z) (f : X → Y) (xs : L
 filter_map_map h f [] = refl
 filter_map_map h f (x ∷ xs) = ap (cons_option (h (f x))) (filter_map_map h f xs)
 
--- one more element
+-- the mapped and filtered first i + 1 elements of a list are those of the first i, and that of the element at i if it has one
 pub filter_map_more : {X Y : Type 0} (h : X → Option Y) (xs : List X) (i : ℕ) (d : X) → i < length xs
     → filter_map h (take (i + 1) xs) ≡ filter_map h (take i xs) ++ cons_option (h (get_or xs i d)) []
 filter_map_more h xs i d l = ap (filter_map h) (take_more xs i d l) ∙ filter_map-append h (take i xs) (get_or xs i d ∷ [])
 
--- the values of one more element, if it has one
+-- if `ys` are the values of the first i elements of a list, and the element at i has the value y, those of the first i + 1 are
+-- `ys` and y
 pub filter_map_some : {X Y Z : Type 0} (view : Y → Z) (h : X → Option Z) (xs : List X) (i : ℕ) (x : X) (ys : List Y) (y : Y)
     → i < length xs → x ≡ get_or xs i x → Some (view y) ≡ h x → map view ys ≡ filter_map h (take i xs)
     → map view (ys ++ y ∷ []) ≡ filter_map h (take (i + 1) xs)

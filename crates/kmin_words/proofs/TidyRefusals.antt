@@ -12,7 +12,7 @@ use Rattle.kmin_words.specs.checker.Refusals.{Agrees}
 abbrev made : Found → List (List ℕ) → Settings → OrRefused Tidying
 made found files settings = Ok (record { settings = settings; flags = flags_of found; list = list_of found; files = files })
 
--- the options of `tidy` are refused
+-- a refusal of the options of `tidy` is the refusal of the whole command
 pub refused_beside : (found : Found) (named : List (List ℕ)) (list : Option PathList) (result : Result DeclaredSettings Refusal) (refusal : Refusal)
     → one_line_paths (values_of found (codes "FILE")) ≡ Ok named → list ≡ list_of found → result ≡ Err refusal
     → Agrees settings_view (settings_of found (paths_read named list)) result

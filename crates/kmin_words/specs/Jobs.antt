@@ -16,18 +16,20 @@ use Rattle.kmin_words.specs.declared.job.Questions.{Questions as DeclaredQuestio
 use Rattle.kmin_words.specs.declared.job.Task.{Task as DeclaredTask}
 use Rattle.kmin_words.specs.declared.job.Task.TheVariants.{Over, Compare}
 
--- one `--define NAME=VALUE`
+-- a definition of the command line: one `--define NAME=VALUE`
 pub record Definition : Type 0 where
   pub name : List ℕ
   pub value : List ℕ
 
--- where the questions of a tree's macros are answered: by answer files, by definitions, and for these names by the environment, each in order
+-- where the questions of a tree's macros are answered: by answer files, by definitions, and for these names by the environment,
+-- each in order
 pub record Expansion : Type 0 where
   pub answers : List (List ℕ)
   pub definitions : List Definition
   pub environment : List (List ℕ)
 
--- the options of a command over configuration files: `tree` is the path of the first Kconfig file below `root`; without `expansion` no macro is expanded
+-- the options of a command over configuration files: `tree` is the path of the first Kconfig file, relative to the folder
+-- `root`; without `expansion` no macro is expanded
 pub record Settings : Type 0 where
   pub root : List ℕ
   pub tree : List ℕ
@@ -49,7 +51,8 @@ pub record Tidying : Type 0 where
   pub list : Option PathList
   pub files : List (List ℕ)
 
--- the command `wants`: the folder of the tree, the path of its first Kconfig file there, and where its macros' questions are answered
+-- the command `wants`: the folder of the tree, the path of its first Kconfig file there, and where its macros' questions are
+-- answered
 pub record Questions : Type 0 where
   pub root : List ℕ
   pub tree : List ℕ

@@ -4,26 +4,26 @@ use Rattle.std.specs.List.{flat_map, list_any}
 use Rattle.kmin_words.specs.declared.messages.Row.{Row}
 use Rattle.kmin_words.specs.declared.messages.Table.{Table}
 
--- the lines of a row, if it explains this kind of message
+-- the help lines of a row, if it explains this kind of message; empty if not
 abbrev pub row_text : (kind : List ℕ) → Row → List ℕ
 row_text kind row = if bytes_eq row.kind.now kind then row.lines.now ++ codes "\n" else []
 
--- the lines of the rows that explain a kind of message
+-- the help lines of the rows that explain this kind of message, in order
 abbrev pub rows_text : (kind : List ℕ) → List Row → List ℕ
 rows_text kind rows = flat_map (row_text kind) rows
 
--- the rows of a table that explain a kind of message, under its heading; nothing where there are none
+-- the help of a table on this kind of message: its heading and the rows that explain the kind; empty if none does
 abbrev pub table_text : (kind : List ℕ) → Table → List ℕ
 table_text kind table =
     if list_any (λ (row : Row). bytes_eq row.kind.now kind) table.rows.now
     then table.heading.now ++ (codes "\n" ++ rows_text kind table.rows.now)
     else []
 
--- the rows of all tables that explain a kind of message
+-- the help of all tables on this kind of message, in order
 abbrev pub kind_text : (kind : List ℕ) → List Table → List ℕ
 kind_text kind tables = flat_map (table_text kind) tables
 
--- the help on a kind of message where the words are `help KIND`, and else nothing
+-- the help on a kind of message if the words of the command line are `help KIND`; empty if not
 abbrev pub kind_asked : (words : List (List ℕ)) → List Table → List ℕ
 kind_asked [] tables = []
 kind_asked (first ∷ []) tables = []

@@ -35,13 +35,13 @@ pub enum ParsedWords<'a> {
     Questions(Questions<'a>),
     /// `kmin tidy`, which compares each file with its minimal file, or replaces it.
     Tidy(Tidying<'a>),
-    /// The help or the version that was asked for.
+    /// The text of the help or of the version, if the words request it.
     Help(String),
     /// The message for words that are refused.
     Refused(String),
 }
 
-/// Reads the words after the program's name.
+/// Parses the words of the command line after the program's name. An `Err` means out of memory.
 pub fn read_words<'a>(alloc: Global, words: &'a [&'a str]) -> Result<ParsedWords<'a>, AllocError>
     ensures { IfOk result parsed.HasFoundValues }
 {
@@ -189,7 +189,7 @@ fn questions_of<'a>(alloc: Global, matches: &ArgMatches<'a>) -> Result<Questions
     })
 }
 
-/// A command over configuration files, with its options and files.
+/// The command with this name over configuration files, with the options and files that `clap` found.
 pub(crate) fn job_with<'a>(
     alloc: Global,
     name: &str,
@@ -226,7 +226,8 @@ fn prefix_of(text: &str) -> Result<Prefix, Refusal>
     }
 }
 
-/// The options of a command over configuration files of these paths, which may name standard input once.
+/// The options of a command over configuration files of these paths; refused if they and the answer files name standard input
+/// more than once.
 pub(crate) fn settings_of<'a>(
     alloc: Global,
     matches: &ArgMatches<'a>,

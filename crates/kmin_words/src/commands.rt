@@ -151,7 +151,7 @@ static ANSWERS: [ListHelp; 3] = [
     },
 ];
 
-/// The program with all its commands.
+/// The program and all its commands, as `clap` needs them.
 pub(crate) fn program<'a>(alloc: Global) -> Result<Command<'a>, AllocError> {
     let mut program = named(alloc)?;
     for help in &WRITING {
@@ -165,7 +165,7 @@ pub(crate) fn program<'a>(alloc: Global) -> Result<Command<'a>, AllocError> {
     with_command(program, over_a_tree(alloc, &WANTS))
 }
 
-/// The names of all commands.
+/// The names of all commands, with `help`.
 pub(crate) fn command_names(alloc: Global) -> Result<Vec<&'static str>, AllocError> {
     let mut names = Vec::new(alloc);
     for help in &WRITING {

@@ -6,17 +6,17 @@ use kc_rules_model::Profile;
 /// The commands that write a text about one configuration.
 #[derive(Clone, Copy, Debug, PartialEq, Eq)]
 pub enum Verb {
-    /// `min`: the minimal file.
+    /// `min`: writes the minimal file, with a line for each symbol or choice that would have another value without that line.
     Min,
-    /// `full`: the full file.
+    /// `full`: writes the full file: the symbols that are visible, selected, implied or have a default.
     Full,
-    /// `missed`: the names of the symbols that don't have the value that a file assigns.
+    /// `missed`: lists the names of the symbols that don't have the value that a configuration file assigns.
     Missed,
-    /// `check`: the names of the symbols that are selected against their dependencies.
+    /// `check`: lists the names of the symbols that are selected against their dependencies.
     Check,
 }
 
-/// One `--define NAME=VALUE`.
+/// A definition of the command line: one `--define NAME=VALUE`.
 #[derive(Clone, Copy)]
 pub struct Definition<'a> {
     pub name: &'a str,
@@ -28,7 +28,7 @@ pub struct Definition<'a> {
 pub struct Expansion<'a> {
     /// The paths of the answer files, in the order of the command line.
     pub answers: Vec<&'a str>,
-    /// The definitions, in order. The last one of a name counts, and has precedence over all answer files.
+    /// The definitions of `--define`, in order. The last one of a name counts, and has precedence over all answer files.
     pub definitions: Vec<Definition<'a>>,
     /// The names that the environment may answer, where neither a definition nor an answer file does.
     pub environment: Vec<&'a str>,
@@ -77,7 +77,7 @@ pub struct Job<'a> {
     pub task: Task<'a>,
 }
 
-/// A job whose output goes to the file of `--output`.
+/// A command over configuration files whose output goes to the file of `--output`.
 #[derive(Drop)]
 pub struct Saving<'a> {
     pub job: Job<'a>,
@@ -120,6 +120,6 @@ pub struct Questions<'a> {
     pub root: &'a str,
     /// The path of the tree's first Kconfig file, relative to `root`.
     pub tree: &'a str,
-    /// Where the other questions are answered.
+    /// Where the questions of the tree's macros are answered; those without an answer are open.
     pub expansion: Expansion<'a>,
 }

@@ -8,7 +8,7 @@ ghost use Rattle.kmin_words.specs.Messages.{kind_asked, kind_text, row_text, row
 use crate::messages::{Row, Table};
 use std::alloc::{AllocError, Global};
 
-/// The help on a kind of message where the words are `help KIND`, and else the empty text.
+/// The help on a kind of message if the words of the command line are `help KIND`; empty if not.
 pub(crate) fn kind_asked(
     alloc: Global,
     tables: &[Table],

@@ -1,12 +1,12 @@
 //! The help on messages: one set of tables, for `kmin --help` and for `kmin help KIND`.
 
-/// A row of help: the kind of a message, and its lines.
+/// A row of a table of help: a kind of message, and the lines that explain it.
 pub(crate) struct Row {
     pub(crate) kind: &'static str,
     pub(crate) lines: &'static str,
 }
 
-/// A table of help: rows under a heading.
+/// A table of help: a heading, and a row for each kind of message.
 pub(crate) struct Table {
     pub(crate) heading: &'static str,
     pub(crate) rows: &'static [Row],
@@ -175,7 +175,7 @@ pub(crate) const AFTER_LONG: &str = tables!(as_long_help);
 
 static TABLES: [Table; 6] = tables!(as_tables);
 
-/// All tables of messages.
+/// All tables of help on kinds of messages.
 pub(crate) fn message_tables() -> &'static [Table] {
     &TABLES
 }

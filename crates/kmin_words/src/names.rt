@@ -6,7 +6,7 @@ ghost use Rattle.kmin_words.specs.Names.{first_near, nearest, with_tip};
 use std::alloc::{AllocError, Global};
 use strsim::osa_distance;
 
-/// Inserts the tip of a similar name after the first line of a message.
+/// Inserts a tip after the first line of a message: that the similar name `name` exists.
 pub(crate) fn with_tip(alloc: Global, message: &str, name: &str) -> Result<String, AllocError>
     ensures { IfOk result (λ text. text.bytes.items ≡ with_tip name.now message.now) }
 {
@@ -21,8 +21,8 @@ pub(crate) fn with_tip(alloc: Global, message: &str, name: &str) -> Result<Strin
     Ok(text)
 }
 
-/// The first name at most one edit from a word, or else, for a word of six bytes or more, at most two. An edit adds,
-/// drops or changes a character, or swaps two neighbours.
+/// The first of `names` at most one edit from a word, or if there is none and the word has six bytes or more, at most two. An
+/// edit adds, drops or changes a character, or swaps two neighbours.
 pub(crate) fn nearest<'n>(
     alloc: Global,
     word: &str,

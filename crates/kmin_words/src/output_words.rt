@@ -12,7 +12,7 @@ use crate::refusal::Refusal;
 use clap::ArgMatches;
 use std::alloc::Global;
 
-/// A command over configuration files, and the path of its output file, if one is given.
+/// The command with this name over configuration files, and the path of its output file, if one is given.
 pub(crate) fn job_and_output<'a>(
     alloc: Global,
     name: &str,

@@ -4,7 +4,7 @@ ghost use Rattle.std.specs.Prelude.{◌≡◌};
 
 use std::alloc::{AllocError, AllocFailed};
 
-/// Why words that `clap` accepts give no job.
+/// Why words that `clap` accepts give no command.
 #[derive(Clone, Copy, Debug)]
 pub(crate) enum Refusal {
     /// A value isn't allowed. The text is the line of the message, which names the option or the word.

@@ -15,7 +15,7 @@ pub(crate) fn value_of<'a>(matches: &ArgMatches<'a>, id: &str) -> &'a str
     matches.get_str(id).unwrap_or("")
 }
 
-/// Whether a flag is given.
+/// Whether a flag is given on the command line.
 pub(crate) fn is_given(matches: &ArgMatches<'_>, id: &str) -> bool
     ensures { result ≡ parsed.is_given (found_of matches.now) id.now }
 {

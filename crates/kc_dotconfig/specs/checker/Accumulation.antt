@@ -1,4 +1,4 @@
--- The state accumulated while a file is read.
+-- The state accumulated while a configuration file is read.
 use Rattle.std.specs.Prelude.{◌≡◌, ℕ, ◌+◌, ◌≤◌, List, ◌++◌, length, map}
 use Rattle.kc_tree_model.specs.Trees.{Tree}
 use Rattle.kc_dotconfig_model.specs.Formats.{FileFormat}
@@ -14,7 +14,7 @@ use Rattle.kc_dotconfig.specs.declared.fragment.Fragment.{Fragment}
 use Rattle.kc_dotconfig.specs.Fragments.{users_of, notice_pair}
 use Rattle.kc_dotconfig.specs.checker.UserValueOrder.{Rises, Below}
 
--- the assignment, the notices and the number of the lines so far
+-- the accumulator has the assignment, the notices and the number of the lines with these meanings
 pub record IsGathered (tree : Tree) (meanings : List LineMeaning) (g : Accumulator) : Type 0 where
   pub users : users_of tree g.assigns ≡ file_assignment tree meanings
   pub noted : map notice_pair g.notices.items ≡ notices_from 1 meanings
@@ -22,7 +22,7 @@ pub record IsGathered (tree : Tree) (meanings : List LineMeaning) (g : Accumulat
   pub rises : Rises g.assigns
   pub below : Below (length tree.units) g.assigns
 
--- the line of a fault after some complete lines is the next one; out of memory is of no line
+-- the line number of a fault of a kind after this number of complete lines: the next line's, but 0 for out of memory
 abbrev pub fault_line : LoadKind → ℕ → ℕ
 fault_line OutOfMemory lines = 0
 fault_line Malformed lines = lines + 1
@@ -32,41 +32,46 @@ fault_line TooManyLines lines = lines + 1
 fault_line Read lines = lines + 1
 fault_line TooLarge lines = lines + 1
 
--- the incomplete line, and the state accumulated from a part of a file
+-- the bytes read so far end with this incomplete line, and the accumulator has the meanings of the complete lines before it
 abbrev pub Holds : FileFormat → Tree → List ℕ → List ℕ → Accumulator → Type 0
 Holds format tree known line g = (meanings : List LineMeaning) × IsCut format tree known line meanings × IsGathered tree meanings g
 
--- a piece of a line goes on
+-- the third list, a piece without a fault, extends the incomplete line from the first list to the second, after this number of
+-- complete lines
 abbrev pub GoesOn : List ℕ → List ℕ → List ℕ → ℕ → Type 0
 GoesOn old new piece lines = (format : FileFormat) (tree : Tree) (known : List ℕ) (meanings : List LineMeaning) → IsCut format tree known old meanings
     → length meanings ≡ lines → length known + length piece ≤ MAX_CONFIG_BYTES → IsCut format tree (known ++ piece) new meanings
 
--- a piece of a line has the first fault
+-- the second list, a piece after the incomplete line in the first, has the file's first fault, of this kind, in the line after
+-- this number of complete lines
 abbrev pub StopsIn : List ℕ → List ℕ → ℕ → LoadKind → Type 0
 StopsIn old piece lines kind = (format : FileFormat) (tree : Tree) (known rest : List ℕ) (meanings : List LineMeaning) → IsCut format tree known old meanings
     → length meanings ≡ lines → length known + length piece ≤ MAX_CONFIG_BYTES
     → IsFirstFault format tree complete (known ++ (piece ++ rest)) kind (lines + 1)
 
--- these bytes are taken
+-- `bytes` have no fault; they change the incomplete line from `line` to `new`, and the first accumulator to the second
 abbrev pub AcceptsBytes : FileFormat → Tree → (line : List ℕ) → Accumulator → (bytes new : List ℕ) → Accumulator → Type 0
 AcceptsBytes format tree line g bytes line_new g_new = (known : List ℕ) → Holds format tree known line g → length known + length bytes ≤ MAX_CONFIG_BYTES
     → Holds format tree (known ++ bytes) line_new g_new
 
--- these bytes have the first fault
+-- the bytes have the file's first fault, of this kind, in the line after this number of complete lines
 abbrev pub Refuses : FileFormat → Tree → (line : List ℕ) → Accumulator → (bytes : List ℕ) → LoadKind → ℕ → Type 0
 Refuses format tree line g bytes kind lines = (known rest : List ℕ) → Holds format tree known line g → length known + length bytes ≤ MAX_CONFIG_BYTES
     → IsFirstFault format tree complete (known ++ (bytes ++ rest)) kind (lines + 1)
 
--- the file ends here, without a fault or with one
+-- a file that ends with this incomplete line, after the lines of the first accumulator, has no fault; the second accumulator has
+-- the meanings of all its lines
 abbrev pub EndsWell : FileFormat → Tree → List ℕ → Accumulator → Accumulator → Type 0
 EndsWell format tree line g g_new = (known : List ℕ) → Holds format tree known line g
     → (meanings : List LineMeaning) × IsAccepted format tree known × FileMeans format tree known meanings × IsGathered tree meanings g_new
 
+-- a file that ends with this incomplete line, after the lines of the accumulator, has a first fault of this kind, in the line
+-- after this number of complete lines
 abbrev pub EndsBadly : FileFormat → Tree → List ℕ → Accumulator → LoadKind → ℕ → Type 0
 EndsBadly format tree line g kind lines = (known : List ℕ) → Holds format tree known line g
     → IsFirstFault format tree complete known kind (lines + 1)
 
--- a fragment is the meaning of the file that ends here
+-- a fragment is the meaning of a file that ends with this incomplete line, after the lines of the accumulator
 abbrev pub IsFragmentOf : FileFormat → Tree → List ℕ → Accumulator → Fragment → Type 0
 IsFragmentOf format tree line g f = (known : List ℕ) → Holds format tree known line g
     → (meanings : List LineMeaning) × IsAccepted format tree known × FileMeans format tree known meanings

@@ -5,20 +5,21 @@ use Rattle.kc_rules_model.specs.declared.values.UserValue.{UserValue}
 use Rattle.kc_rules.specs.declared.rules.Settled.{Settled}
 use Rattle.kc_dotconfig.specs.ConfigStates.{Configured, tree_in, IsSolved}
 
--- the units of some user values
+-- the units to which a list of user values assigns, in order
 abbrev pub units_of : List (ℕ × UserValue) → List ℕ
 units_of assigns = map (λ (a : ℕ × UserValue). a.0) assigns
 
--- the least unit that ascending units can have at an index
+-- the least unit that a list of strictly ascending units can have at an index: one more than the preceding unit, or 0
 abbrev pub next_at : List ℕ → ℕ → ℕ
 next_at units zero = 0
 next_at units (suc k) = slice_index units k + 1
 
--- the changes after which units have no user value
+-- the changes that remove the user value of each unit of a list
 abbrev pub clears_of : List ℕ → List (ℕ × Option UserValue)
 clears_of units = map (λ (u : ℕ). (u, None)) units
 
--- its tree is that of its session, and each unit with a user value is in its list
+-- a configuration's tree is `settled`, the configuration is solved, and `held` has units of the tree, among them each unit with a
+-- user value
 pub record IsSoundConfig (settled : Settled) (c : Configured) (held : List ℕ) : Type 0 where
   pub same : c.system ≡ settled
   pub solved : IsSolved c

@@ -4,12 +4,13 @@ use Rattle.kc_dotconfig.specs.declared.meanings.Meaning.{Meaning}
 use Rattle.kc_dotconfig.specs.declared.meanings.Meaning.TheVariants.{Assigns, Noted, Nothing}
 use Rattle.kc_dotconfig_model.specs.ConfigLines.{LineMeaning, assigns, notice, silent}
 
+-- the meaning of a line, from the form in which the code has it: an assignment, a notice or nothing
 abbrev pub meaning_view : Meaning → LineMeaning
 meaning_view (Assigns u x) = assigns u x
 meaning_view (Noted kind) = notice kind
 meaning_view Nothing = silent
 
--- an assignment is to a unit below this count
+-- if a line's meaning is an assignment, its unit is below this number of units
 abbrev pub IsWithin : ℕ → LineMeaning → Type 0
 IsWithin units (assigns u x) = u < units
 IsWithin units (notice kind) = Unit {0}

@@ -3,6 +3,6 @@ use Rattle.kc_dotconfig_model.specs.declared.format.Format.{Format}
 use Rattle.kc_dotconfig_model.specs.Formats.{FileFormat}
 use Rattle.kc_dotconfig_model.specs.between.Prefixes.{prefix_bytes}
 
--- the prefix and the form of strings of a format
+-- the code's format as the definitions have it: the bytes of its prefix, and its form of strings
 abbrev pub file_format : Format → FileFormat
 file_format format = record { prefix = prefix_bytes format.prefix; strings = format.strings }

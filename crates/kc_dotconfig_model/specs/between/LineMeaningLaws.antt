@@ -7,12 +7,12 @@ use Rattle.kc_dotconfig_model.specs.ConfigLines.{LineMeaning, Means}
 use Rattle.kc_dotconfig_model.specs.ConfigFiles.{FileMeans}
 use Rattle.kc_dotconfig_model.specs.between.LineMeanings.{line_meaning, file_meanings}
 
--- the function gives the meaning of each line, and of no other
+-- `line_meaning` gives a meaning for a line exactly if the line has that meaning
 abbrev pub LinesAreRead : Type 0
 LinesAreRead = (format : FileFormat) (tree : Tree) (line : List ℕ) (meaning : LineMeaning) → is_prefix format.prefix ≡ true
     → (line_meaning format tree line ≡ Some meaning) ↔ Means format tree line meaning
 
--- the function gives the meanings of the lines of each file, and of no other
+-- `file_meanings` gives a list of meanings for a file exactly if the lines of the file have those meanings
 abbrev pub FilesAreRead : Type 0
 FilesAreRead = (format : FileFormat) (tree : Tree) (bytes : List ℕ) (meanings : List LineMeaning) → is_prefix format.prefix ≡ true
     → (file_meanings format tree bytes ≡ Some meanings) ↔ FileMeans format tree bytes meanings

@@ -18,12 +18,13 @@ use Rattle.kc_dotconfig_model.specs.Formats.{FileFormat}
 use Rattle.kc_dotconfig_model.specs.ConfigLines.{LineMeaning, assigns, notice, silent, tri_of_text, unset_meaning, without_white_end}
 use Rattle.kc_dotconfig_model.specs.ConfigFiles.{file_lines}
 
--- the empty text, if nothing follows
+-- the empty text if no bytes are left after the closing quote of a string, and None otherwise
 abbrev pub ended : List ℕ → Option (List ℕ)
 ended [] = Some []
 ended (c ∷ rest) = None
 
--- after an opening quote, up to the closing one
+-- the text from a place after an opening quote up to the closing one, without its escapes; the first argument is
+-- whether a `\` comes just before the place; None unless a closing quote is the last byte
 abbrev pub unquoted_rest : Bool → List ℕ → Option (List ℕ)
 unquoted_rest escaped [] = None
 unquoted_rest true (c ∷ rest) = option_map (λ text. c ∷ text) (unquoted_rest false rest)
@@ -31,50 +32,53 @@ unquoted_rest false (c ∷ rest) = if c == 34
     then ended rest
     else (if c == 92 then unquoted_rest true rest else option_map (λ text. c ∷ text) (unquoted_rest false rest))
 
--- the text between quotes, without its escapes
+-- the text of an escaped string, without its quotes and escapes; None if the bytes aren't such a string
 abbrev pub unquoted : List ℕ → Option (List ℕ)
 unquoted [] = None
 unquoted (c ∷ rest) = if c == 34 then unquoted_rest false rest else None
 
--- the text before a quote that is the last byte
+-- the bytes before a quote that is the last byte; None if the last byte isn't a quote
 abbrev pub before_quote : List ℕ → Option (List ℕ)
 before_quote [] = None
 before_quote (c ∷ []) = if c == 34 then Some [] else None
 before_quote (c ∷ d ∷ rest) = option_map (λ text. c ∷ text) (before_quote (d ∷ rest))
 
--- the text between two quotes, as it is
+-- the text of a raw string, which is all bytes between a quote at the beginning and one at the end; None if the bytes
+-- aren't such a string
 abbrev pub raw_text : List ℕ → Option (List ℕ)
 raw_text [] = None
 raw_text (c ∷ rest) = if c == 34 then before_quote rest else None
 
--- the text of a string by its form
+-- the text of a string after `=`, by the form of strings; None if the bytes aren't a string in that form
 abbrev pub string_text : Strings → List ℕ → Option (List ℕ)
 string_text Escaped text = unquoted text
 string_text Raw text = raw_text text
 
--- the meaning of a tristate's text, for a symbol or a choice's member
+-- the meaning of a line for a bool or tristate, by its unit, its number, its choice (None outside choices) and the tristate after
+-- `=` (None if the text there isn't a tristate)
 abbrev pub tri_meaning : ℕ → ℕ → Option ℕ → Option Tri → LineMeaning
 tri_meaning u s choice None = notice NotOfType
 tri_meaning u s None (Some t) = assigns u (TriUser t)
 tri_meaning u s (Some c) (Some t) = if is_y t then assigns u (MemberUser s) else silent
 
--- the meaning of a string's text between quotes
+-- the meaning of a line for a string symbol, by its unit and the text between the quotes (None if what follows `=`
+-- isn't a string)
 abbrev pub string_meaning : ℕ → Option (List ℕ) → LineMeaning
 string_meaning u None = notice NotOfType
 string_meaning u (Some text) = assigns u (TextUser text)
 
--- the meaning of a text that is no number: nothing if it is empty
+-- the meaning of a text after `=` that is no int or hex: it assigns nothing if it is empty, and gives a notice otherwise
 abbrev pub without_number : List ℕ → LineMeaning
 without_number [] = silent
 without_number (b ∷ text) = notice NotOfType
 
--- the meaning of an int's or hex's text
+-- the meaning of the text after `=` for an int or hex of this unit and this type
 abbrev pub number_meaning : ℕ → Kind → List ℕ → LineMeaning
 number_meaning u kind text = if is_some (number_of_text kind text)
     then assigns u (TextUser text)
     else without_number text
 
--- the meaning of the text after `=`, by the type of its symbol and the form of strings
+-- the meaning of the text after `=`, by the form of strings, and by the type, unit, number and choice of its symbol
 abbrev pub meaning_of_kind : Strings → Kind → ℕ → ℕ → Option ℕ → List ℕ → LineMeaning
 meaning_of_kind strings Boolean u s choice text = tri_meaning u s choice (tri_of_text Boolean text)
 meaning_of_kind strings Tristate u s choice text = tri_meaning u s choice (tri_of_text Tristate text)
@@ -82,48 +86,50 @@ meaning_of_kind strings Text u s choice text = string_meaning u (string_text str
 meaning_of_kind strings Int u s choice text = number_meaning u Int text
 meaning_of_kind strings Hex u s choice text = number_meaning u Hex text
 
--- the meaning of the text after `=`
+-- the meaning of the text after `=` for the symbol of this number
 abbrev pub value_meaning : Strings → Tree → ℕ → Symbol → List ℕ → LineMeaning
 value_meaning strings tree s symbol text = meaning_of_kind strings symbol.kind (unit_of tree s) s symbol.choice text
 
--- what follows a front in a text that has it
+-- the rest of a text (the second list) after a front (the first); None if the text doesn't begin with the front
 abbrev pub after_front : List ℕ → List ℕ → Option (List ℕ)
 after_front [] text = Some text
 after_front (a ∷ front) [] = None
 after_front (a ∷ front) (b ∷ text) = if a == b then after_front front text else None
 
--- the text before the first such byte, and after it
+-- the parts of a text before and after the first occurrence of a byte; None if the byte doesn't occur
 abbrev pub split_at_byte : ℕ → List ℕ → Option (List ℕ × List ℕ)
 split_at_byte b [] = None
 split_at_byte b (c ∷ text) = if c == b then Some ([], text) else option_map (λ parts. (c ∷ parts.0, parts.1)) (split_at_byte b text)
 
--- two parts of which the first is a name
+-- a name and the text after it; None if the name is empty
 abbrev pub if_named : List ℕ × List ℕ → Option (List ℕ × List ℕ)
 if_named parts = if nat_lt 0 (length parts.0) then Some parts else None
 
--- the name before the first such byte, and the text after it
+-- the name before the first occurrence of a byte, and the text after the byte; None if the byte doesn't occur or the
+-- name is empty
 abbrev pub named_before : ℕ → List ℕ → Option (List ℕ × List ℕ)
 named_before b text = option_and_then if_named (split_at_byte b text)
 
--- the name and the text of a line with `=`
+-- the name and the text of a line `CONFIG_NAME=text`, with this prefix; None for any other line
 abbrev pub value_parts : List ℕ → List ℕ → Option (List ℕ × List ℕ)
 value_parts prefix line = option_and_then (named_before 61) (after_front prefix line)
 
--- the name before ` is not set`
+-- from a name and the text after it: the name, if the text is `is not set`; None otherwise
 abbrev pub if_not_set : List ℕ × List ℕ → Option (List ℕ)
 if_not_set parts = if bytes_eq parts.1 (codes "is not set") then Some parts.0 else None
 
--- the name of an unset line
+-- the name of a line `# CONFIG_NAME is not set`, with this prefix; None for any other line
 abbrev pub unset_name : List ℕ → List ℕ → Option (List ℕ)
 unset_name prefix line =
     option_and_then if_not_set (option_and_then (named_before 32) (after_front (codes "# " ++ prefix) line))
 
--- the meaning by a symbol, if it is there
+-- the meaning that the function gives for a symbol and its number, for a line that names the symbol; a notice if there is none
 abbrev pub of_symbol_at : (ℕ → Symbol → LineMeaning) → ℕ → Option Symbol → LineMeaning
 of_symbol_at say s None = notice UnknownSymbol
 of_symbol_at say s (Some symbol) = say s symbol
 
--- the meaning by the number of a symbol, if it has one
+-- the meaning that the function gives for the symbol of this number, for a line that names it; a notice if there is no such
+-- symbol
 abbrev pub of_named : Tree → (ℕ → Symbol → LineMeaning) → Option ℕ → LineMeaning
 of_named tree say None = notice UnknownSymbol
 of_named tree say (Some s) = of_symbol_at say s (slice_get tree.symbols s)
@@ -133,38 +139,40 @@ abbrev pub is_hash : Option ℕ → Bool
 is_hash None = false
 is_hash (Some b) = b == 35
 
--- an empty line or a comment means nothing; any other line is malformed
+-- the meaning of a line that names no symbol: an empty line or a comment assigns nothing; None for a malformed line
 abbrev pub of_other : List ℕ → Option LineMeaning
 of_other [] = Some silent
 of_other (b ∷ line) = if is_hash (find (λ c. not (is_white_byte c)) (b ∷ line)) then Some silent else None
 
--- the meaning of an unset line, or of any other line without `=`
+-- the meaning of a line that isn't of the form `CONFIG_NAME=text`, given its name if it is `# CONFIG_NAME is not set` and None if
+-- not; the meaning is None if the line is malformed
 abbrev pub of_unset : Tree → List ℕ → Option (List ℕ) → Option LineMeaning
 of_unset tree line None = of_other line
 of_unset tree line (Some name) =
     Some (of_named tree (λ s symbol. unset_meaning tree s symbol symbol.choice) (symbol_named tree name))
 
--- the meaning of a line with `=`, or of any other line
+-- the meaning of a line, given its name and text if it has the form `CONFIG_NAME=text` and None if not; the meaning is None if
+-- the line is malformed
 abbrev pub of_value : FileFormat → Tree → List ℕ → Option (List ℕ × List ℕ) → Option LineMeaning
 of_value format tree line None = of_unset tree line (unset_name format.prefix line)
 of_value format tree line (Some parts) =
     Some (of_named tree (λ s symbol. value_meaning format.strings tree s symbol parts.1) (symbol_named tree parts.0))
 
--- the meaning of a line without trailing white space
+-- the meaning of a line that has no white bytes at its end; None if it is malformed
 unfoldable pub line_meaning : FileFormat → Tree → List ℕ → Option LineMeaning
 line_meaning format tree line = of_value format tree line (value_parts format.prefix line)
 
--- a line's meaning before those of the other lines, unless one is malformed
+-- a line's meaning in front of the meanings of the lines after it; None if any of the lines is malformed
 abbrev pub with_rest : Option LineMeaning → Option (List LineMeaning) → Option (List LineMeaning)
 with_rest (Some meaning) (Some meanings) = Some (meaning ∷ meanings)
 with_rest _ _ = None
 
--- the meanings of lines, unless one is malformed
+-- the meanings of lines, in order; None if any of them is malformed
 abbrev pub meanings_of_lines : FileFormat → Tree → List (List ℕ) → Option (List LineMeaning)
 meanings_of_lines format tree [] = Some []
 meanings_of_lines format tree (line ∷ lines) =
     with_rest (line_meaning format tree (without_white_end line)) (meanings_of_lines format tree lines)
 
--- the meanings of the lines of a file, if none is malformed
+-- the meanings of the lines of a configuration file, in order; None if any of them is malformed
 abbrev pub file_meanings : FileFormat → Tree → List ℕ → Option (List LineMeaning)
 file_meanings format tree bytes = meanings_of_lines format tree (file_lines bytes)

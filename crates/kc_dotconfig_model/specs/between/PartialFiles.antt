@@ -9,17 +9,18 @@ use Rattle.kc_dotconfig_model.specs.ConfigLines.{LineMeaning, Means, without_whi
 use Rattle.kc_dotconfig_model.specs.ConfigFiles.{file_lines}
 use Rattle.kc_value.specs.declared.limits.TheConstants.{MAX_CONFIG_BYTES, MAX_CONFIG_LINES, MAX_LINE_BYTES}
 
--- a line without a fault of its own, and its meaning
+-- the line has this meaning, is UTF-8, and has at most `MAX_LINE_BYTES` bytes
 pub record IsSound (format : FileFormat) (tree : Tree) (line : List ℕ) (meaning : LineMeaning) : Type 0 where
   pub text : IsUtf8 line
   pub short : length line ≤ MAX_LINE_BYTES
-  pub says : Means format tree (without_white_end line) meaning
+  pub has_meaning : Means format tree (without_white_end line) meaning
 
--- no bytes, or bytes that end with a newline
+-- the bytes are empty, or end with a newline
 abbrev pub IsEnded : List ℕ → Type 0
 IsEnded front = (front ≡ []) ⊎ ((earlier : List ℕ) × (front ≡ earlier ++ 10 ∷ []))
 
--- a part of a file: complete lines, each without a fault, and the line so far, within all limits
+-- `known` is the first part of a file, within all limits: complete lines without a fault, which have these meanings,
+-- and after them `line`, which is empty or has no newline yet
 pub record IsCut (format : FileFormat) (tree : Tree) (known line : List ℕ) (meanings : List LineMeaning) : Type 0 where
   pub front : List ℕ
   pub whole : known ≡ front ++ line

@@ -1,7 +1,7 @@
--- The names of choices, as the definitions have them.
+-- The names of choices, as lists of bytes.
 use Rattle.std.specs.Prelude.{ℕ, List, Vec}
 use Rattle.std.specs.declared.alloc.Global.{Global}
 
--- a name of a choice, by its entry of the map
+-- the name of a choice, from its entry in a map of names
 abbrev pub name_of_entry : Vec ℕ Global × Unit {0} → List ℕ
 name_of_entry e = e.0.items

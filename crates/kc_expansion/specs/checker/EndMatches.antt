@@ -3,12 +3,13 @@ use Rattle.std.specs.Prelude.{◌≡◌, ℕ, suc, ◌<◌, ◌≤◌, Bool, fal
 use Rattle.std.specs.List.{list_any}
 use Rattle.kc_macros_model.specs.PathPatterns.{matches}
 
--- `ends` has a truth for each end of a name: whether that matches a piece
+-- `ends` has for each end of a name, from the whole name to the empty end, whether it matches a piece of a pattern
 pub record HasEndMatches (piece name : List ℕ) (ends : List Bool) : Type 0 where
   pub count : length ends ≡ suc (length name)
   pub each : (k : ℕ) → k ≤ length name → slice_index_or ends k false ≡ matches piece (drop k name)
 
--- `ends` has from a place on whether this or a later truth of `start` holds, and before it the truths of `start`; `some` is the one at that place
+-- `ends` has at each place from `at` on whether `start` is true at that place or a later one, and before `at` the same as
+-- `start`; `some` is whether `start` is true at `at` or a later place
 pub record AreSpread (start ends : List Bool) (at : ℕ) (some : Bool) : Type 0 where
   pub within : at ≤ length start
   pub some_is : some ≡ list_any (λ b. b) (drop at start)

@@ -1,4 +1,4 @@
--- A reading of a tree, as the definitions have it.
+-- The code's reading of a tree, as one of `kc_macros_model`.
 use Rattle.std.specs.Prelude.{◌≡◌, ℕ, suc, Bool, true, false, ◌+◌, ◌-◌, ◌<◌, ◌≤◌, List, [], ◌++◌, length, Vec, Option, Some, None}
 use Rattle.std.specs.declared.alloc.Global.{Global}
 use Rattle.kc_tree_model.specs.LogicalLines.{PhysicalLine}
@@ -34,78 +34,80 @@ use Rattle.kc_expansion.specs.declared.reading_state.Reading.{Reading}
 use Rattle.kc_expansion.specs.declared.written_file.WrittenFile.{WrittenFile}
 use Rattle.kc_expansion.specs.declared.line_places.LineStart.{LineStart}
 
--- a fault without a text
+-- the fault of this kind at a line of a file, without a text
 abbrev pub fault_at : Place → MacroKind → Fault
 fault_at at kind = record { at = at; kind = kind; text = [] }
 
--- a state with the variables and the names of choices that the code has
+-- the state of a reading, with its variables and names of choices replaced by those that the code has
 abbrev pub with_lines : LineState → ReadingState → ReadingState
 with_lines l s = record s { bindings = bindings_of l.bindings; choices = l.choices }
 
--- the state of a reading as the definitions have it
+-- the state of the code's reading of a tree, as a state of `kc_macros_model`
 abbrev pub state_of : Reading → ReadingState
 state_of r = record { bindings = bindings_of r.lines.bindings; choices = r.lines.choices; expanded = r.expanded; files = r.counts.files; bytes = r.counts.bytes; listed = r.listed }
 
--- the run of a reading, with the files that it has read
+-- the run of the code's reading of a tree, with the files that the reading has read
 abbrev pub file_run_of : TreeContents → Reading → FileRun
 file_run_of contents r = file_run contents (known_of r.store) r.lines.run
 
--- the way in which files are read where these are open
+-- how the files of a `source` line are read while the files of these paths are open within each other
 abbrev pub reader_for : (root : List ℕ) → List (List ℕ) → SourceReader
 reader_for root open_files = source_read (suc max_open_files - length open_files) root open_files
 
--- the way in which files are read where the code has these open
+-- how the files of a `source` line are read while the code has these files open within each other
 abbrev pub reader_of : OpenFiles → SourceReader
 reader_of o = reader_for o.root.now (slices_of o.paths.now)
 
--- a path isn't copied: it isn't known, or memory ran out
+-- a stop is the reason why the path of a `source` line isn't copied: the path isn't known, or memory ran out
 abbrev pub IsNoPath : Option (List ℕ) → Stop → Type 0
 IsNoPath path (kinds.Fault f) = ⊥
 IsNoPath path kinds.Unanswered = path ≡ None
 IsNoPath path kinds.OutOfMemory = Unit {0}
 
--- a line that sources no files
+-- the form of a line isn't that of a `source` line
 abbrev pub IsNoSource : LineForm → Type 0
 IsNoSource (sources sort path) = ⊥
 IsNoSource form = Unit {0}
 
--- the bindings after an assignment on a line; a fault where the line is continued
+-- the program that returns the bindings after an assignment on a line; it fails where the line is continued
 abbrev pub assigned_or_fault : Place → (continued : Bool) → Bindings → Assignment → Program Bindings
 assigned_or_fault at true b a = fault at JoinedAssignment []
 assigned_or_fault at false b a = bindings_assigned at b a.name (operator_of a.operator) a.text
 
--- the rest of a line after its first step
+-- the program for the rest of a line after its first step: it returns the written line, or first reads the files of a `source`
+-- line
 abbrev pub step_left : SourceReader → Place → LineStep → ReadingState → Program WrittenLine
 step_left sub at (steps.Written l) s = returns (written_line l.text.items l.begins_help s)
 step_left sub at (steps.Sources l) s = source_followed sub at (tokens_of l.tokens.items) (source_sort_of l.sort) (Some l.given.items) s >>= short_line at false
 
--- finds the paths of a pattern, and reads their files
+-- the program that finds the files of a `source` line's pattern, and reads them
 abbrev pub pattern_followed : SourceReader → Place → SourceSort → (path : List ℕ) → ReadingState → Program Progress
 pattern_followed sub at sort path s = files_of_pattern at path s.listed >>= pattern_read sub at sort s
 
--- reads the files of a `source` line, by the list of their paths, or the one file of its path
+-- the program that reads the files of a `source` line: those of a list of paths, or where there is no list the one file of its
+-- path
 abbrev pub paths_left : SourceReader → Place → (path : List ℕ) → Option (Vec (Vec ℕ Global) Global) → ReadingState → Program Progress
 paths_left sub at path None s = sub at (one_file path) s
 paths_left sub at path (Some paths) s = sub at (file_list (list_name at) (texts_of paths)) s
 
--- a program with a text before the text that it returns
+-- a program, with a text before the text that it returns
 abbrev pub after_text : List ℕ → Program Progress → Program Progress
 after_text done p = p >>= λ rest. returns (progress (done ++ rest.text) rest.state)
 
--- reads the lines of a file that follow, after the text of the lines before
+-- the program that reads the remaining lines of a file, where `done` is the text of the lines before them
 abbrev pub lines_left : SourceReader → (file : List ℕ) → LineStart → (done : List ℕ) → List PhysicalLine → ReadingState → Program Progress
 lines_left sub file start done ls s = after_text done (lines_read sub file 0 start.number ls s)
 
--- reads the files of a list that follow, after the lines of those before
+-- the program that reads the remaining files of a list, where `done` is the text for the files before them
 abbrev pub lists_left : SourceReader → Place → (done : List ℕ) → List (List ℕ) → ReadingState → Program Progress
 lists_left sub at done paths s = after_text done (list_read sub at paths s)
 
--- counts that are those of a state
+-- the code's counts of files and bytes that were read are those of the state of a reading
 pub record AreCounts (counts : ReadCounts) (s : ReadingState) : Type 0 where
   pub files : s.files ≡ counts.files
   pub bytes : s.bytes ≡ counts.bytes
 
--- a file was read with these bytes, and may be sourced where these files are open
+-- a file was read with these bytes, and may be sourced where these files are open and these counts of files and bytes were read
 pub record MayBeRead (open_files : List (List ℕ)) (counts : ReadCounts) (path : List ℕ) (read : FileRead) (bytes : List ℕ) : Type 0 where
   pub is_whole : read ≡ whole bytes
   pub no_fault : (s : ReadingState) → AreCounts counts s → source_fault open_files s path (Some bytes) ≡ None
@@ -117,7 +119,7 @@ pub record MayBeRead (open_files : List (List ℕ)) (counts : ReadCounts) (path 
 pub record MayNotBeRead (open_files : List (List ℕ)) (counts : ReadCounts) (path : List ℕ) (read : FileRead) (kind : MacroKind) : Type 0 where
   pub is_fault : (s : ReadingState) → AreCounts counts s → (bytes : Option (List ℕ)) → AreBytes read bytes → source_fault open_files s path bytes ≡ Some kind
 
--- a file is written up to the beginning of a line
+-- the text of a file with these bytes can be written on from the line that begins at `start`: nothing from there on was replaced
 pub record IsWrittenTo (bytes : List ℕ) (start : LineStart) (out : WrittenFile) : Type 0 where
   pub original : out.original.value.items ≡ bytes
   pub copied : out.copied ≤ start.at

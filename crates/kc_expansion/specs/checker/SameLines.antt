@@ -6,11 +6,11 @@ use Rattle.kc_macros_model.specs.Programs.{Place, returns}
 use Rattle.kc_macros_model.specs.ReadingStates.{ReadingState, written_line}
 use Rattle.kc_macros_model.specs.TreeExpansion.{SourceReader, line_written}
 
--- a line stays as it is in each state, and a help text follows it or not
+-- the expansion leaves a line as it is in each state of a reading, and takes a help text to follow it just if `begins_help`
 pub record Stays (text : List ℕ) (begins_help : Bool) : Type 0 where
   pub written : (sub : SourceReader) (at : Place) (continued : Bool) (s : ReadingState) → line_written sub at continued text s ≡ returns (written_line text begins_help s)
 
--- a line stays, with a help text after it or not; or it may change, since it isn't too long and is UTF-8
+-- a line stays as it is, with a help text after it or not (`Some`); or it may change, and is UTF-8 and not too long (`None`)
 abbrev pub MayStay : List ℕ → Option Bool → Type 0
 MayStay text (Some begins_help) = Stays text begins_help
 MayStay text None = (nat_lt max_text_bytes (length text) || not (is_utf8 text)) ≡ false

@@ -4,6 +4,7 @@ use Rattle.kc_macros_model.specs.declared.fault.MacroKind.{MacroKind}
 use Rattle.kc_macros_model.specs.declared.fault.MacroKind.TheVariants.{TooDeep, TooMany}
 use Rattle.kc_macros_model.specs.Limits.{max_files, max_bytes, max_open_files}
 
--- the fault of a file more, by how many are open within each other, and how many files and bytes are read with it
+-- the fault, if any, of reading one more file, where `open_count` files are open within each other, `files` were read before it,
+-- and `bytes` are read with it
 abbrev pub size_fault : (open_count files bytes : ℕ) → Option MacroKind
 size_fault open_count files bytes = if nat_le max_open_files open_count then Some TooDeep else if nat_le max_files files || nat_lt max_bytes bytes then Some TooMany else None

@@ -2,6 +2,6 @@
 use Rattle.std.specs.Prelude.{ℕ, List, map}
 use Rattle.std.specs.Borrow.{Bor}
 
--- the texts of a list of slices
+-- the bytes of each slice of a list, as a text
 abbrev pub slices_of : List (Bor (List ℕ)) → List (List ℕ)
 slices_of ts = map (λ (t : Bor (List ℕ)). t.now) ts

@@ -3,21 +3,21 @@ use Rattle.std.specs.Prelude.{◌≡◌, ℕ, ◌<◌, List, length, take, slice
 use Rattle.kc_value.specs.declared.tri.Tri.TheVariants.{N}
 use Rattle.kc_expr.specs.Expr.{Expr, alone, constant}
 
--- the names in order of first occurrence, and the expression that each node represents
+-- what contracts see of an arena: its names in order of first occurrence, and the expression that each of its nodes represents
 pub record Exprs : Type 0 where
   pub names : List (List ℕ)
   pub nodes : List Expr
 
--- the expression that a node represents
+-- the expression that the node with a number represents
 abbrev pub node_expr : Exprs → ℕ → Expr
 node_expr a id = slice_index_or a.nodes id (alone (constant N))
 
--- a node of the arena represents an expression
+-- the node of the arena with a number represents an expression
 pub record Represents (a : Exprs) (id : ℕ) (e : Expr) : Type 0 where
   pub within : id < length a.nodes
   pub is : node_expr a id ≡ e
 
--- names and nodes are kept, and others may have been appended
+-- an arena has kept its names and nodes, and others may have been appended
 pub record Grows (old new : Exprs) : Type 0 where
   pub names : take (length old.names) new.names ≡ old.names
   pub nodes : take (length old.nodes) new.nodes ≡ old.nodes

@@ -9,11 +9,11 @@ use Rattle.kc_expr.specs.ExprFaults.{IsFirstExprFault}
 use Rattle.kc_expr.specs.Grammar.{IsExpr, ors, extent, fault_of}
 use Rattle.kc_expr.specs.Token.{Lexeme}
 
--- the tokens of the expression that begins at an index, and the index after them
+-- the tokens of the expression that begins at an index of a line's tokens
 abbrev pub expr_tokens : List Lexeme → ℕ → List Lexeme
 expr_tokens all at = extent (drop at all)
 
--- the index after the expression that begins at an index
+-- the index after the last token of the expression that begins at an index of a line's tokens
 abbrev pub expr_end : List Lexeme → ℕ → ℕ
 expr_end all at = at + length (expr_tokens all at)
 
@@ -21,9 +21,9 @@ expr_end all at = at + length (expr_tokens all at)
 pub record ReadsExpr (a : Exprs) (id : ℕ) (condition : Bool) (ts : List Lexeme) : Type 0 where
   pub expr : Expr
   pub in_grammar : IsExpr ors MAX_EXPR_DEPTH ts expr
-  pub stands : Represents a id (if condition then conditional expr else expr)
+  pub represents : Represents a id (if condition then conditional expr else expr)
 
--- the tokens at an index are no expression, and the fault is their first
+-- the tokens at an index form no expression, and a fault is their first one, with its place in the line
 pub record RefusesExpr (all : List Lexeme) (at : ℕ) (e : ExprFault) : Type 0 where
   pub not_in_grammar : (x : Expr) → IsExpr ors MAX_EXPR_DEPTH (expr_tokens all at) x → ⊥
   pub fault : ExprKind × List Lexeme

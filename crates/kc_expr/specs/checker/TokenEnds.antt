@@ -1,9 +1,10 @@
--- The end of the token at the front of bytes.
+-- The end of what bytes begin with.
 use Rattle.std.specs.Prelude.{ℕ, ◌-◌, ◌<◌, ◌≤◌, List, length, slice_index}
 use Rattle.kc_expr.specs.declared.token.NextToken.{NextToken}
 use Rattle.kc_expr.specs.declared.token.NextToken.TheVariants.{White, Comment, Token, Fault}
 
--- a token has bytes that are there and ends after an ASCII byte; a fault is at a byte that is there
+-- what bytes begin with lies within them: a token has at least one byte and ends after an ASCII byte, white space is an ASCII
+-- byte, a fault is at one of the bytes
 abbrev pub Reaches : List ℕ → NextToken → Type 0
 Reaches bytes White = slice_index bytes 0 < 128
 Reaches bytes Comment = Unit {0}

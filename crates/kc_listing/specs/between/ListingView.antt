@@ -8,12 +8,13 @@ use Rattle.kc_tree_model.specs.Limits.{names_defined}
 use Rattle.kc_listing.specs.declared.listing.Group.{Group as CodeGroup}
 use Rattle.kc_listing.specs.declared.listing.Line.{Line as CodeLine}
 use Rattle.kc_listing.specs.declared.listing.Listing.{Listing}
-use Rattle.kc_listing.specs.declared.listing.GroupHead.{GroupHead as CodeWhat}
+use Rattle.kc_listing.specs.declared.listing.GroupHead.{GroupHead as CodeHead}
 use Rattle.kc_listing.specs.declared.listing.GroupHead.TheVariants as codes
 use Rattle.kc_listing.specs.between.SymbolTable.{HasNames}
 
--- a group's statement, given the expressions, the names of the symbols and the texts
-abbrev pub RepresentsHead : Exprs → List (List ℕ) → List (List ℕ) → CodeWhat → GroupHead → Type 0
+-- the head of a group in a listing represents the head of a group in the model, given the expressions, the names of symbols, and
+-- the texts of titles and paths
+abbrev pub RepresentsHead : Exprs → List (List ℕ) → List (List ℕ) → CodeHead → GroupHead → Type 0
 RepresentsHead exprs names texts (codes.Config s) w = (name : List ℕ) × (slice_get names s ≡ Some name) × (w ≡ of_head (config name))
 RepresentsHead exprs names texts codes.Choice w = w ≡ of_head choice
 RepresentsHead exprs names texts (codes.Menu t) w = (title : List ℕ) × (slice_get texts t ≡ Some title) × (w ≡ of_head (menu title))
@@ -24,15 +25,15 @@ RepresentsHead exprs names texts codes.Mainmenu w = w ≡ of_head mainmenu
 RepresentsHead exprs names texts (codes.Ends b) w = w ≡ of_head (ends b)
 RepresentsHead exprs names texts codes.FileEnd w = w ≡ file_end
 
--- an attribute and its line
+-- the attribute of the model, with its line, that an attribute line of a listing represents, given the expressions
 abbrev pub line_in : Exprs → CodeLine → Line
 line_in exprs l = record { number = l.number; attribute = attribute_in exprs l.attribute }
 
--- the numbers of an attribute's nodes are those of nodes of the arena
+-- the nodes of an attribute's expressions are nodes of the arena
 abbrev pub LineNodesExist : Exprs → CodeLine → Type 0
 LineNodesExist exprs l = AttributeNodesExist exprs l.attribute
 
--- the group of this number, with these attributes
+-- the group `g` of a listing, with `own` as its attributes and `before` groups before it, represents the group `m` of the model
 pub record RepresentsGroup (exprs : Exprs) (names texts : List (List ℕ)) (own : List CodeLine) (before : ℕ) (g : CodeGroup) (m : Group) : Type 0 where
   pub number_is : m.number ≡ before
   pub file_is : m.at.file ≡ g.file
@@ -40,19 +41,19 @@ pub record RepresentsGroup (exprs : Exprs) (names texts : List (List ℕ)) (own 
   pub head : RepresentsHead exprs names texts g.head m.head
   pub attributes : m.attributes ≡ map (line_in exprs) own
 
--- groups, the newest first, whose attributes end at a place
+-- the groups of a listing, the newest first, represent those of the model; the attributes of the newest end before an index
 abbrev pub RepresentsGroups : Exprs → List (List ℕ) → List (List ℕ) → List CodeLine → ℕ → List CodeGroup → List Group → Type 0
 RepresentsGroups exprs names texts lines end [] [] = Unit {0}
 RepresentsGroups exprs names texts lines end (g ∷ gs) (m ∷ ms) =
     RepresentsGroup exprs names texts (slice_range lines g.attributes end) (length ms) g m × (g.attributes ≤ end) × RepresentsGroups exprs names texts lines g.attributes gs ms
 RepresentsGroups exprs names texts lines end gs ms = ⊥
 
--- the lists of a listing represent these statements
+-- the lists of a listing represent the groups that were read, the newest first in `read`
 pub record RepresentsLists (exprs : Exprs) (symbols numbers : List ℕ) (texts : List (List ℕ)) (lines : List CodeLine) (groups : List CodeGroup) (read : List Group) : Type 0 where
   pub names : HasNames exprs symbols numbers (names_defined read)
   pub held : All (LineNodesExist exprs) lines
   pub groups_are : RepresentsGroups exprs (names_defined read) texts lines (length lines) (reverse groups) read
 
--- a listing shows all that was read, the symbols in order of first definition
+-- the listing represents all groups that were read (the newest first), with the symbols in order of first definition
 unfoldable pub RepresentsListing : Listing → List Group → Type 0
 RepresentsListing l read = RepresentsLists l.names.arena l.names.symbols.items l.names.numbers.items l.texts.items l.lines.items l.groups.items read

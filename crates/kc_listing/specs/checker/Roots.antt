@@ -8,10 +8,11 @@ use Rattle.kc_listing.specs.declared.listing.Listing.{Listing}
 use Rattle.kc_listing.specs.between.ListingView.{RepresentsListing}
 use Rattle.kc_listing.specs.between.MemoryFaults.{no_memory}
 
--- all that was read, and the fault that ended it, unless memory ran out
+-- the result of a reading by the code, given the outcome in the model: a listing of all that was read and the first fault, if
+-- any; or out of memory
 abbrev pub OutcomeRead : Outcome → Listing × Option TreeFault → Type 0
 OutcomeRead o result = (result.1 ≡ Some no_memory) ⊎ ((result.1 ≡ o.fault) × RepresentsListing result.0 o.read)
 
--- the reading of the first file
+-- the outcome of reading the first file and all files that it sources
 unfoldable pub of_first : FileSource → Outcome
 of_first r = read_file MAX_OPEN_FILES r r.root []

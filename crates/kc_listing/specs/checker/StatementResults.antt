@@ -16,42 +16,45 @@ use Rattle.kc_listing.specs.declared.state.ReaderState.{ReaderState}
 use Rattle.kc_listing.specs.declared.state.Step.{Step}
 use Rattle.kc_listing.specs.declared.state.Step.TheVariants.{Next, Help, Source}
 
--- an appended statement has no path
+-- the result of appending a statement that isn't a `source`: no path to read, or the fault
 abbrev pub no_path : Result (Unit {0}) TreeKind → Result (Option (List ℕ)) TreeKind
 no_path (Ok u) = Ok None
 no_path (Err k) = Err k
 
--- a statement was appended, or is a `source`, which isn't appended yet, or passes a limit
+-- the result of a call that appends a statement: it was appended; or it is a `source`, which isn't appended yet and
+-- whose path is returned; or it passes a limit; or memory ran out
 abbrev pub AppendsStatement : FileSource → ℕ → ℕ → List Group → Statement → ReaderState → Result (Option (List ℕ)) TreeKind → Type 0
 AppendsStatement r file line before s new (Ok None) = (limits before s ≡ None) × (path_to_read (Some s) ≡ None) × Describes r new (with_statement (at_line file line) (Some s) before)
 AppendsStatement r file line before s new (Ok (Some path)) = (limits before s ≡ None) × (s ≡ head (source path)) × Describes r new before
 AppendsStatement r file line before s new (Err k) = (k ≡ OutOfMemory) ⊎ ((limits before s ≡ Some k) × RepresentsListing new.listing before)
 
--- whether a line is `help` alone, which begins a help text
+-- whether a line, by its keyword and the tokens after it, is `help` alone, which begins a help text
 abbrev pub begins_with : Keyword → List Lexeme → Bool
 begins_with k [] = is_help_word (Some k)
 begins_with k (t ∷ ts) = false
 
--- the step of a line with this statement, and whether a help text follows
+-- the statement of a line, if it has one, isn't a `source` and was appended to those read; `help`: whether a help text follows it
 pub record IsGiven (r : FileSource) (file line : ℕ) (given : Result (Option Statement) TreeKind) (begins : Bool) (before : List Group) (help : Bool) (new : ReaderState) : Type 0 where
   pub statement : Option Statement
-  pub says : given ≡ Ok statement
+  pub gives : given ≡ Ok statement
   pub without_path : path_to_read statement ≡ None
   pub follows : begins ≡ help
   pub describes : Describes r new (with_statement (at_line file line) statement before)
 
--- a statement is a `source`, which isn't appended yet
+-- the statement of a line is a `source` of this path, and isn't appended yet to the statements read
 pub record IsSourceGiven (r : FileSource) (given : Result (Option Statement) TreeKind) (begins : Bool) (path : List ℕ) (before : List Group) (new : ReaderState) : Type 0 where
-  pub says : given ≡ Ok (Some (head (source path)))
+  pub gives : given ≡ Ok (Some (head (source path)))
   pub follows : begins ≡ false
   pub describes : Describes r new before
 
+-- the step after a line: its statement, if it has one, was appended, and the next line or a help text follows; or its statement
+-- is a `source`, which isn't appended yet
 abbrev pub StepGiven : FileSource → ℕ → ℕ → Result (Option Statement) TreeKind → Bool → List Group → ReaderState → Step → Type 0
 StepGiven r file line given begins before new Next = IsGiven r file line given begins before false new
 StepGiven r file line given begins before new Help = IsGiven r file line given begins before true new
 StepGiven r file line given begins before new (Source path) = IsSourceGiven r given begins path before new
 
--- the result of a call that reads the tokens of a line
+-- the result of a call that reads the tokens of a line: the next step of the reader, or the fault of the line, or out of memory
 abbrev pub ReturnsStatementRead : FileSource → ℕ → ℕ → Result (Option Statement) TreeKind → Bool → List Group → ReaderState → Result Step TreeKind → Type 0
 ReturnsStatementRead r file line given begins before new (Ok s) = StepGiven r file line given begins before new s
 ReturnsStatementRead r file line given begins before new (Err k) = (k ≡ OutOfMemory) ⊎ ((given ≡ Err k) × RepresentsListing new.listing before)

@@ -1,4 +1,4 @@
--- The content of a line, as the definitions have it.
+-- The content of a line of the code, as `kc_macros_model` defines it.
 use Rattle.std.specs.Prelude.{List, map}
 use Rattle.kc_macros_model.specs.WrittenTokens.{WrittenToken}
 use Rattle.kc_macros_model.specs.Assignments.{assigned, LineContent, assigns, tokens}
@@ -8,11 +8,11 @@ use Rattle.kc_macros.specs.declared.line_content.LineContent.TheVariants as kind
 use Rattle.kc_macros.specs.between.AssignmentViews.{operator_of}
 use Rattle.kc_macros.specs.between.WrittenTokens.{token_of}
 
--- written tokens of the code as the definitions have them
+-- written tokens of the code as those of `kc_macros_model`
 abbrev pub tokens_of : List CodeToken → List WrittenToken
 tokens_of ts = map token_of ts
 
--- the content of a line, an assignment or tokens, as the definitions have it
+-- the content of a line of the code, an assignment or written tokens, as one of `kc_macros_model`
 abbrev pub content_of : CodeContent → LineContent
 content_of (kinds.Assigns a) = assigns a.name (assigned (operator_of a.operator) a.text)
 content_of (kinds.Tokens ts) = tokens (tokens_of ts.items)

@@ -1,4 +1,4 @@
--- Forms of lines, as the definitions have them.
+-- Forms of lines of the code, as `kc_macros_model` defines them.
 use Rattle.std.specs.Prelude.{ℕ, List, option_map}
 use Rattle.std.specs.Borrow.{Bor}
 use Rattle.kc_macros_model.specs.LineForms.{SourceSort, LineForm, plain, bare_prompt, replaced_by, named_choice, sources}
@@ -6,11 +6,11 @@ use Rattle.kc_macros.specs.declared.forms.SourceSort.{SourceSort as CodeSort}
 use Rattle.kc_macros.specs.declared.forms.LineForm.{LineForm as CodeForm}
 use Rattle.kc_macros.specs.declared.forms.LineForm.TheVariants as kinds
 
--- the sort of a `source` as the definitions have it
+-- the sort of a `source` line of the code as one of `kc_macros_model`
 abbrev pub source_sort_of : CodeSort → SourceSort
 source_sort_of s = record { relative = s.relative; optional = s.optional }
 
--- the form of a line as the definitions have it
+-- the form of a line of the code as one of `kc_macros_model`
 abbrev pub form_view : CodeForm → LineForm
 form_view kinds.Plain = plain
 form_view (kinds.BarePrompt text) = bare_prompt text.now

@@ -1,4 +1,4 @@
--- The first bytes between quotes, as the definitions have them, and the items that follow.
+-- The first bytes between two quotes as the code writes them, and the items that follow, as `kc_macros_model` defines them.
 use Rattle.std.specs.Prelude.{ℕ, Bool, true, ◌==◌, ◌||◌, List}
 use Rattle.std.specs.List.{list_any}
 use Rattle.kc_macros_model.specs.Programs.{Place, Program, returns, ◌>>=◌}
@@ -8,7 +8,7 @@ use Rattle.kc_macros_model.specs.WrittenTokens.{WrittenBody, WrittenToken, joine
 use Rattle.kc_macros.specs.declared.token_values.Body.{Body}
 use Rattle.kc_macros.specs.checker.PartialValues.{value_if_known}
 
--- bytes between quotes as the definitions have them
+-- a `Body` of the code (bytes written between two quotes, and their meaning) as one of `kc_macros_model`
 abbrev pub body_of_code : Body → WrittenBody
 body_of_code b = record { bytes = b.bytes.items; meaning = value_if_known b.known b.meaning.items }
 
@@ -16,10 +16,10 @@ body_of_code b = record { bytes = b.bytes.items; meaning = value_if_known b.know
 abbrev pub has_dollar_or_backslash : List ℕ → Bool
 has_dollar_or_backslash text = list_any (λ c. c == 36 || (c == 92)) text
 
--- writes the items that follow, after the bytes that are written
+-- the program that writes the remaining items between two quotes, and appends them to the bytes written before them
 abbrev pub bodies_left : Place → Bindings → (quote : ℕ) → WrittenBody → List Item → Program WrittenBody
 bodies_left at b quote so_far is = written_items at b quote is >>= λ rest. returns (joined_bodies so_far rest)
 
--- writes a quoted token
+-- the program that writes a quoted token, given its quote and the bytes between its quotes
 abbrev pub quoted_written : Place → Bindings → (quote : ℕ) → List ℕ → Program WrittenToken
 quoted_written at b quote s = written_items at b quote (items true 0 s) >>= λ body. returns (token_of_body quote body)

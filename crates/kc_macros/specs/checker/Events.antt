@@ -5,11 +5,11 @@ use Rattle.kc_macros.specs.declared.stop.Stop.{Stop}
 use Rattle.kc_macros.specs.declared.stop.Stop.TheVariants as kinds
 use Rattle.kc_macros.specs.Runs.{fault_of}
 
--- a program that only does work
+-- the program that spends this much work and does nothing else
 abbrev pub spent : Place → ℕ → Program (Unit {0})
 spent at work = does (spend at work) (λ u. returns u)
 
--- a stop is this fault, which comes only where a fact holds, or memory ran out
+-- a stop of the code is this fault, and the given fact holds, or it means that memory ran out
 abbrev pub FailsIf : Type 0 → Fault → Stop → Type 0
 FailsIf P f (kinds.Fault g) = P × (fault_of g ≡ f)
 FailsIf P f kinds.Unanswered = ⊥

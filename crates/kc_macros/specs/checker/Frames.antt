@@ -9,30 +9,30 @@ use Rattle.kc_macros.specs.between.Variables.{bindings_of}
 use Rattle.kc_macros.specs.Runs.{place_of}
 use Rattle.kc_macros.specs.checker.Texts.{texts_of}
 
--- the place of a frame
+-- the file and the line of the text that is expanded in a frame, as a place of `kc_macros_model`
 abbrev pub frame_place : Frame → Place
 frame_place f = place_of f.at
 
--- the bindings of a frame
+-- the variables of a frame of the expansion, as bindings of `kc_macros_model`
 abbrev pub frame_bindings : Frame → Bindings
 frame_bindings f = bindings_of f.bindings.now
 
--- the names whose values are being expanded in a frame
+-- the names of the variables whose values are being expanded in a frame, the innermost first
 abbrev pub frame_names : Frame → List (List ℕ)
 frame_names f = texts_of f.names.now
 
--- the way in which texts are expanded in a frame
+-- the expander of a frame: what gives the value of a text, by the names that are being expanded and the arguments
 abbrev pub frame_expander : Frame → Expander
 frame_expander f = expanded f.more (frame_place f) (frame_bindings f)
 
--- the value of a text in a frame
+-- the program that gives the value of a text in a frame of the expansion
 abbrev pub frame_value : Frame → List ℕ → Program Value
 frame_value f text = frame_expander f (frame_names f) f.args.now text
 
--- the value of an item in a frame
+-- the program that gives the value of an item of a text in a frame of the expansion
 abbrev pub frame_item : Frame → Item → Program Value
 frame_item f i = item_value (frame_expander f) (frame_place f) (frame_bindings f) (frame_names f) f.args.now i
 
--- the value of a text in a frame, by its items
+-- the program that gives the value of a text in a frame of the expansion, as the joined values of its items
 abbrev pub frame_items : Frame → List ℕ → Program Value
 frame_items f text = item_values (frame_place f) (frame_item f) 0 (items false 0 text)

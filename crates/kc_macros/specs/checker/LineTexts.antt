@@ -1,4 +1,4 @@
--- Items and tokens at the front of a text, as the definitions have them.
+-- Items and tokens at the front of a text, as `kc_macros_model` defines them.
 use Rattle.std.specs.Prelude.{ℕ, Bool, false, not, ◌==◌, List, [], ◌∷◌, Option, Some, None, if◌then◌else◌}
 use Rattle.kc_expr.specs.Token.{is_white_byte}
 use Rattle.kc_macros_model.specs.References.{Item, byte, first_item}
@@ -6,17 +6,17 @@ use Rattle.kc_macros_model.specs.LineTokens.{LineToken, gap, run, quoted, other,
 use Rattle.kc_macros.specs.declared.line_tokens.LineToken.{LineToken as CodeToken}
 use Rattle.kc_macros.specs.declared.line_tokens.LineToken.TheVariants as kinds
 
--- the item at the front of a text that isn't empty
+-- the item (a reference, an escaped byte or a byte) at the front of a text that isn't empty
 abbrev pub first_item_of : (in_quotes : Bool) → List ℕ → Item
 first_item_of q [] = byte 0
 first_item_of q (c ∷ s) = first_item q c s
 
--- the token at the front of a text that isn't empty
+-- the token at the front of the text of a line that isn't empty
 abbrev pub first_token_of : List ℕ → LineToken
 first_token_of [] = gap []
 first_token_of (c ∷ s) = first_token c s
 
--- a token of a line as the definitions have it
+-- a token of a line of the code as one of `kc_macros_model`
 abbrev pub token_view : CodeToken → LineToken
 token_view (kinds.Gap s) = gap s.now
 token_view (kinds.Run s) = run s.now
@@ -24,7 +24,7 @@ token_view (kinds.Quoted quote s) = quoted quote s.now
 token_view (kinds.Other s) = other s.now
 token_view (kinds.Broken s) = broken s.now
 
--- whether a byte ends a run, or a quoted token with this quote
+-- whether a byte ends a token: without quotes (`None`) each byte that fails `is_run_byte` does, in quotes (`Some`) the quote
 abbrev pub ends_extent : Option ℕ → ℕ → Bool
 ends_extent None c = not (is_run_byte c)
 ends_extent (Some quote) c = c == quote

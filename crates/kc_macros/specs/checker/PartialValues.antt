@@ -6,20 +6,21 @@ use Rattle.kc_macros_model.specs.References.{Item}
 use Rattle.kc_macros_model.specs.Variables.{Value, joined_values}
 use Rattle.kc_macros_model.specs.Expansion.{item_values}
 
--- the bytes of a value, as far as it is known
+-- the bytes of a value; none if the value is unknown
 abbrev pub known_bytes : Value → List ℕ
 known_bytes (Some text) = text
 known_bytes None = []
 
--- these bytes as a value, which may be unknown
+-- these bytes as a value if it is known, and the unknown value otherwise
 abbrev pub value_if_known : (known : Bool) → List ℕ → Value
 value_if_known true bytes = Some bytes
 value_if_known false bytes = None
 
--- the fault of a text with too many bytes
+-- the fault of a text with too many bytes, at this place
 abbrev pub too_long : Place → Fault
 too_long at = record { at = at; kind = LineTooLong; text = [] }
 
--- the value of a text, by the value of its first items and by the items that follow
+-- the program that gives the value of a text, by the joined value of its first items (whether it is known, and its bytes) and by
+-- the items that follow
 abbrev pub values_left : Place → (Item → Program Value) → (known : Bool) → List ℕ → List Item → Program Value
 values_left at value known bytes is = item_values at value (length bytes) is >>= λ rest. returns (joined_values (value_if_known known bytes) rest)

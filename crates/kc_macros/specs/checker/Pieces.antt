@@ -4,6 +4,6 @@ use Rattle.kc_macros_model.specs.Programs.{Program, returns, ◌>>=◌}
 use Rattle.kc_macros_model.specs.Variables.{Value}
 use Rattle.kc_macros_model.specs.Expansion.{piece_values}
 
--- the values of the pieces that follow, after the values of the first ones
+-- the program that gives the values of all pieces of a reference, by the values of the first ones and by the pieces that follow
 abbrev pub pieces_left : (List ℕ → Program Value) → List Value → List (List ℕ) → Program (List Value)
 pieces_left expand found ps = piece_values expand ps >>= λ rest. returns (found ++ rest)

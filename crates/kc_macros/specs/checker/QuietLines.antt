@@ -6,15 +6,15 @@ use Rattle.kc_macros_model.specs.LineTokens.{LineToken, gap, run, quoted, other,
 use Rattle.kc_macros_model.specs.Assignments.{assignment_to}
 use Rattle.kc_macros_model.specs.LineForms.{prompt_words, source_words, help_words}
 
--- whether a path, a help text, the name of a choice or an option may follow a word
+-- whether a word is one that a path, a help text, the name of a choice or an option may follow
 abbrev pub is_acting_word : List ℕ → Bool
 is_acting_word word = is_in_list word source_words || is_in_list word help_words || bytes_eq word (codes "choice") || bytes_eq word (codes "option")
 
--- whether a word ends as `source`, `help`, `---help---`, `choice` and `option` do
+-- whether a word has the last byte of `source`, `help`, `---help---`, `choice` or `option`
 abbrev pub ends_acting : List ℕ → Bool
 ends_acting word = let c = get_or word (pred (length word)) 0 in c == 101 || (c == 112 || (c == 45 || c == 110))
 
--- whether a prompt or a title follows some word with this first and this last byte
+-- whether some word that a prompt or a title follows has this first and this last byte
 abbrev pub bounds_prompt : (first last : ℕ) → Bool
 bounds_prompt first last =
     (first == 98 && (last == 108)) || ((first == 116 && (last == 101)) || ((first == 115 && (last == 103)) || ((first == 104 && (last == 120)) || ((first == 105 && (last == 116)) || ((first == 112 && (last == 116)) || ((first == 109 && (last == 117)) || ((first == 99 && (last == 116)))))))))
@@ -27,7 +27,7 @@ may_begin_prompt word = bounds_prompt (get_or word 0 0) (get_or word (pred (leng
 abbrev pub has_dollar_or_wide : List ℕ → Bool
 has_dollar_or_wide text = list_any (λ c. c == 36 || nat_le 128 c) text
 
--- the first token that is no gap is no run
+-- the first of these tokens that isn't a `gap`, if there is one, isn't a `run` either
 abbrev pub HasNoWordNext : List LineToken → Type 0
 HasNoWordNext [] = Unit {0}
 HasNoWordNext (gap s ∷ ts) = HasNoWordNext ts
@@ -36,13 +36,14 @@ HasNoWordNext (quoted quote s ∷ ts) = Unit {0}
 HasNoWordNext (other s ∷ ts) = Unit {0}
 HasNoWordNext (broken s ∷ ts) = Unit {0}
 
--- a run that keeps its line as it is: it is no name of an assignment, and no word of a form that is written anew
+-- the first word of a line, with the tokens after it, is no cause to write the line anew: the word is no name of an assignment,
+-- `is_acting_word` is false for it, and if it is among `prompt_words`, `HasNoWordNext` holds for the tokens
 pub record IsQuietWord (word : List ℕ) (ts : List LineToken) : Type 0 where
   pub unassigned : assignment_to (run word) ts ≡ None
   pub acting : is_acting_word word ≡ false
   pub prompt : is_in_list word prompt_words ≡ true → HasNoWordNext ts
 
--- the first token that is no gap keeps its line as it is
+-- the first of these tokens that isn't a `gap` is no cause to write their line anew: it is no `run`, or `IsQuietWord` holds
 abbrev pub IsQuiet : List LineToken → Type 0
 IsQuiet [] = Unit {0}
 IsQuiet (gap s ∷ ts) = IsQuiet ts

@@ -8,21 +8,21 @@ use Rattle.kc_macros.specs.declared.written_tokens.WrittenToken.{WrittenToken as
 use Rattle.kc_macros.specs.between.WrittenTokens.{token_of}
 use Rattle.kc_macros.specs.between.LineContents.{tokens_of}
 
--- how many gaps come before the first token that is none
+-- how many gaps (white, comments and tokens with an empty value) come before the first other token of a line
 abbrev pub gap_count : List CodeToken → ℕ
 gap_count [] = 0
 gap_count (t ∷ ts) = if is_gap (token_of t) then suc (gap_count ts) else 0
 
--- the tokens of the code that are no gaps, as the definitions have them
+-- the written tokens of a line of the code that are no gaps, as those of `kc_macros_model`
 abbrev pub real_tokens : List CodeToken → List WrittenToken
 real_tokens ts = without_gaps (tokens_of ts)
 
--- whether a line has no tokens but gaps
+-- whether a line is empty, by its tokens that are no gaps
 abbrev pub is_empty_line : List WrittenToken → Bool
 is_empty_line [] = true
 is_empty_line (t ∷ ts) = false
 
--- the form of a line by its first word, its second token, and whether no token comes after it
+-- the form of a line by its first word, its second token, and whether the line has no third token
 abbrev pub form_by : List ℕ → WrittenToken → (alone : Bool) → LineForm
 form_by word t alone =
     if is_in_list word prompt_words && is_bare_prompt t then bare_prompt t.bytes

@@ -4,6 +4,6 @@ use Rattle.kc_macros_model.specs.Programs.{Place, Program}
 use Rattle.kc_macros_model.specs.Expansion.{unless_too_long}
 use Rattle.kc_macros.specs.checker.Events.{spent}
 
--- does the work for storing this many bytes, unless they are too many
+-- the program that spends the work of storing this many bytes for a variable, or fails if they are too many
 abbrev pub stored_bytes : Place → ℕ → Program (Unit {0})
 stored_bytes at n = unless_too_long at n (spent at n)

@@ -8,7 +8,8 @@ use Rattle.kc_minimal_model.specs.between.EntryTexts.{entry_texts}
 use Rattle.kc_minimal.specs.declared.full.Draft.{Draft}
 use Rattle.kc_dotconfig_model.specs.Formats.{FileFormat}
 
--- what was written and what these entries write is the full file, and the symbols that were defined are marked
+-- the text of a draft followed by what the entries `left` write is the full file, and the draft marks exactly the symbols that
+-- were defined so far (`seen`)
 pub record IsDraft (format : FileFormat) (tree : Tree) (values : List UnitValue) (left : List Entry) (draft : Draft) : Type 0 where
   pub seen : List ℕ
   pub marked : (s : ℕ) → s < length tree.symbols → slice_index_or draft.defined.items s false ≡ list_any (nat_eq s) seen

@@ -8,8 +8,8 @@ use Rattle.kc_dotconfig_model.specs.Formats.{FileFormat}
 use Rattle.kc_minimal_model.specs.SymbolLine.{ended_line}
 use Rattle.kc_minimal_model.specs.FullFile.{heading, end_line, applies}
 
--- The text of the entries. `seen` are the symbols that were defined before; with `gap` an end line came last, and no
--- heading or symbol since. A symbol is written at its first definition.
+-- The text that entries add to the full file. `seen` has the symbols that earlier entries define; `gap` is whether
+-- the last text before is a menu's end. A symbol is written at its first definition.
 abbrev pub entry_texts : FileFormat → Tree → List UnitValue → List ℕ → Bool → List Entry → List ℕ
 entry_texts format tree values seen gap [] = []
 entry_texts format tree values seen gap (definition s ∷ entries) =

@@ -11,23 +11,23 @@ use Rattle.kc_rules_model.specs.declared.profile.Profile.{Profile}
 use Rattle.kc_value.specs.Kinds.{is_tri_kind}
 use Rattle.kc_rules.specs.declared.rules.Settled.{Settled}
 
--- the tree with its arena
+-- the tree of a settled tree, together with the arena of its expressions
 abbrev pub tree_model_of : Settled → TreeModel
 tree_model_of settled = settled.rules.tree
 
--- what the tree holds
+-- the tree of a settled tree, as the definitions have it
 abbrev pub tree_of_settled : Settled → Tree
 tree_of_settled settled = settled.rules.tree.tree
 
--- the imply profile of a settled tree
+-- the profile of a settled tree, which says how `imply` acts in it
 abbrev pub profile_of : Settled → Profile
 profile_of settled = settled.rules.profile
 
--- the value of a symbol: a tristate of a bool or tristate, else a text
+-- the value of a symbol as the code has it: a tristate for a bool or tristate, a text for any other type
 abbrev pub value_view : SymbolValue → Value
 value_view seen = if is_tri_kind seen.kind then TriValue seen.tri else TextValue seen.text
 
--- a value that is lent
+-- the value to which a borrowed value refers
 abbrev pub value_of_ref : ValueRef → Value
 value_of_ref (TriLent t) = TriValue t
 value_of_ref (TextLent text) = TextValue text.now

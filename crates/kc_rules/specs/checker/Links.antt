@@ -7,7 +7,7 @@ use Rattle.kc_expr.specs.between.Arena.{Exprs, node_expr}
 use Rattle.kc_expr.specs.between.Visits.{mentions}
 use Rattle.kc_tree.specs.declared.symbol.Default.{Default as KeptDefault}
 use Rattle.kc_tree.specs.declared.symbol.Range.{Range as KeptRange}
-use Rattle.kc_tree.specs.declared.symbol.ReverseDependency.{ReverseDependency as KeptForce}
+use Rattle.kc_tree.specs.declared.symbol.ReverseDependency.{ReverseDependency as KeptReverseDependency}
 use Rattle.kc_tree.specs.declared.symbol.Symbol.{Symbol as KeptSymbol}
 use Rattle.kc_tree.specs.declared.symbol.Choice.{Choice as KeptChoice}
 use Rattle.kc_tree.specs.declared.symbol.MemberDefault.{MemberDefault as KeptMemberDefault}
@@ -16,8 +16,8 @@ use Rattle.kc_tree_model.specs.TreeLookup.{unit_of, symbol_named}
 use Rattle.kc_rules_model.specs.Dependencies.{dependencies, names_in_member_prompts}
 use Rattle.kc_value.specs.Kinds.{is_tristate}
 
--- the dependencies of the units below this one: each unit's begin at its place in `starts` and end at the next
--- unit's, and nothing follows them
+-- `links` has the dependencies of the units below `unit`, one unit after another; `starts` has the index at which those of each
+-- unit begin, and then the length of `links`
 pub record LinksBelow (tree : Tree) (unit : ℕ) (starts links : List ℕ) : Type 0 where
   pub places : length starts ≡ unit + 1
   pub last : slice_index starts unit ≡ length links
@@ -25,68 +25,70 @@ pub record LinksBelow (tree : Tree) (unit : ℕ) (starts links : List ℕ) : Typ
   pub within : (u : ℕ) → u < unit → slice_index starts (u + 1) ≤ length links
   pub rows : (u : ℕ) → u < unit → take (slice_index starts (u + 1) - slice_index starts u) (drop (slice_index starts u) links) ≡ dependencies tree u
 
--- the dependencies of all units
+-- the second list has the dependencies of all units of a tree, one unit after another; the first has the index at which those of
+-- each unit begin, and then the length of the second
 abbrev pub AreLinks : Tree → List ℕ → List ℕ → Type 0
 AreLinks tree starts links = LinksBelow tree (length tree.units) starts links
 
--- all are numbers of units
+-- all numbers of a list are numbers of units of the tree
 abbrev pub AreUnits : Tree → List ℕ → Type 0
 AreUnits tree units = All (λ u. u < length tree.units) units
 
--- whether some number is this one
+-- whether a list of numbers has this number
 abbrev pub has : List ℕ → ℕ → Bool
 has units d = list_any (λ e. e == d) units
 
--- whether an optional number is this one
+-- whether an optional number is there and equal to this number
 abbrev pub is_at : ℕ → Option ℕ → Bool
 is_at d None = false
 is_at d (Some u) = u == d
 
--- whether a name is that of a symbol of unit d
+-- whether a name is that of a symbol that belongs to the unit with this number
 abbrev pub is_of : Tree → ℕ → List ℕ → Bool
 is_of tree d name = is_at d (option_map (unit_of tree) (symbol_named tree name))
 
--- whether the test passes some name of these expressions
+-- whether some name in the expressions with these numbers passes a test of names
 abbrev pub in_exprs : Exprs → (List ℕ → Bool) → List ℕ → Bool
 in_exprs exprs p ids = list_any (λ i. mentions p (node_expr exprs i)) ids
 
--- whether the test passes some name of these defaults
+-- whether some name in the values and conditions of these defaults of a symbol passes a test of names
 abbrev pub in_defaults : Exprs → (List ℕ → Bool) → List KeptDefault → Bool
 in_defaults exprs p ds = list_any (λ (d : KeptDefault). mentions p (node_expr exprs d.value) || mentions p (node_expr exprs d.condition)) ds
 
--- whether the test passes some name of these ranges
+-- whether some name in the bounds and conditions of these ranges passes a test of names
 abbrev pub in_ranges : Exprs → (List ℕ → Bool) → List KeptRange → Bool
 in_ranges exprs p rs = list_any (λ (r : KeptRange). mentions p (node_expr exprs r.low) || mentions p (node_expr exprs r.high) || mentions p (node_expr exprs r.condition)) rs
 
--- whether the test passes some name in the conditions of these selects or implies
-abbrev pub in_reverse_dependencies : Exprs → (List ℕ → Bool) → List KeptForce → Bool
-in_reverse_dependencies exprs p fs = list_any (λ (f : KeptForce). mentions p (node_expr exprs f.condition)) fs
+-- whether some name in the conditions of these selects or implies passes a test of names
+abbrev pub in_reverse_dependencies : Exprs → (List ℕ → Bool) → List KeptReverseDependency → Bool
+in_reverse_dependencies exprs p fs = list_any (λ (f : KeptReverseDependency). mentions p (node_expr exprs f.condition)) fs
 
--- whether the test passes some name of a symbol's attributes
+-- whether some name in a symbol's attributes, or in the conditions by which others select or imply it, passes a test of names
 abbrev pub in_symbol : Exprs → (List ℕ → Bool) → KeptSymbol → Bool
 in_symbol exprs p k = in_exprs exprs p k.prompts.now || in_defaults exprs p k.defaults.now || in_ranges exprs p k.ranges.now || in_exprs exprs p k.direct.now || in_reverse_dependencies exprs p k.selectors.now || in_reverse_dependencies exprs p k.impliers.now
 
--- whether the test passes some name of a choice's defaults
+-- whether some name in the conditions of these defaults of a choice, or of their members' prompts, passes a test of names
 abbrev pub in_member_defaults : Tree → Exprs → (List ℕ → Bool) → List KeptMemberDefault → Bool
 in_member_defaults tree exprs p ds = list_any (λ (d : KeptMemberDefault). mentions p (node_expr exprs d.condition) || list_any p (names_in_member_prompts tree d.member)) ds
 
--- whether the test passes some name of the prompts of these members
+-- whether some name in the conditions of the prompts of these members of a choice passes a test of names
 abbrev pub in_members : Tree → (List ℕ → Bool) → List ℕ → Bool
 in_members tree p ms = list_any (λ s. list_any p (names_in_member_prompts tree s)) ms
 
--- whether the test passes some name of a prompt's condition
+-- whether some name in the condition of a choice's prompt passes a test of names; false without a prompt
 abbrev pub in_prompt : Exprs → (List ℕ → Bool) → Option ℕ → Bool
 in_prompt exprs p None = false
 in_prompt exprs p (Some i) = mentions p (node_expr exprs i)
 
--- whether the test passes some name of a choice's attributes
+-- whether some name in the conditions of a choice's prompt, defaults and members' prompts passes a test of names
 abbrev pub in_choice : Tree → Exprs → (List ℕ → Bool) → KeptChoice → Bool
 in_choice tree exprs p k = in_prompt exprs p k.prompt || in_member_defaults tree exprs p k.defaults.now || in_members tree p k.members.now
 
--- whether one of the symbols that select or imply is of unit d
-abbrev pub depends_on_reverse : Tree → ℕ → List KeptForce → Bool
-depends_on_reverse tree d fs = list_any (λ (f : KeptForce). unit_of tree f.by == d) fs
+-- whether some symbol that selects or implies, in a list of selects or implies, belongs to the unit with this number
+abbrev pub depends_on_reverse : Tree → ℕ → List KeptReverseDependency → Bool
+depends_on_reverse tree d fs = list_any (λ (f : KeptReverseDependency). unit_of tree f.by == d) fs
 
--- whether unit d is that of `MODULES`, for a tristate
+-- whether a symbol of this type depends on the unit with this number by `MODULES`: it is a tristate, and `MODULES` belongs to the
+-- unit
 abbrev pub by_modules : Tree → ℕ → Kind → Option ℕ → Bool
 by_modules tree d kind modules = is_tristate kind && is_at d (option_map (unit_of tree) modules)

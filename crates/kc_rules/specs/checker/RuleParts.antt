@@ -10,9 +10,11 @@ use Rattle.kc_value.specs.Tri.{y_for_m}
 use Rattle.kc_rules_model.specs.Rule.{base, promoted, selected, leaves_no_m}
 use Rattle.kc_rules_model.specs.SymbolValues.{condition}
 
+-- the first of some defaults whose condition isn't `n`, if there is one
 abbrev pub active_default_of : Tree → List UnitValue → List Default → Option Default
 active_default_of tree values defaults = find (λ (d : Default). not (is_n (condition tree values d.condition))) defaults
 
+-- the value of a bool or tristate outside choices, from the user's tristate, if there is one, and the values of all units
 abbrev pub tri_rule_of : Profile → Tree → List UnitValue → Symbol → Option Tri → Tri
 tri_rule_of profile tree values symbol user =
     let t = promoted tree values symbol.kind (tri_or (base profile tree values symbol user) (selected tree values symbol)) in

@@ -12,7 +12,7 @@ use Rattle.kc_rules_model.specs.SymbolValues.{condition}
 use Rattle.kc_rules_model.specs.Rule.{is_visible, default_text, number_default, active_range, is_within}
 use Rattle.kc_rules.specs.checker.RuleParts.{active_default_of}
 
--- int and hex
+-- a type is int or hex
 abbrev pub IsNumber : Kind → Type 0
 IsNumber Int = Unit {0}
 IsNumber Hex = Unit {0}
@@ -20,18 +20,24 @@ IsNumber Boolean = ⊥
 IsNumber Tristate = ⊥
 IsNumber Text = ⊥
 
+-- the expression of the first of some defaults whose condition isn't `n`, if there is one
 abbrev pub active_value_of : Tree → List UnitValue → List Default → Option Expr
 active_value_of tree values defaults = option_map (λ (d : Default). d.value) (active_default_of tree values defaults)
 
+-- the first of some ranges whose condition isn't `n`, if there is one
 abbrev pub active_range_of : Tree → List UnitValue → List Range → Option Range
 active_range_of tree values ranges = find (λ (r : Range). not (is_n (condition tree values r.condition))) ranges
 
+-- the text that a user assigns to a symbol, if there is one and the symbol is visible
 abbrev pub visible_text_of : Tree → List UnitValue → Symbol → Option (List ℕ) → Option (List ℕ)
 visible_text_of tree values symbol user = if is_visible tree values symbol then user else None
 
+-- the value of a string: the user's text if there is one and the symbol is visible, otherwise the text of its default
 abbrev pub string_rule_of : Tree → List UnitValue → Symbol → Option (List ℕ) → List ℕ
 string_rule_of tree values symbol user = unwrap_or (visible_text_of tree values symbol user) (default_text tree values symbol)
 
+-- the value of an int or hex: the user's text if the symbol is visible and the number is within its range, otherwise the default,
+-- moved into the range
 abbrev pub number_rule_of : Tree → List UnitValue → Symbol → Option (List ℕ) → List ℕ
 number_rule_of tree values symbol user =
     let range = active_range tree values symbol in

@@ -55,6 +55,7 @@ value_same (TextValue a) = bytes_same a
 value_same (MemberValue None) = refl
 value_same (MemberValue (Some a)) = eq-eqb a a refl
 
+-- two values of units pass the test of equality just where they are equal
 pub values_decided : (a b : UnitValue) → IsTrue (same_value a b) ↔ (a ≡ b)
 values_decided a b = (value_from a b, λ e. ap (λ x. same_value a x) (sym e) ∙ value_same a)
 
@@ -74,5 +75,6 @@ user_same (TriUser a) = tri_same a
 user_same (TextUser a) = bytes_same a
 user_same (MemberUser a) = eq-eqb a a refl
 
+-- two user values pass the test of equality just where they are equal
 pub users_decided : (a b : UserValue) → IsTrue (same_user a b) ↔ (a ≡ b)
 users_decided a b = (user_from a b, λ e. ap (λ x. same_user a x) (sym e) ∙ user_same a)

@@ -28,7 +28,7 @@ use Rattle.kc_value.specs.Number.{number_of_text, number_spelling}
 use Rattle.kc_rules_model.specs.SymbolValues.{condition, environment, value_of_symbol, value_in_unit, tri_symbol_value, tri_if_selected, member_of, tri_of, text_of}
 use Rattle.kc_rules_model.specs.Rule.{conditions, reverse_dependency_limit, is_visible, expression_text, default_tri, is_within, clamped, promoted, modules_value, visibility, unassigned_value, base, selected, implied, implied_effect, leaves_no_m, direct_dependency, active_default, active_range, assigned_tri, assigned_text, assigned_member, tri_rule, string_rule, number_rule, number_default, default_text, visible_text, symbol_rule, choice_rule, is_shown, is_visible_member, rule, rule_of_unit, rule_of_symbol, rule_of_choice}
 use Rattle.kc_rules_model.specs.Dependencies.{units_named, units_of_reverse_dependencies, needed_by_symbol, needed_by_choice, needed_by, needed_by_symbol_at, needed_by_choice_at, dependencies, names_in_member_prompts, names_in_prompts, names_in_prompt}
-use Rattle.kc_expr.specs.NamesIn.{names_in, operand_names}
+use Rattle.kc_expr.specs.ExpressionNames.{names_in, operand_names}
 use Rattle.kc_rules_model.specs.Shapes.{user_fits, unit_user_fits, choice_user_fits}
 use Rattle.kc_rules_model.specs.checker.Agreement.{Agrees, parts, text_agrees, value_agrees, find_agrees, all_map}
 
@@ -50,9 +50,11 @@ kept_where : (o : Option (List ℕ)) (p q : List ℕ → Bool) → ((x : List �
 kept_where None p q same = refl
 kept_where (Some x) p q same = ap (λ b. cond b (Some x) None) (same x)
 
+-- under two valuations, the condition of a default has the same value, and its expression the same value and text
 abbrev DefaultAgrees : Tree → List UnitValue → List UnitValue → Default → Type 0
 DefaultAgrees tree v w d = (condition tree v d.condition ≡ condition tree w d.condition) × (condition tree v d.value ≡ condition tree w d.value) × (expression_text tree v d.value ≡ expression_text tree w d.value)
 
+-- under two valuations, the condition of a range has the same value, and each of its bounds the same text
 abbrev RangeAgrees : Tree → List UnitValue → List UnitValue → Range → Type 0
 RangeAgrees tree v w r = (condition tree v r.condition ≡ condition tree w r.condition) × (operand_text (environment tree v) r.low ≡ operand_text (environment tree w) r.low) × (operand_text (environment tree v) r.high ≡ operand_text (environment tree w) r.high)
 
@@ -361,7 +363,7 @@ each_of : (P : ℕ → Type 0) (xs : List ℕ) → ((d : ℕ) → list_any (λ e
 each_of P [] h = tt
 each_of P (x ∷ xs) h = (h x (or_left (x == x) (list_any (λ e. e == x) xs) (eq-eqb x x refl)), each_of P xs (λ d t. h d (or_right (x == d) (list_any (λ e. e == d) xs) t)))
 
--- the rules of every tree keep the frame law, in both profiles
+-- in every tree and both profiles, values that agree on the dependencies of a unit give it the same value (the frame law)
 pub rules_frame : (profile : Profile) (tree : Tree) → KeepsFrame (length tree.units) (dependencies tree) (rule profile tree) (λ u x. IsTrue (user_fits tree u x))
 unfolding dependencies rule user_fits
 rules_frame profile tree = record {

@@ -24,6 +24,7 @@ range_below : (a n : ℕ) → All (λ d. d < a + n) (range_with_len a n)
 range_below a zero = All-nil _
 range_below a (suc n) = All-cons (λ d. d < a + suc n) a (range_with_len (a + 1) n) (omega arith) (All-weaker (λ d. d < a + 1 + n) (λ d. d < a + suc n) (λ d h. omega arith) (range_with_len (a + 1) n) (range_below (a + 1) n))
 
+-- in every tree, the dependencies of each unit are a list of units of the tree, ascending without repeats
 pub rules_graph : (tree : Tree) → IsGraph (length tree.units) (dependencies tree)
 unfolding dependencies
 rules_graph tree = record {

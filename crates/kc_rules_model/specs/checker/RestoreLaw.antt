@@ -1,4 +1,4 @@
--- A unit's value that differs from that without a user value is given again by itself as user value.
+-- The restore law: a value that a unit wouldn't have without its user value comes out again if it is the user value itself.
 use Rattle.std.proofs.Common.{◌≡◌, ◌≢◌, inl, inr, ℕ, Bool, true, false, not, ◌&&◌, ◌||◌, cond, IsTrue, List, Option, Some, None, IfSome, slice_get, length, refl, sym, ◌∙◌, ap, unwrap_or, pos}
 use Rattle.std.specs.Option.{option_and_then, option_or}
 use Rattle.std.proofs.lemmas.Bool.{true≢false, false≢true, cases_Bool}
@@ -23,6 +23,7 @@ use Rattle.kc_value.specs.Number.{number_of_text}
 use Rattle.kc_rules_model.specs.Rule.{rule, rule_of_unit, rule_of_symbol, rule_of_choice, symbol_rule, tri_rule, string_rule, number_rule, choice_rule, as_user, is_visible, visibility, modules_value, unassigned_value, selected, leaves_no_m, default_text, number_default, is_within, active_range, is_shown, is_visible_member}
 use Rattle.kc_rules_model.specs.Shapes.{user_fits, unit_user_fits, symbol_user_fits, choice_user_fits, tri_fits}
 
+-- a tristate value, with `y` in place of `m` if the first argument is true
 abbrev pub promoted_if : Bool → Tri → Tri
 promoted_if p t = cond p (y_for_m t) t
 
@@ -87,10 +88,12 @@ never_m N = refl
 never_m M = refl
 never_m Y = refl
 
+-- the user's text where the symbol is seen, otherwise a default: if the result isn't the default, it is the user's text
 pub text_kept : (seen : Bool) (t d : List ℕ) → unwrap_or (cond seen (Some t) None) d ≢ d → unwrap_or (cond seen (Some t) None) d ≡ t
 text_kept true t d h = refl
 text_kept false t d h = absurd (h refl)
 
+-- the user's text where seen and within a range, otherwise a default: if the result isn't the default, it is the user's text
 pub number_kept : (seen : Bool) (within : List ℕ → Bool) (t d : List ℕ) → unwrap_or (option_and_then (λ x. cond (within x) (Some x) None) (cond seen (Some t) None)) d ≢ d
     → unwrap_or (option_and_then (λ x. cond (within x) (Some x) None) (cond seen (Some t) None)) d ≡ t
 number_kept true within t d h = go (within t) h where
@@ -99,16 +102,19 @@ number_kept true within t d h = go (within t) h where
   go false h = absurd (h refl)
 number_kept false within t d h = absurd (h refl)
 
+-- where a user's member changes what is selected in a choice, that member is selected
 pub member_kept : (shown seen : Bool) (s : ℕ) (other : Option ℕ) → cond shown (option_or (cond seen (Some s) None) other) None ≢ cond shown (option_or None other) None
     → cond shown (option_or (cond seen (Some s) None) other) None ≡ Some s
 member_kept true true s other h = refl
 member_kept true false s other h = absurd (h refl)
 member_kept false seen s other h = absurd (h refl)
 
+-- without a user's text, the text is the default, whether the symbol is seen or not
 pub no_text : (seen : Bool) (d : List ℕ) → unwrap_or (cond {A = Option (List ℕ)} seen None None) d ≡ d
 no_text true d = refl
 no_text false d = refl
 
+-- without a user's text, the text of a number is the default, whether the symbol is seen or not and whatever its range
 pub no_number : (seen : Bool) (within : List ℕ → Bool) (d : List ℕ) → unwrap_or (option_and_then (λ (x : List ℕ). cond (within x) (Some x) None) (cond {A = Option (List ℕ)} seen None None)) d ≡ d
 no_number true within d = refl
 no_number false within d = refl
@@ -176,7 +182,7 @@ module _ (tree : Tree) (values : List UnitValue) where
       itself (λ y. MemberValue (choice_rule tree choice y values)) fits (MemberUser s) fitting
       (ap (λ m. as_user (MemberValue m)) (member_kept (is_shown tree values choice) (is_visible_member tree values s) s _ (λ e. differs (ap (λ m. MemberValue m) e))))
 
-  -- what is promoted is no `m` of a bool
+  -- a promoted value fits a bool or tristate: that of a bool isn't `m`
   pub fits_promoted : (kind : Kind) (b l : Bool) (t : Tri) → is_tri_kind kind ≡ true → IsTrue (tri_fits kind (promoted_if l (promoted_if (is_bool kind || b) t)))
   fits_promoted Boolean b true t e = never_m (y_for_m t)
   fits_promoted Boolean b false t e = never_m t
@@ -205,7 +211,8 @@ module _ (tree : Tree) (values : List UnitValue) where
   restored_unit profile (Some (of_symbol s)) x fits differs = restored_symbol_at profile (slice_get tree.symbols s) x fits differs
   restored_unit profile (Some (of_choice c)) x fits differs = restored_choice_at (slice_get tree.choices c) (choice_user_fits (slice_get tree.choices c)) x fits differs
 
--- the rules of every tree keep the restore law, in both profiles
+-- in every tree and both profiles, a value that a unit gets only with a user value is given again when the value itself is the
+-- user value (the restore law)
 pub rules_restore : (profile : Profile) (tree : Tree) → Restores (length tree.units) (rule profile tree) as_user (λ u x. IsTrue (user_fits tree u x))
 unfolding rule user_fits
 rules_restore profile tree = record { restored = λ u x v inside len fits differs. restored_unit tree v profile (slice_get tree.units u) x fits differs }

@@ -1,4 +1,5 @@
--- Statements of the code as the definitions see them, over the expressions of an arena.
+-- The statements that the code reads, as the definitions have them: with expressions and names in place of their numbers in an
+-- arena.
 use Rattle.std.specs.Prelude.{◌≡◌, ◌⊎◌, ℕ, ◌<◌, [], length, Option, Some, None, option_map, unwrap_or, slice_index_or, Result, Ok, Err}
 use Rattle.kc_value.specs.declared.tri.Tri.TheVariants.{N}
 use Rattle.kc_expr.specs.between.Arena.{Exprs, Represents, node_expr}
@@ -9,44 +10,45 @@ use Rattle.kc_tree_model.specs.declared.fault.TreeKind.TheVariants.{OutOfMemory}
 use Rattle.kc_tree_model.specs.Statements.{Head, config, choice, menu, condition, comment, source, mainmenu, ends, DefaultAttribute, TargetAttribute, RangeAttribute, Attribute, typed, typed_prompt, typed_default, prompt, default, depends, select, imply, range, visible, help, modules, optional, Statement, head, attribute}
 use Rattle.kc_statements.specs.declared.statement.Head.{Head as CodeHead}
 use Rattle.kc_statements.specs.declared.statement.Head.TheVariants as heads
-use Rattle.kc_statements.specs.declared.statement.DefaultAttribute.{DefaultAttribute as CodeValued}
-use Rattle.kc_statements.specs.declared.statement.TargetAttribute.{TargetAttribute as CodeAimed}
-use Rattle.kc_statements.specs.declared.statement.RangeAttribute.{RangeAttribute as CodeBounded}
+use Rattle.kc_statements.specs.declared.statement.DefaultAttribute.{DefaultAttribute as CodeDefaultAttribute}
+use Rattle.kc_statements.specs.declared.statement.TargetAttribute.{TargetAttribute as CodeTargetAttribute}
+use Rattle.kc_statements.specs.declared.statement.RangeAttribute.{RangeAttribute as CodeRangeAttribute}
 use Rattle.kc_statements.specs.declared.statement.Attribute.{Attribute as CodeAttribute}
 use Rattle.kc_statements.specs.declared.statement.Attribute.TheVariants as attributes
 use Rattle.kc_statements.specs.declared.statement.Statement.{Statement as CodeStatement}
 use Rattle.kc_statements.specs.declared.statement.Statement.TheVariants as statements
 
--- what is answered is what the definition gives; a fault is the definition's, or memory ran out
+-- a result of the code agrees with that of a definition: the definition gives what the view makes of an `Ok`'s value, and an
+-- `Err` is the definition's fault, or out of memory
 abbrev pub ReturnsOrFails : {A B : Type 0} → (A → B) → Result A TreeKind → Result B TreeKind → Type 0
 ReturnsOrFails view (Ok x) given = given ≡ Ok (view x)
 ReturnsOrFails view (Err k) given = (k ≡ OutOfMemory) ⊎ (given ≡ Err k)
 
--- the expression of an `if`, where there is one
+-- the condition after an `if`, by the number of its node in the arena; none if there is no `if`
 abbrev pub if_in : Exprs → Option ℕ → Option Expr
 if_in e c = option_map (node_expr e) c
 
--- the operand that an expression is
+-- the operand that an expression consists of; the constant `n` if it isn't one operand alone
 abbrev pub operand_of_expr : Expr → Operand
 operand_of_expr e = unwrap_or (operand_alone e) (constant N)
 
--- the operand that a node is; `n` if it is none
+-- the operand that the expression of a node of the arena consists of; the constant `n` if it isn't one operand alone
 abbrev pub operand_or_n : Exprs → ℕ → Operand
 operand_or_n e id = operand_of_expr (node_expr e id)
 
--- a default of the code, as the definitions have it
-abbrev pub default_in : Exprs → CodeValued → DefaultAttribute
+-- a `default` attribute that the code has read, with expressions in place of the numbers of their nodes in the arena
+abbrev pub default_in : Exprs → CodeDefaultAttribute → DefaultAttribute
 default_in e d = record { value = node_expr e d.value; single = d.single; condition = if_in e d.condition }
 
--- a `select` or an `imply`
-abbrev pub target_in : Exprs → CodeAimed → TargetAttribute
+-- a `select` or `imply` attribute that the code has read, with the name and the condition in place of their numbers in the arena
+abbrev pub target_in : Exprs → CodeTargetAttribute → TargetAttribute
 target_in e s = record { name = slice_index_or e.names s.name []; condition = if_in e s.condition }
 
--- a range of the code, as the definitions have it
-abbrev pub range_in : Exprs → CodeBounded → RangeAttribute
+-- a `range` attribute that the code has read, with operands and the condition in place of the numbers of their nodes in the arena
+abbrev pub range_in : Exprs → CodeRangeAttribute → RangeAttribute
 range_in e r = record { low = operand_or_n e r.low; high = operand_or_n e r.high; condition = if_in e r.condition }
 
--- an attribute of the code, as the definitions have it
+-- an attribute that the code has read, with expressions and names in place of their numbers in the arena
 abbrev pub attribute_in : Exprs → CodeAttribute → Attribute
 attribute_in e (attributes.Typed k) = typed k
 attribute_in e (attributes.TypedPrompt k c) = typed_prompt k (if_in e c)
@@ -62,7 +64,7 @@ attribute_in e attributes.Help = help
 attribute_in e attributes.Modules = modules
 attribute_in e attributes.Optional = optional
 
--- a statement that closes the open entry
+-- a statement other than an attribute that the code has read, with a condition in place of the number of its node in the arena
 abbrev pub head_in : Exprs → CodeHead → Head
 head_in e (heads.Config name) = config name.now
 head_in e heads.Choice = choice
@@ -73,37 +75,37 @@ head_in e (heads.Source path) = source path
 head_in e heads.Mainmenu = mainmenu
 head_in e (heads.Ends b) = ends b
 
--- a line's statement of the code, as the definitions have it
+-- a statement that the code has read, with expressions and names in place of their numbers in the arena
 abbrev pub statement_in : Exprs → CodeStatement → Statement
 statement_in e (statements.Head h) = head (head_in e h)
 statement_in e (statements.Attribute a) = attribute (attribute_in e a)
 
--- a number is that of a node of the arena
+-- the number is that of a node of the arena
 abbrev pub NodeExists : Exprs → ℕ → Type 0
 NodeExists e id = id < length e.nodes
 
--- a condition is a node of the arena, if it is there
+-- the condition, if there is one, is the number of a node of the arena
 abbrev pub IfNodeExists : Exprs → Option ℕ → Type 0
 IfNodeExists e None = Unit {0}
 IfNodeExists e (Some id) = NodeExists e id
 
--- a node is an operand
+-- the number is that of a node of the arena whose expression is one operand
 abbrev pub OperandNodeExists : Exprs → ℕ → Type 0
 OperandNodeExists e id = Represents e id (alone (operand_or_n e id))
 
--- a default's value and condition are nodes of the arena
-abbrev pub DefaultNodesExist : Exprs → CodeValued → Type 0
+-- the value and the condition of a `default` attribute are numbers of nodes of the arena
+abbrev pub DefaultNodesExist : Exprs → CodeDefaultAttribute → Type 0
 DefaultNodesExist e d = NodeExists e d.value × IfNodeExists e d.condition
 
--- a target is a name, and its condition a node, of the arena
-abbrev pub TargetNodesExist : Exprs → CodeAimed → Type 0
+-- the name of a `select` or `imply` attribute is the number of a name of the arena, and its condition that of a node
+abbrev pub TargetNodesExist : Exprs → CodeTargetAttribute → Type 0
 TargetNodesExist e s = (s.name < length e.names) × IfNodeExists e s.condition
 
--- a range's bounds are operands, and its condition a node, of the arena
-abbrev pub RangeNodesExist : Exprs → CodeBounded → Type 0
+-- the bounds of a `range` attribute are numbers of operands in the arena, and its condition is that of a node
+abbrev pub RangeNodesExist : Exprs → CodeRangeAttribute → Type 0
 RangeNodesExist e r = OperandNodeExists e r.low × OperandNodeExists e r.high × IfNodeExists e r.condition
 
--- all numbers of an attribute are those of nodes and names of the arena
+-- all numbers in an attribute are those of nodes and names of the arena
 abbrev pub AttributeNodesExist : Exprs → CodeAttribute → Type 0
 AttributeNodesExist e (attributes.Typed k) = Unit {0}
 AttributeNodesExist e (attributes.TypedPrompt k c) = IfNodeExists e c
@@ -119,7 +121,8 @@ AttributeNodesExist e attributes.Help = Unit {0}
 AttributeNodesExist e attributes.Modules = Unit {0}
 AttributeNodesExist e attributes.Optional = Unit {0}
 
--- all numbers of a statement that opens or ends an entry are those of nodes of the arena
+-- the condition of an `if` statement is the number of a node of the arena; other statements that aren't attributes have no
+-- numbers
 abbrev pub HeadNodesExist : Exprs → CodeHead → Type 0
 HeadNodesExist e (heads.Config name) = Unit {0}
 HeadNodesExist e heads.Choice = Unit {0}
@@ -130,7 +133,7 @@ HeadNodesExist e (heads.Source path) = Unit {0}
 HeadNodesExist e heads.Mainmenu = Unit {0}
 HeadNodesExist e (heads.Ends b) = Unit {0}
 
--- all numbers of a statement are those of nodes and names of the arena
+-- all numbers in a statement are those of nodes and names of the arena
 abbrev pub StatementNodesExist : Exprs → CodeStatement → Type 0
 StatementNodesExist e (statements.Head h) = HeadNodesExist e h
 StatementNodesExist e (statements.Attribute a) = AttributeNodesExist e a

@@ -16,12 +16,15 @@ same_sum v w (d ∷ units) agree =
     let rest = same_sum v w units (λ x has. agree x (suc has.0, omega (arith, has.1), has.2)) in
     omega (arith, sum_by-cons (λ x. slice_index v x) d units, sum_by-cons (λ x. slice_index w x) d units)
 
+-- in each test system of sums, values that agree on the dependencies of a unit give it the same value (the frame law)
 pub sums_keep_the_frame : (rows : List (Vec ℕ Global)) → KeepsFrame (length rows) (row_at rows) (sum_rule rows) IsSmall
 sums_keep_the_frame rows = record { same = λ u x v w inside v_size w_size fits agree. at u x v w agree } where
   at : (u : ℕ) (x : Option ℕ) (v w : List ℕ) → AgreesOn (row_at rows u) v w → sum_rule rows u x v ≡ sum_rule rows u x w
   at u (Some y) v w agree = refl
   at u None v w agree = ap (λ n. min 1000 (1 + n)) (same_sum v w (row_at rows u) agree)
 
+-- in each test system of sums, a value that a unit has only due to a user's number is also its value if the user's number is
+-- that value
 pub sums_restore : (rows : List (Vec ℕ Global)) → Restores (length rows) (sum_rule rows) (λ x. Some x) IsSmall
 sums_restore rows = record { restored = λ u x v inside v_size fits differs. at u x v fits differs } where
   at : (u : ℕ) (x : Option ℕ) (v : List ℕ) → IfSome x (IsSmall u) → sum_rule rows u x v ≢ sum_rule rows u None v

@@ -25,36 +25,36 @@ use Rattle.kc_tree.specs.declared.builder.SymbolParts.{SymbolParts}
 use Rattle.kc_tree.specs.declared.tree_lists.Gathered.{Gathered}
 use Rattle.kc_tree.specs.declared.listing_walk.WalkedListing.{WalkedListing}
 
--- a walk through the groups of files without a fault
+-- a walked listing represents the statements read from files, with their conditions; the files have no fault
 pub record IsWalk (w : WalkedListing) (files : Files) (root : List ℕ) : Type 0 where
   pub walk : IsWalkOf w.listing w.groups.items w.conditions.items (reading files root).read
   pub untold : first_tree_fault files root ≡ None
 
--- so few groups that each has a number
+-- a walked listing has fewer than 2^32 groups, so that each group's number fits in 32 bits
 abbrev pub AreFew : WalkedListing → Type 0
 AreFew w = length w.listing.groups.items < 2 ^ 32
 
--- rows, attributes and units of the symbols
+-- the collected rows and attributes of symbols, and the collected units, are those of the statements read
 pub record AreSymbolParts (e : Exprs) (read : List Group) (p : SymbolParts) : Type 0 where
   pub rows : AreRowsOf e (contents_of read) (names_defined read) p.rows.items
   pub attributes : AreAttributes e (contents_of read) p.attributes
   pub units : p.units.items ≡ units_read (contents_of read)
 
--- rows and defaults of the choices, and the entries
+-- the collected rows and defaults of choices, and the collected entries, are those of the statements read
 pub record AreChoiceParts (l : Listing) (read : List Group) (p : ChoiceParts) : Type 0 where
   pub rows : AreChoiceRows l.names.arena (filter opens (groups_in_context read)) p.rows.items
   pub defaults : AreDefaultsOf l (contents_of read) (groups_in_context read) (length (contents_of read).choices) p.defaults
   pub entries : map (entry_from_row l.names.arena l.texts.items) p.entries.items ≡ (tree_of_groups read).entries
   pub entries_fit : All (EntryRowFits (length l.names.arena.nodes) (length l.names.symbols.items) (length (contents_of read).choices) (length l.texts.items)) p.entries.items
 
--- the summary, the symbols and the choices, of so few groups that each has a number
+-- the collected summary, symbol parts and choice parts are those of the statements read, which are fewer than 2^32
 pub record AreAllParts (l : Listing) (read : List Group) (p : AllParts) : Type 0 where
   pub few : length l.groups.items < 2 ^ 32
   pub summary : IsSummary read p.summary
   pub symbols : AreSymbolParts l.names.arena read p.symbols
   pub choices : AreChoiceParts l read p.choices
 
--- all parts of a listing: their numbers are in range, and they represent its tree
+-- the collected lists represent the tree of the statements read, and all numbers in them are in range
 pub record IsGathering (read : List Group) (g : Gathered) : Type 0 where
   pub whole : gathered_tree g ≡ tree_of_groups read
   pub fits : GatheredFit g

@@ -16,7 +16,7 @@ use Rattle.kc_tree.specs.checker.Walks.{RepresentsAllConditions}
 use Rattle.kc_tree.specs.declared.parts.ChoiceRow.{ChoiceRow}
 use Rattle.kc_tree.specs.declared.group_walk.GroupConditions.{GroupConditions}
 
--- what was read is shown, and its conditions
+-- a listing represents some statements, and `groups` and `conditions` the conditions of these and of their attributes
 pub record IsGoneThrough (l : Listing) (groups : List GroupConditions) (conditions : List ℕ) : Type 0 where
   pub exprs : Exprs
   pub read : List Group
@@ -28,19 +28,19 @@ abbrev pub is_optional_code : CodeAttribute → Bool
 is_optional_code attributes.Optional = true
 is_optional_code a = false
 
--- whether a line makes a choice optional
+-- whether the attribute of a line is `optional`
 abbrev pub is_optional_line : CodeLine → Bool
 is_optional_line l = is_optional_code l.attribute
 
--- the row of a choice that begins with a group, which has these attributes with these conditions
+-- the stored row of the choice that a group opens, from the group's attribute lines and their conditions
 abbrev pub choice_row : CodeGroup → List CodeLine → List ℕ → ChoiceRow
 choice_row g ls cs = record { file = g.file; line = g.line; prompt = first_prompt ls cs; optional = list_any is_optional_line ls }
 
--- whether a choice begins at a place
+-- whether a group opens a choice
 abbrev pub opens : GroupInContext → Bool
 opens p = opens_choice p.group
 
--- a row represents the choice that begins at a place
+-- a row has the file, line, prompt condition and `optional` of the choice that a group opens
 pub record IsChoiceRow (exprs : Exprs) (p : GroupInContext) (r : ChoiceRow) : Type 0 where
   pub file_is : r.file ≡ p.group.at.file
   pub line_is : r.line ≡ p.group.at.line
@@ -48,7 +48,7 @@ pub record IsChoiceRow (exprs : Exprs) (p : GroupInContext) (r : ChoiceRow) : Ty
   pub optional_is : r.optional ≡ is_optional_group p.group
   pub held : (i : ℕ) → r.prompt ≡ Some i → i < length exprs.nodes
 
--- rows represent the choices that begin at these places
+-- the rows represent, one by one, the choices that these groups open
 abbrev pub AreChoiceRows : Exprs → List GroupInContext → List ChoiceRow → Type 0
 AreChoiceRows exprs [] [] = Unit {0}
 AreChoiceRows exprs (p ∷ ps) (r ∷ rs) = IsChoiceRow exprs p r × AreChoiceRows exprs ps rs

@@ -4,11 +4,11 @@ use Rattle.kc_expr.specs.between.Arena.{Exprs, Represents, node_expr}
 use Rattle.kc_expr.specs.Expr.{Expr}
 use Rattle.kc_tree_model.specs.Conditions.{conjunction_of}
 
--- one conjunct, if there is one
+-- an optional expression, given by its number, as a list of at most one conjunct
 abbrev pub conjunct : Exprs → Option ℕ → List Expr
 conjunct exprs o = option_to_list (option_map (node_expr exprs) o)
 
--- none is the conjunction of nothing, and a number that of one or more
+-- an optional expression is the conjunction of a list: `None` that of the empty list, a number that of a list that isn't empty
 abbrev pub Conjoins : Exprs → Option ℕ → List Expr → Type 0
 Conjoins exprs None es = es ≡ []
 Conjoins exprs (Some i) es = (0 < length es) × Represents exprs i (conjunction_of es)

@@ -11,7 +11,7 @@ use Rattle.kc_tree.specs.declared.conditions.Conjuncts.{Conjuncts}
 use Rattle.kc_tree.specs.declared.conditions.Conjuncts.TheVariants.{Dependencies, Visibles}
 use Rattle.kc_tree.specs.declared.conditions.EntryConditions.{EntryConditions}
 
--- the `if` of an attribute
+-- the number of the expression after an attribute's `if`; `None` for an attribute without an `if`
 abbrev pub if_view : CodeAttribute → Option ℕ
 if_view (attributes.Typed k) = None
 if_view (attributes.TypedPrompt k c) = c
@@ -27,42 +27,43 @@ if_view attributes.Help = None
 if_view attributes.Modules = None
 if_view attributes.Optional = None
 
--- whether it is a prompt
+-- whether an attribute is a prompt, with or without a type
 abbrev pub is_prompt : CodeAttribute → Bool
 is_prompt (attributes.TypedPrompt k c) = true
 is_prompt (attributes.Prompt c) = true
 is_prompt a = false
 
--- what an attribute gives an entry's dependency, or its `visible if`
+-- the expression number of a `depends on` or of a `visible if`, as the first argument asks; `None` for any other attribute
 abbrev pub conjunct_view : Conjuncts → CodeAttribute → Option ℕ
 conjunct_view Dependencies (attributes.Depends id) = Some id
 conjunct_view Dependencies a = None
 conjunct_view Visibles (attributes.Visible id) = Some id
 conjunct_view Visibles a = None
 
--- what attributes give
+-- the expressions of all `depends on`s or of all `visible if`s among attribute lines, in order
 abbrev pub conjunct_views : Conjuncts → Exprs → List CodeLine → List Expr
 conjunct_views w exprs [] = []
 conjunct_views w exprs (l ∷ ls) = conjunct exprs (conjunct_view w l.attribute) ++ conjunct_views w exprs ls
 
--- the conditions of an entry among these dependencies and `visible if`s, which has its own
+-- an entry's joined conditions are made of its dependencies, the enclosing `visible if`s (`visibles`) and its own `visible if`s
 pub record AreJoined (exprs : Exprs) (e : EntryConditions) (dependencies visibles own : List Expr) : Type 0 where
   pub dependencies_are : Conjoins exprs e.dependencies dependencies
   pub visibles_are : Conjoins exprs e.visibles (visibles ++ own)
   pub shown_is : Conjoins exprs e.shown (dependencies ++ visible_conjunct visibles)
 
--- the condition of an attribute in an entry with these dependencies, among these `visible if`s
+-- an attribute's joined condition: its entry's dependencies, for a prompt the enclosing `visible if`s, and its own `if`
 abbrev pub condition_view : Exprs → List Expr → List Expr → CodeAttribute → Expr
 condition_view exprs dependencies visibles a =
     if is_prompt a then conjunction_of (dependencies ++ (visible_conjunct visibles ++ conjunct exprs (if_view a)))
     else conjunction_of (dependencies ++ conjunct exprs (if_view a))
 
+-- an attribute line's joined condition: its entry's dependencies, for a prompt the enclosing `visible if`s, and its own `if`
 abbrev pub line_condition : Exprs → List Expr → List Expr → CodeLine → Expr
 line_condition exprs dependencies visibles l = condition_view exprs dependencies visibles l.attribute
 
--- the conditions of attributes come after others
+-- `after` is `before` with the joined condition of each line's attribute appended
 pub record AreAppended (old new : Exprs) (before after : List ℕ) (dependencies visibles : List Expr) (lines : List CodeLine) : Type 0 where
   pub own : List ℕ
   pub is : after ≡ before ++ own
-  pub stand : map (node_expr new) own ≡ map (line_condition old dependencies visibles) lines
+  pub exprs_are : map (node_expr new) own ≡ map (line_condition old dependencies visibles) lines
   pub held : All (λ i. i < length new.nodes) own

@@ -7,22 +7,22 @@ use Rattle.kc_listing.specs.declared.listing.Line.{Line as CodeLine}
 use Rattle.kc_listing.specs.declared.listing.SymbolTable.{SymbolTable}
 use Rattle.kc_tree.specs.between.Views.{default_view, range_view, reverse_dependency_view, DefaultFits, RangeFits, HasOperands, ReverseDependencyFits}
 use Rattle.kc_tree.specs.checker.GatheredAttributes.{HaveKeys}
-use Rattle.kc_tree.specs.checker.GatheredItems.{gathered_prompt, gathered_default, gathered_range, own_key, aimed_at, gathered_reverse_dependency, HasAppended}
+use Rattle.kc_tree.specs.checker.GatheredItems.{gathered_prompt, gathered_default, gathered_range, own_key, target_key, gathered_reverse_dependency, HasAppended}
 use Rattle.kc_tree.specs.checker.GroupedItems.{items_of}
 use Rattle.kc_tree.specs.declared.definition_attributes.ReverseKind.TheVariants.{Select, Imply}
 use Rattle.kc_tree.specs.declared.tree_lists.Attributes.{Attributes}
 
--- what a definition gives is appended to what was there
+-- `new` is `old` with the attributes and the dependency that one definition of symbol `s` gives appended
 pub record HasDefinition (names : SymbolTable) (s : ℕ) (old new : Attributes) (lines : List CodeLine) (conditions : List ℕ) (dependency : ℕ) : Type 0 where
   pub prompts : HasAppended (own_key s gathered_prompt) gathered_prompt old.prompts new.prompts lines conditions
   pub defaults : HasAppended (own_key s gathered_default) gathered_default old.defaults new.defaults lines conditions
   pub ranges : HasAppended (own_key s gathered_range) gathered_range old.ranges new.ranges lines conditions
-  pub selectors : HasAppended (aimed_at names Select) (gathered_reverse_dependency names Select s) old.selectors new.selectors lines conditions
-  pub impliers : HasAppended (aimed_at names Imply) (gathered_reverse_dependency names Imply s) old.impliers new.impliers lines conditions
+  pub selectors : HasAppended (target_key names Select) (gathered_reverse_dependency names Select s) old.selectors new.selectors lines conditions
+  pub impliers : HasAppended (target_key names Imply) (gathered_reverse_dependency names Imply s) old.impliers new.impliers lines conditions
   pub direct_keys : new.direct.keys.items ≡ old.direct.keys.items ++ s ∷ []
   pub direct_items : new.direct.items.items ≡ old.direct.items.items ++ dependency ∷ []
 
--- what the symbols have, each under its number
+-- the collected attributes, each under a symbol's number, represent those of all symbols, and their numbers are in range
 pub record AreAttributes (e : Exprs) (c : Contents) (a : Attributes) : Type 0 where
   pub keys : HaveKeys (length c.names) a
   pub prompts_are : (s : ℕ) (x : List ℕ) → slice_get c.names s ≡ Some x → map (node_expr e) (items_of s a.prompts.keys.items a.prompts.items.items) ≡ (symbol_of c x).prompts

@@ -1,4 +1,4 @@
--- The entries of groups, by what is kept of them.
+-- The stored rows of the entries that groups make.
 use Rattle.std.specs.Prelude.{ℕ, ◌+◌, List, [], ◌∷◌, ◌++◌, Option, Some, None, option_map, option_to_list}
 use Rattle.kc_tree_model.specs.declared.keyword.Block.TheVariants as blocks
 use Rattle.kc_listing.specs.declared.listing.Group.{Group}
@@ -8,11 +8,11 @@ use Rattle.kc_tree.specs.declared.parts.EntryRow.{EntryRow}
 use Rattle.kc_tree.specs.declared.parts.EntryRow.TheVariants.{Definition, ChoiceBegins, MenuBegins, MenuEnds, Comment}
 use Rattle.kc_tree.specs.declared.group_walk.GroupConditions.{GroupConditions}
 
--- the end of a menu, if one ended
+-- the row of a menu's end, from the conditions of the group that ends it; `None` if the group ends no menu
 abbrev pub menu_end_row : GroupConditions → Option EntryRow
 menu_end_row c = option_map (λ t. MenuEnds t c.dependency c.visible) c.ended
 
--- the entry of a group, with the count of choices before it
+-- the row of the entry that a statement makes, or `None`; the number counts the choices before the statement
 abbrev pub entry_row : GroupHead → GroupConditions → ℕ → Option EntryRow
 entry_row (codes.Config s) c n = Some (Definition s)
 entry_row codes.Choice c n = Some (ChoiceBegins n)
@@ -21,12 +21,12 @@ entry_row (codes.Comment t) c n = Some (Comment t c.dependency)
 entry_row (codes.Ends blocks.Menu) c n = menu_end_row c
 entry_row w c n = None
 
--- the count of choices before the next group
+-- the number of choices up to and including a statement, from the number of choices before it
 abbrev pub choices_after : GroupHead → ℕ → ℕ
 choices_after codes.Choice n = n + 1
 choices_after w n = n
 
--- the entries of groups, with the count of choices before them
+-- the rows of the entries that groups make, in order; the number counts the choices before the first of these groups
 abbrev pub entries_from : ℕ → List Group → List GroupConditions → List EntryRow
 entries_from n [] cs = []
 entries_from n (g ∷ gs) [] = []

@@ -1,4 +1,4 @@
--- The lists that are made of the collected items.
+-- The grouped lists and the tables made from the collected lists.
 use Rattle.std.specs.Prelude.{length}
 use Rattle.kc_tree.specs.checker.GatheredAttributes.{AreGrouped}
 use Rattle.kc_tree.specs.checker.GatheredView.{gathered_tree}
@@ -10,18 +10,18 @@ use Rattle.kc_tree.specs.declared.tree_lists.Gathered.{Gathered}
 use Rattle.kc_tree.specs.declared.tree_lists.Lists.{Lists}
 use Rattle.kc_tree.specs.declared.tree_lists.Tables.{Tables}
 
--- the items of one symbol or choice are one row
+-- the grouped lists have the collected attributes by symbol, and the collected members and defaults by choice
 pub record AreLists (g : Gathered) (l : Lists) : Type 0 where
   pub attributes : AreGrouped (length g.symbols.items) g.attributes l.attributes
   pub members : IsGrouped (length g.choices.items) g.members.keys.items g.members.items.items l.members.starts.items l.members.items.items
   pub member_defaults : IsGrouped (length g.choices.items) g.member_defaults.keys.items g.member_defaults.items.items l.member_defaults.starts.items l.member_defaults.items.items
 
--- each symbol and each choice has its unit, and each name its symbol
+-- the tables have the unit of each symbol and of each choice, and the symbol of each name
 pub record AreTables (g : Gathered) (t : Tables) : Type 0 where
   pub units : HasUnits (gathered_tree g) t.units.symbols.items t.units.choices.items
   pub names : IsTable (length g.arena.names) g.symbols.items (length g.symbols.items) t.symbol_of_name.items
 
--- the lists of the tree
+-- the lists that store a tree, from its collected lists, grouped lists and tables
 abbrev pub parts_made : Gathered → Lists → Tables → Parts
 parts_made g l t = record {
   arena = g.arena;

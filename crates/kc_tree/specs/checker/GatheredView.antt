@@ -11,7 +11,7 @@ use Rattle.kc_tree.specs.declared.parts.SymbolRow.{SymbolRow}
 use Rattle.kc_tree.specs.declared.parts.ChoiceRow.{ChoiceRow}
 use Rattle.kc_tree.specs.declared.tree_lists.Gathered.{Gathered}
 
--- a symbol, by its number and its row: its attributes are those under its number
+-- the symbol that a number and a row represent, with the attributes collected under the number
 abbrev pub symbol_gathered : Gathered → ℕ → SymbolRow → tree.Symbol
 symbol_gathered g s r = record {
   name = slice_index_or g.arena.names r.name [];
@@ -27,7 +27,7 @@ symbol_gathered g s r = record {
   choice = r.choice;
 }
 
--- a choice, by its number and its row
+-- the choice that a number and a row represent, with the members and defaults collected under the number
 abbrev pub choice_gathered : Gathered → ℕ → ChoiceRow → tree.Choice
 choice_gathered g c r = record {
   file = r.file;
@@ -38,6 +38,7 @@ choice_gathered g c r = record {
   optional = r.optional;
 }
 
+-- the tree that collected lists represent: its symbols, choices, entries and units
 abbrev pub gathered_tree : Gathered → Tree
 gathered_tree g = record {
   symbols = from_rows (symbol_gathered g) 0 g.symbols.items;

@@ -1,4 +1,4 @@
--- The first of kinds of faults, by tests.
+-- The kinds of faults of definitions and attributes.
 use Rattle.std.specs.Prelude.{Bool, true, false, List, not, ◌&&◌, ◌||◌, Option, Some, None, is_none, is_some, if◌then◌else◌}
 use Rattle.std.specs.List.{list_all}
 use Rattle.kc_expr.specs.declared.language.Language.{Language}
@@ -15,7 +15,7 @@ use Rattle.kc_tree_model.specs.TreeFaults.{is_other_kind, kind_or_bool, is_shape
 use Rattle.kc_value.specs.Kinds.{is_number}
 use Rattle.kc_tree.specs.declared.summary.SymbolSummary.{SymbolSummary}
 
--- an attribute that a later definition of a member may have
+-- whether a later definition of a choice member may have an attribute: `depends on`, `select`, `imply` or help text
 abbrev pub is_added_code : CodeAttribute → Bool
 is_added_code (attributes.Depends id) = true
 is_added_code (attributes.Select s) = true
@@ -23,16 +23,16 @@ is_added_code (attributes.Imply s) = true
 is_added_code attributes.Help = true
 is_added_code a = false
 
--- a line of such an attribute
+-- whether a later definition of a choice member may have the attribute of a line
 abbrev pub is_added_line : CodeLine → Bool
 is_added_line l = is_added_code l.attribute
 
--- whether a definition with these attributes may follow that of a member
+-- whether a definition with these attribute lines may come after its symbol's definition as a choice member
 abbrev pub may_follow_code : Language → (is_member : Bool) → List CodeLine → Bool
 may_follow_code Strict is_member ls = false
 may_follow_code Linux is_member ls = not is_member && list_all is_added_line ls
 
--- the fault of a definition, by what is known of its symbol
+-- the kind of the first fault of a symbol's definition, from the symbol's summary; `None` without a fault
 abbrev pub definition_kind : SymbolSummary → (is_member is_first is_modules may_follow : Bool) → Option TreeKind
 definition_kind about is_member is_first is_modules may_follow =
     if is_first && is_none (kind_or_bool about.given (is_some about.choice)) then Some NoType
@@ -40,7 +40,7 @@ definition_kind about is_member is_first is_modules may_follow =
     else if is_first && is_modules && is_other_kind Boolean about.given then Some ModulesType
     else None
 
--- the fault of an attribute of a symbol with a type
+-- the kind of the first fault of an attribute of a symbol with this type; `None` without a fault
 abbrev pub typed_kind : Kind → (prompted is_modules_symbol is_wrong : Bool) → Attribute → Option TreeKind
 typed_kind k prompted is_modules_symbol is_wrong a =
     if is_other_kind k (type_of a) then Some TypeConflict
@@ -51,7 +51,7 @@ typed_kind k prompted is_modules_symbol is_wrong a =
     else if is_modules a && not is_modules_symbol then Some ModulesType
     else None
 
--- the fault of an attribute of a choice
+-- the kind of the fault of a choice's attribute: a second prompt, or a default that is no member; `None` without a fault
 abbrev pub choice_kind : (prompted is_no_member : Bool) → Attribute → Option TreeKind
 choice_kind prompted is_no_member a =
     if prompted && is_some (prompt_of a) then Some SecondPrompt

@@ -3,12 +3,12 @@ use Rattle.std.specs.Prelude.{◌≡◌, ℕ, ◌<◌, ◌==◌, true, false, Li
 use Rattle.std.specs.List.{list_any}
 use Rattle.kc_expr.specs.Lookup.{index_of_name}
 
--- the symbols of these names have this mark, and no others
+-- of the symbols of `names`, exactly those of `members` have this mark, and each member is one of `names`
 pub record AreMarked (names members : List (List ℕ)) (marks : List ℕ) (mark : ℕ) : Type 0 where
   pub marked : (s : ℕ) (x : List ℕ) → slice_get names s ≡ Some x → (slice_index marks s == mark) ≡ is_some (index_of_name x members)
   pub within : (x : List ℕ) → index_of_name x names ≡ None → index_of_name x members ≡ None
 
--- these symbols were marked, and the marks of the others are as they were
+-- `new` is `old` with this mark at the numbers in `members`, and unchanged at all other numbers
 pub record WereMarked (old : List ℕ) (members : List ℕ) (mark : ℕ) (new : List ℕ) : Type 0 where
   pub len : length new ≡ length old
   pub marked : (s : ℕ) → s < length old → list_any (λ m. m == s) members ≡ true → slice_index new s ≡ mark

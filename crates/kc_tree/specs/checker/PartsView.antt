@@ -12,7 +12,7 @@ use Rattle.kc_tree.specs.declared.parts.EntryRow.{EntryRow}
 use Rattle.kc_tree.specs.declared.parts.EntryRow.TheVariants.{Definition, ChoiceBegins, MenuBegins, MenuEnds, Comment}
 use Rattle.kc_tree.specs.declared.parts.Parts.{Parts}
 
--- a symbol, by its number and its row
+-- the symbol that a number and a row represent, with the attributes stored for the number
 abbrev pub symbol_from_row : Parts → ℕ → SymbolRow → tree.Symbol
 symbol_from_row p s r = record {
   name = slice_index_or p.arena.names r.name [];
@@ -28,7 +28,7 @@ symbol_from_row p s r = record {
   choice = r.choice;
 }
 
--- a choice, by its number and its row
+-- the choice that a number and a row represent, with the members and defaults stored for the number
 abbrev pub choice_from_row : Parts → ℕ → ChoiceRow → tree.Choice
 choice_from_row p c r = record {
   file = r.file;
@@ -39,7 +39,7 @@ choice_from_row p c r = record {
   optional = r.optional;
 }
 
--- an entry, by its row
+-- the entry that a row represents: its title and expressions in place of their numbers
 abbrev pub entry_from_row : Exprs → List (List ℕ) → EntryRow → tree.Entry
 entry_from_row exprs titles (Definition s) = tree.definition s
 entry_from_row exprs titles (ChoiceBegins c) = tree.choice_begins c
@@ -47,11 +47,12 @@ entry_from_row exprs titles (MenuBegins title dependency visible) = tree.menu_be
 entry_from_row exprs titles (MenuEnds title dependency visible) = tree.menu_ends (slice_index_or titles title []) (node_expr exprs dependency) (node_expr exprs visible)
 entry_from_row exprs titles (Comment title dependency) = tree.comment (slice_index_or titles title []) (node_expr exprs dependency)
 
--- what rows represent, by their numbers from one on
+-- the result of a function of each row and its number, where the first row has the given number
 abbrev pub from_rows : {A B : Type 0} → (ℕ → A → B) → ℕ → List A → List B
 from_rows f n [] = []
 from_rows f n (r ∷ rs) = f n r ∷ from_rows f (suc n) rs
 
+-- the tree that stored lists represent: its symbols, choices, entries and units
 abbrev pub tree_from_rows : Parts → Tree
 tree_from_rows p = record {
   symbols = from_rows (symbol_from_row p) 0 p.symbols.items;

@@ -11,7 +11,7 @@ use Rattle.kc_tree.specs.declared.parts.EntryRow.{EntryRow}
 use Rattle.kc_tree.specs.declared.parts.EntryRow.TheVariants.{Definition, ChoiceBegins, MenuBegins, MenuEnds, Comment}
 use Rattle.kc_tree.specs.declared.parts.Parts.{Parts}
 
--- the numbers in an entry's row are there
+-- the expression, symbol, choice and title numbers in an entry's row are below the four counts, in this order
 abbrev pub EntryRowFits : ℕ → ℕ → ℕ → ℕ → EntryRow → Type 0
 EntryRowFits nodes symbols choices titles (Definition s) = s < symbols
 EntryRowFits nodes symbols choices titles (ChoiceBegins c) = c < choices
@@ -19,7 +19,7 @@ EntryRowFits nodes symbols choices titles (MenuBegins title dependency visible) 
 EntryRowFits nodes symbols choices titles (MenuEnds title dependency visible) = (title < titles) × (dependency < nodes) × (visible < nodes)
 EntryRowFits nodes symbols choices titles (Comment title dependency) = (title < titles) × (dependency < nodes)
 
--- the numbers in the lists are there, and the bounds of ranges are operands
+-- the numbers in the lists that store a tree are in range, and the bounds of ranges are operands
 pub record PartsFit (p : Parts) : Type 0 where
   pub few_symbols : length p.symbols.items < 2 ^ 32
   pub few_choices : length p.choices.items < 2 ^ 32
@@ -39,7 +39,7 @@ pub record PartsFit (p : Parts) : Type 0 where
   pub symbol_units : (u s : ℕ) → slice_get p.units.items u ≡ Some (of_symbol s) → s < length p.symbols.items
   pub choice_units : (u c : ℕ) → slice_get p.units.items u ≡ Some (of_choice c) → c < length p.choices.items
 
--- each list by symbols or choices has a place for each of them
+-- each list of a tree with an element per symbol or per choice has one for every symbol or choice; lists of starts have one more
 pub record HasPlaces (p : Parts) : Type 0 where
   pub prompts : length p.prompts.starts.items ≡ length p.symbols.items + 1
   pub defaults : length p.defaults.starts.items ≡ length p.symbols.items + 1
@@ -52,8 +52,8 @@ pub record HasPlaces (p : Parts) : Type 0 where
   pub unit_of_symbol : length p.unit_of_symbol.items ≡ length p.symbols.items
   pub unit_of_choice : length p.unit_of_choice.items ≡ length p.choices.items
 
--- the numbers are there, each symbol and choice has its unit, the table has the symbol of each name and no symbol has another name,
--- and the tree is consistent
+-- the lists that store a tree are sound: numbers are in range, each symbol and choice has its unit, the table has the symbol of
+-- each name, no symbol has a name outside the arena, and the tree is consistent
 pub record AreSoundParts (p : Parts) : Type 0 where
   pub fits : PartsFit p
   pub places : HasPlaces p

@@ -12,47 +12,51 @@ use Rattle.kc_tree_model.specs.Contents.{Contents, contents_of, choice_number, d
 use Rattle.kc_listing.specs.declared.listing.Group.{Group as CodeGroup}
 use Rattle.kc_listing.specs.declared.listing.Line.{Line as CodeLine}
 use Rattle.kc_listing.specs.declared.listing.Listing.{Listing}
-use Rattle.kc_listing.specs.declared.listing.GroupHead.{GroupHead as CodeWhat}
+use Rattle.kc_listing.specs.declared.listing.GroupHead.{GroupHead as CodeHead}
 use Rattle.kc_listing.specs.declared.listing.GroupHead.TheVariants as codes
 use Rattle.kc_listing.specs.between.ListingView.{RepresentsListing}
 use Rattle.kc_tree.specs.declared.summary.SymbolSummary.{SymbolSummary}
 use Rattle.kc_tree.specs.declared.summary.Summary.{Summary}
 
--- a listing shows something that was read
+-- a listing represents some statements, in the form of the model
 pub record IsRepresented (l : Listing) : Type 0 where
   pub read : List Group
   pub shows : RepresentsListing l read
 
--- what was read before a group, the newest first
+-- the groups read before the one of this number, newest first, from all groups read, newest first
 abbrev pub read_before : ℕ → List Group → List Group
 read_before i read = drop (length read - i) read
 
--- a group, and where its attributes end
+-- the group used where no group has the given number
 abbrev pub no_group : CodeGroup
 no_group = record { file = 0; line = 0; head = codes.FileEnd; attributes = 0 }
 
+-- the group with this number; `no_group` if there is no such group
 abbrev pub group_at : List CodeGroup → ℕ → CodeGroup
 group_at groups i = slice_index_or groups i no_group
 
+-- the index where a group's attribute lines end, by the group's number: where the next group's begin, or the end of all lines
 abbrev pub attributes_end : List CodeGroup → List CodeLine → ℕ → ℕ
 attributes_end groups lines i = if nat_lt (i + 1) (length groups) then (group_at groups (i + 1)).attributes else length lines
 
--- the attributes of a group
+-- the attribute lines of the group with this number in a listing
 abbrev pub own_lines : Listing → ℕ → List CodeLine
 own_lines l i = slice_range l.lines.items (group_at l.groups.items i).attributes (attributes_end l.groups.items l.lines.items i)
 
--- whether a choice begins
-abbrev pub is_choice_code : CodeWhat → Bool
+-- whether a statement is a `choice`
+abbrev pub is_choice_code : CodeHead → Bool
 is_choice_code codes.Choice = true
 is_choice_code w = false
 
--- the choice that encloses the innermost block or is that block
+-- the number of the choice that the innermost open block is or is in, from the list of these numbers for all open blocks,
+-- innermost first; `None` if the block is in no choice or no block is open
 abbrev pub innermost_choice : List (Option ℕ) → Option ℕ
 innermost_choice [] = None
 innermost_choice (o ∷ os) = o
 
--- for each open block after a group, innermost first, the choice that encloses it or is it; `n` counts the choices before the group
-abbrev pub choices_opened_after : CodeWhat → ℕ → List (Option ℕ) → List (Option ℕ)
+-- for each block open after a statement, innermost first, the number of the choice that the block is or is in, from the same list
+-- before the statement and the number of choices before it
+abbrev pub choices_opened_after : CodeHead → ℕ → List (Option ℕ) → List (Option ℕ)
 choices_opened_after codes.Choice n os = Some n ∷ os
 choices_opened_after (codes.Menu t) n os = innermost_choice os ∷ os
 choices_opened_after (codes.Condition e) n os = innermost_choice os ∷ os
@@ -61,26 +65,28 @@ choices_opened_after (codes.Ends b) n os = drop 1 os
 choices_opened_after codes.FileEnd n os = drop 1 os
 choices_opened_after w n os = os
 
--- the number of the enclosing choice of a place
+-- the number of the choice that encloses a group, among all choices; `None` outside choices
 abbrev pub enclosing_choice : Contents → GroupInContext → Option ℕ
 enclosing_choice c p = option_and_then (choice_number c) p.enclosing.choice
 
--- for each open block, the number of the choice that encloses it or is it
+-- for each open block, innermost first, the number of the choice that encloses it or is it
 abbrev pub open_choices : Contents → List Group → List (Option ℕ)
 open_choices c [] = []
 open_choices c (g ∷ outer) = option_and_then (choice_number c) (context (g ∷ outer)).choice ∷ open_choices c outer
 
--- the first value among the definitions of a name
+-- the first value that a function gives for the definitions of a name among groups; `None` if there is none
 abbrev pub first_in_definitions : {A : Type 0} → (GroupInContext → List A) → List GroupInContext → List ℕ → Option A
 first_in_definitions f places name = slice_get (flat_map f (filter (defines name) places)) 0
 
+-- the number of a group among all groups, as a list of one
 abbrev pub number_at : GroupInContext → List ℕ
 number_at p = p.group.number ∷ []
 
+-- the number of the choice that encloses a group, among all choices, as a list of one; the empty list outside choices
 abbrev pub choices_at : Contents → GroupInContext → List ℕ
 choices_at c p = option_to_list (enclosing_choice c p)
 
--- the summary of a symbol from some places
+-- the summary of the symbol of a name over its definitions among some groups
 abbrev pub summary_in : Contents → List GroupInContext → List ℕ → SymbolSummary
 summary_in c places name = record {
   first = first_in_definitions number_at places name;
@@ -88,37 +94,40 @@ summary_in c places name = record {
   choice = first_in_definitions (choices_at c) places name;
 }
 
--- the summaries of all symbols from some places
+-- the summaries of all symbols over their definitions among some groups, in order of the symbols' numbers
 abbrev pub symbol_summaries : Contents → List GroupInContext → List SymbolSummary
 symbol_summaries c places = map (summary_in c places) c.names
 
--- what is known of the symbols of a listing
+-- the list has the summary of each symbol of a listing, in order of the symbols' numbers
 abbrev pub AreSymbolSummaries : Listing → List SymbolSummary → Type 0
 AreSymbolSummaries l symbols = (read : List Group) → RepresentsListing l read → symbols ≡ symbol_summaries (contents_of read) (groups_in_context read)
 
--- the type that a line gives
+-- the type that an attribute line gives; `None` if it gives none
 abbrev pub type_in : Exprs → CodeLine → Option Kind
 type_in e l = type_of (attribute_in e l.attribute)
 
--- the first of both
+-- two summaries of a symbol as one: each value is the first summary's, or the second's where the first has none
 abbrev pub first_summary : SymbolSummary → SymbolSummary → SymbolSummary
 first_summary a b = record { first = option_or a.first b.first; given = option_or a.given b.given; choice = option_or a.choice b.choice }
 
--- the symbol that a place defines as a member of a choice, and that choice
+-- the number of a name's symbol as a list of one, if the name is defined inside a choice; the empty list if not
 abbrev pub member_in : Contents → Option ℕ → Option (List ℕ) → List ℕ
 member_in c None name = []
 member_in c (Some k) name = option_to_list (option_and_then (λ x. index_of_name x c.names) name)
 
+-- the number of the symbol that a group defines inside a choice, as a list of one; the empty list for any other group
 abbrev pub members_at : Contents → GroupInContext → List ℕ
 members_at c p = member_in c (enclosing_choice c p) (defined_name p.group)
 
+-- the number of the choice that encloses a group, among all choices; 0 outside choices
 abbrev pub member_key : Contents → GroupInContext → ℕ
 member_key c p = elim (enclosing_choice c p) [ None ↦ 0 | Some k ↦ k ]
 
+-- the enclosing choice's number as a list of one, for a group that defines a symbol inside a choice; the empty list for others
 abbrev pub member_keys_at : Contents → GroupInContext → List ℕ
 member_keys_at c p = map (λ _. member_key c p) (members_at c p)
 
--- what is known of all that was read
+-- a summary has the symbol summaries, enclosing choices, number of choices and choice members of the statements read
 pub record IsSummaryOf (c : Contents) (s : Summary) : Type 0 where
   pub symbols : s.symbols.items ≡ map (summary_in c c.places) c.names
   pub enclosing : s.enclosing.items ≡ map (enclosing_choice c) c.places
@@ -126,14 +135,15 @@ pub record IsSummaryOf (c : Contents) (s : Summary) : Type 0 where
   pub member_keys : s.members.keys.items ≡ flat_map (member_keys_at c) c.places
   pub members : s.members.items.items ≡ flat_map (members_at c) c.places
 
+-- a summary has the symbol summaries, enclosing choices, number of choices and choice members of these groups
 unfoldable pub IsSummary : List Group → Summary → Type 0
 IsSummary read s = IsSummaryOf (contents_of read) s
 
--- whether this is a group's number
+-- whether an optional group number is present and equals a number
 abbrev pub first_is : Option ℕ → ℕ → Bool
 first_is None i = false
 first_is (Some n) i = n == i
 
--- what is known of a listing
+-- a summary is that of the statements that a listing represents
 abbrev pub IsSummed : Listing → Summary → Type 0
 IsSummed l s = (read : List Group) → RepresentsListing l read → IsSummary read s

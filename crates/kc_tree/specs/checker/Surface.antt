@@ -6,7 +6,7 @@ use Rattle.kc_tree_model.specs.TreeFaults.{first_tree_fault}
 use Rattle.kc_listing.specs.declared.listing.Listing.{Listing}
 use Rattle.kc_listing.specs.between.ListingView.{RepresentsListing}
 
--- a listing of files that have no fault
+-- a listing represents the statements read from some files that have no fault
 pub record IsOfTree (l : Listing) : Type 0 where
   pub files : Files
   pub root : List ℕ

@@ -4,7 +4,7 @@ use Rattle.kc_tree_model.specs.Trees.{Tree}
 use Rattle.kc_tree_model.specs.declared.ids.Unit.TheVariants.{Choice as of_choice}
 use Rattle.kc_tree_model.specs.TreeLookup.{unit_of, index_of_unit}
 
--- each symbol and each choice has the number of its unit
+-- `of_symbol` and `of_choice_number` have the unit number of each symbol and of each choice of a tree
 pub record HasUnits (tree : Tree) (of_symbol of_choice_number : List ℕ) : Type 0 where
   pub symbols_len : length of_symbol ≡ length tree.symbols
   pub choices_len : length of_choice_number ≡ length tree.choices

@@ -13,7 +13,7 @@ use Rattle.kc_tree.specs.declared.conditions.EnclosingConditions.{EnclosingCondi
 use Rattle.kc_tree.specs.declared.group_walk.GroupConditions.{GroupConditions}
 use Rattle.kc_tree.specs.declared.group_walk.GroupWalk.{GroupWalk}
 
--- the `if` of an attribute
+-- the expression after an attribute's `if`; `None` for an attribute without an `if`
 abbrev pub if_of_attribute : Attribute → Option Expr
 if_of_attribute (typed k) = None
 if_of_attribute (typed_prompt k c) = c
@@ -29,48 +29,49 @@ if_of_attribute help = None
 if_of_attribute modules = None
 if_of_attribute optional = None
 
--- the condition of an attribute in an entry with these dependencies, among these `visible if`s
+-- an attribute's joined condition: its entry's dependencies, for a prompt the enclosing `visible if`s, and its own `if`
 abbrev pub condition_among : List Expr → List Expr → Attribute → Expr
 condition_among dependencies visibles a =
     if is_some (prompt_of a) then conjunction_of (dependencies ++ (visible_conjunct visibles ++ option_to_list (if_of_attribute a)))
     else conjunction_of (dependencies ++ option_to_list (if_of_attribute a))
 
--- the condition of a line at a place
+-- the joined condition of an attribute line of a group in its context
 abbrev pub condition_at : GroupInContext → Line → Expr
 condition_at p l = condition_among (dependencies_of p.enclosing p.group) p.enclosing.visibles l.attribute
 
--- a number, or where there is none that of `y`
+-- the optional number of an expression if there is one, else the first number, which is that of the expression `y`
 abbrev pub or_yes : ℕ → Option ℕ → ℕ
 or_yes y o = unwrap_or o y
 
--- the end of a menu, or none
+-- the numbers of a menu's title, dependency and `visible if` represent the entry of the menu's end; no title, no entry
 abbrev pub RepresentsEnd : Exprs → List (List ℕ) → Option ℕ → ℕ → ℕ → Option tree.Entry → Type 0
 RepresentsEnd exprs texts None d v e = e ≡ None
 RepresentsEnd exprs texts (Some t) d v e =
     (title : List ℕ) × (slice_get texts t ≡ Some title) × (d < length exprs.nodes) × (v < length exprs.nodes)
     × (e ≡ Some (tree.menu_ends title (node_expr exprs d) (node_expr exprs v)))
 
--- the conditions inside the innermost of these open blocks
+-- conditions of the code represent those inside the innermost of the blocks in `opened`
 pub record RepresentsEnclosing (exprs : Exprs) (texts : List (List ℕ)) (yes : ℕ) (a : EnclosingConditions) (opened : List Group) : Type 0 where
   pub dependencies_are : Conjoins exprs a.dependencies (context opened).dependencies
   pub visibles_are : Conjoins exprs a.visibles (context opened).visibles
   pub ends : RepresentsEnd exprs texts a.title (or_yes yes a.dependencies) (or_yes yes a.visibles) (menu_end_of opened)
 
--- the conditions of all open blocks, innermost first
+-- a list of the code represents the conditions inside each of some open blocks, innermost first
 abbrev pub RepresentsEnclosings : Exprs → List (List ℕ) → ℕ → List EnclosingConditions → List Group → Type 0
 RepresentsEnclosings exprs texts y [] [] = Unit {0}
 RepresentsEnclosings exprs texts y (a ∷ outer) (g ∷ gs) = RepresentsEnclosing exprs texts y a (g ∷ gs) × RepresentsEnclosings exprs texts y outer gs
 RepresentsEnclosings exprs texts y outer gs = ⊥
 
--- no enclosing conditions
+-- the conditions outside all blocks, which are empty conjunctions
 abbrev pub outside : EnclosingConditions
 outside = record { dependencies = None; visibles = None; title = None }
 
+-- the conditions inside the innermost open block, from those inside each, innermost first; those outside all if none is open
 abbrev pub innermost_enclosing : List EnclosingConditions → EnclosingConditions
 innermost_enclosing [] = outside
 innermost_enclosing (a ∷ outer) = a
 
--- the conditions of a group at its place, and of its attributes
+-- the joined conditions of a group in its context and of its attributes are represented by `c` and `own`
 pub record RepresentsConditions (exprs : Exprs) (texts : List (List ℕ)) (own : List ℕ) (c : GroupConditions) (p : GroupInContext) : Type 0 where
   pub own_are : map (node_expr exprs) own ≡ map (condition_at p) p.group.attributes
   pub held : All (λ i. i < length exprs.nodes) own
@@ -78,20 +79,21 @@ pub record RepresentsConditions (exprs : Exprs) (texts : List (List ℕ)) (own :
   pub visible_is : side_of p.group.head ≡ closing ⊎ Represents exprs c.visible (conjunction_of (p.enclosing.visibles ++ attribute_values visible_of p.group))
   pub ended_is : side_of p.group.head ≡ closing → RepresentsEnd exprs texts c.ended c.dependency c.visible (menu_end_of p.opened)
 
--- the conditions of groups, the newest first, whose attributes' conditions end at a place
+-- the conditions of groups in the code represent the joined conditions of groups in the model, newest first, and the number list
+-- up to the given index represents those of their attributes
 abbrev pub RepresentsAllConditions : Exprs → List (List ℕ) → List ℕ → ℕ → List GroupConditions → List Group → Type 0
 RepresentsAllConditions exprs texts conditions end [] [] = Unit {0}
 RepresentsAllConditions exprs texts conditions end (c ∷ cs) (m ∷ ms) =
     RepresentsConditions exprs texts (slice_range conditions c.first end) c (group_in_context (open_blocks 0 ms) m) × (c.first ≤ end) × RepresentsAllConditions exprs texts conditions c.first cs ms
 RepresentsAllConditions exprs texts conditions end cs ms = ⊥
 
--- the groups walked so far, given the expressions of an arena
+-- a walk has the joined conditions of the groups in `before`, as expressions of the arena `exprs`
 pub record IsWalked (exprs : Exprs) (texts : List (List ℕ)) (w : GroupWalk) (before : List Group) : Type 0 where
   pub yes_is : Represents exprs w.yes (conjunction_of [])
   pub no_is : Represents exprs w.no (alone (constant N))
   pub stack_is : RepresentsEnclosings exprs texts w.yes (reverse w.stack.items) (open_blocks 0 before)
   pub groups_are : RepresentsAllConditions exprs texts w.conditions.items (length w.conditions.items) (reverse w.groups.items) before
 
--- these groups were walked, and stay so as the arena grows
+-- a walk has the joined conditions of a list of groups, in its arena and in each arena grown from it
 abbrev pub HasWalked : List (List ℕ) → GroupWalk → List Group → Type 0
 HasWalked texts w before = (later : Exprs) → Grows w.arena later → IsWalked later texts w before

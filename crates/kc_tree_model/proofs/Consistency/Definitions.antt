@@ -20,7 +20,7 @@ use Rattle.kc_tree_model.specs.TreeFaults.{when, is_other_kind, is_added_attribu
 use Rattle.kc_tree_model.proofs.Consistency.Lists.{Has, has-filter_map, filter_map-has, same_text, text_same, Differ, has-once, once-has, Differ-once}
 use Rattle.kc_tree_model.proofs.Consistency.Places.{IsWord, NamesWord, AreValues, values_of_group, IsRead, group-placed, placed-group, word_of_group, NumbersDiffer, numbers_differ, choice_read, what_of_name}
 
--- an empty list of faults has none at each place
+-- if two lists joined are empty, each of them is empty
 pub nothing_left : {A : Type 0} (xs ys : List A) → xs ++ ys ≡ [] → (xs ≡ []) × (ys ≡ [])
 nothing_left [] ys h = (refl, h)
 nothing_left (x ∷ xs) ys h = cc
@@ -59,7 +59,7 @@ not_not true h = refl
 not_not false h = cc
 
 module _ (language : Language) (c : Contents) (none : (p : GroupInContext) → Has p c.places → faults_of_group language c p ≡ []) where
-  -- a definition has no fault of its own
+  -- if the checks on the whole tree find no fault, a definition of a name has no fault at its own line
   pub sound : (p : GroupInContext) (name : List ℕ) → Has p c.places → defined_name p.group ≡ Some name → definition_faults language c p name ≡ []
   sound p name h e =
       let what : p.group.head ≡ of_head (config name) = what_of_name p.group.head name e in
@@ -81,7 +81,7 @@ module _ (language : Language) (c : Contents) (none : (p : GroupInContext) → H
       by_language Strict = refl
       by_language Linux = ap (λ o. not (is_none o && list_all (λ (l : Line). is_added_attribute l.attribute) p.group.attributes)) m
 
-  -- a member's definition in a choice is its symbol's first
+  -- in a tree without a fault, the definition of a symbol within a choice is its first definition
   pub is_first : (p : GroupInContext) (name : List ℕ) (k n : ℕ) → Has p c.places → defined_name p.group ≡ Some name → choice_of_symbol c name ≡ Some k
       → p.enclosing.choice ≡ Some n → is_first_definition c name p ≡ true
   is_first p name k n h e m i = not_not _ (left_false _ _ (left_false _ _ (member_rule p name h e).1 (follows_none p n i)) (ap is_some m))
@@ -98,7 +98,7 @@ module _ (language : Language) (c : Contents) (none : (p : GroupInContext) → H
       → unwrap_or (type_given c name) Boolean ≡ Boolean
   member_kind p name n h e m = no_other_kind (type_given c name) (right_false _ _ (member_rule p name h e).0 (ap is_some m))
 
--- `defines` and `is_first_definition`, as facts
+-- a group that `defines` a name has this name as its defined name
 pub defined : (p : GroupInContext) (name : List ℕ) → defines name p ≡ true → defined_name p.group ≡ Some name
 defined p name h = by_name (defined_name p.group) h
   where
@@ -130,7 +130,7 @@ one_number c name p q h k =
     let same : a.0 ≡ b.0 = cc in
     sym a.2 ∙ ap (λ (g : Group). g.number) same ∙ b.2
 
--- the parts of a tree, by its contents
+-- the symbols of the tree with these contents, in order of first definition
 unfoldable pub symbols_of : Contents → List Symbol
 symbols_of c = map (symbol_of c) c.names
 
@@ -146,7 +146,8 @@ unit_at c p = from_head (unit_of_head c p) p.group.head
 unfoldable pub units_of : Contents → List TreeUnit
 units_of c = filter_map (unit_at c) c.places
 
--- contents of what was read
+-- contents are sound: group numbers and names differ, names are words and exactly those that groups define, default values are
+-- one line of UTF-8, and the choices are the groups that open one, each enclosing choice among them
 pub record IsSound (c : Contents) : Type 0 where
   pub numbers : NumbersDiffer c.places
   pub names : Differ c.names

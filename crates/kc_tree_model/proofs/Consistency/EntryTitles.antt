@@ -70,7 +70,7 @@ entry_plain c p (of_head (comment x)) is plain opened e title told k =
 entry_plain c p (of_head (ends blocks.Menu)) is plain opened e title told k = end_plain p.opened opened e title told k
 entry_plain c p w is plain opened e title told k = cc
 
--- in each tree of files
+-- the title of an entry in the tree of some files is one line of UTF-8
 pub entry_titles_plain : (files : Files) (root : List ℕ) (k : ℕ) (e : Entry) (title : List ℕ) → slice_get (tree_of_files files root).entries k ≡ Some e
     → title_of_entry e ≡ Some title → IsPlainText title
 unfolding tree_of_files tree_of_groups

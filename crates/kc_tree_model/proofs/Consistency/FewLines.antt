@@ -16,18 +16,18 @@ use Rattle.kc_tree_model.specs.Placement.{is_allowed, is_left_out, is_stray_end}
 use Rattle.kc_tree_model.specs.Limits.{is_too_deep, is_too_many}
 use Rattle.kc_value.specs.declared.limits.TheConstants.{MAX_LINE_BYTES}
 use Rattle.kc_tree_model.specs.TreeReading.{statement_by_keyword, statement_of_tokens, statement_by_word, statement_or_fault, statement_on_line}
-use Rattle.kc_tree_model.proofs.NestedTrees.LineFits.{bind_ok, unless_ok, past_test}
+use Rattle.kc_tree_model.proofs.NestedTrees.LineFits.{bind_ok, fault_if_ok, past_test}
 
 -- the statement of a line that is accepted passes no limit of names and symbols
 few_by_keyword : (language : Language) (read : List Group) (k : Keyword) (ts : List Lexeme) (s : Statement)
     → statement_by_keyword language read k ts ≡ Ok (Some s) → is_too_many read s ≡ false
 few_by_keyword language read k ts s h =
-    let a = unless_ok (is_left_out language read k ts) LeftOut _ (Some s) h in
-    let b = unless_ok (not (is_allowed read k)) Misplaced _ (Some s) a.1 in
-    let c = unless_ok (is_stray_end read k) StrayEnd _ (Some s) b.1 in
+    let a = fault_if_ok (is_left_out language read k ts) LeftOut _ (Some s) h in
+    let b = fault_if_ok (not (is_allowed read k)) Misplaced _ (Some s) a.1 in
+    let c = fault_if_ok (is_stray_end read k) StrayEnd _ (Some s) b.1 in
     let d = bind_ok (statement_of k ts) _ (Some s) c.1 in
-    let e = unless_ok (is_too_deep read d.0) TooDeep _ (Some s) d.2 in
-    let f = unless_ok (is_too_many read d.0) TooMany _ (Some s) e.1 in
+    let e = fault_if_ok (is_too_deep read d.0) TooDeep _ (Some s) d.2 in
+    let f = fault_if_ok (is_too_many read d.0) TooMany _ (Some s) e.1 in
     let same : d.0 ≡ s = cc in
     subst (λ x. is_too_many read x ≡ false) same f.0
 

@@ -15,7 +15,7 @@ use Rattle.kc_tree_model.specs.TreeLookup.{has_newline}
 use Rattle.kc_tree_model.proofs.Consistency.OneLine.{AreOneLine, lines_are_one}
 use Rattle.kc_tree_model.specs.TreeReading.{statement_on_line, with_statement, with_group, path_to_read, Outcome, at_file_end, continue_after_file, continue_after_source, continue_after_statement, continue_after_line, read_lines, read_file, read_root, reading}
 
--- a property of what was read that lines and ends of files keep
+-- the property `P` of the groups read (newest first) is kept by each line without a fault and by each end of a sourced file
 pub record IsKept (P : List Group → Type 0) : Type 0 where
   pub by_line : (language : Language) (read : List Group) (at : Position) (l : LogicalLine) (s : Option Statement) → P read → has_newline l.text ≡ false
       → statement_on_line language read l ≡ Ok s → P (with_statement at s read)

@@ -1,4 +1,4 @@
--- Elements of lists, by their places and through what lists are made of.
+-- Elements of lists, by their indices and through the functions that make lists.
 use Rattle.std.proofs.Common.{◌≡◌, inl, inr, ◌⊎◌, ℕ, zero, suc, Bool, true, false, cond, List, [], ◌∷◌, ◌++◌, Option, Some, None, refl, ap, sym, ◌∙◌, subst, map, filter, length, ◌<◌, arith}
 use Rattle.std.specs.Prelude.{slice_get, filter_map, flat_map, option_map, bytes_eq, ◌==◌, ◌||◌, ◌&&◌}
 use Rattle.std.specs.List.{list_any, list_all, cons_option, position_or_len}
@@ -9,7 +9,7 @@ use Rattle.kc_expr.specs.Lookup.{index_of_name}
 use Rattle.kc_tree_model.specs.Limits.{is_in_list, without_repeats}
 use Rattle.kc_tree_model.specs.Contents.{index_of_number}
 
--- x is an element
+-- a value is an element of a list
 abbrev pub Has : {A : Type 0} → A → List A → Type 0
 Has x [] = ⊥
 Has x (y ∷ ys) = (y ≡ x) ⊎ Has x ys
@@ -90,7 +90,7 @@ pub filter_map-has : {A B : Type 0} (f : A → Option B) (xs : List A) (x : A) (
 filter_map-has f [] x y h e = absurd h
 filter_map-has f (w ∷ ws) x y h e = into_filter_map_by f w ws x y (f w) refl e (λ k. filter_map-has f ws x y k e) h
 
--- what the first element of such a list comes from
+-- the first element of a `filter_map` is what the function gives for some element of the list
 pub first_of_filter_map : {A B : Type 0} (f : A → Option B) (xs : List A) (y : B) → slice_get (filter_map f xs) 0 ≡ Some y → (x : A) × Has x xs × (f x ≡ Some y)
 first_of_filter_map f xs y h = has-filter_map f xs y (has-at y (filter_map f xs) 0 h)
 
@@ -99,7 +99,7 @@ pub first_of_some : {A : Type 0} (xs : List A) (x : A) → Has x xs → (y : A) 
 first_of_some [] x h = absurd h
 first_of_some (y ∷ ys) x h = (y, refl)
 
--- a test that each element passes
+-- a test that each element of a list passes gives true as `list_all`
 pub all_pass : {A : Type 0} (test : A → Bool) (xs : List A) → ((x : A) → Has x xs → test x ≡ true) → list_all test xs ≡ true
 all_pass test [] h = refl
 all_pass test (x ∷ xs) h = pass_both (test x) (list_all test xs) (h x (inl refl)) (all_pass test xs (λ y k. h y (inr k)))
@@ -108,19 +108,19 @@ all_pass test (x ∷ xs) h = pass_both (test x) (list_all test xs) (h x (inl ref
     pass_both true b e k = k
     pass_both false b e k = cc
 
--- what an element of joined lists comes from
+-- an element of a `flat_map` is an element of what the function gives for some element of the list
 pub has_flat_map : {A B : Type 0} (f : A → List B) (xs : List A) (y : B) → Has y (flat_map f xs) → (x : A) × Has x xs × Has y (f x)
 has_flat_map f [] y h = absurd h
 has_flat_map f (x ∷ xs) y h =
     elim (has-append y (f x) (flat_map f xs) h) [ inl a ↦ (x, inl refl, a) | inr b ↦ let r = has_flat_map f xs y b in (r.0, inr r.1, r.2) ]
 
--- a place within a list
+-- the index of an element of a list is below the list's length
 pub get_below : {A : Type 0} (xs : List A) (i : ℕ) (x : A) → slice_get xs i ≡ Some x → i < length xs
 get_below [] i x h = cc
 get_below (y ∷ ys) zero x h = omega arith
 get_below (y ∷ ys) (suc i) x h = let k : i < length ys = get_below ys i x h in omega arith
 
--- numbers among numbers
+-- a number that `list_any` finds in a list of numbers is an element of it
 pub has-any : (n : ℕ) (ks : List ℕ) → list_any (λ k. k == n) ks ≡ true → Has n ks
 has-any n [] h = cc
 has-any n (k ∷ ks) h = any_by (k == n) refl h (has-any n ks)
@@ -142,7 +142,7 @@ any-has n [] h = absurd h
 any-has n (k ∷ ks) (inl e) = any_first (k == n) _ (eq-eqb k n e)
 any-has n (k ∷ ks) (inr h) = any_later (k == n) _ (any-has n ks h)
 
--- texts among texts
+-- texts that `bytes_eq` finds equal are equal
 pub same_text : (x y : List ℕ) → bytes_eq x y ≡ true → x ≡ y
 same_text x y h = (bytes_eq-Decides x y).0 h
 
@@ -163,7 +163,7 @@ place_by x y ys false None i e ih h = cc
 place_by x y ys false (Some j) zero e ih h = absurd (first_is_not_later j (sym h))
 place_by x y ys false (Some j) (suc i) e ih h = ih i (one_less j i h)
 
--- the place of a text has it
+-- the list has the text at the index that `index_of_name` gives for it
 pub place-get : (x : List ℕ) (ys : List (List ℕ)) (i : ℕ) → index_of_name x ys ≡ Some i → slice_get ys i ≡ Some x
 place-get x [] i h = let n = place_of_none x in cc
 place-get x (y ∷ ys) i h = place_by x y ys (bytes_eq x y) (index_of_name x ys) i refl (λ j k. place-get x ys j k)
@@ -177,7 +177,7 @@ first_place : (b : Bool) (o : Option ℕ) → b ≡ true → cond b (Some 0) (op
 first_place true o e = refl
 first_place false o e = cc
 
--- a text that is there has a place
+-- a text that is an element of a list has an index by `index_of_name`
 pub has-place : (x : List ℕ) (ys : List (List ℕ)) → Has x ys → (i : ℕ) × (index_of_name x ys ≡ Some i)
 has-place x [] h = absurd h
 has-place x (y ∷ ys) (inl e) = (0, place_of_more x y ys ∙ first_place (bytes_eq x y) (index_of_name x ys) (text_same x y (sym e)))
@@ -185,7 +185,7 @@ has-place x (y ∷ ys) (inr h) = let r = has-place x ys h in
     let s = has_place_by (bytes_eq x y) (index_of_name x ys) r.0 r.1 in
     (s.0, place_of_more x y ys ∙ s.1)
 
--- no element occurs twice
+-- no element of a list occurs in it twice
 abbrev pub Differ : {A : Type 0} → List A → Type 0
 Differ [] = Unit {0}
 Differ (x ∷ xs) = (Has x xs → ⊥) × Differ xs

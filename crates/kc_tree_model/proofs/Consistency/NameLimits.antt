@@ -77,14 +77,14 @@ short_of_group g [] r h = absurd h
 short_of_group g (x ∷ before) r (inl e) = subst IsShort e r.0
 short_of_group g (x ∷ before) r (inr h) = short_of_group g before r.1 h
 
--- the limit of symbols
+-- a tree of files has at most MAX_SYMBOLS symbols
 pub few_symbols : (files : Files) (root : List ℕ) → length (tree_of_files files root).symbols ≤ MAX_SYMBOLS
 unfolding tree_of_files tree_of_groups
 few_symbols files root =
     let c = contents_of (reading files root).read in
     omega (arith, (limits_kept files root).0, length-map c.names (symbol_of c))
 
--- each of a short name
+-- the name of each symbol of a tree of files has at most MAX_NAME_BYTES bytes
 pub short_names : (files : Files) (root : List ℕ) (s : ℕ) (symbol : Symbol) → slice_get (tree_of_files files root).symbols s ≡ Some symbol
     → length symbol.name ≤ MAX_NAME_BYTES
 unfolding tree_of_files tree_of_groups symbols_of

@@ -1,4 +1,4 @@
--- Numbers in entries, selectors and impliers are of symbols and choices, and each choice is a unit.
+-- Numbers in entries, selectors and impliers are those of symbols and choices, and each choice is a unit.
 use Rattle.std.proofs.Common.{◌≡◌, ℕ, ◌<◌, true, List, [], ◌∷◌, Option, Some, None, refl, ap, sym, ◌∙◌, subst, length, map, filter, arith}
 use Rattle.std.specs.Prelude.{slice_get, filter_map, flat_map, option_map, bytes_eq, nat_lt}
 use Rattle.std.specs.List.{list_all}
@@ -74,7 +74,7 @@ impliers_there c s i symbol h =
     subst (λ (y : Symbol). list_all (λ (f : ReverseDependency). nat_lt f.by (length (symbols_of c))) y.impliers ≡ true) r.2
     (reverse_dependencies_below imply_of c r.0)
 
--- a choice is a unit
+-- each choice of sound contents is one of their units
 pub units_of_choices : (c : Contents) → IsSound c → (k : ℕ) (x : Choice) → slice_get (choices_of c) k ≡ Some x
     → (u : ℕ) × (slice_get (units_of c) u ≡ Some (of_choice k))
 units_of_choices c s k x h =
@@ -137,7 +137,7 @@ choice_entry c s p (of_head (comment x)) e n told k = absurd (no_number choice_o
 choice_entry c s p (of_head (ends blocks.Menu)) e n told k = absurd (no_end choice_of_entry (λ t d v. refl) p.opened e n told k)
 choice_entry c s p w e n told k = cc
 
--- what the entries name is there
+-- the number in a definition entry of sound contents is that of one of their symbols
 pub entry_symbols : (c : Contents) → IsSound c → (k n : ℕ)
     → slice_get (filter_map (λ (p : GroupInContext). from_head (entry_of_head c p) p.group.head) c.places) k ≡ Some (definition n) → n < length (symbols_of c)
 entry_symbols c s k n at =

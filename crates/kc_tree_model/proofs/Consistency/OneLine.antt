@@ -84,15 +84,15 @@ one_joined (l ∷ ls) h =
     one_if (is_continued l) (without_last l.text ++ joined_bytes ls) l.text
     (one_append (without_last l.text) (joined_bytes ls) (one_take _ l.text h.0) (one_joined ls h.1)) h.0
 
--- nor have logical lines
+-- no text of these logical lines has a newline
 abbrev pub AreOneLine : List LogicalLine → Type 0
 AreOneLine [] = Unit {0}
 AreOneLine (l ∷ ls) = (has_newline l.text ≡ false) × AreOneLine ls
 
-one_logical : (behind help n : ℕ) (ls : List PhysicalLine) → AreOne ls → AreOneLine (logical_lines_from behind help n ls)
+one_logical : (joined help n : ℕ) (ls : List PhysicalLine) → AreOne ls → AreOneLine (logical_lines_from joined help n ls)
 unfolding AreOne
-one_logical behind help n [] h = tt
-one_logical (suc behind) help n (l ∷ ls) h = one_logical behind help (n + 1) ls h.1
+one_logical joined help n [] h = tt
+one_logical (suc joined) help n (l ∷ ls) h = one_logical joined help (n + 1) ls h.1
 one_logical zero (suc help) n (l ∷ ls) h = (h.0, one_logical 0 help (n + 1) ls h.1)
 one_logical zero zero n (l ∷ ls) h = (one_joined (l ∷ ls) h, one_logical (continuation_count (l ∷ ls)) _ (n + 1) ls h.1)
 
@@ -100,7 +100,7 @@ pub lines_are_one : (bytes : List ℕ) → AreOneLine (lines_of bytes)
 unfolding lines_of
 lines_are_one bytes = one_logical 0 0 1 (physical_lines bytes) (one_physical (split_at_newlines bytes) (one_cut bytes))
 
--- nor have tokens
+-- a text has no newline
 abbrev pub OneText : List ℕ → Type 0
 OneText text = has_newline text ≡ false
 
@@ -110,7 +110,7 @@ ArePieces ts = AllTexts OneText ts
 pub one_lexed : (language : Language) (bytes : List ℕ) (ts : List Lexeme) → has_newline bytes ≡ false → lexemes_from language 0 0 bytes ≡ Ok ts → ArePieces ts
 one_lexed language bytes ts one h = texts_of_line language OneText one_take (λ x xs k. (neither (x == 10) (has_newline xs) k).1) 0 0 bytes ts one h
 
--- nor has the text that a quoted token represents
+-- if a quoted token has no newline, the text that it means has none
 pub one_quoted : (text : List ℕ) → has_newline text ≡ false → has_newline (quoted_text text) ≡ false
 one_quoted text h =
     one_unescaped false (between_quotes text) (one_if _ (take (length text - 2) (drop 1 text)) text (one_take _ (drop 1 text) (one_drop 1 text h)) h)

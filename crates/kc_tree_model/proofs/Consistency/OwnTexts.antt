@@ -79,6 +79,6 @@ module _ (P : List ℕ → Type 0) (nothing : P []) (unquoted : (text : List ℕ
   pub own_text_of_value : (tokens : Result (List Lexeme) ExprFault) (value : Expr) → ((ts : List Lexeme) → tokens ≡ Ok ts → AllTexts P ts)
       → IsValueOf tokens value → P (own_text value)
   own_text_of_value tokens value all v =
-      let pieces : AllTexts P v.rest = (all (v.first ∷ v.rest) v.stand).1 in
+      let pieces : AllTexts P v.rest = (all (v.first ∷ v.rest) v.tokens_are).1 in
       let reads : read_expr (extent v.rest) ≡ Ok v.taken.expr = taken_by v.rest (read_expr (extent v.rest)) v.taken refl v.read_as in
       subst (λ e. P (own_text e)) v.is (of_expr (expr_sound (extent v.rest) v.taken.expr reads) (of_extent P v.rest pieces))

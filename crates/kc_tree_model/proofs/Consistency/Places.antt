@@ -18,7 +18,7 @@ use Rattle.kc_tree_model.proofs.Consistency.Lists.{Has, has-append, append-has_l
 use Rattle.kc_tree_model.proofs.Consistency.PlainTexts.{IsPlainText, value_is_plain}
 use Rattle.kc_tree_model.proofs.Consistency.KeptProperties.{reading_keeps}
 
--- one or more bytes of names
+-- a text is a word: one or more letters, digits and `_`
 abbrev pub IsWord : List ℕ → Type 0
 IsWord name = (0 < length name) × (list_all is_name_byte name ≡ true)
 
@@ -26,12 +26,13 @@ abbrev pub NamesWord : GroupHead → Type 0
 NamesWord (of_head (config name)) = IsWord name
 NamesWord w = Unit {0}
 
--- the own texts of defaults are one line of UTF-8
+-- the default values of these attributes that are one name or quoted text are one line of UTF-8
 abbrev pub AreValues : List Line → Type 0
 AreValues [] = Unit {0}
 AreValues (l ∷ ls) = ((d : DefaultAttribute) → default_of l.attribute ≡ Some d → IsPlainText (own_text d.value)) × AreValues ls
 
--- each group has its number among all, defines a word if it defines something, and has such values
+-- each of the groups read (newest first) has the count of groups before it as its number, defines a word if it defines a name,
+-- and has default values of one line of UTF-8
 abbrev pub IsRead : List Group → Type 0
 IsRead [] = Unit {0}
 IsRead (g ∷ before) = (g.number ≡ length before) × NamesWord g.head × AreValues g.attributes × IsRead before
@@ -92,7 +93,7 @@ line_read language read at l (Some (attribute a)) h one e = attribute_read read 
 pub is_read : (files : Files) (root : List ℕ) → IsRead (reading files root).read
 is_read files root = reading_keeps IsRead (record { by_line = line_read; by_end = λ read at h. (refl, tt, tt, h) }) tt files root
 
--- a place has its group, and a group its place
+-- the group of each element of the groups in context is one of the groups read
 pub group-placed : (p : GroupInContext) (read : List Group) → Has p (groups_in_context read) → Has p.group read
 group-placed p [] h = absurd h
 group-placed p (g ∷ before) h =
@@ -110,7 +111,7 @@ placed-group g (x ∷ before) (inl e) = (
 placed-group g (x ∷ before) (inr h) =
     let r = placed-group g before h in (r.0, append-has_left r.0 (groups_in_context before) (group_in_context (open_blocks 0 before) x ∷ []) r.1, r.2)
 
--- words and numbers of groups
+-- if one of the groups read defines a name, the name is a word
 pub word_of_group : (g : Group) (read : List Group) → IsRead read → Has g read → NamesWord g.head
 word_of_group g [] r h = absurd h
 word_of_group g (x ∷ before) r (inl e) = subst (λ (y : Group). NamesWord y.head) e r.1
@@ -126,7 +127,7 @@ number_below g [] r h = absurd h
 number_below g (x ∷ before) r (inl e) = let same : x.number ≡ g.number = ap (λ (y : Group). y.number) e in omega (arith, r.0)
 number_below g (x ∷ before) r (inr h) = let k : g.number < length before = number_below g before r.3 h in omega arith
 
--- no two places have one number
+-- no two of these groups in context have the same number
 abbrev pub NumbersDiffer : List GroupInContext → Type 0
 NumbersDiffer [] = Unit {0}
 NumbersDiffer (p ∷ ps) = ((q : GroupInContext) → Has q ps → p.group.number ≡ q.group.number → ⊥) × NumbersDiffer ps
@@ -215,7 +216,7 @@ choice_read p (g ∷ before) n h e = elim (has-append p (groups_in_context befor
   ]
 ]
 
--- the form of each place
+-- a group that defines a name is a `config` of this name
 pub what_of_name : (w : GroupHead) (name : List ℕ) → from_head name_of_head w ≡ Some name → w ≡ of_head (config name)
 what_of_name (of_head (config x)) name h = ap (λ y. of_head (config y)) cc
 what_of_name (of_head choice) name h = cc

@@ -15,7 +15,7 @@ use Rattle.kc_tree_model.specs.Blocks.{Group}
 use Rattle.kc_tree_model.specs.TreeReading.{statement_on_line}
 use Rattle.kc_tree_model.proofs.NestedTrees.LineFits.{bind_ok, sort_of_head, sort_of_word, other_sort, line_given}
 
--- the title of a menu or comment
+-- the title of a `menu` or `comment` statement, or None of any other
 abbrev pub title_in : Head → Option (List ℕ)
 title_in (menu title) = Some title
 title_in (comment title) = Some title
@@ -57,31 +57,31 @@ no_source ts h title e None k = cc
 no_source [] h title e (Some path) k = not_titled (source path) h title refl e (Ok (head (source path))) refl k
 no_source (t ∷ ts) h title e (Some path) k = cc
 
-title_said : (k : Keyword) (ts : List Lexeme) (h : Head) (title : List ℕ) → title_in h ≡ Some title → other_sort ≡ sort_of_word k
+title_in_tokens : (k : Keyword) (ts : List Lexeme) (h : Head) (title : List ℕ) → title_in h ≡ Some title → other_sort ≡ sort_of_word k
     → statement_of k ts ≡ Ok (head h) → Titled ts title
-title_said words.Menu ts h title e s k = titled menu (λ x. refl) ts h title e k
-title_said words.Comment ts h title e s k = titled comment (λ x. refl) ts h title e k
-title_said words.Mainmenu [] h title e s k = cc
-title_said words.Mainmenu (t ∷ ts) h title e s k = absurd (no_main t ts h title e (is_quoted_kind t.kind) k)
-title_said words.Choice [] h title e s k = absurd (not_titled choice h title refl e (Ok (head choice)) refl k)
-title_said words.Choice (t ∷ ts) h title e s k = cc
-title_said words.If ts h title e s k =
+title_in_tokens words.Menu ts h title e s k = titled menu (λ x. refl) ts h title e k
+title_in_tokens words.Comment ts h title e s k = titled comment (λ x. refl) ts h title e k
+title_in_tokens words.Mainmenu [] h title e s k = cc
+title_in_tokens words.Mainmenu (t ∷ ts) h title e s k = absurd (no_main t ts h title e (is_quoted_kind t.kind) k)
+title_in_tokens words.Choice [] h title e s k = absurd (not_titled choice h title refl e (Ok (head choice)) refl k)
+title_in_tokens words.Choice (t ∷ ts) h title e s k = cc
+title_in_tokens words.If ts h title e s k =
     let x = bind_ok (last_condition ts) (λ c. Ok (head (condition c))) (head h) k in absurd
     (not_titled (condition x.0) h title refl e (Ok (head (condition x.0))) refl x.2)
-title_said words.Source [] h title e s k = cc
-title_said words.Source (t ∷ ts) h title e s k = absurd (no_source ts h title e (path_of t) k)
-title_said w ts h title e s k = cc
+title_in_tokens words.Source [] h title e s k = cc
+title_in_tokens words.Source (t ∷ ts) h title e s k = absurd (no_source ts h title e (path_of t) k)
+title_in_tokens w ts h title e s k = cc
 
 titled_sort : (h : Head) (title : List ℕ) → title_in h ≡ Some title → sort_of_head h ≡ other_sort
 titled_sort (menu x) title e = refl
 titled_sort (comment x) title e = refl
 titled_sort h title e = cc
 
--- the title of a line's statement is the text of one of its tokens
+-- if the statement of a line has a title, it is the text of the line's second token, read as quoted
 pub line_titles : (language : Language) (read : List Group) (l : LogicalLine) (h : Head) (title : List ℕ) → title_in h ≡ Some title
     → statement_on_line language read l ≡ Ok (Some (head h))
     → (first : Lexeme) × (t : Lexeme) × (us : List Lexeme) × (lexemes_from language 0 0 l.text ≡ Ok (first ∷ t ∷ us)) × (quoted_text t.text ≡ title)
 line_titles language read l h title e k =
     let s = line_given language read l (Some (head h)) k in
-    let t = title_said s.keyword s.rest h title e (sym (titled_sort h title e) ∙ s.sort) s.form in
-    (s.first, t.0, t.1, s.stand ∙ ap (λ ts. Ok (s.first ∷ ts)) t.2, t.3)
+    let t = title_in_tokens s.keyword s.rest h title e (sym (titled_sort h title e) ∙ s.sort) s.form in
+    (s.first, t.0, t.1, s.tokens_are ∙ ap (λ ts. Ok (s.first ∷ ts)) t.2, t.3)

@@ -13,7 +13,7 @@ use Rattle.kc_tree_model.proofs.Consistency.Lists.{Has}
 use Rattle.kc_tree_model.proofs.Consistency.PlainTexts.{IsPlainText, title_is_plain}
 use Rattle.kc_tree_model.proofs.Consistency.KeptProperties.{reading_keeps}
 
--- a group's title is one line of UTF-8
+-- if the beginning of a group has a title, that is one line of UTF-8
 abbrev pub IsPlain : GroupHead → Type 0
 IsPlain w = (title : List ℕ) → from_head title_in w ≡ Some title → IsPlainText title
 
@@ -39,11 +39,11 @@ line_plain language read at l (Some (attribute a)) h one e = attribute_plain rea
 end_plain : IsPlain file_end
 end_plain title e = cc
 
--- in all that is read
+-- the title of each group that is read from files is one line of UTF-8
 pub titles_plain : (files : Files) (root : List ℕ) → ArePlain (reading files root).read
 titles_plain files root = reading_keeps ArePlain (record { by_line = line_plain; by_end = λ read at h. (end_plain, h) }) tt files root
 
--- a group that was read has a plain title
+-- a group among groups with plain titles (one line of UTF-8) has a plain title
 pub plain_of_group : (g : Group) (read : List Group) → ArePlain read → Has g read → IsPlain g.head
 plain_of_group g [] r h = absurd h
 plain_of_group g (x ∷ before) r (inl e) = subst (λ (y : Group). IsPlain y.head) e r.0

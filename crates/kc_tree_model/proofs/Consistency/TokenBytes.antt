@@ -60,8 +60,8 @@ token_ends language Open text is = record { front = []; last = 40; parts = is; l
 token_ends language Close text is = record { front = []; last = 41; parts = is; low = omega arith }
 
 -- after such a text UTF-8 may be cut
-cut_behind : (text rest : List ℕ) → EndsLow text → IsUtf8 (text ++ rest) → IsUtf8 text × IsUtf8 rest
-cut_behind text rest e u =
+cut_is_utf8 : (text rest : List ℕ) → EndsLow text → IsUtf8 (text ++ rest) → IsUtf8 text × IsUtf8 rest
+cut_is_utf8 text rest e u =
     let n = length e.front in
     let whole : text ++ rest ≡ e.front ++ e.last ∷ rest = ap (λ x. x ++ rest) e.parts ∙ append_assoc e.front (e.last ∷ []) rest in
     let here : get_or (text ++ rest) n 0 ≡ e.last = ap (λ x. get_or x (length e.front) 0) whole ∙ get_or-append_seam e.front e.last rest 0 in
@@ -77,12 +77,12 @@ utf8_cut : {language : Language} {at : ℕ} {bytes : List ℕ} {ps : List Lexeme
 utf8_cut ends u = tt
 utf8_cut comment u = tt
 utf8_cut (white {c = c} {bytes = bytes} w more) u =
-    utf8_cut more (cut_behind (c ∷ []) bytes (record { front = []; last = c; parts = refl; low = white_low c w }) u).1
+    utf8_cut more (cut_is_utf8 (c ∷ []) bytes (record { front = []; last = c; parts = refl; low = white_low c w }) u).1
 utf8_cut {language = language} (token p rest e is longest starts stops more) u =
-    let r = cut_behind p.text rest (token_ends language p.kind p.text is) (subst IsUtf8 e u) in
+    let r = cut_is_utf8 p.text rest (token_ends language p.kind p.text is) (subst IsUtf8 e u) in
     (r.0, utf8_cut more r.1)
 
--- the texts of tokens are UTF-8
+-- the texts of the tokens of a line that is UTF-8 are UTF-8
 pub utf8_tokens : (language : Language) (line : List ℕ) (ts : List Lexeme) → IsUtf8 line → lexemes_from language 0 0 line ≡ Ok ts → AllTexts IsUtf8 ts
 utf8_tokens language line ts u h = utf8_cut (read_cut language (length line) 0 line ts (omega arith) h) u
 

@@ -1,4 +1,4 @@
--- The symbols, choices and units of a tree, by their places.
+-- The symbols, choices and units of a tree, by their numbers and groups.
 use Rattle.std.proofs.Common.{◌≡◌, inl, inr, ℕ, zero, suc, Bool, true, false, cond, ◌&&◌, List, [], ◌∷◌, Option, Some, None, refl, ap, sym, ◌∙◌, subst, map, filter}
 use Rattle.std.specs.Prelude.{slice_get, filter_map, option_map, option_and_then, is_none, ◌==◌}
 use Rattle.std.specs.List.{cons_option}
@@ -17,7 +17,7 @@ use Rattle.kc_tree_model.proofs.Consistency.Lists.{Has, has-at, at-has, get-map,
 use Rattle.kc_tree_model.proofs.Consistency.Places.{NumbersDiffer, same_place, what_of_name, what_of_choice}
 use Rattle.kc_tree_model.proofs.Consistency.Definitions.{IsSound, choice_places, choices_of, defined, defining, is_first, one_number, symbols_of, unit_at, units_of}
 
--- the symbol at a place, and its name
+-- the symbol with this number has the name with this number in the contents, and is the symbol of that name
 pub symbol_at : (c : Contents) (s : ℕ) (symbol : Symbol) → slice_get (symbols_of c) s ≡ Some symbol
     → (name : List ℕ) × (slice_get c.names s ≡ Some name) × (symbol_of c name ≡ symbol)
 unfolding symbols_of
@@ -31,7 +31,7 @@ pub choice_of_name : (c : Contents) (name : List ℕ) (symbol : Symbol) (o : Opt
     → choice_of_symbol c name ≡ o
 choice_of_name c name symbol o e h = ap (λ (s : Symbol). s.choice) e ∙ h
 
--- the choice at a place, and the place of its group
+-- the choice with this number is that of the group with this number among those that open choices
 pub choice_at : (c : Contents) (k : ℕ) (x : Choice) → slice_get (choices_of c) k ≡ Some x
     → (p : GroupInContext) × (slice_get (choice_places c) k ≡ Some p) × (choice_of c p ≡ x)
 unfolding choices_of
@@ -70,7 +70,7 @@ mapped_has f [] x h = absurd h
 mapped_has f (y ∷ ys) x (inl e) = inl (ap f e)
 mapped_has f (y ∷ ys) x (inr h) = inr (mapped_has f ys x h)
 
--- no two choices have one number
+-- if a group's number differs from those of the groups after it, the numbers of the tested groups still differ with it added
 pub differ_by_number : (test : GroupInContext → Bool) (p : GroupInContext) (ps : List GroupInContext) (b : Bool)
     → ((q : GroupInContext) → Has q ps → p.group.number ≡ q.group.number → ⊥) → Differ (map (λ (p : GroupInContext). p.group.number) (filter test ps))
     → Differ (map (λ (p : GroupInContext). p.group.number) (cond b (p ∷ filter test ps) (filter test ps)))
@@ -86,7 +86,7 @@ numbers_of_choices test (p ∷ ps) d = differ_by_number test p ps (test p) d.0 (
 pub choices_differ : (c : Contents) → IsSound c → Differ c.choices
 choices_differ c s = subst Differ (sym s.choices) (numbers_of_choices (λ (p : GroupInContext). opens_choice p.group) c.places s.numbers)
 
--- the choice of a symbol, by a definition that is a member
+-- if `option_and_then` gives a value, the option has a value for which the function gives it
 pub and_then_some : {A B : Type 0} (f : A → Option B) (o : Option A) (y : B) → option_and_then f o ≡ Some y → (x : A) × (o ≡ Some x) × (f x ≡ Some y)
 and_then_some f None y h = cc
 and_then_some f (Some x) y h = (x, refl, h)
@@ -99,7 +99,7 @@ choice_around c name k h =
     let d = has-filter (defines name) c.places b.0 b.1 in
     (b.0, a.0, d.0, defined b.0 name d.1, b.2, a.2)
 
--- what a unit at a place is
+-- if `option_map` gives a unit, the option has a number for which the function gives it
 pub mapped_some : (f : ℕ → TreeUnit) (m : Option ℕ) (y : TreeUnit) → option_map f m ≡ Some y → (n : ℕ) × (m ≡ Some n) × (f n ≡ y)
 mapped_some f None y h = cc
 mapped_some f (Some n) y h = (n, refl, cc)
@@ -112,7 +112,7 @@ pub two_true : (a b : Bool) → (a && b) ≡ true → (a ≡ true) × (b ≡ tru
 two_true true b h = (refl, h)
 two_true false b h = cc
 
--- a unit at a place: a symbol's
+-- a group is the first definition of the symbol with number `s`, which is outside choices
 pub record IsSymbolUnit (c : Contents) (p : GroupInContext) (s : ℕ) : Type 0 where
   pub name : List ℕ
   pub names_it : defined_name p.group ≡ Some name
@@ -158,7 +158,7 @@ choice_unit c p (of_head mainmenu) k e h = cc
 choice_unit c p (of_head (ends b)) k e h = cc
 choice_unit c p file_end k e h = cc
 
--- one unit is at one place
+-- two groups at which the same unit begins have the same number
 pub same_unit : (c : Contents) (s : IsSound c) (v : TreeUnit) (p q : GroupInContext) → unit_at c p ≡ Some v → unit_at c q ≡ Some v
     → p.group.number ≡ q.group.number
 unfolding unit_at
@@ -191,7 +191,7 @@ pub unique_in : (c : Contents) (s : IsSound c) (v : TreeUnit) (ps : List GroupIn
 unique_in c s v [] i j d h k = cc
 unique_in c s v (p ∷ ps) i j d h k = unique_by c s v p ps (unit_at c p) i j refl d.0 (λ m n a b. unique_in c s v ps m n d.1 a b) h k
 
--- a unit that is at a place is in the list
+-- a unit that begins at one of the groups in context is among the units
 pub unit_listed : (c : Contents) (p : GroupInContext) (v : TreeUnit) → Has p c.places → unit_at c p ≡ Some v → (u : ℕ) × (slice_get (units_of c) u ≡ Some v)
 unfolding units_of
 unit_listed c p v h e = at-has v (filter_map (unit_at c) c.places) (filter_map-has (unit_at c) c.places p v h e)
@@ -200,7 +200,7 @@ pub unit_place : (c : Contents) (u : ℕ) (v : TreeUnit) → slice_get (units_of
 unfolding units_of
 unit_place c u v h = has-filter_map (unit_at c) c.places v (has-at v (filter_map (unit_at c) c.places) u h)
 
--- the first definition of a symbol outside choices
+-- the unit that begins at the first definition of a symbol outside choices is that symbol
 pub symbol_unit_at : (c : Contents) (p : GroupInContext) (name : List ℕ) (s : ℕ) → defined_name p.group ≡ Some name → is_first_definition c name p ≡ true
     → choice_of_symbol c name ≡ None → index_of_name name c.names ≡ Some s → unit_at c p ≡ Some (of_symbol s)
 unfolding unit_at
@@ -215,7 +215,7 @@ pub choice_unit_at : (c : Contents) (p : GroupInContext) (k : ℕ) → opens_cho
 unfolding unit_at
 choice_unit_at c p k e h = ap (from_head (unit_of_head c p)) (what_of_choice p.group.head e) ∙ ap (option_map of_choice) h
 
--- a symbol has a first definition
+-- each name of a symbol has a group that is its first definition
 pub first_defined : (c : Contents) (s : IsSound c) (name : List ℕ) → Has name c.names
     → (p : GroupInContext) × Has p c.places × (defined_name p.group ≡ Some name) × (is_first_definition c name p ≡ true)
 first_defined c s name h =
@@ -231,7 +231,7 @@ first_defined c s name h =
           ∙ eq-eqb f.0.group.number f.0.group.number refl,
     )
 
--- the number of a name
+-- the number that `index_of_name` gives for a name is its index in the names of sound contents
 pub place_is : (c : Contents) → IsSound c → (name : List ℕ) (i : ℕ) → slice_get c.names i ≡ Some name → index_of_name name c.names ≡ Some i
 place_is c s name i h =
     let r = has-place name c.names (has-at name c.names i h) in
@@ -252,7 +252,7 @@ member_is n q h = by_choice q.enclosing.choice h
     by_choice None k = cc
     by_choice (Some m) k = ap Some (eqb-true m n k)
 
--- a member's symbol has the choice
+-- in contents without a fault, the symbol that a group in a choice defines is a member of that choice
 pub choice_of_member : (language : Language) (c : Contents) (s : IsSound c) (none : (p : GroupInContext) → Has p c.places → faults_of_group language c p ≡ [])
     (q : GroupInContext) (name : List ℕ) (n k : ℕ) → Has q c.places → defined_name q.group ≡ Some name → q.enclosing.choice ≡ Some n
     → slice_get c.choices k ≡ Some n → choice_of_symbol c name ≡ Some k

@@ -58,7 +58,7 @@ len_by false n help rest e all stops =
 pub help_count : (help rest : List PhysicalLine) → IsHelpText help rest → help_line_count (help ++ rest) ≡ length help
 help_count help rest h = len_by (first_indentation (help ++ rest) == 0) (first_indentation (help ++ rest)) help rest refl h.within h.ends
 
--- the lines of a help text are passed
+-- the physical lines of a help text at the front give its help lines, then the logical lines of the rest
 pub help_passed : (n : ℕ) (help rest : List PhysicalLine)
     → logical_lines_from 0 (length help) n (help ++ rest) ≡ help_lines n help ++ logical_lines_from 0 0 (n + length help) rest
 help_passed n [] rest = ap (λ k. logical_lines_from 0 0 k rest) (omega arith)
@@ -66,7 +66,7 @@ help_passed n (l ∷ ls) rest =
     ap (λ x. record { number = n; text = l.text; help = true } ∷ x) (help_passed (n + 1) ls rest
     ∙ ap (λ k. help_lines (n + 1) ls ++ logical_lines_from 0 0 k rest) (omega arith))
 
--- the help text at the front of lines
+-- the division of physical lines into the help text at their front, which may be empty, and the rest
 pub record Help (all : List PhysicalLine) : Type 0 where
   pub help : List PhysicalLine
   pub rest : List PhysicalLine

@@ -8,7 +8,7 @@ some_joined (alone e) = omega arith
 some_joined (at_end e k) = omega arith
 some_joined (joins e j) = omega arith
 
--- the bytes of the line
+-- the joined bytes of physical lines that are joined to one are the text of that logical line
 pub joined_text : {rest ls : List PhysicalLine} {text : List ℕ} → IsJoined rest ls text → joined_bytes (ls ++ rest) ≡ text
 joined_text {rest = rest} (alone {l = l} e) = ap (λ t. cond t (without_last l.text ++ joined_bytes rest) l.text) e
 joined_text {rest = rest} (at_end {l = l} e k) =
@@ -34,7 +34,7 @@ joined_count {rest = rest} (alone {l = l} e) = ap suc (taken_alone l rest e)
 joined_count {rest = rest} (at_end {l = l} e k) = ap (λ r. suc (continuation_count (l ∷ r))) k
 joined_count {rest = rest} (joins {l = l} {ls = ls} e j) = ap suc (taken_more l (ls ++ rest) e (some_front ls rest (some_joined j)) ∙ joined_count j)
 
--- the logical line at the front of lines
+-- the division of physical lines into those that are joined to the logical line at their front, with its text, and the rest
 pub record Front (all : List PhysicalLine) : Type 0 where
   pub front : List PhysicalLine
   pub rest : List PhysicalLine

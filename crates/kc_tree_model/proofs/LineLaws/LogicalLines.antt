@@ -11,12 +11,12 @@ use Rattle.kc_tree_model.proofs.LineLaws.HelpTexts.{help_count, help_passed, hel
 use Rattle.kc_tree_model.proofs.LineLaws.HelpWords.{word_of_help, none_of_help, help_of_word, help_of_none}
 
 -- lines that belong to the line before are passed over
-passed_over : (behind help n : ℕ) (ls : List PhysicalLine) → logical_lines_from behind help n ls ≡ logical_lines_from 0 help (n + behind) (drop behind ls)
+passed_over : (joined help n : ℕ) (ls : List PhysicalLine) → logical_lines_from joined help n ls ≡ logical_lines_from 0 help (n + joined) (drop joined ls)
 passed_over zero help n [] = refl
 passed_over zero help n (l ∷ ls) = ap (λ k. logical_lines_from 0 help k (l ∷ ls)) (omega arith)
-passed_over (suc behind) zero n [] = refl
-passed_over (suc behind) (suc help) n [] = refl
-passed_over (suc behind) help n (l ∷ ls) = passed_over behind help (n + 1) ls ∙ ap (λ k. logical_lines_from 0 help k (drop behind ls)) (omega arith)
+passed_over (suc joined) zero n [] = refl
+passed_over (suc joined) (suc help) n [] = refl
+passed_over (suc joined) help n (l ∷ ls) = passed_over joined help (n + 1) ls ∙ ap (λ k. logical_lines_from 0 help k (drop joined ls)) (omega arith)
 
 first_logical : (n : ℕ) (ls : List PhysicalLine) → 0 < length ls
     → logical_lines_from 0 0 n ls ≡ record { number = n; text = joined_bytes ls; help = false } ∷ logical_lines_from 0
@@ -43,7 +43,7 @@ front_logical n front rest text j =
     ∙ ap (λ r. record { number = n; text = text; help = false } ∷ logical_lines_from 0 (cond (begins_help text) (help_line_count r) 0) (n + length front) r)
     (drop-append_seam front rest)
 
--- they are read so
+-- physical lines that are these logical lines by the grammar are read as exactly these
 pub logical_only : {n : ℕ} {ps : List PhysicalLine} {ls : List LogicalLine} → AreLogical n ps ls → logical_lines_from 0 0 n ps ≡ ls
 logical_only none = refl
 logical_only {n = n} (line {front = front} {rest = rest} {text = text} j other more) =
@@ -63,9 +63,9 @@ logical_only {n = n} (with_help {front = front} {help = help} {rest = rest} {tex
 abbrev Lines : ℕ → List PhysicalLine → Type 0
 Lines n ps = (ls : List LogicalLine) × AreLogical n ps ls
 
-behind_front : (n : ℕ) (f : PhysicalLine) (ps : List PhysicalLine) → ((m : ℕ) (qs : List PhysicalLine) → length qs ≤ length ps → Lines m qs) → Front (f ∷ ps)
+lines_after_front : (n : ℕ) (f : PhysicalLine) (ps : List PhysicalLine) → ((m : ℕ) (qs : List PhysicalLine) → length qs ≤ length ps → Lines m qs) → Front (f ∷ ps)
     → Lines n (f ∷ ps)
-behind_front n f ps rec x = by_help (begins_help x.text) refl
+lines_after_front n f ps rec x = by_help (begins_help x.text) refl
   where
     size : length x.rest ≤ length ps
     size = omega (arith, ap length x.parts, length-append x.front x.rest, some_joined x.is_joined)
@@ -90,9 +90,9 @@ behind_front n f ps rec x = by_help (begins_help x.text) refl
 all_lines : (k n : ℕ) (ps : List PhysicalLine) → length ps ≤ k → Lines n ps
 all_lines k n [] few = ([], none)
 all_lines zero n (p ∷ ps) few = absurd (omega arith)
-all_lines (suc k) n (p ∷ ps) few = behind_front n p ps (λ m qs l. all_lines k m qs (omega arith)) (front_of p ps)
+all_lines (suc k) n (p ∷ ps) few = lines_after_front n p ps (λ m qs l. all_lines k m qs (omega arith)) (front_of p ps)
 
--- the lines of a file are those of its bytes
+-- the logical lines computed from a file's bytes are exactly those of the grammar of lines
 pub lines_are_so : (bytes : List ℕ) (ls : List LogicalLine) → (lines_of bytes ≡ ls) ↔ IsInLines bytes ls
 unfolding lines_of
 lines_are_so bytes ls =

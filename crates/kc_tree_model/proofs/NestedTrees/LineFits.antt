@@ -23,9 +23,9 @@ use Rattle.kc_tree_model.specs.Placement.{open_entry, allows_attribute, open_ent
 use Rattle.kc_tree_model.specs.declared.keyword.OpenEntry.{OpenEntry}
 use Rattle.kc_tree_model.specs.Limits.{is_too_deep, is_too_many}
 use Rattle.kc_value.specs.declared.limits.TheConstants.{MAX_LINE_BYTES}
-use Rattle.kc_tree_model.specs.TreeReading.{unless, statement_by_keyword, statement_of_tokens, statement_by_word, statement_or_fault, statement_on_line}
+use Rattle.kc_tree_model.specs.TreeReading.{fault_if, statement_by_keyword, statement_of_tokens, statement_by_word, statement_or_fault, statement_on_line}
 
--- sorts of statements: definitions, ends, defaults, other attributes, and all others
+-- the sort of a statement: a `config`, a default, the end of a block, another attribute, or any other statement
 pub data Sort : Type 0 where
   config_sort : Sort
   default_sort : Sort
@@ -217,10 +217,10 @@ fits_statement read k (attribute a) e h g = entry_of_taken (open_entry read) k (
 fits_statement read k (head (ends b)) e h g = stray_of_word read k b (sym e) g
 fits_statement read k (head x) e h g = tt
 
--- a reading that goes on: what was tested and read on the way
-pub unless_ok : {B : Type 0} (b : Bool) (k : TreeKind) (f : Unit {0} → Result B TreeKind) (y : B) → unless b k >>= f ≡ Ok y → (b ≡ false) × (f tt ≡ Ok y)
-unless_ok true k f y h = cc
-unless_ok false k f y h = (refl, h)
+-- if `fault_if` followed by another step gives no fault, its test is false and the step gives the result
+pub fault_if_ok : {B : Type 0} (b : Bool) (k : TreeKind) (f : Unit {0} → Result B TreeKind) (y : B) → fault_if b k >>= f ≡ Ok y → (b ≡ false) × (f tt ≡ Ok y)
+fault_if_ok true k f y h = cc
+fault_if_ok false k f y h = (refl, h)
 
 pub bind_ok : {A B : Type 0} (r : Result A TreeKind) (f : A → Result B TreeKind) (y : B) → r >>= f ≡ Ok y → (x : A) × (r ≡ Ok x) × (f x ≡ Ok y)
 bind_ok (Ok x) f y h = (x, refl, h)
@@ -230,60 +230,60 @@ pub not_false : (b : Bool) → not b ≡ false → b ≡ true
 not_false true h = refl
 not_false false h = cc
 
--- the tokens of a line that has a statement
-pub record Said (read : List Group) (tokens : Result (List Lexeme) ExprFault) (s : Statement) : Type 0 where
+-- a line with these tokens, the first of them a keyword, is the statement `s`, which is allowed after these groups
+pub record IsKeywordStatement (read : List Group) (tokens : Result (List Lexeme) ExprFault) (s : Statement) : Type 0 where
   pub keyword : Keyword
   pub first : Lexeme
   pub rest : List Lexeme
-  pub stand : tokens ≡ Ok (first ∷ rest)
+  pub tokens_are : tokens ≡ Ok (first ∷ rest)
   pub allowed : is_allowed read keyword ≡ true
   pub matched : is_stray_end read keyword ≡ false
   pub form : statement_of keyword rest ≡ Ok s
   pub sort : sort_of s ≡ sort_of_word keyword
 
-abbrev pub SaidIfSome : List Group → Result (List Lexeme) ExprFault → Option Statement → Type 0
-SaidIfSome read tokens None = Unit {0}
-SaidIfSome read tokens (Some s) = Said read tokens s
+abbrev pub IsKeywordStatementIfSome : List Group → Result (List Lexeme) ExprFault → Option Statement → Type 0
+IsKeywordStatementIfSome read tokens None = Unit {0}
+IsKeywordStatementIfSome read tokens (Some s) = IsKeywordStatement read tokens s
 
 statement_keyword : (language : Language) (read : List Group) (k : Keyword) (t : Lexeme) (ts : List Lexeme) (o : Option Statement)
-    → statement_by_keyword language read k ts ≡ Ok o → SaidIfSome read (Ok (t ∷ ts)) o
+    → statement_by_keyword language read k ts ≡ Ok o → IsKeywordStatementIfSome read (Ok (t ∷ ts)) o
 statement_keyword language read k t ts o h =
-    let a = unless_ok (is_left_out language read k ts) LeftOut _ o h in
-    let b = unless_ok (not (is_allowed read k)) Misplaced _ o a.1 in
-    let c = unless_ok (is_stray_end read k) StrayEnd _ o b.1 in
+    let a = fault_if_ok (is_left_out language read k ts) LeftOut _ o h in
+    let b = fault_if_ok (not (is_allowed read k)) Misplaced _ o a.1 in
+    let c = fault_if_ok (is_stray_end read k) StrayEnd _ o b.1 in
     let d = bind_ok (statement_of k ts) _ o c.1 in
-    let e = unless_ok (is_too_deep read d.0) TooDeep _ o d.2 in
-    let f = unless_ok (is_too_many read d.0) TooMany _ o e.1 in
+    let e = fault_if_ok (is_too_deep read d.0) TooDeep _ o d.2 in
+    let f = fault_if_ok (is_too_many read d.0) TooMany _ o e.1 in
     let said : Some d.0 ≡ o = cc in
-    subst (SaidIfSome read (Ok (t ∷ ts))) said (record {
+    subst (IsKeywordStatementIfSome read (Ok (t ∷ ts))) said (record {
       keyword = k;
       first = t;
       rest = ts;
-      stand = refl;
+      tokens_are = refl;
       allowed = not_false (is_allowed read k) b.0;
       matched = c.0;
       form = d.1;
       sort = subst (Gives (sort_of_word k)) d.1 (gives_statement k ts);
     })
 
-said_by_keyword : (language : Language) (read : List Group) (w : Option Keyword) (t : Lexeme) (ts : List Lexeme) (o : Option Statement)
-    → statement_by_word language read ts w ≡ Ok o → SaidIfSome read (Ok (t ∷ ts)) o
-said_by_keyword language read None t ts o h = cc
-said_by_keyword language read (Some k) t ts o h = statement_keyword language read k t ts o h
+keyword_statement_if_some : (language : Language) (read : List Group) (w : Option Keyword) (t : Lexeme) (ts : List Lexeme) (o : Option Statement)
+    → statement_by_word language read ts w ≡ Ok o → IsKeywordStatementIfSome read (Ok (t ∷ ts)) o
+keyword_statement_if_some language read None t ts o h = cc
+keyword_statement_if_some language read (Some k) t ts o h = statement_keyword language read k t ts o h
 
 statement_in_line : (language : Language) (read : List Group) (ts : List Lexeme) (o : Option Statement) → statement_of_tokens language read ts ≡ Ok o
-    → SaidIfSome read (Ok ts) o
+    → IsKeywordStatementIfSome read (Ok ts) o
 statement_in_line language read [] None h = tt
 statement_in_line language read [] (Some s) h = cc
-statement_in_line language read (t ∷ ts) o h = said_by_keyword language read (keyword_of t) t ts o h
+statement_in_line language read (t ∷ ts) o h = keyword_statement_if_some language read (keyword_of t) t ts o h
 
 statement_lexed : (language : Language) (read : List Group) (r : Result (List Lexeme) ExprFault) (o : Option Statement)
-    → statement_or_fault language read r ≡ Ok o → SaidIfSome read r o
+    → statement_or_fault language read r ≡ Ok o → IsKeywordStatementIfSome read r o
 statement_lexed language read (Err e) o h = cc
 statement_lexed language read (Ok ts) o h = statement_in_line language read ts o h
 
 statement_or_help : (language : Language) (read : List Group) (b : Bool) (r : Result (List Lexeme) ExprFault) (o : Option Statement)
-    → cond b (Ok None) (statement_or_fault language read r) ≡ Ok o → SaidIfSome read r o
+    → cond b (Ok None) (statement_or_fault language read r) ≡ Ok o → IsKeywordStatementIfSome read r o
 statement_or_help language read true r None h = tt
 statement_or_help language read true r (Some s) h = cc
 statement_or_help language read false r o h = statement_lexed language read r o h
@@ -293,12 +293,12 @@ past_test true e r o h = cc
 past_test false e r o h = h
 
 pub line_given : (language : Language) (read : List Group) (l : LogicalLine) (o : Option Statement) → statement_on_line language read l ≡ Ok o
-    → SaidIfSome read (lexemes_from language 0 0 l.text) o
+    → IsKeywordStatementIfSome read (lexemes_from language 0 0 l.text) o
 unfolding statement_on_line
 line_given language read l o h = statement_or_help language read l.help (lexemes_from language 0 0 l.text) o
     (past_test (not (is_utf8 l.text)) NotUtf8 _ o (past_test (nat_lt MAX_LINE_BYTES (length l.text)) LineTooLong _ o h))
 
-fits_given : (read : List Group) (r : Result (List Lexeme) ExprFault) (o : Option Statement) → SaidIfSome read r o → Fits read o
+fits_given : (read : List Group) (r : Result (List Lexeme) ExprFault) (o : Option Statement) → IsKeywordStatementIfSome read r o → Fits read o
 fits_given read r None h = tt
 fits_given read r (Some s) h = fits_statement read h.keyword s h.sort h.allowed h.matched
 
@@ -325,11 +325,11 @@ pub line_names : (language : Language) (read : List Group) (l : LogicalLine) (na
     ≡ Ok (Some (head (config name))) → (t : Lexeme) × (t.text ≡ name) × (is_name t ≡ true)
 line_names language read l name h = let s = line_given language read l (Some (head (config name))) h in config_given s.keyword s.rest name s.sort s.form
 
--- the value of a default is read of the tokens after its word
+-- this value is the expression that is read at the front of a line's tokens after the first
 pub record IsValueOf (tokens : Result (List Lexeme) ExprFault) (value : Expr) : Type 0 where
   pub first : Lexeme
   pub rest : List Lexeme
-  pub stand : tokens ≡ Ok (first ∷ rest)
+  pub tokens_are : tokens ≡ Ok (first ∷ rest)
   pub taken : ParsedExpr
   pub read_as : leading_expr rest ≡ Ok taken
   pub is : taken.expr ≡ value
@@ -353,11 +353,11 @@ default_value f g same ts a d e h =
     (same (record { value = x.0.expr; single = x.0.single; condition = c.0 })) ∙ ap g made ∙ e in
     (x.0, x.1, valued_same (record { value = x.0.expr; single = x.0.single; condition = c.0 }) d told)
 
-default_said : (k : Keyword) (ts : List Lexeme) (a : Attribute) (d : DefaultAttribute) → default_sort ≡ sort_of_word k → default_of a ≡ Some d
+default_value_read : (k : Keyword) (ts : List Lexeme) (a : Attribute) (d : DefaultAttribute) → default_sort ≡ sort_of_word k → default_of a ≡ Some d
     → statement_of k ts ≡ Ok (attribute a) → (x : ParsedExpr) × (leading_expr ts ≡ Ok x) × (x.expr ≡ d.value)
-default_said words.Default ts a d e m h = default_value default default_of (λ d. refl) ts a d m h
-default_said (words.DefaultType k) ts a d e m h = default_value (typed_default k) default_of (λ d. refl) ts a d m h
-default_said k ts a d e m h = cc
+default_value_read words.Default ts a d e m h = default_value default default_of (λ d. refl) ts a d m h
+default_value_read (words.DefaultType k) ts a d e m h = default_value (typed_default k) default_of (λ d. refl) ts a d m h
+default_value_read k ts a d e m h = cc
 
 sorted_default : (a : Attribute) (d : DefaultAttribute) → default_of a ≡ Some d → sort_of_attribute a ≡ default_sort
 sorted_default (default x) d h = refl
@@ -368,8 +368,8 @@ pub line_values : (language : Language) (read : List Group) (l : LogicalLine) (a
     → statement_on_line language read l ≡ Ok (Some (attribute a)) → IsValueOf (lexemes_from language 0 0 l.text) d.value
 line_values language read l a d m h =
     let s = line_given language read l (Some (attribute a)) h in
-    let x = default_said s.keyword s.rest a d (sym (sorted_default a d m) ∙ s.sort) m s.form in
-    record { first = s.first; rest = s.rest; stand = s.stand; taken = x.0; read_as = x.1; is = x.2 }
+    let x = default_value_read s.keyword s.rest a d (sym (sorted_default a d m) ∙ s.sort) m s.form in
+    record { first = s.first; rest = s.rest; tokens_are = s.tokens_are; taken = x.0; read_as = x.1; is = x.2 }
 
 -- a line that is accepted is UTF-8
 test_passed : (b : Bool) (e : TreeKind) (r : Result (Option Statement) TreeKind) (o : Option Statement) → cond b (Err e) r ≡ Ok o → b ≡ false

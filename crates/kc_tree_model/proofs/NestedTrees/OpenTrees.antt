@@ -5,12 +5,12 @@ use Rattle.kc_tree_model.specs.NestedTrees.{Items, none, entry, block, listing, 
 use Rattle.kc_tree_model.proofs.NestedTrees.OpenBlocks.{pushed}
 use Rattle.kc_tree_model.proofs.NestedTrees.Walks.{onto, onto-append, open-listing}
 
--- whether the innermost of these blocks ends so
+-- whether a group with this beginning ends the first of these blocks (innermost first)
 abbrev pub ends_first : List Group → GroupHead → Bool
 ends_first [] e = false
 ends_first (g ∷ outer) e = is_ended_by g.head e
 
--- each end matches the innermost block that is open there
+-- each end among these groups (newest first) matches the innermost block that is open before it
 abbrev pub EndsMatch : List Group → Type 0
 EndsMatch [] = Unit {0}
 EndsMatch (g ∷ before) = (side_of g.head ≡ closing → ends_first (open_blocks 0 before) g.head ≡ true) × EndsMatch before

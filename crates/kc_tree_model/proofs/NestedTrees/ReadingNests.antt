@@ -21,19 +21,19 @@ use Rattle.kc_tree_model.proofs.NestedTrees.OneListing.{only_tree}
 use Rattle.kc_tree_model.proofs.NestedTrees.OpenTrees.{EndsMatch, ends_first, nested_tree}
 use Rattle.kc_tree_model.proofs.NestedTrees.LineFits.{Fits, line_fits}
 
--- groups that open blocks
+-- each of these groups opens a menu, an `if` or a choice
 abbrev pub AllBlocks : List Group → Type 0
 AllBlocks [] = Unit {0}
 AllBlocks (g ∷ gs) = ((b : Block) × (opened_block g ≡ Some b)) × AllBlocks gs
 
--- since a file began, just these blocks of it were opened and not closed
+-- from the groups `start`, at which a file began, to the groups `read` just these blocks of the file were opened and not closed
 pub record Since (start read : List Group) : Type 0 where
   pub blocks : List Group
   pub own : AllBlocks blocks
   pub opened : open_blocks 0 read ≡ blocks ++ open_blocks 0 start
   pub matched : EndsMatch read
 
--- a file that is read whole leaves the open blocks as they were
+-- a whole file is read from the groups `start` to `read`, and leaves the open blocks as they were
 pub record Closes (start read : List Group) : Type 0 where
   pub opened : open_blocks 0 read ≡ open_blocks 0 start
   pub matched : EndsMatch read
@@ -162,7 +162,7 @@ unfolding with_line
 after_attribute start [] line a o k i s = cc
 after_attribute start (g ∷ before) line a o k i s = attribute_by start before g g.head line a o refl k i s
 
--- a line that sources no file
+-- if a line sources no file and fits the groups before it, `Since` holds after it as before it
 pub after_given : (start read : List Group) (at : Position) (s : Option Statement) → innermost start ≡ None → Since start read → path_to_read s ≡ None
     → Fits read s → Since start (with_statement at s read)
 after_given start read at None i k p f = k
@@ -180,7 +180,7 @@ after_file : (start read : List Group) (file : ℕ) (o : Option (Group × Block)
 after_file start read file None e s h = after_last start read s.blocks s.own s.opened s.matched e
 after_file start read file (Some o) e s h = cc
 
--- the group of a `source`
+-- the group of a `source` of this path at this place after these groups
 unfoldable pub source_group : List Group → Position → List ℕ → Group
 source_group read at path = record { number = length read; at = at; head = of_head (source path); attributes = [] }
 

@@ -1,10 +1,10 @@
--- The first kind in an order whose condition holds is one.
+-- The first kind in an order for which a condition holds is unique.
 use Rattle.std.proofs.Common.{◌≡◌, List, [], ◌∷◌, ◌++◌, sym, ◌∙◌, subst}
 use Rattle.std.specs.List.{AllByRecursion}
 use Rattle.kc_tree_model.specs.declared.fault.TreeKind.{TreeKind}
 use Rattle.kc_tree_model.specs.ReadingFaults.{IsFirstOf}
 
--- conditions that don't hold
+-- a condition on kinds of faults holds for none of these kinds
 abbrev pub NoneHolds : (TreeKind → Type 0) → List TreeKind → Type 0
 NoneHolds condition kinds = AllByRecursion (λ kind. condition kind → ⊥) kinds
 
@@ -23,7 +23,7 @@ pub one_first : (order : List TreeKind) (condition : TreeKind → Type 0) (kind 
 one_first order condition kind kind' f g =
     first_in condition f.before g.before f.after g.after kind kind' (sym f.place ∙ g.place) f.none_before g.none_before f.holds g.holds
 
--- one condition more that doesn't hold
+-- a condition that holds for none of some kinds and not for one more holds for none of them all
 pub with_none : (condition : TreeKind → Type 0) (kinds : List TreeKind) (kind : TreeKind) → NoneHolds condition kinds → (condition kind → ⊥)
     → NoneHolds condition (kinds ++ kind ∷ [])
 with_none condition [] kind none h = (h, tt)

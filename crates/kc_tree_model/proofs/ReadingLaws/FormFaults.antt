@@ -149,7 +149,7 @@ known_expr : (ts : List Lexeme) (f : ExprKind × List Lexeme) → read_expr ts �
 unfolding read_expr
 known_expr ts f h = known_end (read_ors (read_factor MAX_EXPR_DEPTH) ts) f (known_ors (read_factor MAX_EXPR_DEPTH) (known_factor MAX_EXPR_DEPTH) ts) h
 
--- the kinds of faults of forms
+-- whether a kind of fault is one that a form has: Malformed or TooDeep
 abbrev pub is_form_kind : TreeKind → Bool
 is_form_kind Malformed = true
 is_form_kind TooDeep = true

@@ -22,7 +22,7 @@ use Rattle.kc_tree_model.specs.Forms.{◌>>=◌, kind_of_fault, ParsedExpr, lead
 use Rattle.kc_tree_model.specs.FormGrammar.{IsCondition, IsOptionalIf, no_if, with_if, IsDefault, IsForm, config_form, choice_form, menu_form, if_form, comment_form, source_form, mainmenu_form, end_form, type_form, type_prompt_form, type_default_form, prompt_form, default_form, depends_form, select_form, imply_form, range_form, visible_form, help_form, modules_form, option_form, optional_form}
 use Rattle.kc_tree_model.proofs.ReadingLaws.TightTokens.{EndsExpr, expr_tight, extent_tight, extent_front, drop_front}
 
--- what a result without a fault is of
+-- if a result has no fault, its value has the property `P`
 abbrev pub OfOk : {A : Type 0} → (A → Type 0) → Result A TreeKind → Type 0
 OfOk P (Ok x) = P x
 OfOk P (Err e) = Unit {0}
@@ -40,7 +40,7 @@ ok_last : {A : Type 0} (P : A → Type 0) (x : A) (ts : List Lexeme) → (ts ≡
 ok_last P x [] h = h refl
 ok_last P x (t ∷ ts) h = tt
 
--- the expression at the front
+-- what was read at the front of these tokens is their expression, whether it is one operand, and the tokens after it
 abbrev pub IsParsed : List Lexeme → ParsedExpr → Type 0
 IsParsed ts r = IsExpr ors MAX_EXPR_DEPTH (extent ts) r.expr × (r.single ≡ (length (extent ts) == 1)) × (r.rest ≡ drop (length (extent ts)) ts)
 
@@ -183,7 +183,7 @@ form_is words.Option ts = is_option ts
 form_is words.Optional ts = is_last words.Optional (attribute optional) optional_form ts
 form_is words.LeftOut ts = tt
 
--- and the other way round
+-- a token that is this word is an operand, and so ends an expression before it
 pub ends_by : (t : Lexeme) (word : List ℕ) → is_the_word word t ≡ true → is_operand_kind t.kind ≡ true
 ends_by t word e = word_operand t.kind (and_parts (is_word_kind t.kind) (bytes_eq t.text word) e).0
   where
@@ -195,7 +195,7 @@ ends_expr : {ts : List Lexeme} {c : Option Expr} → IsOptionalIf ts c → EndsE
 ends_expr no_if = tt
 ends_expr (with_if {t = t} e h) = ends_by t (codes "if") e
 
--- the expression at the front, and what is left
+-- tokens that are an expression, before tokens that end it, are read as that expression and the tokens after it
 pub front_read : (front rest : List Lexeme) (e : Expr) → IsExpr ors MAX_EXPR_DEPTH front e → EndsExpr rest
     → leading_expr (front ++ rest) ≡ Ok (record { expr = e; single = length front == 1; rest = rest })
 front_read front rest e h after =

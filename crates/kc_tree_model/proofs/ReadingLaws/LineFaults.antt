@@ -23,7 +23,7 @@ use Rattle.kc_tree_model.specs.Forms.{statement_of, kind_of_fault, ◌>>=◌}
 use Rattle.kc_tree_model.specs.Blocks.{Group}
 use Rattle.kc_tree_model.specs.Placement.{is_allowed, is_left_out, is_stray_end}
 use Rattle.kc_tree_model.specs.Limits.{is_too_deep, is_too_many}
-use Rattle.kc_tree_model.specs.TreeReading.{unless, statement_by_keyword, statement_by_word, statement_or_fault, statement_on_line}
+use Rattle.kc_tree_model.specs.TreeReading.{fault_if, statement_by_keyword, statement_by_word, statement_or_fault, statement_on_line}
 use Rattle.kc_tree_model.specs.ReadingFaults.{HasTokens, help_line, cut_line, HasTokenFault, BeginsWith, HasForm, IsLineFault, line_order, HoldsNever, IsFirstOf}
 use Rattle.kc_tree_model.proofs.ReadingLaws.TokenFaults.{is_token_kind, token_kind_known, one_tokens}
 use Rattle.kc_tree_model.proofs.ReadingLaws.FormFaults.{is_form_kind, known_fault}
@@ -84,14 +84,14 @@ module _ (language : Language) (read : List Group) (l : LogicalLine) where
   none_holds none TooMany h = none.1.1.1.1.1.1.1.1.1.1.0 h
   none_holds none kind h = h
 
-  -- what is read of a line, and what is so of it
+  -- this is what is read from a line: its first fault, no statement of a line without tokens, or the statement of its form
   abbrev pub LineIs : Result (Option Statement) TreeKind → Type 0
   LineIs (Err kind) = IsFirstOf line_order (IsLineFault language read l) kind
   LineIs (Ok None) = IsFaultless × HasTokens language l []
   LineIs (Ok (Some s)) = IsFaultless × HasForm language l s
 
   past : (b : Bool) (kind : TreeKind) (f : Unit {0} → Result (Option Statement) TreeKind) → (b ≡ true → IsFirst kind) → (b ≡ false → LineIs (f tt))
-      → LineIs (unless b kind >>= f)
+      → LineIs (fault_if b kind >>= f)
   past true kind f h k = h refl
   past false kind f h k = k refl
 
@@ -155,8 +155,8 @@ module _ (language : Language) (read : List Group) (l : LogicalLine) where
     none_of_tokens faultless = also_none 3 UnclosedQuote (also_none 2 BadToken some (faultless expr_kinds.BadToken)) (faultless expr_kinds.UnclosedQuote)
 
     -- a line without tokens
-    says_nothing : ((kind : ExprKind) → HasTokenFault language l kind → ⊥) → HasTokens language l [] → LineIs (Ok None)
-    says_nothing faultless none =
+    no_statement : ((kind : ExprKind) → HasTokenFault language l kind → ⊥) → HasTokens language l [] → LineIs (Ok None)
+    no_statement faultless none =
         let no_word : (k : Keyword) (ts : List Lexeme) → BeginsWith language l k ts → ⊥ = λ k ts b. no_tokens b.0 ts none b.1 in
         let known : NoneOf 5 = also_none 4 UnknownStatement (none_of_tokens faultless) (λ h. no_tokens h.0 h.1 none h.2) in
         let kept : NoneOf 6 = also_none 5 LeftOut known (λ h. elim h [ inl f ↦ faultless expr_kinds.LeftOut f | inr k ↦ no_word k.0 k.1 k.2 ]) in
@@ -248,7 +248,7 @@ module _ (language : Language) (read : List Group) (l : LogicalLine) where
           few : is_too_many read s ≡ false → Never TooMany
           few e h = true_or_false _ (sym (ap (is_too_many read) (same_statement h.0 h.1)) ∙ h.2) e
 
-          statement_is : LineIs (unless (is_too_deep read s) TooDeep >>= λ _. unless (is_too_many read s) TooMany >>= λ _. Ok (Some s))
+          statement_is : LineIs (fault_if (is_too_deep read s) TooDeep >>= λ _. fault_if (is_too_many read s) TooMany >>= λ _. Ok (Some s))
           statement_is =
               past (is_too_deep read s) TooDeep _ deep (λ d. past (is_too_many read s) TooMany _ (many (formed d)) (λ e.
               (none_holds (also_none 10 TooMany (formed d) (few e)), has_form)))
@@ -267,13 +267,13 @@ module _ (language : Language) (read : List Group) (l : LogicalLine) where
 
     tokens_are : (r : Result (List Lexeme) ExprFault) → l.help ≡ false → lexemes_from language 0 0 l.text ≡ r → LineIs (statement_or_fault language read r)
     tokens_are (Err e) help h = token_fault e e.kind refl (token_kind_known (read_fault language (length l.text) 0 l.text e (omega arith) h)) help h
-    tokens_are (Ok []) help h = says_nothing (λ kind. no_token_fault [] kind h) (cut_line help (read_cut language (length l.text) 0 l.text [] (omega arith) h))
+    tokens_are (Ok []) help h = no_statement (λ kind. no_token_fault [] kind h) (cut_line help (read_cut language (length l.text) 0 l.text [] (omega arith) h))
     tokens_are (Ok (t ∷ ts)) help h =
         word_or_unknown t ts (cut_line help (read_cut language (length l.text) 0 l.text (t ∷ ts) (omega arith) h)) (λ kind. no_token_fault (t ∷ ts) kind h)
         (keyword_of t) refl
 
     help_or_tokens : (b : Bool) → l.help ≡ b → LineIs (cond b (Ok None) (statement_or_fault language read (lexemes_from language 0 0 l.text)))
-    help_or_tokens true e = says_nothing (λ kind. no_fault_of_help kind e) (help_line e refl)
+    help_or_tokens true e = no_statement (λ kind. no_fault_of_help kind e) (help_line e refl)
     help_or_tokens false e = tokens_are (lexemes_from language 0 0 l.text) e refl
 
   short : nat_lt MAX_LINE_BYTES (length l.text) ≡ false → NoneOf 1

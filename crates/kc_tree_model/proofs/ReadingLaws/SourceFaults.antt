@@ -32,7 +32,7 @@ module _ (r : FileSource) (read : List Group) (path : List ℕ) where
   none_holds none TooMany h = none.1.1.1.0 h
   none_holds none kind h = h
 
-  -- a `source` that has this fault, or none
+  -- a `source` has this as its first fault, or None if it has no fault
   abbrev pub SourceIs : Option TreeKind → Type 0
   SourceIs (Some kind) = IsFirstOf source_order (IsSourceFault r read path) kind
   SourceIs None = HoldsNever (IsSourceFault r read path)

@@ -6,11 +6,11 @@ use Rattle.kc_expr.specs.Token.{Lexeme}
 use Rattle.kc_expr.specs.Expr.{Expr, Operand}
 use Rattle.kc_expr.specs.Grammar.{Level, IsExpr, one_and, more_ors, one_factor, more_ands, operand, relation, negation, parentheses, operand_of_kind, operand_of_lexeme, is_operand_kind, is_close, extent}
 
--- an expression ends before the second of two tokens
+-- whether an expression ends between two tokens: an operand or a `)` comes before an operand
 abbrev pub is_seam : TokenKind → TokenKind → Bool
 is_seam t u = (is_operand_kind t || is_close t) && is_operand_kind u
 
--- the tokens hold no seam, and the last is an operand or a `)`
+-- these tokens are not empty, no expression ends between two of them, and the last is an operand or a `)`
 abbrev pub IsTight : List Lexeme → Type 0
 IsTight [] = ⊥
 IsTight (t ∷ []) = (is_operand_kind t.kind || is_close t.kind) ≡ true
@@ -76,7 +76,7 @@ expr_tight (parentheses {ts = ts} o c k h f same) =
     let x = kind_joint Open o k (refl, refl) in
     subst IsTight (sym same) (tight_cons o (ts ++ c ∷ []) x.0 x.1 (tight_close ts c f (expr_tight h)))
 
--- the tokens after an expression begin with an operand, or are none
+-- these tokens end an expression before them: they are none or begin with an operand
 abbrev pub EndsExpr : List Lexeme → Type 0
 EndsExpr [] = Unit {0}
 EndsExpr (t ∷ ts) = is_operand_kind t.kind ≡ true

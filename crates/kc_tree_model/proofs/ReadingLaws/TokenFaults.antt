@@ -1,4 +1,4 @@
--- A line has tokens or a fault of its tokens, and one of them; the fault is of three kinds.
+-- A line has tokens or a fault of its tokens, and not both; the fault is of one of three kinds.
 use Rattle.std.proofs.Common.{◌≡◌, ℕ, Bool, true, false, List, Ok, refl, sym, ◌∙◌}
 use Rattle.kc_expr.specs.declared.fault.ExprFault.{ExprFault}
 use Rattle.kc_expr.specs.declared.fault.ExprKind.{ExprKind}
@@ -10,7 +10,7 @@ use Rattle.kc_expr.proofs.TokenLaws.{cut_read}
 use Rattle.kc_tree_model.specs.LogicalLines.{LogicalLine}
 use Rattle.kc_tree_model.specs.ReadingFaults.{HasTokens, help_line, cut_line}
 
--- the kinds of faults of tokens
+-- whether a kind of fault is one that the tokens of a line may have
 abbrev pub is_token_kind : ExprKind → Bool
 is_token_kind BadToken = true
 is_token_kind UnclosedQuote = true
@@ -29,7 +29,7 @@ token_kind_known (here none is) = byte_kind is
 token_kind_known (after_white h more) = token_kind_known more
 token_kind_known (after_token kind text rest is long more) = token_kind_known more
 
--- a line has one list of tokens
+-- a line has at most one list of tokens
 pub one_tokens : (language : Language) (l : LogicalLine) (ts us : List Lexeme) → HasTokens language l ts → HasTokens language l us → ts ≡ us
 one_tokens language l ts us (help_line h e) (help_line k f) = e ∙ sym f
 one_tokens language l ts us (help_line h e) (cut_line k c) = let z : true ≡ false = sym h ∙ k in cc

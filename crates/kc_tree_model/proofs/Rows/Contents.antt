@@ -1,50 +1,30 @@
 -- Rows on what a tree holds.
-use Rattle.std.proofs.Common.{false, ◌≡◌, ℕ, List, [], ◌∷◌, Some, refl, map}
+use Rattle.std.proofs.Common.{false, ◌≡◌, List, [], ◌∷◌, Some, refl, map}
 use Rattle.std.specs.Prelude.{codes}
 use Rattle.std.specs.Str.{is_utf8, chars}
 use Rattle.kc_expr.specs.Lookup.{index_of_name}
-use Rattle.kc_value.specs.declared.tri.Tri.TheVariants.{M}
 use Rattle.kc_expr.specs.Token.{next_token}
 use Rattle.kc_expr.specs.Grammar.{read_expr}
-use Rattle.kc_expr.specs.Expr.{Expr, alone, both, shown, constant}
+use Rattle.kc_expr.specs.Expr.{both, shown}
 use Rattle.kc_tree_model.specs.declared.ids.Unit.TheVariants.{Symbol as of_symbol, Choice as of_choice}
 use Rattle.kc_tree_model.specs.LogicalLines.{lines_of}
 use Rattle.kc_tree_model.specs.Limits.{source_fault}
 use Rattle.kc_tree_model.specs.TreeReading.{statement_on_line, reading}
-use Rattle.kc_tree_model.specs.Trees.{Symbol, ReverseDependency, definition, menu_begins, menu_ends}
+use Rattle.kc_tree_model.specs.Trees.{Symbol, ReverseDependency, menu_begins, menu_ends}
 use Rattle.kc_tree_model.specs.Contents.{tree_of_groups, index_of_number}
-use Rattle.kc_tree_model.proofs.Rows.Trees.{whole, prompts_and_dependencies, word, yes}
-
--- the conditions of the prompts of each symbol
-abbrev prompts : List ℕ → List (List Expr)
-prompts text = map (λ (s : Symbol). s.prompts) (whole text).symbols
+use Rattle.kc_tree_model.proofs.Rows.Trees.{whole, prompts_and_dependencies, word}
 
 abbrev selectors_and_impliers : Symbol → List ReverseDependency × List ReverseDependency
 selectors_and_impliers s = (s.selectors, s.impliers)
 
-dependency_joins_all_attributes : prompts (codes "config A\n\tbool \"a\" if B\n\tdepends on C\n\tdepends on D\n")
-    ≡ (both (both (word (codes "C")) (word (codes "D"))) (word (codes "B")) ∷ []) ∷ []
-unfolding next_token is_utf8 chars read_expr lines_of source_fault statement_on_line reading lib.Utf8.encode tree_of_groups
-dependency_joins_all_attributes = refl
-
-conditions_of_the_blocks_round_a_prompt : prompts
-    (codes "if X\nmenu \"m\"\n\tdepends on Y\n\tvisible if V\nconfig A\n\tbool \"a\"\nendmenu\nendif\nconfig B\n\tbool \"b\"\n")
-    ≡ (both (both (word (codes "X")) (word (codes "Y"))) (word (codes "V")) ∷ []) ∷ (yes ∷ []) ∷ []
-unfolding next_token is_utf8 chars read_expr lines_of source_fault statement_on_line reading lib.Utf8.encode tree_of_groups
-conditions_of_the_blocks_round_a_prompt = refl
-
-choice_stands_for_what_is_outside : map prompts_and_dependencies
+choice_has_outer_conditions : map prompts_and_dependencies
     (whole (codes "if X\nchoice\n\tprompt \"p\" if P\n\tdepends on D\nconfig A\n\tbool \"a\" if Q\nendchoice\nendif\n")).symbols
     ≡ (
       both (shown (both (both (word (codes "X")) (word (codes "D"))) (word (codes "P")))) (word (codes "Q")) ∷ [],
       shown (both (both (word (codes "X")) (word (codes "D"))) (word (codes "P"))) ∷ [],
     ) ∷ []
 unfolding next_token is_utf8 chars read_expr lines_of source_fault statement_on_line reading lib.Utf8.encode tree_of_groups index_of_name index_of_number
-choice_stands_for_what_is_outside = refl
-
-m_in_a_condition : prompts (codes "config A\n\ttristate \"a\" if m\n") ≡ (both (alone (constant M)) (word (codes "MODULES")) ∷ []) ∷ []
-unfolding next_token is_utf8 chars read_expr lines_of source_fault statement_on_line reading lib.Utf8.encode tree_of_groups
-m_in_a_condition = refl
+choice_has_outer_conditions = refl
 
 selector_with_its_condition : map selectors_and_impliers
     (whole (codes "config S\n\tbool \"s\"\n\tselect T if C\n\timply T\n\tdepends on D\nconfig T\n\ttristate\n\tdepends on NO\n")).symbols
@@ -52,16 +32,6 @@ selector_with_its_condition : map selectors_and_impliers
     ∷ (record { by = 0; condition = both (word (codes "D")) (word (codes "C")) } ∷ [], record { by = 0; condition = word (codes "D") } ∷ []) ∷ []
 unfolding next_token is_utf8 chars read_expr lines_of source_fault statement_on_line reading lib.Utf8.encode tree_of_groups index_of_name index_of_number
 selector_with_its_condition = refl
-
-dependency_of_each_definition : map (λ (s : Symbol). s.direct) (whole (codes "config A\n\tbool \"a\"\n\tdepends on B\nconfig A\n\tdepends on C\n")).symbols
-    ≡ (word (codes "B") ∷ word (codes "C") ∷ []) ∷ []
-unfolding next_token is_utf8 chars read_expr lines_of source_fault statement_on_line reading lib.Utf8.encode tree_of_groups
-dependency_of_each_definition = refl
-
-each_definition_is_an_entry : (whole (codes "config A\n\tbool \"a\"\nconfig B\n\tbool\nconfig A\n\tprompt \"x\"\n")).entries
-    ≡ definition 0 ∷ definition 1 ∷ definition 0 ∷ []
-unfolding next_token is_utf8 chars read_expr lines_of source_fault statement_on_line reading lib.Utf8.encode tree_of_groups index_of_name index_of_number
-each_definition_is_an_entry = refl
 
 menu_with_its_conditions : (whole (codes "menu \"m\"\n\tdepends on D\n\tvisible if V\nmenu \"n\"\n\tvisible if W\nendmenu\nendmenu\n")).entries
     ≡ menu_begins (codes "m") (word (codes "D")) (word (codes "V")) ∷ menu_begins (codes "n") (word (codes "D")) (both (word (codes "V")) (word (codes "W")))

@@ -1,13 +1,13 @@
--- The view of the map's entries in `Texts`.
+-- The files of `Texts`, from the entries of its map.
 use Rattle.std.specs.Prelude.{ℕ, List, map, String, Vec, string_bytes}
 use Rattle.std.specs.declared.alloc.Global.{Global}
 use Rattle.kc_expr.specs.declared.language.Language.{Language}
 use Rattle.kc_tree_model.specs.TreeFiles.{Files}
 
--- a path and its bytes
+-- the path and the bytes of one entry of the map in `Texts`
 abbrev pub file_of : String Global × Vec ℕ Global → List ℕ × List ℕ
 file_of e = (string_bytes e.0, e.1.items)
 
--- the files of a map's entries
+-- the files of a language, from the entries of the map in `Texts`
 abbrev pub files_of : Language → List (String Global × Vec ℕ Global) → Files
 files_of language entries = record { language = language; list = map file_of entries }

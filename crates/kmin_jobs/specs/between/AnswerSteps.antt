@@ -12,29 +12,30 @@ use Rattle.kmin_jobs.specs.MacroReports.{answers_line}
 use Rattle.kmin_jobs.specs.JobAnswers.{or_else, lent_answer}
 use Rattle.kmin_jobs.specs.AnswerStops.{StopsAtAnswers, answers_status}
 
--- the lines of a fault of an answer file; out of memory is reported later
+-- the lines of standard error for a fault of an answer file: one, or none for lack of memory, which is reported later
 abbrev pub answers_lines : (path : List ℕ) (line : ℕ) → AnswersKind → List (List ℕ)
 answers_lines path line OutOfMemory = []
 answers_lines path line kind = answers_line path line kind ∷ []
 
--- a fault that the reading of an answer file reports: memory ran out, or the file is refused
+-- reading an answer file may end with this fault: memory ran out, or the file is refused
 pub data ReportsAnswersFault (left left_after : Option (List ℕ)) (failed failed_after : ℕ) (earlier : Recorded) (fault : AnswersFault) : Type 0 where
   for_memory : fault.kind ≡ OutOfMemory → ReportsAnswersFault left left_after failed failed_after earlier fault
   refused : IsRefused left left_after failed failed_after earlier fault → ReportsAnswersFault left left_after failed failed_after earlier fault
 
--- the reading of an answer file ended at a fault, which is reported
+-- reading an answer file ended with a fault of this exit status, which was reported on standard error
 pub record StopsReading (path : List ℕ) (left left_after : Option (List ℕ)) (read_failed read_failed_after : ℕ) (earlier : Recorded) (status : ℕ) (taken : Option (List ℕ)) (failed : ℕ) (taken_after : Option (List ℕ)) (failed_after : ℕ) : Type 0 where
   pub fault : AnswersFault
   pub reports : ReportsAnswersFault left left_after read_failed read_failed_after earlier fault
   pub status_is : status ≡ answers_status fault.kind
   pub reported : TakesLines taken failed (answers_lines path fault.line fault.kind) taken_after failed_after
 
--- one answer file ended a run, or memory ran out
+-- an answer file ended a run, with this status and these lines of standard error, or memory ran out
 pub data StopsAtAnswersPath (content : FileContent) (earlier : Recorded) (path : List ℕ) (status : ℕ) (lines : List (List ℕ)) : Type 0 where
   at_file : (line : List ℕ) → StopsAtAnswers content earlier path status line → lines ≡ line ∷ [] → StopsAtAnswersPath content earlier path status lines
   for_memory : status ≡ 6 → lines ≡ [] → StopsAtAnswersPath content earlier path status lines
 
--- names that had no answer have that of an environment, whose values agree with what is known of it
+-- `after` has the answers of `before`, and to each of `names` without one the answer of the environment; the values of variables
+-- agree with what is known of them
 pub record AreLent (variable_of : List ℕ → VariableContent) (names : List (List ℕ)) (before after : Recorded) : Type 0 where
   pub values : List ℕ → Option (List ℕ)
   pub environment : (name : List ℕ) → MatchVariable (variable_of name) (values name)

@@ -6,7 +6,8 @@ use Rattle.kc_expansion.specs.TreeContents.{TreeContents}
 use Rattle.kc_expansion.specs.Expansions.{IsExpansion}
 use Rattle.kmin_jobs.specs.MacroReports.{macro_fault_line, macro_notice_line}
 
--- the expansion has a fault, which is reported after its notices, or memory ran out
+-- an expansion of macros ended a run, with this status and these lines of standard error: it has a fault, reported after its
+-- notices, or memory ran out
 pub data StopsExpanding (contents : TreeContents) (answers : Recorded) (first : List ℕ) (status : ℕ) (lines : List (List ℕ)) : Type 0 where
   at_fault : (notices : List Notice) (fault : Fault) → IsExpansion contents answers first notices (Err fault) → status ≡ 3
       → lines ≡ map macro_notice_line notices ++ macro_fault_line fault ∷ [] → StopsExpanding contents answers first status lines

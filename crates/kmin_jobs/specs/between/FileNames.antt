@@ -4,6 +4,6 @@ use Rattle.kc_tree_model.specs.TreeFiles.{Files}
 use Rattle.kmin_jobs.specs.declared.file_names.FileNames.{FileNames}
 use Rattle.kmin_jobs.specs.JobTexts.{named_texts}
 
--- the texts of a `FileNames` of the code, by their names in messages
+-- the texts of a tree, each at the name in messages that a `FileNames` gives to its file
 abbrev pub names_of : FileNames → Files
 names_of n = elim n.expanded [ None ↦ n.texts.now | Some files ↦ named_texts files.now n.texts.now ]

@@ -4,7 +4,7 @@ use Rattle.kc_tree_model.specs.TreeFiles.{Files}
 use Rattle.kc_macros_model.specs.ReadingStates.{ExpandedFile}
 use Rattle.kmin_jobs.specs.JobTexts.{with_expanded_file}
 
--- texts and one more expanded file, if there is one
+-- the texts of a tree with one more expanded file, if there is one
 abbrev pub with_file_at : Option ExpandedFile → Files → Files
 with_file_at None texts = texts
 with_file_at (Some f) texts = with_expanded_file f texts

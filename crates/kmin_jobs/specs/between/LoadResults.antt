@@ -9,12 +9,13 @@ use Rattle.kc_dotconfig_model.specs.LoadFaults.{IsAccepted}
 use Rattle.kc_dotconfig.specs.declared.fragment.Fragment.{Fragment}
 use Rattle.kc_dotconfig.specs.Fragments.{users_of, notice_pair}
 use Rattle.kmin_jobs.specs.FileContents.{FileContent}
-use Rattle.kmin_tidy.specs.MinimalFiles.{AreKnownBytes}
+use Rattle.kmin_tidy.specs.KnownBytes.{AreKnownBytes}
 use Rattle.kmin_jobs.specs.Reports.{file_notices, notice_lines}
 use Rattle.kmin_tidy.specs.StandardError.{TakesLines}
 use Rattle.kmin_jobs.specs.Answers.{FilesMean, overlaid_by}
 
--- a file that matches its known content is accepted, the fragment has its assignments and notices, and the notices are reported
+-- a configuration file, whose bytes match what is known of it, is accepted, `fragment` has its assignments and notices, and its
+-- notices were reported on standard error
 pub record IsLoaded (content : FileContent) (format : FileFormat) (tree : Tree) (path : List ℕ) (fragment : Fragment) (taken : Option (List ℕ)) (failed : ℕ) (taken_after : Option (List ℕ)) (failed_after : ℕ) : Type 0 where
   pub bytes : List ℕ
   pub meanings : List LineMeaning
@@ -25,7 +26,8 @@ pub record IsLoaded (content : FileContent) (format : FileFormat) (tree : Tree) 
   pub noted : map notice_pair fragment.notices.items ≡ notices_from 1 meanings
   pub reported : TakesLines taken failed (file_notices path meanings) taken_after failed_after
 
--- files that match their known content are accepted, override an assignment, which makes `users`, and their notices are reported
+-- configuration files, whose bytes match what is known of them, are accepted, `users` is the assignment `before` overridden by
+-- theirs, and their notices were reported on standard error
 pub record AreLoaded (content_of : List ℕ → FileContent) (format : FileFormat) (strict : Bool) (tree : Tree) (paths : List (List ℕ)) (before users : List (Option UserValue)) (taken : Option (List ℕ)) (failed : ℕ) (taken_after : Option (List ℕ)) (failed_after : ℕ) : Type 0 where
   pub meanings : List (List LineMeaning)
   pub mean : FilesMean content_of format strict tree paths meanings

@@ -12,22 +12,22 @@ use Rattle.kmin_tidy.specs.StandardError.{TakesLines}
 use Rattle.kmin_jobs.specs.FileContents.{FileContent}
 use Rattle.kmin_jobs.specs.Stops.{StopsAtFile}
 
--- the exit status for a fault of a configuration file
+-- the exit status for a fault of a configuration file: 6 for lack of memory, 5 for a failed read, and 4 for any other fault
 abbrev pub load_status : LoadKind → ℕ
 load_status OutOfMemory = 6
 load_status Read = 5
 load_status _ = 4
 
--- the lines of a fault of a configuration file; out of memory is reported later
+-- the lines of standard error for a fault of a configuration file: one, or none for lack of memory, which is reported later
 abbrev pub load_lines : (path : List ℕ) (number : ℕ) → LoadKind → List (List ℕ)
 load_lines path number OutOfMemory = []
 load_lines path number kind = fault_line path number kind ∷ []
 
--- the lines of the notices of a fragment
+-- the lines of standard error for the notices of a fragment of the configuration file at a path
 abbrev pub fragment_notices : (path : List ℕ) → Fragment → List (List ℕ)
 fragment_notices path fragment = map (λ notice. notice_line path (notice_pair notice)) fragment.notices.items
 
--- the reading of a configuration file ended at a fault, which is reported
+-- reading a configuration file ended with a fault of this exit status, which was reported on standard error
 pub record StopsLoad (format : FileFormat) (tree : Tree) (path : List ℕ) (left left_after : Option (List ℕ)) (read_failed read_failed_after : ℕ) (status : ℕ) (taken : Option (List ℕ)) (failed : ℕ) (taken_after : Option (List ℕ)) (failed_after : ℕ) : Type 0 where
   pub kind : LoadKind
   pub number : ℕ
@@ -35,7 +35,7 @@ pub record StopsLoad (format : FileFormat) (tree : Tree) (path : List ℕ) (left
   pub status_is : status ≡ load_status kind
   pub reported : TakesLines taken failed (load_lines path number kind) taken_after failed_after
 
--- one configuration file ended a run, or memory ran out
+-- a configuration file ended a run, with this status and these lines of standard error, or memory ran out
 pub data StopsAtPath (content : FileContent) (format : FileFormat) (strict : Bool) (tree : Tree) (path : List ℕ) (status : ℕ) (lines : List (List ℕ)) : Type 0 where
   at_file : StopsAtFile content format strict tree path status lines → StopsAtPath content format strict tree path status lines
   for_memory : status ≡ 6 → lines ≡ [] → StopsAtPath content format strict tree path status lines

@@ -8,7 +8,7 @@ use Rattle.kmin_tidy.specs.Reports.{not_regular_line, write_line, left_line, pla
 use Rattle.kmin_jobs.specs.MacroReports.{answers_line, macro_notice_line, macro_fault_line}
 use Rattle.kmin_jobs.specs.Reports.{units_text}
 
--- the line of a report; the message for refused words is complete as it is
+-- the line of standard error for a report; for refused words it is their message, with nothing added
 abbrev pub report_line : Report → List ℕ
 report_line (TreeFault path line kind) = place_line path.now line (tree_kind_name kind)
 report_line (Cycle path line tree units) = place_line path.now line (codes "Cycle" ++ units_text tree.now.tree units.now)

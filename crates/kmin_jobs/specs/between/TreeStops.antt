@@ -7,17 +7,17 @@ use Rattle.kc_rules.specs.declared.fault.SettleFault.TheVariants.{Cycle, OutOfMe
 use Rattle.kmin_jobs.specs.Reports.{cycle_line}
 use Rattle.kmin_jobs.specs.Stops.{RefusesTexts}
 
--- the texts are refused, or memory ran out
+-- texts ended a run, with this status and these lines of standard error: they are refused as a tree, or memory ran out
 pub data StopsAtTexts (texts names : Files) (first : List ℕ) (status : ℕ) (lines : List (List ℕ)) : Type 0 where
   at_texts : (line : List ℕ) → RefusesTexts texts names first line → status ≡ 3 → lines ≡ line ∷ [] → StopsAtTexts texts names first status lines
   for_memory : status ≡ 6 → lines ≡ [] → StopsAtTexts texts names first status lines
 
--- the exit status for a tree that can't be settled
+-- the exit status for a tree that can't be settled: 3 for a cycle, and 6 for lack of memory
 abbrev pub settle_status : SettleFault → ℕ
 settle_status (Cycle units) = 3
 settle_status OutOfMemory = 6
 
--- the lines for a tree that can't be settled; out of memory is reported later
+-- the lines of standard error for a tree that can't be settled: one for a cycle, none for lack of memory, which is reported later
 abbrev pub settle_lines : (names : Files) → (first : List ℕ) → Tree → SettleFault → List (List ℕ)
 settle_lines names first tree (Cycle units) = cycle_line names first tree units.items ∷ []
 settle_lines names first tree OutOfMemory = []

@@ -4,16 +4,16 @@ use Rattle.std.specs.Str.{bytes_eq}
 use Rattle.indexmap.specs.IndexMap.{get_by}
 use Rattle.kmin_lines.specs.declared.line_bag.LineBag.{LineBag}
 
--- the number of occurrences of a line in a bag
+-- the number of occurrences of a line in a bag of lines
 abbrev pub times_in : LineBag → (line : List ℕ) → ℕ
 times_in bag line = unwrap_or (get_by (λ k. bytes_eq line k.now) bag.counts) 0
 
--- the number of occurrences of a line among lines
+-- the number of occurrences of a line in a list of lines
 abbrev pub times_among : (lines : List (List ℕ)) → (line : List ℕ) → ℕ
 times_among [] line = 0
 times_among (other ∷ lines) line = (if bytes_eq line other then 1 else 0) + times_among lines line
 
--- a bag has these lines
+-- a bag holds exactly the lines of a list: as many in total, and each line as often as the list does
 pub record HasLines (bag : LineBag) (lines : List (List ℕ)) : Type 0 where
   pub len : bag.len ≡ length lines
   pub each : (line : List ℕ) → times_in bag line ≡ times_among lines line

@@ -7,12 +7,13 @@ use Rattle.kmin_tidy.specs.declared.stop.Stop.{Stop}
 use Rattle.kmin_tidy.specs.declared.stop.Stop.TheVariants.{Memory, Left}
 use Rattle.kmin_tidy.specs.declared.whole_run.Tidied.{Tidied}
 
--- the status of a run that ends early
+-- the exit status of a run that ends early for this reason
 abbrev pub status_of_stop : Stop → ℕ
 status_of_stop Memory = 6
 status_of_stop (Left new_path) = 5
 
--- the text of a run is written, whole or in part
+-- the text of a run over all its files is written to standard output, whole, or in part since a write failed; then the run has
+-- these last lines of standard error and this exit status
 pub data IsWrittenOut (tidied : Tidied) (taken taken_after : Option (List ℕ)) (failed failed_after : ℕ) (reports : List (List ℕ)) (status : ℕ) : Type 0 where
   whole : Appends taken taken_after tidied.text.items → failed_after ≡ failed → reports ≡ [] → status ≡ tidied.status
       → IsWrittenOut tidied taken taken_after failed failed_after reports status

@@ -11,17 +11,18 @@ use Rattle.kmin_disk.specs.declared.fault.ReplaceFault.{ReplaceFault}
 use Rattle.kmin_disk.specs.declared.fault.ReplaceFault.TheVariants.{NotRegular, Unchanged, NamesTaken, Left, FolderNotSynced, OutOfMemory}
 use Rattle.kmin_tidy.specs.declared.report.FileReport.{FileReport}
 
--- the report of a file with a fault
+-- a file with this fault has this report: no notices, the fault as its problem, and the outcome `Failed` for a failed read, and
+-- `Refused` for any other fault but lack of memory
 pub record IsRefusedAs (fault : LoadFault) (report : FileReport) : Type 0 where
   pub notices : report.notices.items ≡ []
   pub problem : report.problem ≡ Some (Fault fault)
   pub outcome : ((fault.kind ≡ Read) × (report.outcome ≡ Failed)) ⊎ ((fault.kind ≢ Read) × (fault.kind ≢ LoadMemory) × (report.outcome ≡ Refused))
 
--- the outcome of a file that couldn't be replaced, or not for good
+-- a file couldn't be replaced, or its folder couldn't be synced after it: the problem is `Write`, and the outcome `Failed`
 abbrev pub IsNotWritten : FileEnd → Type 0
 IsNotWritten end = (end.problem ≡ Some Write) × (end.outcome ≡ Failed)
 
--- a fault of replacing lets the run go on
+-- a fault of replacing a file lets the run go on, and gives the file this end
 abbrev pub IsFailedBy : ReplaceFault → FileEnd → Type 0
 IsFailedBy OutOfMemory end = ⊥
 IsFailedBy (Left new_path) end = ⊥
@@ -30,7 +31,7 @@ IsFailedBy Unchanged end = IsNotWritten end
 IsFailedBy NamesTaken end = IsNotWritten end
 IsFailedBy FolderNotSynced end = IsNotWritten end
 
--- a fault of replacing ends the run
+-- a fault of replacing a file ends the run for this reason
 abbrev pub IsStoppedBy : ReplaceFault → Stop → Type 0
 IsStoppedBy OutOfMemory stop = stop ≡ Memory
 IsStoppedBy (Left new_path) stop = stop ≡ StopLeft new_path

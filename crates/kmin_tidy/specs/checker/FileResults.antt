@@ -12,7 +12,8 @@ use Rattle.kmin_tidy.specs.declared.file_step.FileEnd.{FileEnd}
 use Rattle.kmin_tidy.specs.declared.stop.Stop.{Stop}
 use Rattle.kmin_tidy.specs.declared.stop.Stop.TheVariants.{Memory, Left}
 
--- the result of a file of these bytes that has this minimal file
+-- an accepted file of these bytes is compared with its minimal file `least`, and replaced by it if they differ and `write` is
+-- true: the disk after it, its line of standard output, and its outcome and problem
 pub data IsRewritten (write : Bool) (old new : Disk) (path bytes least line : List ℕ) (end : FileEnd) : Type 0 where
   same : least ≡ bytes → new ≡ old → line ≡ [] → end.problem ≡ None → end.outcome ≡ Minimal
       → IsRewritten write old new path bytes least line end
@@ -24,28 +25,29 @@ pub data IsRewritten (write : Bool) (old new : Disk) (path bytes least line : Li
   unwritten : least ≢ bytes → write ≡ true → IsUnwritten old new path least → line ≡ difference_line path bytes least
       → end.problem ≡ Some Write → end.outcome ≡ Failed → IsRewritten write old new path bytes least line end
 
--- the disk and the outcome after a file was written, or couldn't be
+-- a file was replaced by its minimal file, or couldn't be: the disk after it, and its outcome and problem
 pub data IsWritten (old new : Disk) (path least : List ℕ) (end : FileEnd) : Type 0 where
   in_place : Replaces old.state new.state path least → new.failures ≡ old.failures → end.problem ≡ None
       → end.outcome ≡ Minimal → IsWritten old new path least end
   not_in_place : IsUnwritten old new path least → end.problem ≡ Some Write → end.outcome ≡ Failed
       → IsWritten old new path least end
 
--- the disk after a write that ends the run
+-- replacing the file at a path ended the run: memory ran out, and the disk is unchanged; or a new file is left
 abbrev pub StopsWrite : (old new : Disk) → (path : List ℕ) → Stop → Type 0
 StopsWrite old new path Memory = IsUnchanged old.state new.state
 StopsWrite old new path (Left new_path) = LeavesNewFile old new path (string_bytes new_path)
 
--- the disk after a file of these bytes that ends the run
+-- the run ended at a file of these bytes with the minimal file `least`: memory ran out before it was replaced, or replacing it
+-- ended the run
 abbrev pub StopsRewrite : (write : Bool) → (old new : Disk) → (path bytes least : List ℕ) → Stop → Type 0
 StopsRewrite write old new path bytes least stop = ((stop ≡ Memory) × (new ≡ old))
     ⊎ ((write ≡ true) × (least ≢ bytes) × StopsWrite old new path stop)
 
--- the disk after a file that ends the run
+-- the run ended at the file at a path: memory ran out before it was replaced, or replacing it ended the run
 abbrev pub StopsFile : Settings → (old new : Disk) → (path : List ℕ) → Stop → Type 0
 StopsFile s old new path stop = ((stop ≡ Memory) × (new ≡ old)) ⊎ (IsToBeReplaced s old path × StopsWrite old new path stop)
 
--- a run ended early, after these lines of standard error
+-- a run over these paths ended early for this reason, after these lines of standard error
 pub data StopsRun (s : Settings) (old new : Disk) (paths : List (List ℕ)) (earlier : List (List ℕ)) (stop : Stop) : Type 0 where
   before_write : (between : Disk) (front back : List (List ℕ)) (text : List ℕ) (made : ℕ) → paths ≡ front ++ back
       → Tidies s old between front text earlier made → new ≡ between → stop ≡ Memory → StopsRun s old new paths earlier stop

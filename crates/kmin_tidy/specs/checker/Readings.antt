@@ -10,10 +10,10 @@ use Rattle.kc_dotconfig.specs.declared.fragment.Fragment.{Fragment}
 use Rattle.kc_dotconfig.specs.Fragments.{FitsTree, users_of, notice_pair}
 use Rattle.kc_tree_model.specs.Trees.{Tree}
 use Rattle.kmin_disk.specs.Contents.{OpensAs}
-use Rattle.kmin_tidy.specs.MinimalFiles.{AreKnownBytes}
+use Rattle.kmin_tidy.specs.KnownBytes.{AreKnownBytes}
 use Rattle.kmin_tidy.specs.declared.accepted_file.AcceptedFile.{AcceptedFile}
 
--- a fragment has the assignments of accepted bytes, and the notices of their lines
+-- a fragment has the assignments of an accepted configuration file of these bytes, and the notices of its lines
 pub record IsFragmentOf (format : FileFormat) (tree : Tree) (bytes : List ℕ) (f : Fragment) : Type 0 where
   pub accepted : IsAccepted format tree bytes
   pub meanings : List LineMeaning
@@ -22,16 +22,17 @@ pub record IsFragmentOf (format : FileFormat) (tree : Tree) (bytes : List ℕ) (
   pub noted : map notice_pair f.notices.items ≡ notices_from 1 meanings
   pub fits : FitsTree tree f.assigns.items
 
--- known bytes were read, and accepted
+-- a file was read and accepted: its bytes agree with `known`, what is known of them, and its fragment is that of these bytes
 pub record IsAcceptedAs (format : FileFormat) (tree : Tree) (known : Option (Option (List ℕ))) (file : AcceptedFile) : Type 0 where
   pub read : AreKnownBytes known file.bytes.items
   pub fragment : IsFragmentOf format tree file.bytes.items file.fragment
 
--- a fault of a whole file, or memory ran out
+-- a whole file of these bytes isn't accepted for its first fault, of this kind at the line `number`; or memory ran out
 abbrev pub IsFaultOf : FileFormat → Tree → (bytes : List ℕ) → LoadKind → ℕ → Type 0
 IsFaultOf format tree bytes kind number = (kind ≡ OutOfMemory) ⊎ ((kind ≢ Read) × IsFirstFault format tree complete bytes kind number)
 
--- a fault of a file of which these bytes were read before a read that failed, or memory ran out
+-- a file of which these bytes were read before a read failed isn't accepted, for a fault of this kind at the line `number`: the
+-- first fault in these bytes, the failed read, or lack of memory
 pub data IsFaultOfPart (format : FileFormat) (tree : Tree) (bytes : List ℕ) (kind : LoadKind) (number : ℕ) : Type 0 where
   in_front : kind ≢ Read → ((rest : List ℕ) → IsFirstFault format tree complete (bytes ++ rest) kind number)
       → IsFaultOfPart format tree bytes kind number
@@ -39,7 +40,8 @@ pub data IsFaultOfPart (format : FileFormat) (tree : Tree) (bytes : List ℕ) (k
       → IsFaultOfPart format tree bytes kind number
   no_memory : kind ≡ OutOfMemory → IsFaultOfPart format tree bytes kind number
 
--- known bytes aren't accepted: by their first fault, by a read that fails before one, since they can't be opened, or since memory ran out
+-- a file isn't accepted for a fault of this kind at the line `number`: its first fault, a read that fails before one, that it
+-- can't be opened, or lack of memory; `known` is what is known of its bytes
 pub data IsFaulty (format : FileFormat) (tree : Tree) (known : Option (Option (List ℕ))) (kind : LoadKind) (number : ℕ) : Type 0 where
   refused : (bytes : List ℕ) → AreKnownBytes known bytes → kind ≢ Read → IsFirstFault format tree complete bytes kind number
       → IsFaulty format tree known kind number

@@ -8,22 +8,22 @@ use Rattle.kmin_tidy.specs.declared.report.FileReport.{FileReport}
 use Rattle.kmin_tidy.specs.declared.stop.Stop.{Stop}
 use Rattle.kmin_tidy.specs.declared.stop.Stop.TheVariants.{Memory, Left}
 
--- the line of a problem
+-- the line of standard error for a problem of a file
 abbrev pub problem_line : (path : List ℕ) → Problem → List ℕ
 problem_line path (Fault fault) = fault_line path fault.line fault.kind
 problem_line path NotRegular = not_regular_line path
 problem_line path Write = write_line path
 
--- the line of a problem, if there is one
+-- the lines of standard error for the problem of a file: one, or none if the file has no problem
 abbrev pub problem_lines : (path : List ℕ) → Option Problem → List (List ℕ)
 problem_lines path None = []
 problem_lines path (Some problem) = problem_line path problem ∷ []
 
--- the lines of a file's report
+-- the lines of standard error for a file's report: those of its notices, and then that of its problem
 abbrev pub report_lines : (path : List ℕ) → FileReport → List (List ℕ)
 report_lines path report = notice_lines path (map notice_pair report.notices.items) ++ problem_lines path report.problem
 
--- the last line of a run that ends early
+-- the last line of standard error of a run that ends early for this reason
 abbrev pub stop_line : Stop → List ℕ
 stop_line Memory = memory_line
 stop_line (Left new_path) = left_line (string_bytes new_path)

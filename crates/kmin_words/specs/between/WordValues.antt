@@ -20,79 +20,80 @@ use Rattle.kmin_words.specs.declared.command_line.ParsedWords.{ParsedWords}
 use Rattle.kmin_words.specs.declared.command_line.ParsedWords.TheVariants.{Job, Save, Questions as TheQuestions, Tidy, Help, Refused}
 use Rattle.kmin_words.specs.Jobs.{Definition, Expansion, Settings, Questions, PathList, Tidying, Task, over, compare, paths_of, settings_view, questions_view, tidying_view, task_view}
 
--- the one value of an option or a word, empty without one
+-- the one value that was found for an option or a word of the command line; empty if there is none
 abbrev pub value_of : Found → List ℕ → List ℕ
 value_of found id = unwrap_or (first_value found id) []
 
--- the values of a repeatable option or word, in order
+-- the values that were found for a repeatable option or word of the command line, in order
 abbrev pub values_of : Found → List ℕ → List (List ℕ)
 values_of found id = unwrap_or (option_map raw_values (matched_of found id)) []
 
--- whether a flag is given; one that is has the value `true`
+-- whether a flag is given on the command line: the flag then has the value `true`
 abbrev pub is_given : Found → List ℕ → Bool
 is_given found id = bytes_eq (value_of found id) (codes "true")
 
--- the verb of a command over any number of files
+-- the verb with this name; `None` if it is the name of another command
 abbrev pub verb_of : List ℕ → Option Verb
 verb_of name = if bytes_eq name (codes "min") then Some Min
     else (if bytes_eq name (codes "full") then Some Full
     else (if bytes_eq name (codes "missed") then Some Missed
     else (if bytes_eq name (codes "check") then Some Check else None)))
 
--- the profile of a value of `--imply`
+-- the profile (how `imply` acts) for a value of `--imply`: `Classic` for `classic`, and `Present` for any other
 abbrev pub profile_of : List ℕ → Profile
 profile_of value = if bytes_eq value (codes "classic") then Classic else Present
 
--- the form of strings of a value of `--strings`
+-- the form of strings for a value of `--strings`: `Raw` for `raw`, and `Escaped` for any other
 abbrev pub strings_of : List ℕ → Strings
 strings_of value = if bytes_eq value (codes "raw") then Raw else Escaped
 
--- the language of a value of `--language`; without one that of Linux where the tree is expanded, and else the strict one
+-- the Kconfig language for a value of `--language`; without one that of Linux if macros are expanded, and the strict one if not
 abbrev pub language_of : List ℕ → (is_expanded : Bool) → Language
 language_of value is_expanded =
     if bytes_eq value (codes "strict") then Strict
     else (if bytes_eq value (codes "linux") then Linux
     else (if is_expanded then Linux else Strict))
 
--- the command of a name, with all its files in order, and with `--exit-code` where it is given
+-- the command with this name: a verb over its files in order, with `--exit-code` or without it, or the comparison of two files
 abbrev pub task_of : List ℕ → Found → Task
 task_of name found = elim (verb_of name) [
   | Some verb ↦ over verb (values_of found (codes "FILE")) (is_given found (codes "exit-code"))
   | None ↦ compare (value_of found (codes "LEFT")) (value_of found (codes "RIGHT"))
 ]
 
--- a value, or the line of the message with which it is refused
+-- a value of the command line, or the line of the message with which it is refused
 abbrev pub OrRefused : Type 0 → Type 0
 OrRefused A = Result A (List ℕ)
 
--- a text has the byte 10
+-- whether a text has a newline
 abbrev pub has_newline : List ℕ → Bool
 has_newline text = list_any (λ b. b == 10) text
 
--- a name that an environment may have, and a value of at most `max_text_bytes` bytes and no newline, whose white bytes at the end are dropped
+-- the definition of a name by a value, whose white bytes at the end are dropped; `None` unless an environment may have the name,
+-- and the value has at most `max_text_bytes` bytes and no newline
 abbrev pub named_value : List ℕ → List ℕ → Option Definition
 named_value name value =
     if is_environment_name name && (nat_le (length value) max_text_bytes && not (has_newline value))
     then Some (record { name = name; value = without_white_end value })
     else None
 
--- the definition of a text `NAME=VALUE`, cut at its first `=`
+-- the definition that a text `NAME=VALUE` gives, cut at its first `=`; `None` if the text is malformed
 abbrev pub definition_of : List ℕ → Option Definition
 definition_of text = elim (position (λ b. b == 61) text) [ Some n ↦ named_value (take n text) (drop (n + 1) text) | None ↦ None ]
 
--- a text is a definition `NAME=VALUE`
+-- whether a text is a definition `NAME=VALUE`
 abbrev pub is_definition : List ℕ → Bool
 is_definition text = is_some (definition_of text)
 
--- the definitions of the values of `--define`, each of which has to be one
+-- the definitions of the values of `--define`; refused unless each value is a definition
 abbrev pub definitions_of : List (List ℕ) → OrRefused (List Definition)
 definitions_of texts = if list_all is_definition texts then Ok (filter_map definition_of texts) else Err (codes "define: Malformed\n")
 
--- the values of `--env`, each of which has to be a name that an environment may have
+-- the values of `--env`; refused unless each is a name that an environment may have
 abbrev pub environment_of : List (List ℕ) → OrRefused (List (List ℕ))
 environment_of names = if list_all is_environment_name names then Ok names else Err (codes "env: Malformed\n")
 
--- the path of the first Kconfig file of a tree whose macros are expanded, which may have no newline
+-- the path of the first Kconfig file of a tree whose macros are expanded; refused if it has a newline
 abbrev pub expanded_tree_of : List ℕ → OrRefused (List ℕ)
 expanded_tree_of path = if has_newline path then Err (codes "tree: Malformed\n") else Ok path
 
@@ -100,16 +101,17 @@ expanded_tree_of path = if has_newline path then Err (codes "tree: Malformed\n")
 abbrev pub inputs_among : List (List ℕ) → ℕ
 inputs_among paths = count_by (λ path. bytes_eq path (codes "/dev/stdin")) paths
 
--- configuration files, where they and the answer files name standard input at most once; paths are compared as texts
+-- the paths of configuration files; refused if they and those of answer files name standard input more than once, compared as
+-- texts
 abbrev pub paths_beside : (answers paths : List (List ℕ)) → OrRefused (List (List ℕ))
 paths_beside answers paths = if nat_lt 1 (inputs_among answers + inputs_among paths) then Err (codes "stdin: NamedTwice\n") else Ok paths
 
--- a value made of another one, unless that is refused
+-- the result of a function on a value, or the refusal of that value
 abbrev pub and_then : {A B : Type 0} → OrRefused A → (A → OrRefused B) → OrRefused B
 and_then (Ok x) f = f x
 and_then (Err line) f = Err line
 
--- the values of `--answers`, `--define` and `--env`, where that of `--tree` is allowed too
+-- the values of `--answers`, `--define` and `--env`; refused if one is malformed, or if the path of `--tree` has a newline
 abbrev pub expansion_of : Found → OrRefused Expansion
 expansion_of found =
     and_then (definitions_of (values_of found (codes "define"))) (λ definitions.
@@ -117,7 +119,7 @@ expansion_of found =
     and_then (expanded_tree_of (value_of found (codes "tree"))) (λ tree.
     Ok (record { answers = values_of found (codes "answers"); definitions = definitions; environment = environment }))))
 
--- whether one of the four options that turn the expansion of macros on is given
+-- whether `--expand`, `--answers`, `--define` or `--env` is given, each of which turns the expansion of macros on
 abbrev pub is_expanded : Found → Bool
 is_expanded found =
     is_given found (codes "expand")
@@ -125,15 +127,15 @@ is_expanded found =
     || (nat_lt 0 (length (values_of found (codes "define")))
     || nat_lt 0 (length (values_of found (codes "env")))))
 
--- the values for the expansion of macros, if an option turns it on
+-- the values of `--answers`, `--define` and `--env`, or `None` if no option turns the expansion of macros on
 abbrev pub expansion_if_given : Found → OrRefused (Option Expansion)
 expansion_if_given found = if is_expanded found then and_then (expansion_of found) (λ e. Ok (Some e)) else Ok None
 
--- the value of `--prefix`, which has to be a prefix of names
+-- the value of `--prefix`; refused unless names of symbols in configuration files may have it in front
 abbrev pub prefix_of : List ℕ → OrRefused (List ℕ)
 prefix_of text = if is_prefix text then Ok text else Err (codes "prefix: Malformed\n")
 
--- the options, each by its value, of a command over configuration files of these paths
+-- the options of a command over configuration files of these paths, by the values that were found
 abbrev pub settings_of : Found → (paths : List (List ℕ)) → OrRefused Settings
 settings_of found paths =
     and_then (prefix_of (value_of found (codes "prefix"))) (λ prefix.
@@ -149,56 +151,56 @@ settings_of found paths =
       expansion = expansion;
     }))))
 
--- the options of a command, and the command by its name with its files
+-- the options of a command, and the command with this name and its files
 abbrev pub job_of : List ℕ → Found → OrRefused (Settings × Task)
 job_of name found = and_then (settings_of found (paths_of (task_of name found))) (λ settings. Ok (settings, task_of name found))
 
--- the path of an output file, if it is given, which may have no newline
+-- the path of an output file, if it is given; refused if it has a newline
 abbrev pub one_line_output : Option (List ℕ) → OrRefused (Option (List ℕ))
 one_line_output None = Ok None
 one_line_output (Some path) = if has_newline path then Err (codes "file: Malformed\n") else Ok (Some path)
 
--- the value of `--output`, if it is given
+-- the value of `--output`, if it is given; refused if it has a newline
 abbrev pub output_of : Found → OrRefused (Option (List ℕ))
 output_of found = one_line_output (first_value found (codes "output"))
 
--- the options of a command, the command by its name with its files, and the path of its output file, if it is given
+-- the options of a command, the command with this name and its files, and the path of its output file, if it is given
 abbrev pub job_and_output_of : List ℕ → Found → OrRefused ((Settings × Task) × Option (List ℕ))
 job_and_output_of name found = and_then (output_of found) (λ output. and_then (job_of name found) (λ job. Ok (job, output)))
 
--- the values of `wants`, which always expands macros
+-- the folder, first Kconfig file and sources of answers that the words of the command `wants` give, or why they are refused
 abbrev pub questions_of : Found → OrRefused Questions
 questions_of found =
     and_then (expansion_of found) (λ expansion.
     and_then (paths_beside (values_of found (codes "answers")) []) (λ named.
     Ok (record { root = value_of found (codes "root"); tree = value_of found (codes "tree"); expansion = expansion })))
 
--- the flags `--write` and `--drop`
+-- whether the flags `--write` and `--drop` are given
 abbrev pub flags_of : Found → TidyFlags
 flags_of found = record { write = is_given found (codes "write"); drop = is_given found (codes "drop") }
 
--- the list of further paths of `--from`, if it is given
+-- the list of further paths that `--from` names, if it is given
 abbrev pub list_of : Found → Option PathList
 list_of found = option_map (λ (path : List ℕ). record { path = path; ended_by_nul = is_given found (codes "z") }) (first_value found (codes "from"))
 
--- a path has no newline
+-- whether a path has no newline
 abbrev pub is_one_line : List ℕ → Bool
 is_one_line path = not (has_newline path)
 
--- paths, none of which may have a newline
+-- the paths themselves; refused if one has a newline
 abbrev pub one_line_paths : List (List ℕ) → OrRefused (List (List ℕ))
 one_line_paths paths = if list_all is_one_line paths then Ok paths else Err (codes "file: Malformed\n")
 
--- the path from which a list is read: `/dev/stdin` for `-`
+-- the path from which the list of `--from` is read: `/dev/stdin` for `-`
 abbrev pub path_read : List ℕ → List ℕ
 path_read path = if bytes_eq path (codes "-") then codes "/dev/stdin" else path
 
--- all paths that `tidy` reads: its files, and its list
+-- all paths that `tidy` reads: those of its files, and that of its list, if it has one
 abbrev pub paths_read : (files : List (List ℕ)) → Option PathList → List (List ℕ)
 paths_read files None = files
 paths_read files (Some list) = files ++ path_read list.path ∷ []
 
--- the values of `tidy`: its options, flags, list and files
+-- the values of the command `tidy`: its options, flags, list and files
 abbrev pub tidying_of : Found → OrRefused Tidying
 tidying_of found =
     and_then (one_line_paths (values_of found (codes "FILE"))) (λ files.
@@ -214,7 +216,8 @@ AreQuestions found (Save saving) = ⊥
 AreQuestions found (Tidy tidying) = ⊥
 AreQuestions found (Help text) = ⊥
 
--- parsed words are a command with these values, with its output file if there is one, or the message with which a value is refused
+-- parsed words are a command with these values, with its output file if there is one, or the message with which a value is
+-- refused
 abbrev pub AreJob : OrRefused ((Settings × Task) × Option (List ℕ)) → ParsedWords → Type 0
 AreJob found (Job job) = found ≡ Ok ((settings_view job.settings, task_view job.task), None)
 AreJob found (Save saving) = found ≡ Ok ((settings_view saving.job.settings, task_view saving.job.task), Some saving.output.now)

@@ -3,7 +3,7 @@ use Rattle.std.proofs.lemmas.Grind.{common_steps}
 use Rattle.kc_rules.specs.between.SettledViews.{tree_of_settled}
 use Rattle.kc_dotconfig_model.specs.between.Formats.{file_format}
 use Rattle.kc_dotconfig.specs.checker.MeaningViews.{meaning_view}
-use Rattle.kc_dotconfig.proofs.LineAccumulation.{says_of, malformed_of, within_of}
+use Rattle.kc_dotconfig.proofs.LineAccumulation.{means_of_view, malformed_of, within_of}
 use Rattle.kc_dotconfig.proofs.accumulate.take_line.Goals as goal
 
 pub returns-in-Ok-take-clause-ok : goal.returns-in-Ok-take-clause-ok
@@ -11,7 +11,7 @@ returns-in-Ok-take-clause-ok c = (
   c.in-Ok.ensures.cases.1,
   (
     meaning_view c.in-Ok-Some.meaning,
-    says_of (file_format c.args.format.now) (tree_of_settled c.args.settled.now) c.args.line.now c.in-Ok.text.now c.in-Ok-Some.field-0 c.in-Ok-Some.meaning
+    means_of_view (file_format c.args.format.now) (tree_of_settled c.args.settled.now) c.args.line.now c.in-Ok.text.now c.in-Ok-Some.field-0 c.in-Ok-Some.meaning
         c.args.format.now.prefix.valid c.in-Ok.ensures.cases.0 c.in-Ok-Some.ensures.meaning c.in-Ok-Some.field-0-is,
     λ meanings. c.in-Ok-take.ensures.ok (tree_of_settled c.args.settled.now) meanings
         (within_of _ c.in-Ok-Some.field-0 c.in-Ok-Some.meaning c.in-Ok-Some.ensures.within c.in-Ok-Some.field-0-is),

@@ -4,7 +4,7 @@ use Rattle.kc_rules.specs.between.SettledViews.{tree_of_settled}
 use Rattle.kc_value.specs.declared.limits.TheConstants.{MAX_CONFIG_LINES}
 use Rattle.kc_dotconfig_model.specs.between.Formats.{file_format}
 use Rattle.kc_dotconfig.specs.ReadResults.{MAX_READ}
-use Rattle.kc_dotconfig.proofs.WholeReads.{has_read_none, has_read_more, tells_read, rises, one_read, on_any_ok, if_any_err, tells_short, tells_refused, refused_in, block_fault, whole_read, whole_fits, end_fault}
+use Rattle.kc_dotconfig.proofs.WholeReads.{has_read_none, has_read_more, read_cut_short, rises, one_read, on_any_ok, if_any_err, reports_cut_short, reports_refused, refused_in, block_fault, whole_read, whole_fits, end_fault}
 use Rattle.kc_dotconfig.proofs.fragment_reader.read_config.Goals as goal
 
 pub loop-size-init : goal.loop-size-init
@@ -22,9 +22,9 @@ loop-size-init g c =
 
 pub returns-in_default-clause-fault : goal.returns-in_default-clause-fault
 returns-in_default-clause-fault g c =
-    tells_short (file_format c.args.format.now) (tree_of_settled c.args.settled.now) _ _ _ _ c.fault_on_next_line.result.kind c.fault_on_next_line.result.line
+    reports_cut_short (file_format c.args.format.now) (tree_of_settled c.args.settled.now) _ _ _ _ c.fault_on_next_line.result.kind c.fault_on_next_line.result.line
     c.fault_on_next_line.ensures.kind
-    (tells_read (file_format c.args.format.now) (tree_of_settled c.args.settled.now) (g.R.Source.left c.args.source.now) (g.R.Source.left c.loop-size.source)
+    (read_cut_short (file_format c.args.format.now) (tree_of_settled c.args.settled.now) (g.R.Source.left c.args.source.now) (g.R.Source.left c.loop-size.source)
     (g.R.Source.left c.read_some.new.self) c.loop-size.cutter c.loop-size.gathered c.loop-size.size c.fault_on_next_line.result.line
     c.loop-size.invariant.read c.in_default.ensures.bytes c.fault_on_next_line.ensures.line)
     (rises (g.R.Source.failures c.args.source.now) (g.R.Source.failures c.loop-size.source) (g.R.Source.failures c.read_some.new.self)
@@ -49,7 +49,7 @@ returns-in-Err-clause-fault g c =
     let n : length (take c.in-Ok.count c.read_some.new.buf) ≡ c.in-Ok.count = sym c.in-Ok.ensures.bound.1 in
     let most = c.in-Ok.ensures.bound.0 in
     let short : length (take c.in-Ok.count c.read_some.new.buf) ≤ MAX_READ = omega arith in
-    tells_refused (file_format c.args.format.now) (tree_of_settled c.args.settled.now) (g.R.Source.left c.args.source.now)
+    reports_refused (file_format c.args.format.now) (tree_of_settled c.args.settled.now) (g.R.Source.left c.args.source.now)
     (g.R.Source.left c.read_some.new.self) _ _ c.fault_on_next_line-in-Err.result.kind c.fault_on_next_line-in-Err.result.line
     (refused_in (file_format c.args.format.now) (tree_of_settled c.args.settled.now) (g.R.Source.left c.args.source.now) (g.R.Source.left c.loop-size.source)
     (g.R.Source.left c.read_some.new.self) c.loop-size.cutter c.loop-size.gathered c.loop-size.size (take c.in-Ok.count c.read_some.new.buf)

@@ -5,7 +5,7 @@ use Rattle.kc_dotconfig_model.specs.between.Formats.{file_format}
 use Rattle.kc_dotconfig.specs.checker.Accumulation.{AcceptsBytes}
 use Rattle.kc_dotconfig.proofs.fragment_reader.take_bytes.Given as goal
 
--- what was taken of the bytes
+-- the bytes before `rest` are accepted
 abbrev pub invariant-loop-at : goal.invariant-loop-at
 invariant-loop-at l = record {
   few : l.gathered.lines ≤ MAX_CONFIG_LINES;

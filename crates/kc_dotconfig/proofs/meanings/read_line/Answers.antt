@@ -6,25 +6,25 @@ use Rattle.kc_rules.specs.between.SettledViews.{tree_of_settled}
 use Rattle.kc_dotconfig_model.specs.ConfigLines.{without_white_end}
 use Rattle.kc_dotconfig_model.specs.between.Formats.{file_format}
 use Rattle.kc_dotconfig.specs.checker.MeaningViews.{meaning_view}
-use Rattle.kc_dotconfig.proofs.LineMeanings.{value_line_says, unset_line_says, other_line_says}
+use Rattle.kc_dotconfig.proofs.LineMeanings.{value_line_means, unset_line_means, other_line_means}
 use Rattle.kc_dotconfig.proofs.meanings.read_line.Goals as goal
 
 pub returns-in-Some-clause-meaning : goal.returns-in-Some-clause-meaning
 returns-in-Some-clause-meaning c =
-    value_line_says (file_format c.args.format.now) (tree_of_settled c.args.settled.now) c.tree-tree.result.now.tree (without_white_end c.args.line.now)
+    value_line_means (file_format c.args.format.now) (tree_of_settled c.args.settled.now) c.tree-tree.result.now.tree (without_white_end c.args.line.now)
     c.trimmed-line.result.now c.in-Some.name.now c.in-Some.text.now (meaning_view c.in_ok-meaning.meaning)
     (ap (λ (h : TreeModel). h.tree) c.tree-tree.ensures.tree) c.trimmed-line.ensures c.in-Some.ensures.some c.in_ok-meaning.ensures.meaning
 
 pub returns-in-Some-unset_name-clause-meaning : goal.returns-in-Some-unset_name-clause-meaning
 returns-in-Some-unset_name-clause-meaning c =
-    unset_line_says (file_format c.args.format.now) (tree_of_settled c.args.settled.now) c.tree-tree.result.now.tree (without_white_end c.args.line.now)
+    unset_line_means (file_format c.args.format.now) (tree_of_settled c.args.settled.now) c.tree-tree.result.now.tree (without_white_end c.args.line.now)
     c.trimmed-line.result.now c.in-Some-unset_name.name.now (meaning_view c.read_unset_line.result)
     (ap (λ (h : TreeModel). h.tree) c.tree-tree.ensures.tree) c.trimmed-line.ensures c.in_default.ensures.none c.in-Some-unset_name.ensures.some
     c.read_unset_line.ensures.meaning
 
 pub returns-clause-meaning : goal.returns-clause-meaning
 returns-clause-meaning c =
-    other_line_says (file_format c.args.format.now) (tree_of_settled c.args.settled.now) c.tree-tree.result.now.tree (without_white_end c.args.line.now)
+    other_line_means (file_format c.args.format.now) (tree_of_settled c.args.settled.now) c.tree-tree.result.now.tree (without_white_end c.args.line.now)
     c.trimmed-line.result.now (option_map meaning_view c.read_other_line.result)
     (ap (λ (h : TreeModel). h.tree) c.tree-tree.ensures.tree) c.trimmed-line.ensures c.in_default.ensures.none c.in_default-unset_name.ensures.none
     c.read_other_line.ensures.meaning

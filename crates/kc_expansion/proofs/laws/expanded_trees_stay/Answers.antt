@@ -2,4 +2,4 @@ use Rattle.kc_expansion.proofs.SecondExpansions.{expanded_trees_stay, all_files_
 use Rattle.kc_expansion.proofs.laws.expanded_trees_stay.Goals as goal
 
 pub returns : goal.returns
-returns c = record { met = expanded_trees_stay; all = all_files_stay; fewer = loses_a_file }
+returns c = record { trees = expanded_trees_stay; all = all_files_stay; fewer = loses_a_file }

@@ -2,12 +2,12 @@ use Rattle.std.proofs.Common.{◌++◌, [], map, ap, sym, ◌∙◌, append_asso
 use Rattle.std.proofs.lemmas.Grind.{common_steps}
 use Rattle.std.proofs.lemmas.Result.{on_ok_weaker}
 use Rattle.std.specs.Prelude.{slice_index_or}
-use Rattle.kc_expr.specs.NamesIn.{operand_names}
+use Rattle.kc_expr.specs.ExpressionNames.{operand_names}
 use Rattle.kc_expr.specs.checker.Nodes.{operand_of}
 use Rattle.kc_expr.specs.checker.Store.{stored_names}
 use Rattle.kc_expr.specs.between.ReverseNames.{names_in_reverse}
 use Rattle.kc_expr.proofs.KeptLists.{kept_through}
-use Rattle.kc_expr.proofs.NamesInLemmas.{met_both}
+use Rattle.kc_expr.proofs.ExpressionNameLemmas.{names_of_both}
 use Rattle.kc_expr.proofs.StoreLemmas.{node_of, fits_at}
 use Rattle.kc_expr.proofs.names.+push_names.Goals as goal
 
@@ -63,7 +63,7 @@ down-preserved-in-Both t c =
     let f = fits_at c.args.store.now c.down.at _ _ c.requires.sound (omega arith) c.node.ensures.value c.in-Both.is in
     record {
       below = omega (arith, f);
-      words = met_both (map (λ i. slice_index_or (stored_names c.args.store.now) i []) c.down.found.items) _ _ _ _ c.in_ok-push_names-in-Both.ensures.words
+      words = names_of_both (map (λ i. slice_index_or (stored_names c.args.store.now) i []) c.down.found.items) _ _ _ _ c.in_ok-push_names-in-Both.ensures.words
           (ap (λ ws. map (λ i. slice_index_or (stored_names c.args.store.now) i []) c.down.found.items ++ ws) (sym e) ∙ c.down.invariant.words);
       held = λ all. c.in_ok-push_names-in-Both.ensures.held (c.down.invariant.held all);
       kept = kept_through c.args.found.now.items c.down.found.items _ c.down.invariant.kept c.in_ok-push_names-in-Both.ensures.kept;
@@ -75,7 +75,7 @@ down-preserved t c =
     let f = fits_at c.args.store.now c.down.at _ _ c.requires.sound (omega arith) c.node.ensures.value c.in-Either.is in
     record {
       below = omega (arith, f);
-      words = met_both (map (λ i. slice_index_or (stored_names c.args.store.now) i []) c.down.found.items) _ _ _ _ c.in_ok-push_names-in-Either.ensures.words
+      words = names_of_both (map (λ i. slice_index_or (stored_names c.args.store.now) i []) c.down.found.items) _ _ _ _ c.in_ok-push_names-in-Either.ensures.words
           (ap (λ ws. map (λ i. slice_index_or (stored_names c.args.store.now) i []) c.down.found.items ++ ws) (sym e) ∙ c.down.invariant.words);
       held = λ all. c.in_ok-push_names-in-Either.ensures.held (c.down.invariant.held all);
       kept = kept_through c.args.found.now.items c.down.found.items _ c.down.invariant.kept c.in_ok-push_names-in-Either.ensures.kept;

@@ -6,7 +6,7 @@ use Rattle.kc_expr.specs.between.Visits.{mentions, passes_some_name}
 use Rattle.kc_expr.specs.checker.Store.{exprs_in}
 use Rattle.kc_expr.proofs.KeptLists.{kept_through}
 use Rattle.kc_expr.proofs.StoreLemmas.{node_of, fits_at}
-use Rattle.kc_expr.proofs.VisitLemmas.{some_pushed, both_pushed, walk_met, walk_one, walk_two}
+use Rattle.kc_expr.proofs.VisitLemmas.{some_pushed, both_pushed, walk_visited, walk_one, walk_two}
 use Rattle.kc_expr.proofs.names.+push_new_names.Goals as goal
 
 pub returns-in-Alone-clause-walked : goal.returns-in-Alone-clause-walked
@@ -20,7 +20,7 @@ returns-in-Alone-clause-walked t c =
       c.requires.there,
     ) in
     let e = node_of c.args.store.now c.down.at _ _ c.requires.sound (omega arith) c.node.ensures.value c.in-Alone.is in
-    rw c.mark.ensures.marked (on_ok_weaker c.push_name.result (λ w. walk_met exprs c.args.index c.args.walk.now c.args.found.now.items c.down.at c.down.walk
+    rw c.mark.ensures.marked (on_ok_weaker c.push_name.result (λ w. walk_visited exprs c.args.index c.args.walk.now c.args.found.now.items c.down.at c.down.walk
     c.down.found.items inside c.down.invariant.walking c.push_name.new.found.items
     (λ p. some_pushed exprs p c.down.found.items c.push_name.new.found.items _ w ∙ ap (λ x. passes_some_name exprs p c.down.found.items || mentions p x)
     (sym e))) c.push_name.ensures.words)
@@ -38,7 +38,7 @@ returns-in-Related-clause-walked t c =
     let e = node_of c.args.store.now c.down.at _ _ c.requires.sound (omega arith) c.node.ensures.value c.in-Related.is in
     let more = c.push_name-in-Related-2.new.found.items in
     rw c.mark.ensures.marked (on_ok_weaker c.push_name-in-Related-2.result
-    (λ w. walk_met exprs c.args.index c.args.walk.now c.args.found.now.items c.down.at c.down.walk c.down.found.items inside c.down.invariant.walking more
+    (λ w. walk_visited exprs c.args.index c.args.walk.now c.args.found.now.items c.down.at c.down.walk c.down.found.items inside c.down.invariant.walking more
     (λ p. both_pushed exprs p c.down.found.items c.push_name-in-Related.new.found.items more _ _ c.in_ok-push_name-in-Related.ensures.words w
     ∙ ap (λ x. passes_some_name exprs p c.down.found.items || mentions p x) (sym e))) c.push_name-in-Related-2.ensures.words)
 

@@ -2,7 +2,7 @@ use Rattle.std.proofs.Common.{false, sym, ◌∙◌, inr}
 use Rattle.kc_expr.specs.Token.{lexemes_from, lexemes_of}
 use Rattle.kc_listing.specs.checker.StateViews.{file_source_of}
 use Rattle.kc_listing.proofs.ReaderSteps.{shown_of}
-use Rattle.kc_listing.proofs.StatementSteps.{language_of_source, line_of_tokens, line_of_fault, behind_none}
+use Rattle.kc_listing.proofs.StatementSteps.{language_of_source, line_of_tokens, line_of_fault, with_no_front}
 use Rattle.kc_listing.proofs.line.read_line.Goals as goal
 
 pub returns-in-Err : goal.returns-in-Err
@@ -23,6 +23,6 @@ returns-in-Ok-push_tokens c = λ before d.
     let language = c.language-language.ensures ∙ sym (language_of_source c.args.from) in
     line_of_tokens (file_source_of c.args.from) c.args.file c.args.line before c.args.bytes.now c.read_tokens.new.read c.in-Ok.ensures.0 c.in-Ok.ensures.1
     (lexemes_of c.push_tokens.new.found.items) c.read_tokens.result
-    (sym (behind_none (lexemes_from (file_source_of c.args.from).language 0 0 c.args.bytes.now))
+    (sym (with_no_front (lexemes_from (file_source_of c.args.from).language 0 0 c.args.bytes.now))
     ∙ (rw (c.in-Ok.ensures.2, c.clear.ensures.items, language) at c.in-Ok-push_tokens.ensures.tokens))
     (rw (c.as_slice.ensures.value, language) at (c.read_tokens.ensures (file_source_of c.args.from) before d))

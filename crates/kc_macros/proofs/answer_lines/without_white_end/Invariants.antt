@@ -3,7 +3,7 @@ use Rattle.std.specs.List.{suffix_len}
 use Rattle.kc_expr.specs.Token.{is_white_byte}
 use Rattle.kc_macros.proofs.answer_lines.without_white_end.Given as goal
 
--- the bytes from the end on are white
+-- the bytes of the line from `end` on are white
 abbrev pub invariant-loop-end : goal.invariant-loop-end
 invariant-loop-end l = record {
   within : l.end ≤ length l.line;

@@ -3,7 +3,7 @@ use Rattle.kc_macros_model.specs.Assignments.{is_blank_byte}
 use Rattle.kc_macros_model.specs.Assignments.{without_front}
 use Rattle.kc_macros.proofs.assignment_syntax.without_blank_front.Given as goal
 
--- the bytes so far pass
+-- the bytes of the text before `rest` are blanks
 abbrev pub invariant-bytes : goal.invariant-bytes
 invariant-bytes l = without_front is_blank_byte l.fn.text ≡ without_front is_blank_byte l.rest
 

@@ -5,7 +5,7 @@ use Rattle.kc_macros.specs.ReadAnswers.{end_of_file}
 use Rattle.kc_macros.specs.checker.LinesView.{bytes_of, lines_view}
 use Rattle.kc_macros.proofs.file_records.record_lines.Given as goal
 
--- the lines before the rest are recorded
+-- the lines of the file before `rest` are recorded in the table
 abbrev pub invariant-loop-at : goal.invariant-loop-at
 invariant-loop-at l = record {
   few : l.count ≤ 1048576;

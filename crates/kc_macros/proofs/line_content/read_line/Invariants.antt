@@ -7,7 +7,7 @@ use Rattle.kc_macros.specs.checker.ProgramSteps.{Leads}
 use Rattle.kc_macros.specs.checker.LineFronts.{front_left}
 use Rattle.kc_macros.proofs.line_content.read_line.Given as goal
 
--- what is left of the tokens
+-- the content of the whole line is that of its written tokens followed by the tokens of `rest`
 abbrev pub invariant-tokens : goal.invariant-tokens
 invariant-tokens l = Leads l.fn.run (line_content (place_of l.at) (bindings_of l.bindings) true (line_tokens 0 l.fn.text)) l.run
     (front_left (place_of l.at) (bindings_of l.bindings) l.front (line_tokens 0 l.rest))

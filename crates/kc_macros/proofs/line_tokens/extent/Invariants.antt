@@ -4,7 +4,7 @@ use Rattle.kc_macros_model.specs.LineTokens.{extent}
 use Rattle.kc_macros.specs.checker.LineTexts.{ends_extent}
 use Rattle.kc_macros.proofs.line_tokens.extent.Given as goal
 
--- no item so far begins with a byte that ends it
+-- no item of the text before `rest` begins with a byte that ends the extent
 abbrev pub invariant-items : goal.invariant-items
 invariant-items l = record {
   within : length l.rest ≤ length l.text;

@@ -3,7 +3,7 @@ use Rattle.std.specs.List.{list_any}
 use Rattle.kc_macros_model.specs.References.{items, is_unterminated}
 use Rattle.kc_macros.proofs.line_tokens.has_unterminated.Given as goal
 
--- no `$(` so far is without its `)`
+-- no `$(` of the text before `rest` is without its `)`
 abbrev pub invariant-items : goal.invariant-items
 invariant-items l = list_any is_unterminated (items l.in_quotes 0 l.text) ≡ list_any is_unterminated (items l.in_quotes 0 l.rest)
 

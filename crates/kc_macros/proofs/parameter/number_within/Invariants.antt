@@ -4,7 +4,7 @@ use Rattle.std.specs.Char.{is_digit}
 use Rattle.std.specs.Str.Parse.{digits_value}
 use Rattle.kc_macros.proofs.parameter.number_within.Given as goal
 
--- the bytes before the place are digits
+-- the first `i` bytes of the text are digits, and `number` is their number, which is within the limit
 abbrev pub invariant-digits : goal.invariant-digits
 invariant-digits l = record {
   digits : list_all (λ c. is_digit c 10) (take l.i l.text) ≡ true;

@@ -7,7 +7,7 @@ use Rattle.kc_macros.specs.checker.Bodies.{body_of_code, bodies_left}
 use Rattle.kc_macros.specs.checker.ProgramSteps.{Leads}
 use Rattle.kc_macros.proofs.quoted_tokens.written_body.Given as goal
 
--- what is left of the items
+-- the body of the whole text is the bytes written so far followed by the items of `rest`
 abbrev pub invariant-items : goal.invariant-items
 invariant-items l = Leads l.fn.run (written_items (place_of l.at) (bindings_of l.bindings) l.quote (items true 0 l.fn.text)) l.run
     (bodies_left (place_of l.at) (bindings_of l.bindings) l.quote (body_of_code l.out) (items true 0 l.rest))

@@ -3,7 +3,7 @@ use Rattle.kc_macros_model.specs.References.{inside_length}
 use Rattle.kc_macros.proofs.PieceLemmas.{after}
 use Rattle.kc_macros.proofs.references.inside_length.Given as goal
 
--- no `)` before the place closes
+-- none of the first `i` bytes of the text is the `)` that closes the reference
 abbrev pub invariant-bytes : goal.invariant-bytes
 invariant-bytes l = record {
   few : l.depth ≤ l.i;

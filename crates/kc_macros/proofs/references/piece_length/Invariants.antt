@@ -3,7 +3,7 @@ use Rattle.kc_macros_model.specs.References.{pieces}
 use Rattle.kc_macros.proofs.PieceLemmas.{front_onto}
 use Rattle.kc_macros.proofs.references.piece_length.Given as goal
 
--- no comma before the place parts
+-- none of the first `i` bytes of the reference is the comma that ends its first piece
 abbrev pub invariant-bytes : goal.invariant-bytes
 invariant-bytes l = record {
   few : l.depth ≤ l.i;

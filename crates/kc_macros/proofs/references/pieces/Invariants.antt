@@ -3,7 +3,7 @@ use Rattle.kc_macros_model.specs.References.{pieces}
 use Rattle.kc_macros.specs.checker.Texts.{texts_of}
 use Rattle.kc_macros.proofs.references.pieces.Given as goal
 
--- the pieces so far, and those of the rest
+-- the pieces of the reference are those found so far and the pieces of `rest`
 abbrev pub invariant-pieces : goal.invariant-pieces
 invariant-pieces l = pieces 0 l.fn.inside ≡ texts_of l.pieces.items ++ pieces 0 l.rest
 

@@ -33,7 +33,7 @@ decreases-recursive_value l = 8 * l.frame.now.more + 2
 abbrev pub decreases-piece_values : goal.decreases-piece_values
 decreases-piece_values l = 8 * l.frame.now.more + 1
 
--- what is left of the items
+-- the value of the whole text is the value in `out` joined with the values of the items of `rest`
 abbrev pub invariant-text_items-items : goal.invariant-text_items-items
 invariant-text_items-items l = record {
   within : length l.out.bytes.items ≤ max_text_bytes;
@@ -44,7 +44,7 @@ invariant-text_items-items l = record {
 abbrev pub decreases-text_items-items : goal.decreases-text_items-items
 decreases-text_items-items l = length l.rest
 
--- what is left of the pieces
+-- the values of all pieces of the reference are those found so far and the values of the pieces left
 abbrev pub invariant-piece_values-pieces : goal.invariant-piece_values-pieces
 invariant-piece_values-pieces l = Leads l.fn.run (piece_values (frame_value l.frame) (texts_of l.pieces)) l.run
     (pieces_left (frame_value l.frame) l.values.items (texts_of (drop l.piece-index l.pieces)))

@@ -3,7 +3,7 @@ use Rattle.std.specs.List.{list_any}
 use Rattle.kc_macros_model.specs.References.{items, is_reference}
 use Rattle.kc_macros.proofs.token_values.has_reference.Given as goal
 
--- no item so far is one
+-- no item of the text before `rest` is a reference
 abbrev pub invariant-items : goal.invariant-items
 invariant-items l = list_any is_reference (items false 0 l.text) ≡ list_any is_reference (items false 0 l.rest)
 

@@ -6,7 +6,7 @@ use Rattle.kc_minimal_model.specs.Differences.{difference_at}
 use Rattle.kc_minimal.specs.between.DifferenceViews.{difference_view}
 use Rattle.kc_minimal.proofs.difference.differing.Given as goal
 
--- the differing ones of the symbols so far
+-- the loop of `differing` has found the differing symbols among those below `number`, with their values
 abbrev pub invariant-loop-number : goal.invariant-loop-number
 invariant-loop-number l =
     l.found.items ≡ map difference_view (filter_map (λ s. difference_at s (value_of_symbol (tree_of_settled l.settled) l.left s)

@@ -4,7 +4,8 @@ use Rattle.kc_dotconfig_model.specs.between.Formats.{file_format}
 use Rattle.kc_minimal.specs.checker.Drafts.{IsDraft}
 use Rattle.kc_minimal.proofs.full.full_lines.Given as goal
 
--- the pieces of the entries so far
+-- in the loop of `full_lines` the draft has a mark for each symbol, and the text of the entries from `i` on completes it to the
+-- full file
 abbrev pub invariant-loop-i : goal.invariant-loop-i
 invariant-loop-i l = record {
   marks : length l.draft.defined.items ≡ length (tree_of_settled l.settled).symbols;

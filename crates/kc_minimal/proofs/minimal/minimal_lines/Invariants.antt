@@ -6,7 +6,7 @@ use Rattle.kc_minimal_model.specs.SymbolLine.{ended_line}
 use Rattle.kc_minimal_model.specs.MinimalFile.{has_line}
 use Rattle.kc_minimal.proofs.minimal.minimal_lines.Given as goal
 
--- the lines of the symbols so far
+-- the loop of `minimal_lines` has written the lines of those symbols below `number` that the minimal file has
 abbrev pub invariant-loop-number : goal.invariant-loop-number
 invariant-loop-number l =
     l.text.items ≡ flat_map (ended_line (file_format l.format) (tree_of_settled l.settled) l.values)

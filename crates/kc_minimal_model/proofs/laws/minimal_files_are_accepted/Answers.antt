@@ -1,4 +1,4 @@
-use Rattle.kc_minimal_model.proofs.MinimalAccepted.{minimal_files_accepted}
+use Rattle.kc_minimal_model.proofs.MinimalFileLimits.{minimal_files_accepted}
 use Rattle.kc_minimal_model.proofs.laws.minimal_files_are_accepted.Goals as goal
 
 pub returns : goal.returns

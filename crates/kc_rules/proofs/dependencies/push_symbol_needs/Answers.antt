@@ -3,17 +3,17 @@ use Rattle.std.proofs.lemmas.Grind.{common_steps, elements}
 use Rattle.std.proofs.lemmas.Result.{on_ok_weaker}
 use Rattle.kc_expr.specs.between.Visits.{passes_some_name}
 use Rattle.kc_rules.specs.checker.Links.{has, is_of}
-use Rattle.kc_rules.proofs.Needs.{names_met, symbol_met}
+use Rattle.kc_rules.proofs.Needs.{names_needed, symbol_needed}
 use Rattle.kc_rules.proofs.dependencies.push_symbol_needs.Goals as goal
 
 pub returns-clause-units : goal.returns-clause-units
 returns-clause-units c = λ d.
     on_ok_weaker c.push_units.result
-    (symbol_met c.args.tree.now.tree c.args.tree.now.exprs d c.args.symbol.now c.args.modules.now c.requires.fits.bounds c.requires.modules _ _ _ _ _ _ _
+    (symbol_needed c.args.tree.now.tree c.args.tree.now.exprs d c.args.symbol.now c.args.modules.now c.requires.fits.bounds c.requires.modules _ _ _ _ _ _ _
     (ap (λ us. has us d) c.requires.no_units) (c.in_ok-push_reverse_dependencies.ensures.units d) (c.in_ok-push_reverse_dependencies-2.ensures.units d)
     (c.in_ok-push_modules.ensures.units d)
     (ap (passes_some_name c.args.tree.now.exprs (is_of c.args.tree.now.tree d)) c.requires.no_names)
-    (names_met c.args.tree.now.exprs (is_of c.args.tree.now.tree d) c.as_slice.result.now c.push_symbol.new.names.items _ c.as_slice.ensures.value
+    (names_needed c.args.tree.now.exprs (is_of c.args.tree.now.tree d) c.as_slice.result.now c.push_symbol.new.names.items _ c.as_slice.ensures.value
     (c.in_ok-push_symbol.ensures.names (is_of c.args.tree.now.tree d))))
     (c.push_units.ensures.units d)
 

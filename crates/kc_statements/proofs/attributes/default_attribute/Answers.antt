@@ -19,7 +19,7 @@ returns-in-Ok-optional_if-clause-gives c = λ f.
     let r = c.in-Ok.ensures.ok in
     let s = c.in-Ok-optional_if.ensures in
     valued_reported c.parse_expr.new.self c.optional_if.new.arena f (lexemes_of c.args.tokens.now) c.in-Ok.read.0 c.in-Ok.read.1 c.in-Ok-optional_if.condition
-    r.expr s.grows (expr_complete _ r.expr r.in_grammar) r.stands c.in-Ok.ensures.end s.gives
+    r.expr s.grows (expr_complete _ r.expr r.in_grammar) r.represents c.in-Ok.ensures.end s.gives
 
 pub returns-in-Err-optional_if-clause-gives : goal.returns-in-Err-optional_if-clause-gives
 returns-in-Err-optional_if-clause-gives c = λ f.
@@ -40,7 +40,7 @@ returns-in-Err-optional_if-clause-grows c =
 
 pub returns-in-Ok-optional_if-clause-held : goal.returns-in-Ok-optional_if-clause-held
 returns-in-Ok-optional_if-clause-held c = (
-  node_held c.parse_expr.new.self c.optional_if.new.arena c.in-Ok.read.0 c.optional_if.ensures.grows c.in-Ok.ensures.ok.stands.within,
+  node_held c.parse_expr.new.self c.optional_if.new.arena c.in-Ok.read.0 c.optional_if.ensures.grows c.in-Ok.ensures.ok.represents.within,
   c.in-Ok-optional_if.ensures.held,
 )
 

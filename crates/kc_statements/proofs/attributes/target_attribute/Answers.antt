@@ -3,7 +3,7 @@ use Rattle.std.proofs.Common.{inl, inr, refl, sym, ◌∙◌, length, arith}
 use Rattle.std.proofs.lemmas.Grind.{common_steps, elements}
 use Rattle.kc_statements.proofs.FormLemmas.{there}
 use Rattle.kc_statements.proofs.GrownArenas.{if_held}
-use Rattle.kc_statements.proofs.LineLemmas.{target_told, target_refused, target_other}
+use Rattle.kc_statements.proofs.LineLemmas.{target_line_is, target_refused, target_other}
 use Rattle.kc_statements.proofs.attributes.target_attribute.Goals as goal
 
 pub returns-in-Ok-intern-clause-grows : goal.returns-in-Ok-intern-clause-grows
@@ -42,7 +42,7 @@ returns-in-Ok-intern-clause-held c =
 pub returns-in-Ok-intern-clause-gives : goal.returns-in-Ok-intern-clause-gives
 returns-in-Ok-intern-clause-gives c =
     let some = there (length c.args.tokens.now) c.is_empty.result c.is_empty.ensures c.if-is_empty.false in
-    λ f. target_told c.optional_if.new.arena c.intern.new.self f c.args.tokens.now c.in-Ok-intern.name c.in-Ok.condition some
+    λ f. target_line_is c.optional_if.new.arena c.intern.new.self f c.args.tokens.now c.in-Ok-intern.name c.in-Ok.condition some
     (sym c.is_name.ensures ∙ c.if-not-is_name.false) c.intern.ensures.grows c.in-Ok.ensures.gives c.in-Ok.ensures.held c.in-Ok-intern.ensures.name
 
 pub returns-then-is_empty-clause-gives : goal.returns-then-is_empty-clause-gives

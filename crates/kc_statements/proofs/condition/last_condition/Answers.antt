@@ -30,7 +30,7 @@ returns-clause-gives c =
       length-drop c.args.at (lexemes_of c.args.tokens.now),
       length-map c.args.tokens.now
           lexeme_of,
-    )) ∙ ap Ok (sym r.stands.is)
+    )) ∙ ap Ok (sym r.represents.is)
 
 pub returns-in-Err-clause-gives : goal.returns-in-Err-clause-gives
 returns-in-Err-clause-gives c =

@@ -14,10 +14,10 @@ returns-in-Some c = record {
   fault = λ read g members h m f.
       let e = c.args.listing.now.names.arena in
       let l = c.index-lines-i.result in
-      let told = left_reported e g (choice_faults members) c.loop-i.prompted c.args.lines.now c.loop-i.i l c.in-Some.kind (omega arith) c.index-lines-i.is
+      let reported = left_reported e g (choice_faults members) c.loop-i.prompted c.args.lines.now c.loop-i.i l c.in-Some.kind (omega arith) c.index-lines-i.is
       (c.in-Some.ensures.fault read members h m) in
       ap Some (c.fault_at.ensures ∙ ap (λ n. let t : TreeFault = record { file = Some n; line = l.number; kind = c.in-Some.kind } in t) (sym f))
-      ∙ sym (c.loop-i.invariant read g members h m f ∙ told);
+      ∙ sym (c.loop-i.invariant read g members h m f ∙ reported);
 }
 
 pub loop-i-preserved : goal.loop-i-preserved

@@ -8,5 +8,5 @@ join_optional-requires-clause-more c = grind (arith, elements)
 pub join_optional-requires-clause-all : goal.join_optional-requires-clause-all
 join_optional-requires-clause-all c = grind (arith, elements)
 
-pub returns-clause-stands : goal.returns-clause-stands
-returns-clause-stands c = grind (arith, common_steps)
+pub returns-clause-represents : goal.returns-clause-represents
+returns-clause-represents c = grind (arith, common_steps)

@@ -21,7 +21,7 @@ line_held old mid lines k d g held h e =
 pub loop-line-init : goal.loop-line-init
 loop-line-init c = record {
   grows = grows_same c.args.arena.now;
-  stand = λ ds vs own j y. none_after c.args.arena.now c.args.conditions.now.items ds vs;
+  appended = λ ds vs own j y. none_after c.args.arena.now c.args.conditions.now.items ds vs;
   longer = omega arith;
 }
 
@@ -45,19 +45,19 @@ loop-line-preserved c =
     let inv = c.loop-line.invariant in
     record {
       grows = grows_on old mid new inv.grows c.condition_of.ensures.grows;
-      stand = λ ds vs own j y.
+      appended = λ ds vs own j y.
           rw c.in_ok-push.ensures.items (after_more old mid new c.args.conditions.now.items c.loop-line.conditions.items ds vs c.args.lines.now
           c.loop-line.line-index c.in_ok-condition.condition c.line-item.result
-          inv.grows c.condition_of.ensures.grows c.requires.held c.loop-line-test.true c.line-item.is (inv.stand ds vs own j y)
-          (c.in_ok-condition.ensures.stands ds vs own (joined_on old mid inv.grows c.args.entry.now ds vs own j)
+          inv.grows c.condition_of.ensures.grows c.requires.held c.loop-line-test.true c.line-item.is (inv.appended ds vs own j y)
+          (c.in_ok-condition.ensures.represents ds vs own (joined_on old mid inv.grows c.args.entry.now ds vs own j)
           (represents_on old mid c.args.yes _ inv.grows y)));
       longer = omega (arith, ap length c.in_ok-push.ensures.items, length-append c.loop-line.conditions.items (c.in_ok-condition.condition ∷ []), inv.longer);
     }
 
-pub returns-clause-stand : goal.returns-clause-stand
-returns-clause-stand c = λ ds vs own j y.
+pub returns-clause-appended : goal.returns-clause-appended
+returns-clause-appended c = λ ds vs own j y.
     subst (λ ls. AreAppended c.args.arena.now c.loop-line.arena c.args.conditions.now.items c.loop-line.conditions.items ds vs ls)
-    (take_all c.loop-line.line-index c.args.lines.now c.loop-line-test.false) (c.loop-line.invariant.stand ds vs own j y)
+    (take_all c.loop-line.line-index c.args.lines.now c.loop-line-test.false) (c.loop-line.invariant.appended ds vs own j y)
 
 pub returns-in_err-condition-clause-grows : goal.returns-in_err-condition-clause-grows
 returns-in_err-condition-clause-grows c =

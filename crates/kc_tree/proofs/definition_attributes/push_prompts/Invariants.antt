@@ -1,5 +1,5 @@
 use Rattle.kc_tree.specs.checker.GatheredItems.{own_key, gathered_prompt}
-use Rattle.kc_tree.proofs.GatherSteps.{IsRest}
+use Rattle.kc_tree.proofs.ItemSteps.{IsRest}
 use Rattle.kc_tree.proofs.definition_attributes.push_prompts.Given as goal
 
 abbrev pub invariant-loop-i : goal.invariant-loop-i

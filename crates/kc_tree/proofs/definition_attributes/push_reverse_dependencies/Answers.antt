@@ -1,9 +1,9 @@
 use Rattle.std.proofs.Common.{◌≡◌, ℕ, [], ◌∷◌, ◌++◌, get_or, ◌∙◌, sym, ap, arith, append-nil}
 use Rattle.std.proofs.lemmas.Grind.{common_steps, elements}
 use Rattle.std.specs.Prelude.{option_map, option_to_list}
-use Rattle.kc_tree.specs.checker.GatheredItems.{gathered_target, aimed_at, gathered_reverse_dependency}
+use Rattle.kc_tree.specs.checker.GatheredItems.{gathered_target, target_key, gathered_reverse_dependency}
 use Rattle.kc_tree.specs.declared.symbol.ReverseDependency.{ReverseDependency}
-use Rattle.kc_tree.proofs.GatherSteps.{rest_more}
+use Rattle.kc_tree.proofs.ItemSteps.{rest_more}
 use Rattle.kc_tree.proofs.definition_attributes.push_reverse_dependencies.Goals as goal
 use Rattle.kc_tree.proofs.definition_attributes.push_reverse_dependencies.Goals.{in-Some+in_ok-push, in_default}
 
@@ -19,7 +19,7 @@ loop-i-preserved c =
           let e = w.in_ok-push.ensures in
           let by : w.at.result ≡ c.args.symbol = w.at.ensures in
           let made = λ (s x : ℕ). let f : ReverseDependency = record { by = s; condition = x } in f in
-          rest_more (aimed_at n c.args.forcing) (gathered_reverse_dependency n c.args.forcing c.args.symbol) c.args.found.now c.loop-i.found
+          rest_more (target_key n c.args.forcing) (gathered_reverse_dependency n c.args.forcing c.args.symbol) c.args.found.now c.loop-i.found
           c.match-target_symbol_of.found c.args.lines.now c.args.conditions.now c.loop-i.i condition line
           (omega arith) c.requires.many c.loop-i.invariant
           (ap (λ k. k.keys.items) w.found-is ∙ e.keys ∙ ap (λ o. c.loop-i.found.keys.items ++ option_to_list o) (sym t))
@@ -31,7 +31,7 @@ loop-i-preserved c =
           )
       | in_default w ↦ (
           let t = told ∙ w.in_default.is in
-          rest_more (aimed_at n c.args.forcing) (gathered_reverse_dependency n c.args.forcing c.args.symbol) c.args.found.now c.loop-i.found
+          rest_more (target_key n c.args.forcing) (gathered_reverse_dependency n c.args.forcing c.args.symbol) c.args.found.now c.loop-i.found
           c.match-target_symbol_of.found c.args.lines.now c.args.conditions.now c.loop-i.i 0 line
           (omega arith) c.requires.many c.loop-i.invariant
           (ap (λ k. k.keys.items) w.found-is ∙ sym (append-nil c.loop-i.found.keys.items) ∙ ap (λ o. c.loop-i.found.keys.items ++ option_to_list o) (sym t))

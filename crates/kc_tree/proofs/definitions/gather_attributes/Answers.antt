@@ -6,7 +6,7 @@ use Rattle.kc_tree_model.specs.Limits.{names_defined}
 use Rattle.kc_listing.specs.between.ListingView.{RepresentsListing, LineNodesExist}
 use Rattle.kc_tree.specs.checker.Summaries.{no_group}
 use Rattle.kc_tree.proofs.GroupPlaces.{count_is}
-use Rattle.kc_tree.proofs.GatherAll.{gathered_definition, gathered_other, gathered_whole, definition_many, group_count}
+use Rattle.kc_tree.proofs.SymbolItems.{gathered_definition, gathered_other, gathered_whole, definition_many, group_count}
 use Rattle.kc_tree.proofs.definitions.gather_attributes.Goals as goal
 use Rattle.kc_tree.proofs.definitions.gather_attributes.Goals.{in-Config+in_ok-push_definition, in_default}
 

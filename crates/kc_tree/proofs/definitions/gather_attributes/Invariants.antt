@@ -1,13 +1,13 @@
 use Rattle.std.proofs.Common.{List}
-use Rattle.kc_tree_model.specs.Blocks.{Group as Read}
+use Rattle.kc_tree_model.specs.Blocks.{Group as CodeGroup}
 use Rattle.kc_tree_model.specs.Conditions.{groups_in_context}
 use Rattle.kc_tree_model.specs.Limits.{names_defined}
 use Rattle.kc_tree.specs.checker.ChoiceDefaults.{IsWalkOf}
 use Rattle.kc_tree.specs.checker.Summaries.{read_before}
-use Rattle.kc_tree.proofs.GatherAll.{AreGathered}
+use Rattle.kc_tree.proofs.SymbolItems.{AreGathered}
 use Rattle.kc_tree.proofs.definitions.gather_attributes.Given as goal
 
 abbrev pub invariant-loop-i : goal.invariant-loop-i
 invariant-loop-i l =
-    (read : List Read) → IsWalkOf l.listing l.groups l.conditions read
+    (read : List CodeGroup) → IsWalkOf l.listing l.groups l.conditions read
     → AreGathered l.listing.names.arena (names_defined read) (groups_in_context (read_before l.i read)) l.found

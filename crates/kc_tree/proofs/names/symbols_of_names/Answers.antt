@@ -16,7 +16,7 @@ module _ (names s : ℕ) (symbols : List SymbolRow) (row : SymbolRow) (table : L
       → get_or (set table row.name (Some s)) r.name None ≡ Some a
   reported_more a r h f (inl l) =
       let apart : r.name ≢ row.name = λ e. (let k = differ a s r row f here e in omega arith) in
-      get_or-set_other table row.name r.name (Some s) None apart ∙ t.told a r l f
+      get_or-set_other table row.name r.name (Some s) None apart ∙ t.has_symbols a r l f
   reported_more a r h f (inr g) =
       let e : a ≡ s = omega arith in
       let k : Some r ≡ Some row = sym f ∙ ap (slice_get symbols) e ∙ here in
@@ -37,7 +37,7 @@ module _ (names s : ℕ) (symbols : List SymbolRow) (row : SymbolRow) (table : L
   table_more : IsTable names symbols (s + 1) (set table row.name (Some s))
   table_more = record {
     len = length-set table row.name (Some s) ∙ t.len;
-    told = λ a r h f. reported_more a r h f (cases_lt a s);
+    has_symbols = λ a r h f. reported_more a r h f (cases_lt a s);
     there = λ j u f. there_more j u (j == row.name) refl f;
   }
 

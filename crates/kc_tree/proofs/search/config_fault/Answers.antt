@@ -64,7 +64,7 @@ returns-in-Some c = record {
       ∙ enclosing_got read m.enclosing.items c.args.i p c.index-2.result.now known.enclosing at) in
       let follow = c.may_follow_member-may_follow.ensures ∙ follow_is c.args.language l.names.arena p c.is_some-is_member.result c.lines_of-lines.result.now
       (member ∙ enclosing_some read p a.has) (a.attributes ∙ sym (ap (map (line_in l.names.arena)) c.lines_of-lines.ensures.lines)) in
-      let told = definition_reported c.args.language read p name c.args.i c.index.result.now c.is_some-is_member.result c.is_first-is_first.result
+      let reported = definition_reported c.args.language read p name c.args.i c.index.result.now c.is_some-is_member.result c.is_first-is_first.result
       c.is_modules-is_modules.result c.may_follow_member-may_follow.result a.has a.number about member c.is_first-is_first.ensures
       (c.is_modules-is_modules.ensures.value read name h w.1) follow in
       let file = ap (λ g. g.file) (get_or_read l.groups.items _ _ c.requires.here c.index-3.ensures no_group) ∙ sym a.file in
@@ -75,7 +75,7 @@ returns-in-Some c = record {
       ∙ sym (config_first c.args.language (contents_of read) p name w.2
       ∙ ap (λ o. option_or (option_map (fault_of p.group p.group.at.line) o)
       (slice_get (faults_of_lines p.group (attribute_faults (contents_of read) name (kind_of (contents_of read) name)) false p.group.attributes) 0))
-      (sym told ∙ sym c.in-Some.ensures));
+      (sym reported ∙ sym c.in-Some.ensures));
 }
 
 pub first_symbol_fault-requires-clause-symbols : goal.first_symbol_fault-requires-clause-symbols
@@ -98,7 +98,7 @@ returns c = record {
       ∙ enclosing_got read m.enclosing.items c.args.i p c.index-2.result.now known.enclosing at) in
       let follow = c.may_follow_member-may_follow.ensures ∙ follow_is c.args.language l.names.arena p c.is_some-is_member.result c.lines_of-lines.result.now
       (member ∙ enclosing_some read p a.has) (a.attributes ∙ sym (ap (map (line_in l.names.arena)) c.lines_of-lines.ensures.lines)) in
-      let told = definition_reported c.args.language read p name c.args.i c.index.result.now c.is_some-is_member.result c.is_first-is_first.result
+      let reported = definition_reported c.args.language read p name c.args.i c.index.result.now c.is_some-is_member.result c.is_first-is_first.result
       c.is_modules-is_modules.result c.may_follow_member-may_follow.result a.has a.number about member c.is_first-is_first.ensures
       (c.is_modules-is_modules.ensures.value read name h w.1) follow in
       let file = ap (λ g. g.file) (get_or_read l.groups.items _ _ c.requires.here c.index-3.ensures no_group) ∙ sym a.file in
@@ -110,7 +110,7 @@ returns c = record {
       ∙ sym (config_first c.args.language (contents_of read) p name w.2
       ∙ ap (λ o. option_or (option_map (fault_of p.group p.group.at.line) o)
       (slice_get (faults_of_lines p.group (attribute_faults (contents_of read) name (kind_of (contents_of read) name)) false p.group.attributes) 0))
-      (sym told ∙ sym c.in_default.ensures));
+      (sym reported ∙ sym c.in_default.ensures));
 }
 
 pub first_symbol_fault-requires-clause-held : goal.first_symbol_fault-requires-clause-held

@@ -1,4 +1,4 @@
-use Rattle.kc_tree_model.proofs.NothingWanted.{nothing_missing, first_fault}
+use Rattle.kc_tree_model.proofs.AbsentFiles.{nothing_missing, first_fault}
 use Rattle.kc_tree_model.proofs.laws.nothing_is_missing_after_wanted.Goals as goal
 
 pub returns-clause-none : goal.returns-clause-none

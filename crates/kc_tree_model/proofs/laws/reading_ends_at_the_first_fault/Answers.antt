@@ -1,5 +1,5 @@
-use Rattle.kc_tree_model.proofs.ReadingLaws.ReadingRelated.{cut_related, whole_or_cut}
-use Rattle.kc_tree_model.proofs.ReadingLaws.TreesRelated.{some_outcome, one_outcome}
+use Rattle.kc_tree_model.proofs.ReadingLaws.ReadingSoundness.{cut_related, whole_or_cut}
+use Rattle.kc_tree_model.proofs.ReadingLaws.TreesOfRelation.{some_outcome, one_outcome}
 use Rattle.kc_tree_model.proofs.laws.reading_ends_at_the_first_fault.Goals as goal
 
 pub returns-clause-fault : goal.returns-clause-fault

@@ -1,4 +1,4 @@
-use Rattle.kc_tree_model.proofs.ReadingLaws.ReadingRelated.{whole_related, one_whole}
+use Rattle.kc_tree_model.proofs.ReadingLaws.ReadingSoundness.{whole_related, one_whole}
 use Rattle.kc_tree_model.proofs.laws.reading_is_the_relation.Goals as goal
 
 pub returns-clause-read : goal.returns-clause-read

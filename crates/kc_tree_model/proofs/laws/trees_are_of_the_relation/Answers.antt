@@ -1,4 +1,4 @@
-use Rattle.kc_tree_model.proofs.ReadingLaws.TreesRelated.{tree_related, reported_related, wanted_related}
+use Rattle.kc_tree_model.proofs.ReadingLaws.TreesOfRelation.{tree_related, reported_related, wanted_related}
 use Rattle.kc_tree_model.proofs.laws.trees_are_of_the_relation.Goals as goal
 
 pub returns-clause-tree : goal.returns-clause-tree

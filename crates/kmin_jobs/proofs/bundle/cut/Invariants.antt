@@ -2,7 +2,7 @@ use Rattle.std.proofs.Common.{◌≡◌, ◌++◌, ◌⊎◌, List, [], ℕ, IsT
 use Rattle.kmin_jobs.specs.Bundles.{HasWholeLines, has_no_marker}
 use Rattle.kmin_jobs.proofs.bundle.cut.Given as goal
 
--- what was passed over: lines, none of them the marker
+-- the bundle is `rest` after lines none of which is `%%`
 abbrev pub invariant-loop-line : goal.invariant-loop-line
 invariant-loop-line l = (front : List ℕ) × IsTrue (has_no_marker front) × (HasWholeLines front ⊎ (l.rest ≡ [])) × (l.fn.bundle ≡ front ++ l.rest)
 

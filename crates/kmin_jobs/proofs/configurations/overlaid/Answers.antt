@@ -21,7 +21,7 @@ loop-path-preserved g c =
     let absent : Bor (List ℕ) = record { ref_ptr = (0, 0); now = [] } in
     let path = get_or c.args.paths.now c.loop-path.path-index absent in
     record {
-      same = λ other. c.load_allowed.ensures.same other ∙ c.loop-path.invariant.same other;
+      same = λ other. c.load_path.ensures.same other ∙ c.loop-path.invariant.same other;
       settled = search rules;
       solved = search rules;
       loaded = rw (paths_next c.args.paths.now c.loop-path.path-index absent (search rules))
@@ -32,10 +32,10 @@ loop-path-preserved g c =
     }
 
 pub returns-in_err-fragment-clause-same : goal.returns-in_err-fragment-clause-same
-returns-in_err-fragment-clause-same g c = λ other. c.load_allowed.ensures.same other ∙ c.loop-path.invariant.same other
+returns-in_err-fragment-clause-same g c = λ other. c.load_path.ensures.same other ∙ c.loop-path.invariant.same other
 
 pub returns-in_err-merge-clause-same : goal.returns-in_err-merge-clause-same
-returns-in_err-merge-clause-same g c = λ other. c.load_allowed.ensures.same other ∙ c.loop-path.invariant.same other
+returns-in_err-merge-clause-same g c = λ other. c.load_path.ensures.same other ∙ c.loop-path.invariant.same other
 
 pub returns-in_err-fragment-clause-stopped : goal.returns-in_err-fragment-clause-stopped
 returns-in_err-fragment-clause-stopped g c =

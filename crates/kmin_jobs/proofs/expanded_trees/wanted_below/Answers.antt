@@ -1,6 +1,6 @@
 use Rattle.kmin_jobs.specs.FileContents.{known_by}
 use Rattle.kmin_jobs.proofs.Sequences.{if_ok_map}
-use Rattle.kmin_jobs.proofs.TreesBelow.{wanted_below}
+use Rattle.kmin_jobs.proofs.TreeFolders.{wanted_below}
 use Rattle.kmin_jobs.proofs.expanded_trees.wanted_below.Goals as goal
 
 pub returns : goal.returns

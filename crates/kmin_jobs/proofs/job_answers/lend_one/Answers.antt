@@ -3,7 +3,7 @@ use Rattle.std.specs.Prelude.{is_some, option_map, string_bytes}
 use Rattle.kc_tree_model.specs.Keywords.{keyword_in_table}
 use Rattle.kmin_jobs.proofs.AnswerFileLists.{on_ok_map}
 use Rattle.kmin_jobs.proofs.LentAnswers.{lent_kept, lent_new, no_answer}
-use Rattle.kmin_jobs.proofs.TreesBelow.{known_same}
+use Rattle.kmin_jobs.proofs.TreeFolders.{known_same}
 use Rattle.kmin_jobs.proofs.job_answers.lend_one.Goals as goal
 
 pub returns-then-has-clause-lent : goal.returns-then-has-clause-lent

@@ -5,6 +5,6 @@ use Rattle.kmin_words.specs.Jobs.{definition_view}
 use Rattle.kmin_words.specs.between.WordValues.{definition_of}
 use Rattle.kmin_words.proofs.expansion_words.definitions_among.Given as goal
 
--- those of the texts so far
+-- `found` has the definitions of the texts before this one
 abbrev pub invariant-loop-text : goal.invariant-loop-text
 invariant-loop-text l = map definition_view l.found.items ≡ filter_map (λ (text : Bor (List ℕ)). definition_of text.now) (take l.text-index l.texts)

@@ -3,7 +3,7 @@ use Rattle.std.specs.Prelude.{bytes_eq, count_by}
 use Rattle.std.specs.Borrow.{Bor}
 use Rattle.kmin_words.proofs.expansion_words.inputs_among.Given as goal
 
--- those of the paths so far
+-- `count` is the number of paths before this one that are `/dev/stdin`
 abbrev pub invariant-loop-path : goal.invariant-loop-path
 invariant-loop-path l = record {
   counted : l.count ≡ count_by (λ (path : Bor (List ℕ)). bytes_eq path.now (codes "/dev/stdin")) (take l.path-index l.paths);

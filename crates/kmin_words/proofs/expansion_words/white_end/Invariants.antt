@@ -3,7 +3,7 @@ use Rattle.std.specs.List.{suffix_len}
 use Rattle.kc_expr.specs.Token.{is_white_byte}
 use Rattle.kmin_words.proofs.expansion_words.white_end.Given as goal
 
--- the bytes from the end on are white
+-- the bytes of the value from `end` on are white
 abbrev pub invariant-loop-end : goal.invariant-loop-end
 invariant-loop-end l = record {
   within : l.end ≤ length l.bytes;

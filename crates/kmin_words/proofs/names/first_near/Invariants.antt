@@ -3,7 +3,7 @@ use Rattle.std.specs.Borrow.{Bor}
 use Rattle.kmin_words.specs.Names.{first_near}
 use Rattle.kmin_words.proofs.names.first_near.Given as goal
 
--- no name so far is near
+-- no name before this one is at most `most` edits from the word
 abbrev pub invariant-loop-name : goal.invariant-loop-name
 invariant-loop-name l =
     first_near l.word l.most (map (λ (name : Bor (List ℕ)). name.now) l.names)

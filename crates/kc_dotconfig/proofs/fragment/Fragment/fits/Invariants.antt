@@ -6,7 +6,7 @@ use Rattle.kc_rules.specs.between.SettledViews.{tree_of_settled}
 use Rattle.kc_dotconfig.specs.checker.Configs.{units_of, next_at}
 use Rattle.kc_dotconfig.proofs.fragment.Fragment.fits.Given as goal
 
--- the user values before fit, and the next unit is after the last
+-- the user values checked so far fit the tree, and `next` is one more than the last unit checked
 abbrev pub invariant-loop-unit : goal.invariant-loop-unit
 invariant-loop-unit l = record {
   next : l.next ≡ next_at (units_of l.fn.self.assigns.items) l.unit-index;

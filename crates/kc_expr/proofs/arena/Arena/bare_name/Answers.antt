@@ -5,7 +5,7 @@ use Rattle.kc_expr.specs.between.Names.{name_of_operand}
 use Rattle.kc_expr.specs.checker.Nodes.{operand_of}
 use Rattle.kc_expr.specs.checker.Store.{stored_names}
 use Rattle.std.specs.Prelude.{option_and_then}
-use Rattle.kc_expr.proofs.NamesInLemmas.{operand_is, operand_none}
+use Rattle.kc_expr.proofs.ExpressionNameLemmas.{operand_is, operand_none}
 use Rattle.kc_expr.proofs.StoreLemmas.{within_nodes}
 use Rattle.kc_expr.proofs.arena.Arena.bare_name.Goals as goal
 

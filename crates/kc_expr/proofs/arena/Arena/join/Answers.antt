@@ -13,7 +13,7 @@ pub returns-clause-grows : goal.returns-clause-grows
 returns-clause-grows c = rw (← c.self.view_is) (grows c.self.inside.store c.push.new.self c.self.invariant c.push.ensures.extends)
 
 pub returns-clause-ok : goal.returns-clause-ok
-returns-clause-ok c = rw (← c.self.view_is, ← c.number.ensures, ← c.number-2.ensures, c.at.ensures) c.in_ok-id.ensures.stands
+returns-clause-ok c = rw (← c.self.view_is, ← c.number.ensures, ← c.number-2.ensures, c.at.ensures) c.in_ok-id.ensures.represents
 
 pub invariant_of-self-2 : goal.invariant_of-self-2
 invariant_of-self-2 c = grind (arith, common_steps)

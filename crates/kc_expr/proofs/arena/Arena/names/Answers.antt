@@ -1,7 +1,7 @@
 use Rattle.std.proofs.Common.{eqb}
 use Rattle.std.proofs.lemmas.List.Filters.{dedup_is}
 use Rattle.std.proofs.lemmas.Map.Keys.{IsStrictlyIncreasing-dedup}
-use Rattle.kc_expr.proofs.NamesInLemmas.{reported_in, in_reported}
+use Rattle.kc_expr.proofs.ExpressionNameLemmas.{reported_in, in_reported}
 use Rattle.kc_expr.proofs.StoreLemmas.{within_nodes}
 use Rattle.kc_expr.proofs.arena.Arena.names.Goals as goal
 

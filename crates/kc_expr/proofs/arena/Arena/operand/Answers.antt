@@ -4,7 +4,7 @@ use Rattle.kc_expr.specs.between.Arena.{Exprs}
 use Rattle.kc_expr.specs.Expr.{named, quoted}
 use Rattle.kc_expr.specs.checker.Nodes.{operand_of}
 use Rattle.kc_expr.specs.checker.Store.{stored_names}
-use Rattle.kc_expr.proofs.NamesInLemmas.{operand_is, operand_none}
+use Rattle.kc_expr.proofs.ExpressionNameLemmas.{operand_is, operand_none}
 use Rattle.kc_expr.proofs.StoreLemmas.{within_nodes}
 use Rattle.kc_expr.proofs.arena.Arena.operand.Goals as goal
 

@@ -9,7 +9,7 @@ use Rattle.kc_expr.specs.declared.token.TokenKind.TheVariants.{And, Or}
 use Rattle.kc_expr.specs.Expr.{both, either}
 use Rattle.kc_expr.specs.checker.ParserResults.{first_kind, factor_read, ands_read, ors_read}
 use Rattle.kc_expr.specs.Token.{lexeme_of, lexemes_of}
-use Rattle.kc_expr.proofs.NamesRead.{read_negated, read_joined}
+use Rattle.kc_expr.proofs.ParserNames.{read_negated, read_joined}
 use Rattle.kc_expr.proofs.ParseSteps.{as_both, as_either, factor_is_operand, factor_beyond, not_fails, not_parsed, open_fails, open_unclosed, open_parsed, parses_by, kind_within, chain_first_fails, chain_begins, chain_fails, chain_goes_on, chain_ends}
 use Rattle.kc_expr.proofs.ReaderSteps.{ands_on, ors_on, ands_first_fails, ands_first, ands_link_fails, ands_link, ands_end, ors_first_fails, ors_first, ors_link_fails, ors_link, ors_end}
 use Rattle.kc_expr.proofs.StoreLemmas.{represents_later, represents_node, extends_on}
@@ -41,9 +41,9 @@ parse_ands-returns-in_err-right-clause-parses t c =
 pub parse_ands-push-requires-clause-fits : goal.parse_ands-push-requires-clause-fits
 parse_ands-push-requires-clause-fits t c =
     let left = represents_later c.ands.self c.parse_factor-in-ands.new.self c.ands.left _ c.ands.invariant.sound c.parse_factor-in-ands.ensures.extends
-    c.ands.invariant.chained.stands in (
+    c.ands.invariant.chained.represents in (
       represents_node c.parse_factor-in-ands.new.self c.ands.left _ left,
-      represents_node c.parse_factor-in-ands.new.self c.in_ok-right.right _ c.in_ok-right.ensures.parses.stands,
+      represents_node c.parse_factor-in-ands.new.self c.in_ok-right.right _ c.in_ok-right.ensures.parses.represents,
     )
 
 pub parse_ands-ands-preserved : goal.parse_ands-ands-preserved
@@ -53,12 +53,12 @@ parse_ands-ands-preserved t c = record {
       (extends_on c.args.self.now c.ands.self c.parse_factor-in-ands.new.self c.ands.invariant.extends c.parse_factor-in-ands.ensures.extends)
       c.push.ensures.extends;
   names = read_joined c.args.self.now c.push.new.self _ both (λ a b. refl) c.ands.self c.parse_factor-in-ands.new.self c.ands.left c.in_ok-right.right _
-      c.ands.invariant.names c.ands.invariant.sound c.parse_factor-in-ands.ensures.extends c.ands.invariant.chained.stands c.in_ok-right.ensures.names
-      c.push.ensures.names c.in_ok-left-2.ensures.stands;
+      c.ands.invariant.names c.ands.invariant.sound c.parse_factor-in-ands.ensures.extends c.ands.invariant.chained.represents c.in_ok-right.ensures.names
+      c.push.ensures.names c.in_ok-left-2.ensures.represents;
   chained = chain_goes_on factor_read ands_read ands_on And both ands_first_fails ands_first ands_link_fails ands_link ands_end as_both
       (lexemes_of c.args.tokens.now) c.args.condition c.args.at c.args.depth c.ands.self c.parse_factor-in-ands.new.self c.push.new.self _ _ _ _ _
       c.ands.invariant.chained (c.is_kind_at.ensures.0 c.ands-test.true) c.ands.invariant.sound c.parse_factor-in-ands.ensures.extends
-      c.in_ok-right.ensures.parses c.in_ok-left-2.ensures.stands;
+      c.in_ok-right.ensures.parses c.in_ok-left-2.ensures.represents;
 }
 
 pub parse_ands-returns-clause-parses : goal.parse_ands-returns-clause-parses
@@ -91,10 +91,10 @@ parse_ors-returns-in_err-right-clause-parses t c =
 pub parse_ors-push-requires-clause-fits : goal.parse_ors-push-requires-clause-fits
 parse_ors-push-requires-clause-fits t c =
     let left = represents_later c.ors.self c.parse_ands-in-ors.new.self c.ors.left _ c.ors.invariant.sound c.parse_ands-in-ors.ensures.extends
-    c.ors.invariant.chained.stands in (
+    c.ors.invariant.chained.represents in (
       represents_node c.parse_ands-in-ors.new.self c.ors.left _ left,
       represents_node c.parse_ands-in-ors.new.self c.in_ok-right.right _
-          c.in_ok-right.ensures.parses.stands,
+          c.in_ok-right.ensures.parses.represents,
     )
 
 pub parse_ors-ors-preserved : goal.parse_ors-ors-preserved
@@ -103,12 +103,12 @@ parse_ors-ors-preserved t c = record {
   extends = extends_on c.args.self.now c.parse_ands-in-ors.new.self c.push.new.self
       (extends_on c.args.self.now c.ors.self c.parse_ands-in-ors.new.self c.ors.invariant.extends c.parse_ands-in-ors.ensures.extends) c.push.ensures.extends;
   names = read_joined c.args.self.now c.push.new.self _ either (λ a b. refl) c.ors.self c.parse_ands-in-ors.new.self c.ors.left c.in_ok-right.right _
-      c.ors.invariant.names c.ors.invariant.sound c.parse_ands-in-ors.ensures.extends c.ors.invariant.chained.stands c.in_ok-right.ensures.names
-      c.push.ensures.names c.in_ok-left-2.ensures.stands;
+      c.ors.invariant.names c.ors.invariant.sound c.parse_ands-in-ors.ensures.extends c.ors.invariant.chained.represents c.in_ok-right.ensures.names
+      c.push.ensures.names c.in_ok-left-2.ensures.represents;
   chained = chain_goes_on ands_read ors_read ors_on Or either ors_first_fails ors_first ors_link_fails ors_link ors_end as_either
       (lexemes_of c.args.tokens.now) c.args.condition c.args.at c.args.depth c.ors.self c.parse_ands-in-ors.new.self c.push.new.self _ _ _ _ _
       c.ors.invariant.chained (c.is_kind_at.ensures.0 c.ors-test.true) c.ors.invariant.sound c.parse_ands-in-ors.ensures.extends c.in_ok-right.ensures.parses
-      c.in_ok-left-2.ensures.stands;
+      c.in_ok-left-2.ensures.represents;
 }
 
 pub parse_ors-returns-clause-parses : goal.parse_ors-returns-clause-parses
@@ -140,12 +140,12 @@ parse_factor-returns-in_err-part-clause-parses t c =
     (c.is_kind_at-negated.ensures.0 c.if-negated.true) _ c.in_err-part.ensures.parses)
 
 pub parse_factor-push-requires-clause-fits : goal.parse_factor-push-requires-clause-fits
-parse_factor-push-requires-clause-fits t c = represents_node c.parse_factor.new.self c.in_ok-part.part _ c.in_ok-part.ensures.parses.stands
+parse_factor-push-requires-clause-fits t c = represents_node c.parse_factor.new.self c.in_ok-part.part _ c.in_ok-part.ensures.parses.represents
 
 pub parse_factor-returns-then-negated-clause-parses : goal.parse_factor-returns-then-negated-clause-parses
 parse_factor-returns-then-negated-clause-parses t c =
     not_parsed (lexemes_of c.args.tokens.now) c.args.condition c.args.at c.args.depth (c.args.depth - 1) (omega arith)
-    (c.is_kind_at-negated.ensures.0 c.if-negated.true) c.parse_factor.new.self c.push.new.self _ _ _ c.in_ok-part.ensures.parses c.in_ok-push.ensures.stands
+    (c.is_kind_at-negated.ensures.0 c.if-negated.true) c.parse_factor.new.self c.push.new.self _ _ _ c.in_ok-part.ensures.parses c.in_ok-push.ensures.represents
 
 pub parse_factor-returns-in_err-inside-clause-parses : goal.parse_factor-returns-in_err-inside-clause-parses
 parse_factor-returns-in_err-inside-clause-parses t c =
@@ -182,7 +182,7 @@ parse_factor-returns-else-is_kind_at-clause-parses t c =
 
 pub parse_factor-returns-then-negated-clause-names : goal.parse_factor-returns-then-negated-clause-names
 parse_factor-returns-then-negated-clause-names t c = read_negated c.args.self.now c.push.new.self _ c.parse_factor.new.self c.in_ok-part.part
-    c.in_ok-part.ensures.names c.push.ensures.names c.in_ok-push.ensures.stands
+    c.in_ok-part.ensures.names c.push.ensures.names c.in_ok-push.ensures.represents
 
 next_within : (all : List Token) (at : ℕ) (k : TokenKind) → first_kind (drop at (lexemes_of all)) ≡ Some k → at + 1 ≤ length all
 next_within all at k e = omega (arith, kind_within (lexemes_of all) at k e, length-map all lexeme_of)

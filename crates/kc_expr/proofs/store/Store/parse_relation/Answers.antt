@@ -3,7 +3,7 @@ use Rattle.std.proofs.lemmas.Grind.{common_steps}
 use Rattle.kc_expr.specs.checker.Nodes.{operand_of}
 use Rattle.kc_expr.specs.checker.Store.{stored_names}
 use Rattle.kc_expr.specs.Token.{lexemes_of}
-use Rattle.kc_expr.proofs.NamesRead.{read_alone, read_related}
+use Rattle.kc_expr.proofs.ParserNames.{read_alone, read_related}
 use Rattle.kc_expr.proofs.ParseSteps.{relation_missing, relation_alone, relation_unfinished, relation_whole}
 use Rattle.kc_expr.proofs.StoreLemmas.{operand_on, extends_on}
 use Rattle.std.proofs.lemmas.Result.{err_from_is_err_and}
@@ -18,7 +18,7 @@ pub returns-in_default-relation_at-clause-parses : goal.returns-in_default-relat
 returns-in_default-relation_at-clause-parses c =
     relation_alone (operand_of (stored_names c.leaf_at.new.self) c.leaf_at.new.self.texts.items) _ (lexemes_of c.args.tokens.now) c.args.at
     c.in_ok-left.ensures.operand _ c.in-Some.is
-    c.push_alone.new.self c.args.condition _ (sym c.relation_at.ensures ∙ c.in_default-relation_at.is) c.in_ok-push_alone.ensures.stands
+    c.push_alone.new.self c.args.condition _ (sym c.relation_at.ensures ∙ c.in_default-relation_at.is) c.in_ok-push_alone.ensures.represents
 
 pub returns-in_default-2-clause-parses : goal.returns-in_default-2-clause-parses
 returns-in_default-2-clause-parses c =
@@ -34,19 +34,19 @@ returns-clause-parses c =
     _ (sym c.relation_at.ensures ∙ c.in-Some-relation_at.is) (operand_of (stored_names c.leaf_at-2.new.self) c.leaf_at-2.new.self.texts.items) _
     c.in_ok-right.ensures.operand _ c.in-Some-2.is
     c.push.new.self c.args.condition _ _ (operand_on c.leaf_at.new.self c.leaf_at-2.new.self c.in-Some.left c.leaf_at-2.ensures.extends
-    (rw c.in-Some.is at c.in_ok-left.ensures.fits)) c.in_ok-push.ensures.stands
+    (rw c.in-Some.is at c.in_ok-left.ensures.fits)) c.in_ok-push.ensures.represents
 
 pub returns-in_default-relation_at-clause-names : goal.returns-in_default-relation_at-clause-names
 returns-in_default-relation_at-clause-names c =
     read_alone c.args.self.now c.push_alone.new.self _ c.leaf_at.new.self c.args.condition c.in-Some.left
-    (rw c.in-Some.is at c.in_ok-left.ensures.names) c.in_ok-push_alone.ensures.names c.in_ok-push_alone.ensures.stands
+    (rw c.in-Some.is at c.in_ok-left.ensures.names) c.in_ok-push_alone.ensures.names c.in_ok-push_alone.ensures.represents
 
 pub returns-clause-names : goal.returns-clause-names
 returns-clause-names c =
     read_related c.args.self.now c.push.new.self _ c.leaf_at.new.self c.leaf_at-2.new.self _ _ _ _ (rw c.in-Some.is at c.in_ok-left.ensures.names)
     (rw c.in-Some-2.is at c.in_ok-right.ensures.names) c.push.ensures.names
     (operand_on c.leaf_at.new.self c.leaf_at-2.new.self c.in-Some.left c.leaf_at-2.ensures.extends (rw c.in-Some.is at c.in_ok-left.ensures.fits))
-    c.in_ok-push.ensures.stands
+    c.in_ok-push.ensures.represents
 
 pub leaf_at-requires : goal.leaf_at-requires
 leaf_at-requires c = record { sound = c.requires.sound }

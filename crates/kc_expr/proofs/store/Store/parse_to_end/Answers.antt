@@ -8,7 +8,7 @@ use Rattle.kc_expr.specs.checker.ParserResults.{read_all_tokens}
 use Rattle.kc_expr.specs.Token.{lexemes_of, lexeme_of}
 use Rattle.kc_expr.proofs.ParseSteps.{whole_refused, whole_too_long, whole_parsed}
 use Rattle.kc_expr.proofs.ReaderSteps.{drop_one}
-use Rattle.kc_expr.proofs.WordAlone.{word_whole}
+use Rattle.kc_expr.proofs.SingleWords.{word_whole}
 use Rattle.kc_expr.proofs.store.Store.parse_to_end.Goals as goal
 
 pub returns-in_err-id-clause-fault : goal.returns-in_err-id-clause-fault
@@ -31,8 +31,8 @@ returns-in-Some-clause-ok c =
     let reads : read_all_tokens c.args.depth (drop c.args.at (lexemes_of c.args.tokens.now)) ≡ Ok (alone (constant_or named c.in-Some.text.now)) =
     word_whole (drop c.args.at (lexemes_of c.args.tokens.now)) (constant_or named c.in-Some.text.now) e.kind e.operand
     (sym (drop_one c.args.at (lexemes_of c.args.tokens.now)) ∙ e.last) c.args.depth in
-    IfOk-weaker c.parse_word.result _ _ (λ id s. record { expr = alone (constant_or named c.in-Some.text.now); reads = reads; stands = s })
-    c.parse_word.ensures.stands
+    IfOk-weaker c.parse_word.result _ _ (λ id s. record { expr = alone (constant_or named c.in-Some.text.now); reads = reads; represents = s })
+    c.parse_word.ensures.represents
 
 pub returns-in-Some-clause-fault : goal.returns-in-Some-clause-fault
 returns-in-Some-clause-fault c = grind (arith, common_steps)

@@ -12,8 +12,8 @@ returns-in_err-leaf-clause-sound c = grind (arith, common_steps)
 pub returns-in_err-leaf-clause-memory : goal.returns-in_err-leaf-clause-memory
 returns-in_err-leaf-clause-memory c = grind (arith, common_steps)
 
-pub returns-clause-stands : goal.returns-clause-stands
-returns-clause-stands c = grind (arith, common_steps)
+pub returns-clause-represents : goal.returns-clause-represents
+returns-clause-represents c = grind (arith, common_steps)
 
 pub returns-clause-sound : goal.returns-clause-sound
 returns-clause-sound c = grind (arith, common_steps)

@@ -11,8 +11,8 @@ pub returns-clause-extends : goal.returns-clause-extends
 returns-clause-extends c = push_extends c.args.self.now (record c.args.self.now { nodes = c.push.new.self }) c.args.node c.requires.sound
     c.in_ok-push.ensures.items refl refl
 
-pub returns-clause-stands : goal.returns-clause-stands
-returns-clause-stands c = push_represents c.args.self.now (record c.args.self.now { nodes = c.push.new.self }) c.args.node c.requires.sound
+pub returns-clause-represents : goal.returns-clause-represents
+returns-clause-represents c = push_represents c.args.self.now (record c.args.self.now { nodes = c.push.new.self }) c.args.node c.requires.sound
     c.in_ok-push.ensures.items refl refl c.in_ok-id.id (omega (arith, c.in_ok-id.ensures.number, c.len.ensures, c.args.self.now.nodes.ok.0))
 
 pub returns-in_err-push-clause-extends : goal.returns-in_err-push-clause-extends

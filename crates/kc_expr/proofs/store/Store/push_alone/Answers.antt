@@ -12,21 +12,21 @@ use Rattle.kc_expr.proofs.store.Store.push_alone.Goals as goal
 pub push-requires-3-clause-fits : goal.push-requires-3-clause-fits
 push-requires-3-clause-fits c =
     let id = represents_later c.push.new.self c.push-2.new.self c.in_ok-id.id _ c.push.ensures.sound
-    (extends_on c.push.new.self c.intern.new.self c.push-2.new.self c.intern.ensures.extends c.push-2.ensures.extends) c.in_ok-id.ensures.stands in
-    (represents_node c.push-2.new.self c.in_ok-id.id _ id, represents_node c.push-2.new.self c.in_ok-name.name _ c.in_ok-name.ensures.stands)
+    (extends_on c.push.new.self c.intern.new.self c.push-2.new.self c.intern.ensures.extends c.push-2.ensures.extends) c.in_ok-id.ensures.represents in
+    (represents_node c.push-2.new.self c.in_ok-id.id _ id, represents_node c.push-2.new.self c.in_ok-name.name _ c.in_ok-name.ensures.represents)
 
-pub returns-clause-stands : goal.returns-clause-stands
-returns-clause-stands c =
+pub returns-clause-represents : goal.returns-clause-represents
+returns-clause-represents c =
     let m = sym c.is_constant_m.ensures ∙ c.if-not-is_constant_m.false in
     let alone_m = ap alone (m_leaf c.args.leaf (stored_names c.args.self.now) c.args.self.now.texts.items m) in
     let id = represents_later c.push.new.self c.push-2.new.self c.in_ok-id.id _ c.push.ensures.sound
-    (extends_on c.push.new.self c.intern.new.self c.push-2.new.self c.intern.ensures.extends c.push-2.ensures.extends) c.in_ok-id.ensures.stands in
+    (extends_on c.push.new.self c.intern.new.self c.push-2.new.self c.intern.ensures.extends c.push-2.ensures.extends) c.in_ok-id.ensures.represents in
     let left : node_expr (exprs_in c.push-2.new.self) c.in_ok-id.id ≡ alone (constant M) = id.is ∙ alone_m in
-    let right : node_expr (exprs_in c.push-2.new.self) c.in_ok-name.name ≡ alone (named modules) = c.in_ok-name.ensures.stands.is
+    let right : node_expr (exprs_in c.push-2.new.self) c.in_ok-name.name ≡ alone (named modules) = c.in_ok-name.ensures.represents.is
     ∙ ap (λ x. alone (named x)) c.in_ok-modules.ensures.name in
     let whole = ap (λ e. both e (node_expr (exprs_in c.push-2.new.self) c.in_ok-name.name)) left ∙ ap (both (alone (constant M))) right
     ∙ sym (m_condition c.args.condition c.args.leaf (stored_names c.args.self.now) c.args.self.now.texts.items c.if-not-condition.false m) in
-    IfOk-weaker c.push-3.result _ _ (λ i s. subst (Represents (exprs_in c.push-3.new.self) i) whole s) c.push-3.ensures.stands
+    IfOk-weaker c.push-3.result _ _ (λ i s. subst (Represents (exprs_in c.push-3.new.self) i) whole s) c.push-3.ensures.represents
 
 pub push-requires-clause-sound : goal.push-requires-clause-sound
 push-requires-clause-sound c = c.requires.sound

@@ -1,8 +1,9 @@
 use Rattle.std.proofs.Common.{◌∙◌, ap, sym, inl, inr, ⊎_elim, take}
 use Rattle.kc_tree_model.specs.LogicalLines.{split_at_newlines}
+use Rattle.kc_macros_model.specs.declared.fault.AnswersFault.{AnswersFault}
 use Rattle.kc_macros_model.specs.AnswerFiles.{first_line, recorded_from}
 use Rattle.kc_macros.specs.ReadAnswers.{end_of_file}
-use Rattle.kc_macros.proofs.AnswerFileLemmas.{file_recorded, file_unfailed, file_refused}
+use Rattle.kc_macros.proofs.AnswerFileLemmas.{file_recorded, file_unfailed, file_refused, memory_has_no_line}
 use Rattle.kc_macros.proofs.answers.Answers.read.Goals as goal
 
 pub returns-in-Ok-record_lines-clause-ok : goal.returns-in-Ok-record_lines-clause-ok
@@ -28,7 +29,16 @@ returns-clause-fault g c =
     let e = ap (λ s. recorded_from (end_of_file c.in-Ok.cut) (first_line c.args.self.now) (split_at_newlines s))
     (sym (c.within_size.ensures ∙ ap (take 67108864) c.as_slice.ensures.value))
     ∙ ap (λ t. recorded_from (end_of_file c.in-Ok.cut) (first_line t) (split_at_newlines c.within_size.result.now)) (sym c.self.view_is) in
-    ⊎_elim (λ m. inl m)
+    ⊎_elim (λ m. inl (ap (λ (f : AnswersFault). f.kind) m))
     (λ h. inr (file_refused (g.R.Source.left c.args.source.now) (g.R.Source.left c.read_whole.new.source) (g.R.Source.failures c.args.source.now)
     (g.R.Source.failures c.read_whole.new.source) _ c.args.self.now c.in-Ok.ensures.read c.in-Ok.cut c.in-Ok.ensures.end c.in-Err.fault (e ∙ h)))
     c.in-Err.ensures.err
+
+pub returns-clause-no_memory : goal.returns-clause-no_memory
+returns-clause-no_memory g c =
+    let e = ap (λ s. recorded_from (end_of_file c.in-Ok.cut) (first_line c.args.self.now) (split_at_newlines s))
+    (sym (c.within_size.ensures ∙ ap (take 67108864) c.as_slice.ensures.value))
+    ∙ ap (λ t. recorded_from (end_of_file c.in-Ok.cut) (first_line t) (split_at_newlines c.within_size.result.now)) (sym c.self.view_is) in
+    memory_has_no_line (g.R.Source.left c.args.source.now) (g.R.Source.left c.read_whole.new.source) (g.R.Source.failures c.args.source.now)
+    (g.R.Source.failures c.read_whole.new.source) _ c.args.self.now c.in-Ok.ensures.read c.in-Ok.cut c.in-Ok.ensures.end c.in-Err.fault
+    (⊎_elim (λ m. inl m) (λ h. inr (e ∙ h)) c.in-Err.ensures.err)

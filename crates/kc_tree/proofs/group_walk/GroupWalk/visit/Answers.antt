@@ -75,7 +75,7 @@ inside-requires-clause-prompt c =
     let t = top_shown w.arena k.0 w.yes (reverse w.stack.items) (open_blocks 0 k.1) here.stack_is in
     let a = subst (λ (x : EnclosingConditions). RepresentsEnclosing w.arena k.0 w.yes x (open_blocks 0 k.1)) (sym c.enclosing-enclosing.ensures) t in
     let j = c.in_ok-entry.ensures.joined _ _ a.dependencies_are a.visibles_are in
-    let b = c.in_ok-push_conditions.ensures.stand _ _ _ j (represents_on w.arena c.entry_conditions.new.arena w.yes (conjunction_of [])
+    let b = c.in_ok-push_conditions.ensures.appended _ _ _ j (represents_on w.arena c.entry_conditions.new.arena w.yes (conjunction_of [])
     c.entry_conditions.ensures.grows here.yes_is) in
     let l : c.len-first.result ≡ length w.conditions.items = omega (arith, c.len-first.ensures) in
     prompt_there w.arena c.entry_conditions.new.arena c.push_conditions.new.arena w.conditions.items c.push_conditions.new.conditions.items _ _ c.args.lines.now
@@ -91,7 +91,7 @@ returns-then-ends-clause-walked c = λ names texts before m walked what attribut
     let f = rw c.enclosing-enclosing.ensures at c.in_ok-entry.ensures.joined in
     let j = entry_is w new texts before m mid far c.in_ok-entry.entry c.args.lines.now walked c.requires.lines attributes_are c.entry_conditions.ensures.grows
     c.push_conditions.ensures.grows f in
-    let b = c.in_ok-push_conditions.ensures.stand _ _ _ j (represents_on w.arena mid w.yes (conjunction_of []) c.entry_conditions.ensures.grows here.yes_is) in
+    let b = c.in_ok-push_conditions.ensures.appended _ _ _ j (represents_on w.arena mid w.yes (conjunction_of []) c.entry_conditions.ensures.grows here.yes_is) in
     let b2 = subst (λ xs. AreAppended mid far w.conditions.items xs (dependencies_of (context (open_blocks 0 before)) m)
     (context (open_blocks 0 before)).visibles c.args.lines.now) (sym c.end.ensures.conditions) b in
     let g : Grows far new.arena = subst (λ e. Grows far e) (sym c.end.ensures.arena) (grows_same far) in
@@ -123,7 +123,7 @@ returns-clause-walked c = λ names texts before m walked what attributes_are.
     let j = entry_is w new texts before m mid far c.in_ok-entry.entry c.args.lines.now walked c.requires.lines attributes_are c.entry_conditions.ensures.grows
     c.push_conditions.ensures.grows f in
     let y = represents_on w.arena mid w.yes (conjunction_of []) c.entry_conditions.ensures.grows here.yes_is in
-    let b = c.in_ok-push_conditions.ensures.stand _ _ _ j y in
+    let b = c.in_ok-push_conditions.ensures.appended _ _ _ j y in
     let same = c.push_group.ensures.conditions ∙ c.enter.ensures.conditions in
     let b2 = subst (λ xs. AreAppended mid far w.conditions.items xs (dependencies_of (context s) m) (context s).visibles c.args.lines.now) (sym same) b in
     let to_far = grows_on w.arena mid far c.entry_conditions.ensures.grows c.push_conditions.ensures.grows in

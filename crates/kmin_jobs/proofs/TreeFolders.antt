@@ -1,0 +1,99 @@
+-- The files and the folders of a tree below a root.
+use mathlib.Core.Path.{fun_ext}
+use Rattle.std.proofs.Common.{◌≡◌, ℕ, Bool, true, false, List, [], Option, Some, None, Result, Ok, Err, IfOk, Vec, refl, ap, ◌∙◌, subst}
+use Rattle.std.specs.Prelude.{option_map}
+use Rattle.std.specs.Str.{IsUtf8, is_utf8}
+use Rattle.std.proofs.lemmas.Str.{IsUtf8-from_is_utf8}
+use Rattle.std.specs.declared.alloc.Global.{Global}
+use Rattle.std.specs.declared.alloc.AllocError.{AllocError}
+use Rattle.kc_expansion.specs.TextViews.{texts_of}
+use Rattle.kc_macros_model.specs.AnswerFiles.{Recorded}
+use Rattle.kc_macros_model.specs.Programs.{Fault, Notice}
+use Rattle.kc_macros_model.specs.ReadingStates.{ExpandedFile}
+use Rattle.kc_macros_model.specs.Worlds.{World}
+use Rattle.kc_expansion.specs.Expansions.{IsExpansion, AreWanted}
+use Rattle.kc_expansion.specs.TreeContents.{FolderContent, ListsAs, IsWorldOf}
+use Rattle.kc_expansion.specs.TreeContents as tree
+use Rattle.kmin_jobs.specs.FileContents.{FileContent, VariableContent, Known, known_by, path_below}
+use Rattle.kmin_disk.specs.Contents.{OpensAs}
+use Rattle.kmin_jobs.specs.TreeFolders.{regular_below, names_below, contents_through, contents_below}
+
+-- what is known of the surroundings of a job is the same if it is the same for each path, folder and variable
+pub known_same : (c d r s : List ℕ → FileContent) (m n : List ℕ → FolderContent) (v w : List ℕ → VariableContent)
+    → ((path : List ℕ) → d path ≡ c path) → ((path : List ℕ) → s path ≡ r path) → ((path : List ℕ) → n path ≡ m path) → ((name : List ℕ) → w name ≡ v name)
+    → known_by d s n w ≡ known_by c r m v
+known_same c d r s m n v w ec er em ev =
+    let fc : d ≡ c = fun_ext ec in
+    let fr : s ≡ r = fun_ext er in
+    let fm : n ≡ m = fun_ext em in
+    let fv : w ≡ v = fun_ext ev in
+    ap (λ x. known_by x s n w) fc ∙ ap (λ x. known_by c x n w) fr ∙ ap (λ x. known_by c r x w) fm ∙ ap (λ x. known_by c r m x) fv
+
+not_so : (b : Bool) → (b ≡ true → ⊥) → b ≡ false
+not_so true h = absurd (h refl)
+not_so false h = refl
+
+pub utf8_fails : (bytes : List ℕ) → (IsUtf8 bytes → ⊥) → is_utf8 bytes ≡ false
+utf8_fails bytes h = not_so (is_utf8 bytes) (λ e. h (IsUtf8-from_is_utf8 bytes e))
+
+opens_as : (content : FileContent) (reader : Option (Option (List ℕ))) → OpensAs content reader → tree.OpensAs content reader
+opens_as None reader h = tt
+opens_as (Some None) reader h = h
+opens_as (Some (Some bytes)) reader h = h
+
+-- opening the regular file at a path below the root agrees with what is known of the file of the tree
+pub opened_below : (regular : List ℕ → FileContent) (root path place : List ℕ) (reader : Option (Option (List ℕ))) → is_utf8 path ≡ true
+    → place ≡ path_below root path → OpensAs (regular place) reader → tree.OpensAs (regular_below regular root path) reader
+opened_below regular root path place reader e p h = rw e (subst (λ q. tree.OpensAs (regular q) reader) p (opens_as (regular place) reader h))
+
+-- a file of a tree whose path isn't UTF-8 is known to be missing, and so isn't opened
+pub unopened_below : (regular : List ℕ → FileContent) (root path : List ℕ) (reader : Option (Option (List ℕ))) → is_utf8 path ≡ false → reader ≡ None
+    → tree.OpensAs (regular_below regular root path) reader
+unopened_below regular root path reader e h = rw e h
+
+-- listing the folder at a path below the root agrees with what is known of the folder of the tree
+pub listed_below : (names : List ℕ → FolderContent) (root folder place : List ℕ) (most : ℕ) (r : Result (Option (Vec (Vec ℕ Global) Global)) AllocError)
+    → is_utf8 folder ≡ true → place ≡ path_below root folder → IfOk r (λ found. ListsAs (names place) most (option_map texts_of found))
+    → IfOk r (λ found. ListsAs (names_below names root folder) most (option_map texts_of found))
+listed_below names root folder place most (Err e) u p h = tt
+listed_below names root folder place most (Ok found) u p h = rw u (subst (λ q. ListsAs (names q) most (option_map texts_of found)) p h)
+
+pub unlisted_below : (names : List ℕ → FolderContent) (root folder : List ℕ) (most : ℕ) (found : List (List ℕ)) → is_utf8 folder ≡ false → found ≡ []
+    → ListsAs (names_below names root folder) most (Some found)
+unlisted_below names root folder most found u h = rw u h
+
+-- the files and folders are the same, whatever they are read through
+world_below : (reference : ℕ) (known : Known) (root : List ℕ) (w : World) → IsWorldOf (contents_through reference known root) w
+    → IsWorldOf (contents_below known root) w
+world_below reference known root w h = record { files = h.files; folders = h.folders }
+
+through_any : (reference : ℕ) (known : Known) (root first : List ℕ) (answers : Recorded) (notices : List Notice) (r : Result (List ExpandedFile) Fault)
+    → IsExpansion (contents_through reference known root) answers first notices r → IsExpansion (contents_below known root) answers first notices r
+through_any reference known root first answers notices r h = record {
+  world = h.world;
+  of_contents = world_below reference known root h.world h.of_contents;
+  answered = h.answered;
+  has_notices = h.has_notices;
+  ends_so = h.ends_so;
+}
+
+pub expansion_below : (reference : ℕ) (known : Known) (root first path : List ℕ) (answers : Recorded) (notices : List Notice)
+    (r : Result (List ExpandedFile) Fault)
+    → path ≡ first → IsExpansion (contents_through reference known root) answers path notices r → IsExpansion
+    (contents_below known root) answers first notices r
+expansion_below reference known root first path answers notices r e h =
+    subst (λ p. IsExpansion (contents_below known root) answers p notices r) e (through_any reference known root path answers notices r h)
+
+wanted_any : (reference : ℕ) (known : Known) (root first : List ℕ) (answers : Recorded) (asked : Result (List (List ℕ)) Fault)
+    → AreWanted (contents_through reference known root) answers first asked → AreWanted (contents_below known root) answers first asked
+wanted_any reference known root first answers asked h = record {
+  world = h.world;
+  of_contents = world_below reference known root h.world h.of_contents;
+  answered = h.answered;
+  are_wanted = h.are_wanted;
+}
+
+pub wanted_below : (reference : ℕ) (known : Known) (root first path : List ℕ) (answers : Recorded) (asked : Result (List (List ℕ)) Fault) → path ≡ first
+    → AreWanted (contents_through reference known root) answers path asked → AreWanted (contents_below known root) answers first asked
+wanted_below reference known root first path answers asked e h =
+    subst (λ p. AreWanted (contents_below known root) answers p asked) e (wanted_any reference known root path answers asked h)
