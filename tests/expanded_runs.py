@@ -27,13 +27,13 @@ def with_paths(lines, paths):
 def wanted_full(folder, tree, answers):
     """What `full` has to give, and whether the tree is expanded."""
     texts, paths, notices, fault = macros.expand(tree, b"Kconfig", answers)
-    said = b"".join(line_of(*notice) for notice in notices)
+    notice_lines = b"".join(line_of(*notice) for notice in notices)
     if fault:
-        return (3, b"", said + line_of(fault.at, fault.kind, fault.text)), False
+        return (3, b"", notice_lines + line_of(fault.at, fault.kind, fault.text)), False
     for key, text in texts.items():
         write_file(folder, f"expanded/{os.fsdecode(key)}", text)
     status, out, err = run(folder, "full", "--root", "expanded", "--language", "linux")
-    return (status, out, said + with_paths(err, paths)), True
+    return (status, out, notice_lines + with_paths(err, paths)), True
 
 
 def compared(folder, answers):

@@ -57,13 +57,13 @@ class Values:
 
     def __init__(self, symbols, choices, is_classic):
         self.symbols, self.choices, self.is_classic = {it.name: it for it in symbols}, choices, is_classic
-        self.held = {}
+        self.by_unit = {}
 
     def tristate(self, name):
         it = self.symbols.get(name)
         if not it or it.kind not in (BOOL, TRISTATE):
             return 0
-        return 2 * (self.held[it.choice] is it) if it.choice else self.held[it]
+        return 2 * (self.by_unit[it.choice] is it) if it.choice else self.by_unit[it]
 
     def side(self, e):
         """Whether an operand is string-typed, its number, and its text."""
@@ -76,7 +76,7 @@ class Values:
             return False, number_of(STRING, e[1]), e[1]
         if it.kind in (BOOL, TRISTATE):
             return False, self.tristate(e[1]), LETTERS[self.tristate(e[1])]
-        return it.kind == STRING, number_of(it.kind, self.held[it]), self.held[it]
+        return it.kind == STRING, number_of(it.kind, self.by_unit[it]), self.by_unit[it]
 
     def value(self, e, is_condition=False):
         """The value of an expression; in a condition `m` is `m && MODULES`."""
@@ -155,7 +155,7 @@ class Values:
 
     def solve(self, users):
         for unit in sorted([it for it in self.symbols.values() if not it.choice] + self.choices, key=lambda it: it.rank):
-            self.held[unit] = self.rule(unit, users.get(unit))
+            self.by_unit[unit] = self.rule(unit, users.get(unit))
 
     def is_written(self, it):
         if self.visibility(it) or it.choice:
@@ -168,7 +168,7 @@ class Values:
         if it.kind in (BOOL, TRISTATE):
             value = self.tristate(it.name)
             return f"CONFIG_{it.name}={LETTERS[value]}" if value else f"# CONFIG_{it.name} is not set"
-        return f"CONFIG_{it.name}={quoted(self.held[it]) if it.kind == STRING else self.held[it]}"
+        return f"CONFIG_{it.name}={quoted(self.by_unit[it]) if it.kind == STRING else self.by_unit[it]}"
 
 
 def users_of(symbols, lines):
@@ -194,7 +194,7 @@ def users_of(symbols, lines):
 def is_needed(values, users, it):
     """Whether the minimal file has the symbol's line."""
     unit = it.choice or it
-    return values.held[unit] is it and values.rule(unit, None) is not it if it.choice else values.rule(unit, None) != values.held[unit]
+    return values.by_unit[unit] is it and values.rule(unit, None) is not it if it.choice else values.rule(unit, None) != values.by_unit[unit]
 
 
 def results(symbols, choices, lines, is_classic):
@@ -202,7 +202,7 @@ def results(symbols, choices, lines, is_classic):
     users = users_of(symbols, lines)
     values = Values(symbols, choices, is_classic)
     values.solve(users)
-    is_missed = lambda it: (users.get(it.choice) is it and values.held[it.choice] is not it) if it.choice else it in users and users[it] != values.held[it]
+    is_missed = lambda it: (users.get(it.choice) is it and values.by_unit[it.choice] is not it) if it.choice else it in users and users[it] != values.by_unit[it]
     return {
         "full": [values.line(it) for it in symbols if values.is_written(it)],
         "min": [values.line(it) for it in symbols if is_needed(values, users, it)],

@@ -93,12 +93,12 @@ def files_in(folder):
     for place, folders, names in os.walk(folder):
         for path in (f"{place}/{name}" for name in [*folders, *names]):
             if os.path.islink(path) or not os.path.isdir(path):
-                found[os.path.relpath(path, folder)] = look(path)
+                found[os.path.relpath(path, folder)] = content_at(path)
     return found
 
 
-def look(path):
-    """The bytes of a file, or what else is there."""
+def content_at(path):
+    """The bytes of a file; of a link or a pipe, words for it."""
     if os.path.islink(path):
         return f"a link to {os.readlink(path)}"
     if not os.path.isfile(path):

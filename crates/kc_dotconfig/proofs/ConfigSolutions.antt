@@ -40,10 +40,10 @@ solved_as settled new same tree fits fits_values gives = record {
   gives = gives;
 }
 
--- a configuration without user values, and with no unit in its list of held units, is sound
-pub none_kept : (settled : Settled) (new : Configured) (held : List ℕ) → IsSolved new → new.system ≡ settled
-    → new.users ≡ empty_assignment (tree_of_settled settled) → held ≡ [] → IsSoundConfig settled new held
-none_kept settled new held solved same users none = record {
+-- a configuration without user values, and with no unit in its list of units with user values, is sound
+pub none_kept : (settled : Settled) (new : Configured) (valued : List ℕ) → IsSolved new → new.system ≡ settled
+    → new.users ≡ empty_assignment (tree_of_settled settled) → valued ≡ [] → IsSoundConfig settled new valued
+none_kept settled new valued solved same users none = record {
   same = same;
   solved = solved;
   covers = λ u x e. absurd (none_held (length (tree_of_settled settled).units) u x (ap (λ l. user_of l u) (sym users) ∙ e));
@@ -52,41 +52,41 @@ none_kept settled new held solved same users none = record {
   none_in : (u : ℕ) → Contains {X = ℕ} [] u → ⊥
   none_in u (k, h, is) = omega (arith, h)
 
--- a configuration stays sound if user values are added and their units, where they had none, are added to the held ones
-pub merged_kept : (settled : Settled) (old new : Configured) (held more : List ℕ) (es : List (ℕ × UserValue)) → IsSoundConfig settled old held
+-- a configuration stays sound if user values are added and their units, where they had none, are added to the listed ones
+pub merged_kept : (settled : Settled) (old new : Configured) (valued more : List ℕ) (es : List (ℕ × UserValue)) → IsSoundConfig settled old valued
     → FitsTree (tree_in old) es → IsSolved new → new.system ≡ old.system
-    → new.users ≡ changed_users (changes_of es) old.users → more ≡ held ++ filter (λ u. is_none (user_of old.users u)) (units_of es)
+    → new.users ≡ changed_users (changes_of es) old.users → more ≡ valued ++ filter (λ u. is_none (user_of old.users u)) (units_of es)
     → IsSoundConfig settled new more
-merged_kept settled old new held more es kept fits solved same users is = record {
+merged_kept settled old new valued more es kept fits solved same users is = record {
   same = same ∙ kept.same;
   solved = solved;
   covers = λ u x e. subst (λ l. Contains l u) (sym is) (covers u x (ap (λ l. user_of l u) (sym users) ∙ e));
   within = λ u c. subst (λ s. u < length (tree_of_settled s).units) (sym same) (below u (subst (λ l. Contains l u) is c));
 } where
   covers : (u : ℕ) (x : UserValue) → user_of (changed_users (changes_of es) old.users) u ≡ Some x
-      → Contains (held ++ filter (λ u. is_none (user_of old.users u)) (units_of es)) u
+      → Contains (valued ++ filter (λ u. is_none (user_of old.users u)) (units_of es)) u
   covers u x e = elim (given_or_had es old.users u x e) [
     | inl given ↦ by (user_of old.users u) refl given
-    | inr had ↦ in_front held (filter (λ u. is_none (user_of old.users u)) (units_of es)) u (kept.covers u had.0 had.1)
+    | inr had ↦ in_front valued (filter (λ u. is_none (user_of old.users u)) (units_of es)) u (kept.covers u had.0 had.1)
   ] where
     by : (o : Option UserValue) → user_of old.users u ≡ o → Contains (units_of es) u
-        → Contains (held ++ filter (λ u. is_none (user_of old.users u)) (units_of es)) u
+        → Contains (valued ++ filter (λ u. is_none (user_of old.users u)) (units_of es)) u
     by None f given =
-        in_back held (filter (λ u. is_none (user_of old.users u)) (units_of es)) u
+        in_back valued (filter (λ u. is_none (user_of old.users u)) (units_of es)) u
         (in_filter (λ u. is_none (user_of old.users u)) (units_of es) u (ap is_none f) given)
-    by (Some y) f given = in_front held (filter (λ u. is_none (user_of old.users u)) (units_of es)) u (kept.covers u y f)
+    by (Some y) f given = in_front valued (filter (λ u. is_none (user_of old.users u)) (units_of es)) u (kept.covers u y f)
 
-  below : (u : ℕ) → Contains (held ++ filter (λ u. is_none (user_of old.users u)) (units_of es)) u → u < length (tree_in old).units
-  below u c = elim (in_either held (filter (λ u. is_none (user_of old.users u)) (units_of es)) u c) [
+  below : (u : ℕ) → Contains (valued ++ filter (λ u. is_none (user_of old.users u)) (units_of es)) u → u < length (tree_in old).units
+  below u c = elim (in_either valued (filter (λ u. is_none (user_of old.users u)) (units_of es)) u c) [
     | inl before ↦ kept.within u before
     | inr fresh ↦ units_within (tree_in old) es fits u (of_filter (λ u. is_none (user_of old.users u)) (units_of es) u fresh)
   ]
 
--- a configuration with the user values of a list and no others, and with their units as the held ones, is sound
-pub held_kept : (settled : Settled) (new : Configured) (more : List ℕ) (es : List (ℕ × UserValue)) → FitsTree (tree_of_settled settled) es → IsSolved new
+-- a configuration with the user values of a list and no others, and with their units as the listed ones, is sound
+pub fragment_kept : (settled : Settled) (new : Configured) (more : List ℕ) (es : List (ℕ × UserValue)) → FitsTree (tree_of_settled settled) es → IsSolved new
     → new.system ≡ settled
     → new.users ≡ users_of (tree_of_settled settled) es → more ≡ units_of es → IsSoundConfig settled new more
-held_kept settled new more es fits solved same users is = record {
+fragment_kept settled new more es fits solved same users is = record {
   same = same;
   solved = solved;
   covers = λ u x e. subst (λ l. Contains l u) (sym is) (covers u x (ap (λ l. user_of l u) (sym users) ∙ e));
@@ -99,22 +99,22 @@ held_kept settled new more es fits solved same users is = record {
     | inr had ↦ absurd (none_held (length (tree_of_settled settled).units) u had.0 had.1)
   ]
 
--- a configuration stays sound if the user values of a list, with their units as the held ones, replace all earlier ones
-pub replaced_kept : (settled : Settled) (old new : Configured) (held more : List ℕ) (es : List (ℕ × UserValue)) → IsSoundConfig settled old held
+-- a configuration stays sound if the user values of a list, with their units as the listed ones, replace all earlier ones
+pub replaced_kept : (settled : Settled) (old new : Configured) (valued more : List ℕ) (es : List (ℕ × UserValue)) → IsSoundConfig settled old valued
     → FitsTree (tree_in old) es → IsSolved new → new.system ≡ old.system
     → new.users ≡ users_of (tree_in old) es → more ≡ units_of es → IsSoundConfig settled new more
-replaced_kept settled old new held more es kept fits solved same users is =
-    held_kept settled new more es (subst (λ s. FitsTree (tree_of_settled s) es) kept.same fits) solved (same ∙ kept.same)
+replaced_kept settled old new valued more es kept fits solved same users is =
+    fragment_kept settled new more es (subst (λ s. FitsTree (tree_of_settled s) es) kept.same fits) solved (same ∙ kept.same)
     (users ∙ ap (λ s. users_of (tree_of_settled s) es) kept.same) is
 
-pub replaced_users : (settled : Settled) (old : Configured) (held : List ℕ) (es : List (ℕ × UserValue)) (users : List (Option UserValue))
-    → IsSoundConfig settled old held
-    → users ≡ changed_users (clears_of held ++ changes_of es) old.users → users ≡ users_of (tree_in old) es
-replaced_users settled old held es users kept is =
-    is ∙ changed_both (clears_of held) (changes_of es) old.users
-    ∙ ap (changed_users (changes_of es)) (cleared held old.users kept.covers ∙ ap (λ n. replicate n None) kept.solved.fits.0)
+pub replaced_users : (settled : Settled) (old : Configured) (valued : List ℕ) (es : List (ℕ × UserValue)) (users : List (Option UserValue))
+    → IsSoundConfig settled old valued
+    → users ≡ changed_users (clears_of valued ++ changes_of es) old.users → users ≡ users_of (tree_in old) es
+replaced_users settled old valued es users kept is =
+    is ∙ changed_both (clears_of valued) (changes_of es) old.users
+    ∙ ap (changed_users (changes_of es)) (cleared valued old.users kept.covers ∙ ap (λ n. replicate n None) kept.solved.fits.0)
 
-pub merged_users : (settled : Settled) (old : Configured) (held : List ℕ) (es : List (ℕ × UserValue)) (users : List (Option UserValue))
-    → IsSoundConfig settled old held
+pub merged_users : (settled : Settled) (old : Configured) (valued : List ℕ) (es : List (ℕ × UserValue)) (users : List (Option UserValue))
+    → IsSoundConfig settled old valued
     → users ≡ changed_users (changes_of es) old.users → users ≡ overlay (users_of (tree_in old) es) old.users
-merged_users settled old held es users kept is = is ∙ lies_over (tree_in old) es old.users kept.solved.fits.0
+merged_users settled old valued es users kept is = is ∙ lies_over (tree_in old) es old.users kept.solved.fits.0

@@ -17,7 +17,7 @@ use Rattle.kc_dotconfig_model.specs.LoadFaults.{IsAccepted}
 use Rattle.kc_dotconfig_model.proofs.AcceptedLines.{accepted_utf8}
 use Rattle.kc_dotconfig_model.proofs.FittingFiles.{file_fits}
 use Rattle.kc_dotconfig.specs.Fragments.{FitsTree, changes_of, users_of}
-use Rattle.kc_dotconfig.specs.checker.UserValueOrder.{Rises, Below}
+use Rattle.kc_dotconfig.specs.checker.UserValueOrder.{IsAscending, AreBelow}
 use Rattle.kc_dotconfig.specs.checker.Configs.{units_of}
 use Rattle.kc_dotconfig.proofs.Insertions.{later_set}
 
@@ -29,7 +29,8 @@ length_changed [] users = refl
 length_changed (e ∷ es) users = length_changed es (slice_set users e.0 (Some e.1)) ∙ length-set users e.0 (Some e.1)
 
 -- in a rising list each user value is the one that its unit has in the end
-held_at : (es : List (ℕ × UserValue)) (users : List (Option UserValue)) (k u : ℕ) (x : UserValue) → Rises es → u < length users → slice_get es k ≡ Some (u, x)
+held_at : (es : List (ℕ × UserValue)) (users : List (Option UserValue)) (k u : ℕ) (x : UserValue) → IsAscending es → u < length users
+    → slice_get es k ≡ Some (u, x)
     → user_of (changed_users (changes_of es) users) u ≡ Some x
 held_at [] users k u x r h at = cc
 held_at (e ∷ es) users zero u x r h at =
@@ -44,18 +45,19 @@ held_at (e ∷ es) users zero u x r h at =
 held_at (e ∷ es) users (suc k) u x r h at =
     let n = length-set users e.0 (Some e.1) in held_at es (slice_set users e.0 (Some e.1)) k u x r.1 (omega (arith, n, h)) at
 
-below_at : (n : ℕ) (es : List (ℕ × UserValue)) (k u : ℕ) (x : UserValue) → Below n es → slice_get es k ≡ Some (u, x) → u < n
+below_at : (n : ℕ) (es : List (ℕ × UserValue)) (k u : ℕ) (x : UserValue) → AreBelow n es → slice_get es k ≡ Some (u, x) → u < n
 below_at n [] k u x b at = cc
 below_at n (e ∷ es) zero u x b at = subst (λ k. k < n) (ap (λ (p : ℕ × UserValue). p.0) (same_pair e (u, x) at)) b.0
 below_at n (e ∷ es) (suc k) u x b at = below_at n es k u x b.1 at
 
-rising : (es : List (ℕ × UserValue)) → Rises es → (k : ℕ) → suc k < length (units_of es) → slice_index (units_of es) k < slice_index (units_of es) (suc k)
+rising : (es : List (ℕ × UserValue)) → IsAscending es → (k : ℕ) → suc k < length (units_of es)
+    → slice_index (units_of es) k < slice_index (units_of es) (suc k)
 rising [] r k h = absurd (omega (arith, h))
 rising (e ∷ []) r k h = absurd (omega (arith, h))
 rising (e ∷ f ∷ es) r zero h = r.0.0
 rising (e ∷ f ∷ es) r (suc k) h = rising (f ∷ es) r.1 k (omega (arith, h))
 
-rises_all : (es : List (ℕ × UserValue)) → Rises es → IsStrictlyIncreasing (units_of es)
+rises_all : (es : List (ℕ × UserValue)) → IsAscending es → IsStrictlyIncreasing (units_of es)
 rises_all es r k h =
     let n : k + 1 ≡ suc k = omega arith in
     subst (λ m. slice_index (units_of es) k < slice_index (units_of es) m) (sym n) (rising es r k (omega (arith, h, n)))
@@ -67,8 +69,8 @@ no_length (suc n) = let rest = no_length n in omega (arith, rest)
 pub fragment_fits : (format : FileFormat) (tree : Tree) (known : List ℕ) (meanings : List LineMeaning) (es : List (ℕ × UserValue))
     → is_prefix format.prefix ≡ true
     → IsConsistent tree
-    → IsAccepted format tree known → FileMeans format tree known meanings → users_of tree es ≡ file_assignment tree meanings → Rises es
-    → Below (length tree.units) es → FitsTree tree es
+    → IsAccepted format tree known → FileMeans format tree known meanings → users_of tree es ≡ file_assignment tree meanings → IsAscending es
+    → AreBelow (length tree.units) es → FitsTree tree es
 fragment_fits format tree known meanings es valid sound accepted has_meaning users r b =
     let fits = file_fits format tree known meanings sound (accepted_utf8 format tree known valid accepted) has_meaning in
     record {

@@ -11,15 +11,15 @@ use Rattle.kc_dotconfig_model.specs.declared.fault.LoadKind.{LoadKind}
 use Rattle.kc_dotconfig_model.specs.declared.fault.LoadKind.TheVariants.{Malformed, NotUtf8, LineTooLong, TooManyLines, Read, OutOfMemory, TooLarge}
 use Rattle.kc_dotconfig.specs.declared.accumulator.Accumulator.{Accumulator}
 use Rattle.kc_dotconfig.specs.declared.fragment.Fragment.{Fragment}
-use Rattle.kc_value.specs.declared.limits.TheConstants.{MAX_CONFIG_BYTES, MAX_CONFIG_LINES}
+use Rattle.kc_value.specs.declared.limits.TheConstants.{MAX_CONFIG_BLOCK_BYTES, MAX_CONFIG_BYTES, MAX_CONFIG_LINES}
 use Rattle.kc_dotconfig_model.specs.LoadFaults.{complete, IsFirstFault, OccursAt}
 use Rattle.kc_tree_model.specs.TreeLookup.{IsConsistent}
 use Rattle.kc_dotconfig_model.specs.PrefixGrammar.{is_prefix}
 use Rattle.kc_dotconfig.specs.Fragments.{FitsTree, users_of, notice_pair}
 use Rattle.kc_dotconfig.proofs.UserValueFits.{fragment_fits}
-use Rattle.kc_dotconfig.specs.ReadResults.{MAX_READ, IsReadAs, IsRefused, IsCutShort, ReportsFault}
+use Rattle.kc_dotconfig.specs.ReadResults.{IsReadAs, IsRefused, IsCutShort, ReportsFault}
 use Rattle.kc_dotconfig.specs.checker.Accumulation.{fault_line, Holds, AcceptsBytes, EndsWell, EndsBadly, IsGathered, IsFragmentOf}
-use Rattle.kc_dotconfig.specs.checker.UserValueOrder.{Rises, Below}
+use Rattle.kc_dotconfig.specs.checker.UserValueOrder.{IsAscending, AreBelow}
 use Rattle.kc_dotconfig_model.proofs.FirstFaults.{failed_reads}
 use Rattle.kc_dotconfig_model.proofs.FaultsAtCuts.{clean, known_newlines, empty_cut}
 
@@ -123,7 +123,7 @@ reports_refused format tree a c f f_after OutOfMemory number h = elim h [
 
 pub refused_in : (format : FileFormat) (tree : Tree) (a b c : Option (List ℕ)) (line : List ℕ) (g : Accumulator) (size : ℕ) (block : List ℕ) (kind : LoadKind)
     (number : ℕ)
-    → HasRead format tree a b line g size → Consumes b c block → length block ≤ MAX_READ
+    → HasRead format tree a b line g size → Consumes b c block → length block ≤ MAX_CONFIG_BLOCK_BYTES
     → ((kind ≡ OutOfMemory) × (number ≡ 0)) ⊎ ((known rest : List ℕ) → Holds format tree known line g → length known ≡ size
     → IsFirstFault format tree complete (known ++ (block ++ rest)) kind number)
     → ((kind ≡ OutOfMemory) × (number ≡ 0)) ⊎ IsRefused format tree a c kind number
@@ -211,8 +211,8 @@ ends_whole format tree line g h f ends same known holds =
       ap (users_of tree) same.0 ∙ e.3.users,
       ap (map notice_pair) same.1
           ∙ e.3.noted,
-      subst Rises (sym same.0) e.3.rises,
-      subst (Below (length tree.units)) (sym same.0) e.3.below,
+      subst IsAscending (sym same.0) e.3.rises,
+      subst (AreBelow (length tree.units)) (sym same.0) e.3.below,
     )
 
 pub block_fault : (format : FileFormat) (tree : Tree) (line : List ℕ) (g : Accumulator) (block : List ℕ) (size : ℕ) (kind k : LoadKind) (lines n : ℕ) → k ≡ kind

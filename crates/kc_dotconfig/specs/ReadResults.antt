@@ -2,9 +2,10 @@
 use Rattle.std.specs.Prelude.{◌≡◌, ◌⊎◌, ℕ, ◌+◌, ◌-◌, ◌^◌, ◌<◌, ◌≤◌, List, ◌++◌, Option, length, map}
 use Rattle.std.specs.Io.KnownBytes.{Consumes, IsAtEnd}
 use Rattle.kc_tree_model.specs.Trees.{Tree}
+use Rattle.kc_value.specs.declared.limits.TheConstants.{MAX_CONFIG_BLOCK_BYTES}
 use Rattle.kc_dotconfig_model.specs.Formats.{FileFormat}
 use Rattle.kc_dotconfig_model.specs.declared.fault.LoadKind.{LoadKind}
-use Rattle.kc_dotconfig_model.specs.declared.fault.LoadKind.TheVariants.{Malformed, NotUtf8, LineTooLong, TooManyLines, Read, OutOfMemory, TooLarge}
+use Rattle.kc_dotconfig_model.specs.declared.fault.LoadKind.TheVariants.{Read, OutOfMemory}
 use Rattle.kc_dotconfig_model.specs.ConfigLines.{LineMeaning}
 use Rattle.kc_dotconfig_model.specs.ConfigFiles.{FileMeans, file_assignment, notices_from}
 use Rattle.kc_dotconfig_model.specs.LoadFaults.{complete, cut_short, OccursAt, IsFirstFault, IsAccepted}
@@ -22,19 +23,15 @@ pub record IsReadAs (format : FileFormat) (tree : Tree) (before after : Option (
   pub users : users_of tree f.assigns.items ≡ file_assignment tree meanings
   pub noted : map notice_pair f.notices.items ≡ notices_from 1 meanings
 
--- the largest number of bytes of a configuration file that are read at once
-abbrev pub MAX_READ : ℕ
-MAX_READ = 4096
-
 -- the bytes read have a first fault, of this kind and line: either they are the whole configuration file, or the fault is the
--- first whatever bytes follow; no fault occurs before the last `MAX_READ` of the bytes read
+-- first whatever bytes follow; no fault occurs before the last `MAX_CONFIG_BLOCK_BYTES` of the bytes read
 pub record IsRefused (format : FileFormat) (tree : Tree) (before after : Option (List ℕ)) (kind : LoadKind) (number : ℕ) : Type 0 where
   pub known : List ℕ
   pub consumed : Consumes before after known
   pub first : (IsAtEnd after × IsFirstFault format tree complete known kind number)
       ⊎ ((rest : List ℕ) → IsFirstFault format tree complete (known ++ rest) kind number)
   pub soon : (rest : List ℕ) (other : LoadKind) (byte n : ℕ) → OccursAt format tree (known ++ rest) other byte n
-      → length known ≤ byte + MAX_READ
+      → length known ≤ byte + MAX_CONFIG_BLOCK_BYTES
 
 -- a read failed in the line `number`, after the reader supplied bytes of a configuration file that have no fault
 pub record IsCutShort (format : FileFormat) (tree : Tree) (before after : Option (List ℕ)) (number : ℕ) : Type 0 where
@@ -48,8 +45,4 @@ abbrev pub ReportsFault : FileFormat → Tree → (before after : Option (List �
 ReportsFault format tree before after failed failed_after OutOfMemory number = number ≡ 0
 ReportsFault format tree before after failed failed_after Read number = IsCutShort format tree before after number
     × (failed < 2 ^ 64 - 1 → failed < failed_after)
-ReportsFault format tree before after failed failed_after Malformed number = IsRefused format tree before after Malformed number
-ReportsFault format tree before after failed failed_after NotUtf8 number = IsRefused format tree before after NotUtf8 number
-ReportsFault format tree before after failed failed_after LineTooLong number = IsRefused format tree before after LineTooLong number
-ReportsFault format tree before after failed failed_after TooManyLines number = IsRefused format tree before after TooManyLines number
-ReportsFault format tree before after failed failed_after TooLarge number = IsRefused format tree before after TooLarge number
+ReportsFault format tree before after failed failed_after kind number = IsRefused format tree before after kind number

@@ -2,7 +2,7 @@
 ghost use Rattle.std.specs.Prelude.{◌≡◌, ℕ, List, [], IfOk, OnOk, IsTrue};
 ghost use Rattle.std.specs.BTreeMap.{insert_entry};
 ghost use Rattle.std.specs.Ordering.{nat_cmp};
-ghost use Rattle.kc_dotconfig.specs.checker.UserValueOrder.{Rises, Below};
+ghost use Rattle.kc_dotconfig.specs.checker.UserValueOrder.{IsAscending, AreBelow};
 
 use kc_rules_model::UserValue;
 use std::alloc::{AllocError, Global};
@@ -22,19 +22,19 @@ pub(crate) struct AssignedValues {
 impl Model for AssignedValues {
     ghost use Rattle.std.specs.Prelude.{◌≡◌, ◌⊎◌, ℕ, List, [], ◌++◌};
     ghost use Rattle.kc_rules_model.specs.declared.values.UserValue.{UserValue};
-    ghost use Rattle.kc_dotconfig.specs.checker.UserValueOrder.{Rises};
+    ghost use Rattle.kc_dotconfig.specs.checker.UserValueOrder.{IsAscending};
 
     ghost Value = { List (ℕ × UserValue) };
 
     ghost view = { λ a. a.listed.items ++ a.mapped.entries };
 
-    ghost invariant = { λ a. Rises a.listed.items × ((a.listed.items ≡ []) ⊎ (a.mapped.entries ≡ [])) };
+    ghost invariant = { λ a. IsAscending a.listed.items × ((a.listed.items ≡ []) ⊎ (a.mapped.entries ≡ [])) };
 }
 
 /// Whether a unit is greater than all units of an ascending list.
 fn is_above(unit: u32, listed: &[(u32, UserValue)]) -> bool
-    requires rising { Rises listed.now }
-    ensures below { IsTrue result → Below unit listed.now }
+    requires rising { IsAscending listed.now }
+    ensures below { IsTrue result → AreBelow unit listed.now }
 {
     match listed.last() {
         Some((last, _user)) => *last < unit,
@@ -47,7 +47,7 @@ fn map_of(
     alloc: Global,
     listed: Vec<(u32, UserValue)>,
 ) -> Result<BTreeMap<u32, UserValue>, AllocError>
-    requires rising { Rises listed.items }
+    requires rising { IsAscending listed.items }
     ensures ok { IfOk result (λ map. map.entries ≡ listed.items) }
 {
     let mut map = BTreeMap::new(alloc);

@@ -80,14 +80,14 @@ pub(crate) fn users_assigned(
     Ok(users)
 }
 
-/// Appends to `held` the units of `assigns` that have no user value in `users`.
+/// Appends to `valued` the units of `assigns` that have no user value in `users`.
 pub(crate) fn merge_units(
-    held: &mut Vec<u32>,
+    valued: &mut Vec<u32>,
     users: &[Option<UserValue>],
     assigns: &[(u32, UserValue)],
 ) -> Result<(), AllocError>
-    ensures ok { OnOk result (held.new.items ≡ held.old.items ++ filter (λ u. is_none (user_of users.now u)) (units_of assigns.now)) }
-    ensures kept { take (length held.old.items) held.new.items ≡ held.old.items }
+    ensures ok { OnOk result (valued.new.items ≡ valued.old.items ++ filter (λ u. is_none (user_of users.now u)) (units_of assigns.now)) }
+    ensures kept { take (length valued.old.items) valued.new.items ≡ valued.old.items }
 {
     for (unit, _user) in assigns {
         let has_user = match users.get(*unit as usize) {
@@ -95,7 +95,7 @@ pub(crate) fn merge_units(
             _ => false,
         };
         if !has_user {
-            held.push(*unit)?;
+            valued.push(*unit)?;
         }
     }
     Ok(())

@@ -30,7 +30,7 @@ pub struct Config<'a> {
     settled: &'a Settled,
     session: Session<'a, Settled>,
     /// The units with a user value, in no order.
-    held: Vec<u32>,
+    valued: Vec<u32>,
     meter: Steps,
 }
 
@@ -47,7 +47,7 @@ impl<'a> Model for Config<'a> {
 
     ghost view = { λ c. c.session };
 
-    ghost invariant = { λ c. IsSoundConfig c.settled.now c.session c.held.items };
+    ghost invariant = { λ c. IsSoundConfig c.settled.now c.session c.valued.items };
 }
 
 impl<'a> Config<'a> {
@@ -65,7 +65,7 @@ impl<'a> Config<'a> {
             alloc,
             settled,
             session,
-            held: Vec::new(alloc),
+            valued: Vec::new(alloc),
             meter,
         })
     }
@@ -83,7 +83,7 @@ impl<'a> Config<'a> {
         ensures solved { IfOk result (λ c. IsSolved c) }
     {
         let _ = settled.tree();
-        let held = units_assigned(alloc, &fragment.assigns)?;
+        let valued = units_assigned(alloc, &fragment.assigns)?;
         let users = users_assigned(alloc, settled.len(), &fragment.assigns)?;
         let mut meter = Steps::new();
         let session = Session::holding(alloc, settled, settled.order(), users, &mut meter)?;
@@ -92,7 +92,7 @@ impl<'a> Config<'a> {
             alloc,
             settled,
             session,
-            held,
+            valued,
             meter,
         })
     }
@@ -109,12 +109,12 @@ impl<'a> Config<'a> {
         ensures evaluated { IfOk result (λ report. IsCountOf (length (tree_in self.old).units) (IsTouched (dependencies (tree_in self.old)) self.old.users self.new.users self.old.values self.new.values) report.evaluated) }
         ensures err { OnErr result (self.new ≡ self.old) }
     {
-        let held = units_assigned(self.alloc, &fragment.assigns)?;
-        let mut changes = Vec::with_capacity(self.alloc, self.held.len())?;
-        push_cleared(&mut changes, &self.held)?;
+        let valued = units_assigned(self.alloc, &fragment.assigns)?;
+        let mut changes = Vec::with_capacity(self.alloc, self.valued.len())?;
+        push_cleared(&mut changes, &self.valued)?;
         push_users(self.alloc, &mut changes, &fragment.assigns)?;
         let report = self.session.apply(&changes, &mut self.meter)?;
-        self.held = held;
+        self.valued = valued;
         Ok(report)
     }
 
@@ -132,18 +132,18 @@ impl<'a> Config<'a> {
     {
         let mut changes = Vec::with_capacity(self.alloc, fragment.assigns.len())?;
         push_users(self.alloc, &mut changes, &fragment.assigns)?;
-        let count = self.held.len();
-        match merge_units(&mut self.held, self.session.users(), &fragment.assigns) {
+        let count = self.valued.len();
+        match merge_units(&mut self.valued, self.session.users(), &fragment.assigns) {
             Ok(()) => {}
             Err(fault) => {
-                self.held.truncate(count);
+                self.valued.truncate(count);
                 return Err(fault);
             }
         }
         match self.session.apply(&changes, &mut self.meter) {
             Ok(report) => Ok(report),
             Err(fault) => {
-                self.held.truncate(count);
+                self.valued.truncate(count);
                 Err(fault)
             }
         }
@@ -154,12 +154,12 @@ impl<'a> Config<'a> {
         ensures { IfOk result (λ copy. copy ≡ self.now) }
     {
         let session = self.session.copy()?;
-        let held = Vec::from_slice(self.alloc, &self.held)?;
+        let valued = Vec::from_slice(self.alloc, &self.valued)?;
         Ok(Config {
             alloc: self.alloc,
             settled: self.settled,
             session,
-            held,
+            valued,
             meter: Steps::new(),
         })
     }

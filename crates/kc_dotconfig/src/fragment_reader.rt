@@ -15,11 +15,10 @@ use super::line_buffer::LineBuffer;
 use bstr::ByteSlice;
 use kc_dotconfig_model::{Format, LoadFault, LoadKind};
 use kc_rules::Settled;
-use kc_value::{MAX_CONFIG_BYTES, MAX_CONFIG_LINES, MAX_LINE_BYTES, Source};
+use kc_value::{
+    MAX_CONFIG_BLOCK_BYTES, MAX_CONFIG_BYTES, MAX_CONFIG_LINES, MAX_LINE_BYTES, Source,
+};
 use std::alloc::{AllocError, Global};
-
-/// How many bytes are read at once.
-const BLOCK: usize = 4096;
 
 /// Takes a piece of a line that has no newline yet; `lines` counts the complete lines before it.
 fn take_piece(cutter: &mut LineBuffer, lines: u32, piece: &[u8]) -> Result<(), LoadKind>
@@ -195,7 +194,7 @@ pub fn read_config<R: Source>(
     let mut cutter = LineBuffer::new(alloc);
     let mut gathered = empty_accumulator(alloc);
     let mut size = 0;
-    let mut block = [0; BLOCK];
+    let mut block = [0; MAX_CONFIG_BLOCK_BYTES];
     while size <= MAX_CONFIG_BYTES {
         let Ok(count) = source.read_some(&mut block) else {
             return Err(fault_on_next_line(gathered.lines, LoadKind::Read));

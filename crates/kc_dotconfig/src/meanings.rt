@@ -98,9 +98,7 @@ fn is_number(kind: Kind, text: &str) -> bool
     match kind {
         Kind::Int => int_of(text.as_bytes()).is_some(),
         Kind::Hex => hex_of(text.as_bytes()).is_some(),
-        Kind::Bool => false,
-        Kind::Tristate => false,
-        Kind::Text => false,
+        _ => false,
     }
 }
 

@@ -6,7 +6,7 @@ use Rattle.std.specs.Str.{is_utf8}
 use Rattle.std.specs.Cmp.{first_so, second_so}
 use Rattle.std.proofs.lemmas.Cmp.{nat_list_eq_equiv}
 use Rattle.kc_value.specs.declared.value.Kind.{Kind}
-use Rattle.kc_value.specs.declared.limits.TheConstants.{MAX_LINE_BYTES}
+use Rattle.kc_value.specs.declared.limits.TheConstants.{MAX_LINE_BYTES, MAX_TEXT_BYTES}
 use Rattle.kc_expr.specs.declared.language.Language.{Language}
 use Rattle.kc_expr.specs.declared.fault.ExprFault.{ExprFault}
 use Rattle.kc_expr.specs.declared.token.TokenKind.{TokenKind}
@@ -29,10 +29,10 @@ use Rattle.kc_tree_model.specs.Limits.{is_in_list, is_too_deep, is_too_many}
 use Rattle.kc_tree_model.specs.TreeReading.{statement_by_keyword, statement_by_word, statement_of_tokens, statement_or_fault, statement_on_line, path_to_read}
 use Rattle.kc_tree_model.proofs.HelpLines.{help_alike}
 use Rattle.kc_tree_model.proofs.NestedTrees.LineFits.{fault_if_ok, bind_ok}
-use Rattle.kc_macros_model.specs.Limits.{max_text_bytes}
 use Rattle.kc_macros_model.specs.LineTokens.{LineToken, line_tokens}
-use Rattle.kc_macros_model.specs.WrittenTokens.{is_keyword, inner_keywords, WrittenToken, a_word, a_quoted, an_other, written_as}
-use Rattle.kc_macros_model.specs.Assignments.{Assigned}
+use Rattle.kc_macros_model.specs.declared.token_sort.TokenSort.TheVariants as sorts
+use Rattle.kc_macros_model.specs.WrittenTokens.{is_keyword, inner_keywords, WrittenToken, written_as}
+use Rattle.kc_macros_model.specs.Assignments.{AssignedText}
 use Rattle.kc_macros_model.specs.LineForms.{LineForm, plain, bare_prompt, prompt_words, source_words, help_words, is_word, is_path, is_bare_prompt, form_of_pair, form_of, without_gaps, is_help_line}
 use Rattle.kc_macros_model.specs.PathPatterns.{is_pattern}
 use Rattle.kc_macros_model.specs.PlainLines.{is_kept_token, token_as_it_is, is_assignment, tokens_as_they_are, is_plain_form, plain_path, is_one_of, is_copied}
@@ -88,7 +88,7 @@ abbrev begins_with_keyword : List Lexeme → Bool
 begins_with_keyword [] = true
 begins_with_keyword (p ∷ ps) = is_word_kind p.kind && is_keyword p.text
 
-no_assigned : (b : Bool) (o : Option Assigned) → b ≡ true → is_some (cond b None o) ≡ false
+no_assigned : (b : Bool) (o : Option AssignedText) → b ≡ true → is_some (cond b None o) ≡ false
 no_assigned true o h = refl
 no_assigned false o h = let z : ⊥ = cc in absurd z
 
@@ -105,22 +105,22 @@ no_assignment (long_operator_read c d e r) h = refl
 data AreWritten : List Lexeme → List WrittenToken → Type 0 where
   none_written : AreWritten [] []
   word_written : {p : Lexeme} {ps : List Lexeme} {ts : List WrittenToken} → p.kind ≡ Word → AreWritten ps ts
-      → AreWritten (p ∷ ps) (written_as a_word p.text p.text ∷ ts)
+      → AreWritten (p ∷ ps) (written_as sorts.Word p.text p.text ∷ ts)
   quoted_written : {p : Lexeme} {ps : List Lexeme} {ts : List WrittenToken} (bytes : List ℕ) → p.kind ≡ Quoted → AreWritten ps ts
-      → AreWritten (p ∷ ps) (written_as a_quoted bytes (quoted_text p.text) ∷ ts)
+      → AreWritten (p ∷ ps) (written_as sorts.Quoted bytes (quoted_text p.text) ∷ ts)
   operator_written : {p : Lexeme} {ps : List Lexeme} {ts : List WrittenToken} (c : ℕ) → is_operand_kind p.kind ≡ false → AreWritten ps ts
-      → AreWritten (p ∷ ps) (written_as an_other (c ∷ []) [] ∷ ts)
+      → AreWritten (p ∷ ps) (written_as sorts.Other (c ∷ []) [] ∷ ts)
   long_operator_written : {p : Lexeme} {ps : List Lexeme} {ts : List WrittenToken} (c d : ℕ) → is_operand_kind p.kind ≡ false → AreWritten ps ts
-      → AreWritten (p ∷ ps) (written_as an_other (c ∷ []) [] ∷ (written_as an_other (d ∷ []) [] ∷ ts))
+      → AreWritten (p ∷ ps) (written_as sorts.Other (c ∷ []) [] ∷ (written_as sorts.Other (d ∷ []) [] ∷ ts))
 
 as_written : {ps : List Lexeme} {ts : List LineToken} → AreRead ps ts → AreWritten ps (without_gaps (map token_as_it_is ts))
 as_written none_read = none_written
 as_written (gap_read r) = as_written r
 as_written (word_read {p = p} {ps = ps} {ts = ts} e h r) =
-    subst (λ b. AreWritten (p ∷ ps) (without_gaps (cond b (written_as an_other p.text []) (written_as a_word p.text p.text) ∷ map token_as_it_is ts)))
+    subst (λ b. AreWritten (p ∷ ps) (without_gaps (cond b (written_as sorts.Other p.text []) (written_as sorts.Word p.text p.text) ∷ map token_as_it_is ts)))
     (sym (no_plain_dollar (plain_items false p.text h))) (word_written e (as_written r))
 as_written (quoted_read {p = p} {ps = ps} {ts = ts} quote s e h m r) =
-    subst (λ t. AreWritten (p ∷ ps) (written_as a_quoted (quote ∷ (s ++ quote ∷ [])) t ∷ without_gaps (map token_as_it_is ts))) (sym m)
+    subst (λ t. AreWritten (p ∷ ps) (written_as sorts.Quoted (quote ∷ (s ++ quote ∷ [])) t ∷ without_gaps (map token_as_it_is ts))) (sym m)
     (quoted_written (quote ∷ (s ++ quote ∷ [])) e (as_written r))
 as_written (operator_read c e r) = operator_written c e (as_written r)
 as_written (long_operator_read c d e r) = long_operator_written c d e (as_written r)
@@ -578,7 +578,7 @@ module _ (language : Language) (read : List Group) (p : Lexeme) (k : Keyword) (i
 
   rest_plain : (qs : List Lexeme) (us : List WrittenToken) (s : Statement) → AreWritten qs us → is_left_out language read k qs ≡ false
       → statement_of k qs ≡ Ok s → path_to_read (Some s) ≡ None
-      → is_plain_form (form_of (written_as a_word p.text p.text ∷ us)) ≡ true
+      → is_plain_form (form_of (written_as sorts.Word p.text p.text ∷ us)) ≡ true
   rest_plain [] [] s r kept h none = refl
   rest_plain [] (u ∷ us) s r kept h none = absurd (nothing_written r)
   rest_plain (q ∷ qs) [] s r kept h none = refl
@@ -632,20 +632,20 @@ some_written (long_operator_written c d e r) = (_, _, refl)
 
 module _ (language : Language) (read : List Group) (p : Lexeme) (text : p.text ≡ codes "source") (path : List ℕ) where
   path_line : (q : Lexeme) (us : List WrittenToken) → AreWritten (q ∷ []) us → path_of q ≡ Some path → is_glob_path q ≡ false
-      → IsPlainPath (written_as a_word p.text p.text ∷ us) path
+      → IsPlainPath (written_as sorts.Word p.text p.text ∷ us) path
   path_line q us r h g =
       let w = some_written r in
       let is = path_written q w.0 w.1 path (subst (AreWritten (q ∷ [])) w.2 r) h in
       let globs = no_globs path (sym (ap (λ o. elim o as (λ _. Bool) [ None ↦ false | Some path ↦ is_glob path ]) h) ∙ g) in
       record {
-        one = ap (λ x. plain_path (written_as a_word p.text p.text ∷ x)) (w.2 ∙ ap (λ x. w.0 ∷ x) is.0)
+        one = ap (λ x. plain_path (written_as sorts.Word p.text p.text ∷ x)) (w.2 ∙ ap (λ x. w.0 ∷ x) is.0)
             ∙ ap (λ t. cond (bytes_eq t (codes "source") && is_path w.0) w.0.meaning None) text ∙ ap (λ b. cond b w.0.meaning None) is.1 ∙ is.2;
         no_pattern = globs.0;
         no_bracket = globs.1;
       }
 
   source_fits : (ps : List Lexeme) (us : List WrittenToken) (s : Statement) → AreWritten ps us → is_left_out language read words.Source ps ≡ false
-      → source_line ps ≡ Ok s → path_to_read (Some s) ≡ Some path → IsPlainPath (written_as a_word p.text p.text ∷ us) path
+      → source_line ps ≡ Ok s → path_to_read (Some s) ≡ Some path → IsPlainPath (written_as sorts.Word p.text p.text ∷ us) path
   source_fits [] us s r g h e = let z : ⊥ = cc in absurd z
   source_fits (q ∷ qs) us s r g h e =
       let parts = source_parts (q ∷ qs) s h in
@@ -656,7 +656,7 @@ module _ (language : Language) (read : List Group) (p : Lexeme) (text : p.text �
 
 -- the form of a line with these tokens
 head_written : {p : Lexeme} {ps : List Lexeme} {ts : List WrittenToken} → AreWritten (p ∷ ps) ts → p.kind ≡ Word
-    → (us : List WrittenToken) × (ts ≡ written_as a_word p.text p.text ∷ us) × AreWritten ps us
+    → (us : List WrittenToken) × (ts ≡ written_as sorts.Word p.text p.text ∷ us) × AreWritten ps us
 head_written (word_written e r) h = (_, refl, r)
 head_written (quoted_written bytes e r) h = let z : ⊥ = cc in absurd z
 head_written (operator_written c e r) h = let z : true ≡ false = sym (ap is_operand_kind h) ∙ e in let y : ⊥ = cc in absurd y
@@ -671,7 +671,7 @@ statement_fits language read p ps ts s is r =
     subst (FormFits (path_to_read (Some s))) (sym w.1) (by_path w.0 w.2 key (path_to_read (Some s)) refl)
   where
     by_path : (us : List WrittenToken) → AreWritten ps us → IsKeyword p is.keyword → (o : Option (List ℕ)) → path_to_read (Some s) ≡ o
-        → FormFits o (written_as a_word p.text p.text ∷ us)
+        → FormFits o (written_as sorts.Word p.text p.text ∷ us)
     by_path us r key None e = rest_plain language read p is.keyword key ps us s r is.kept is.form e
     by_path us r key (Some path) e =
         let k : is.keyword ≡ words.Source = only_source is.keyword ps s path is.form e in
@@ -695,7 +695,7 @@ keyword_first language read (p ∷ ps) (Some s) h =
 -- a line that the reader accepts outside help texts: nothing in it is expanded or assigned, and it sources this path, or is in no
 -- form that the expansion writes anew
 pub record IsAcceptedLine (text : List ℕ) (path : Option (List ℕ)) : Type 0 where
-  pub short : nat_lt max_text_bytes (length text) ≡ false
+  pub short : nat_lt MAX_TEXT_BYTES (length text) ≡ false
   pub utf8 : is_utf8 text ≡ true
   pub kept : list_all is_kept_token (line_tokens 0 text) ≡ true
   pub no_name : is_assignment (line_tokens 0 text) ≡ false
@@ -706,7 +706,7 @@ not_so : (b : Bool) → not b ≡ false → b ≡ true
 not_so true h = refl
 not_so false h = let z : ⊥ = cc in absurd z
 
-line_with_statement : (language : Language) (read : List Group) (text : List ℕ) (o : Option Statement) → nat_lt max_text_bytes (length text) ≡ false
+line_with_statement : (language : Language) (read : List Group) (text : List ℕ) (o : Option Statement) → nat_lt MAX_TEXT_BYTES (length text) ≡ false
     → is_utf8 text ≡ true → IsStatementOf language read text o → IsAcceptedLine text (path_to_read o)
 line_with_statement language read text o short utf8 is =
     let read_as : AreRead is.tokens (line_tokens 0 text) = cut_tokens language 0 text is.tokens

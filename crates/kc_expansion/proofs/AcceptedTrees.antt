@@ -1,6 +1,7 @@
 -- Trees that the reader accepts are given back by the expansion: both read the same files in the same order.
 use Rattle.std.proofs.Common.{◌≡◌, ℕ, zero, suc, ◌+◌, Bool, true, false, ◌&&◌, ◌||◌, cond, List, [], ◌∷◌, ◌++◌, length, take, drop, map, reverse, Option, Some, None, Result, Ok, Err, refl, sym, ap, ◌∙◌, subst, arith}
 use Rattle.std.specs.Prelude.{not, nat_lt, nat_le, bytes_eq, codes, decimal, filter_map, is_some, sum_by}
+use Rattle.std.specs.Option.{option_or}
 use Rattle.std.specs.List.{All, list_any, cons_option}
 use Rattle.std.specs.Str.{is_utf8}
 use Rattle.std.proofs.lemmas.Bool.{leb-false}
@@ -9,7 +10,7 @@ use Rattle.std.proofs.lemmas.List.{drop-map}
 use Rattle.std.proofs.lemmas.List.Elements.{All-cons, All-nil}
 use Rattle.std.proofs.lemmas.List.Folds.{list_any-append}
 use Rattle.std.proofs.lemmas.List.Sums.{sum_by-cons}
-use Rattle.kc_value.specs.declared.limits.TheConstants.{MAX_FILES, MAX_TREE_BYTES, MAX_OPEN_FILES}
+use Rattle.kc_value.specs.declared.limits.TheConstants.{MAX_FILES, MAX_TREE_BYTES, MAX_OPEN_FILES, MAX_TEXT_BYTES, MAX_WORK, MAX_LINE_BYTES}
 use Rattle.kc_tree_model.specs.declared.fault.TreeKind.{TreeKind}
 use Rattle.kc_tree_model.specs.declared.fault.TreeKind.TheVariants.{SourceLoop, MissingFile, TooDeep, TooMany}
 use Rattle.kc_tree_model.specs.declared.fault.TreeFault.{TreeFault}
@@ -28,11 +29,11 @@ use Rattle.kc_tree_model.proofs.NestedTrees.OpenBlocks.{popped}
 use Rattle.kc_tree_model.proofs.NestedTrees.ReadingNests.{AllBlocks, Since, Closes, Reads, after_given, file_closes}
 use Rattle.kc_macros_model.specs.declared.fault.MacroKind.{MacroKind}
 use Rattle.kc_macros_model.specs.declared.fault.MacroKind.TheVariants as kinds
-use Rattle.kc_macros_model.specs.Limits.{max_text_bytes, max_files, max_bytes, max_open_files, max_work}
 use Rattle.kc_macros_model.specs.Programs.{Place, spend, report, ask, read_file, list_folder, Program, returns, fails, stops, does, ◌>>=◌}
 use Rattle.kc_macros_model.specs.Expansion.{fault}
 use Rattle.kc_macros_model.specs.LineTokens.{line_tokens}
-use Rattle.kc_macros_model.specs.WrittenTokens.{WrittenToken, written_as, a_word}
+use Rattle.kc_macros_model.specs.declared.token_sort.TokenSort.TheVariants.{Word}
+use Rattle.kc_macros_model.specs.WrittenTokens.{WrittenToken, written_as}
 use Rattle.kc_macros_model.specs.Assignments.{line_content}
 use Rattle.kc_macros_model.specs.LineForms.{sources, with_nth_token, line_bytes, quoted_text_token, is_help_line}
 use Rattle.kc_macros_model.specs.PathPatterns.{files_of_pattern}
@@ -178,7 +179,7 @@ same_files at (Some (attribute a)) (g ∷ before) e = refl
 help_statement : (r : FileSource) (read : List Group) (l : LogicalLine) (o : Option Statement) → l.help ≡ true → statement_on_line r.language read l ≡ Ok o
     → o ≡ None
 unfolding statement_on_line
-help_statement r read l o help h = by_tests (nat_lt 65536 (length l.text)) (not (is_utf8 l.text)) l.help _ _ _ help h
+help_statement r read l o help h = by_tests (nat_lt MAX_LINE_BYTES (length l.text)) (not (is_utf8 l.text)) l.help _ _ _ help h
   where
     by_tests : (a b c : Bool) (j k : TreeKind) (x : Result (Option Statement) TreeKind) → c ≡ true → cond a (Err j) (cond b (Err k) (cond c (Ok None) x)) ≡ Ok o
         → o ≡ None
@@ -291,7 +292,7 @@ module _ (w : World) (r : FileSource) (among : AreAmong r.bytes w.bytes) where
       (reads : SourceReader) (both : ReadsBoth start opened sub reads) (file : List ℕ) (number : ℕ) where
     -- a line that the reader accepts
     module _ (at : Place) (continued : Bool) (text : List ℕ) (s : ReadingState) where
-      line_is : nat_lt max_text_bytes (length text) ≡ false → is_utf8 text ≡ true → line_written reads at continued text s
+      line_is : nat_lt MAX_TEXT_BYTES (length text) ≡ false → is_utf8 text ≡ true → line_written reads at continued text s
           ≡ (line_content at s.bindings true (line_tokens 0 text) >>= content_written reads at continued s)
       line_is short utf8 =
           ap (λ b. elim (b || not (is_utf8 text)) as (λ z. Program WrittenLine) [
@@ -329,7 +330,7 @@ module _ (w : World) (r : FileSource) (among : AreAmong r.bytes w.bytes) where
           ts = own_tokens text
 
           first_token : List WrittenToken
-          first_token = with_nth_token 0 (written_as a_word (codes "source") []) ts
+          first_token = with_nth_token 0 (written_as Word (codes "source") []) ts
 
           begins : BeginsWithSource ts
           begins = let source : IsSource (tokens_as_they_are text) path = source_of_path (tokens_as_they_are text) path is.one in
@@ -589,11 +590,11 @@ module _ (w : World) (r : FileSource) (among : AreAmong r.bytes w.bytes) where
   no_fault start read opened path s room since same_paths f =
       let same = same_open r start read since in
       let a : is_in_list path opened ≡ false = same_paths.listed path ∙ sym (ap (is_in_list path) same) ∙ room.closed in
-      let b : nat_le max_open_files (length opened) ≡ false = ap (nat_le max_open_files) (same_paths.count ∙ sym (ap length same)) ∙ room.few_open in
-      let c : nat_le max_files s.files ≡ false = ap (nat_le max_files) f.files ∙ room.few in
-      let d : nat_lt max_bytes (s.bytes + length room.bytes) ≡ false = ap (λ n. nat_lt max_bytes (n + length room.bytes)) f.bytes ∙ room.small in
-      no_test (is_in_list path opened) (nat_le max_open_files (length opened)) (nat_le max_files s.files)
-      (nat_lt max_bytes (s.bytes + length room.bytes)) _ _ _ a b c d
+      let b : nat_le MAX_OPEN_FILES (length opened) ≡ false = ap (nat_le MAX_OPEN_FILES) (same_paths.count ∙ sym (ap length same)) ∙ room.few_open in
+      let c : nat_le MAX_FILES s.files ≡ false = ap (nat_le MAX_FILES) f.files ∙ room.few in
+      let d : nat_lt MAX_TREE_BYTES (s.bytes + length room.bytes) ≡ false = ap (λ n. nat_lt MAX_TREE_BYTES (n + length room.bytes)) f.bytes ∙ room.small in
+      no_test (is_in_list path opened) (nat_le MAX_OPEN_FILES (length opened)) (nat_le MAX_FILES s.files)
+      (nat_lt MAX_TREE_BYTES (s.bytes + length room.bytes)) _ _ _ a b c d
     where
       no_test : (a b c d : Bool) (x y z : MacroKind) → a ≡ false → b ≡ false → c ≡ false → d ≡ false
           → cond a (Some x) (cond b (Some y) (cond (c || d) (Some z) None)) ≡ None
@@ -632,7 +633,7 @@ module _ (w : World) (r : FileSource) (among : AreAmong r.bytes w.bytes) where
       swap_first : (a b c : Bool) → (a || (b || c)) ≡ (b || (a || c))
       swap_first = swap
 
-  reads_both : (n : ℕ) (start : List Group) (opened : List (List ℕ)) → n + length opened ≡ max_open_files → AreOpen start opened
+  reads_both : (n : ℕ) (start : List Group) (opened : List (List ℕ)) → n + length opened ≡ MAX_OPEN_FILES → AreOpen start opened
       → ReadsBoth start opened (read_whole_file n r) (source_read (suc n) r.root opened)
   reads_both zero start opened full same_paths at position path read s since f e h =
       let room = has_room r read path e in
@@ -673,7 +674,7 @@ module _ (w : World) (r : FileSource) (among : AreAmong r.bytes w.bytes) where
       whole = read_whole_file (suc 31) r r.root []
 
       deeper : SourceReader
-      deeper = source_read max_open_files r.root (r.root ∷ [])
+      deeper = source_read MAX_OPEN_FILES r.root (r.root ∷ [])
 
       begins : Follows [] (r.root ∷ []) (counted (length bytes) initial_state)
       begins =
@@ -711,7 +712,7 @@ module _ (w : World) (r : FileSource) (among : AreAmong r.bytes w.bytes) where
   tree_gives (Some bytes) there h = subst (λ o. Gives w (IsTree (read_root r (Some bytes)).read) (root_read r.root initial_state o))
       (sym (among r.root bytes there)) (root_gives bytes there h)
 
-no_fault_read : (k : Option TreeFault) (t : Option TreeFault) → elim k as (λ _. Option TreeFault) [ None ↦ t | Some f ↦ Some f ] ≡ None → k ≡ None
+no_fault_read : (k : Option TreeFault) (t : Option TreeFault) → option_or k t ≡ None → k ≡ None
 no_fault_read None t h = refl
 no_fault_read (Some f) t h = let z : ⊥ = cc in absurd z
 
@@ -750,7 +751,7 @@ pub accepted_trees_stay : AcceptedTreesStay
 unfolding expansion
 accepted_trees_stay w files root h among =
     let r = origin w files root among in
-    let q = quiet_outcome w (IsTree w r among (reading files root).read) true max_work (tree_read root) (tree_read_gives w files root among h) in
+    let q = quiet_outcome w (IsTree w r among (reading files root).read) true MAX_WORK (tree_read root) (tree_read_gives w files root among h) in
     record {
       notices = q.notices;
       questions = q.questions;
@@ -767,6 +768,6 @@ pub accepted_trees_want_nothing : AcceptedTreesWantNothing
 unfolding wanted
 accepted_trees_want_nothing w files root h among =
     let r = origin w files root among in
-    let q = quiet_outcome w (IsTree w r among (reading files root).read) false max_work (tree_read root) (tree_read_gives w files root among h) in
-    ap (λ qs. questions_or_fault (without_repeats (reverse qs)) (outcome false w max_work (tree_read root)).ending) q.questions
+    let q = quiet_outcome w (IsTree w r among (reading files root).read) false MAX_WORK (tree_read root) (tree_read_gives w files root among h) in
+    ap (λ qs. questions_or_fault (without_repeats (reverse qs)) (outcome false w MAX_WORK (tree_read root)).ending) q.questions
     ∙ ap (questions_or_fault []) q.ending

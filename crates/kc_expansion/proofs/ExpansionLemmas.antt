@@ -5,8 +5,8 @@ use Rattle.std.proofs.lemmas.Bool.Decides.{nat_tests}
 use Rattle.kc_tree_model.specs.Keywords.{keyword_in_table}
 use Rattle.kc_tree_model.specs.LogicalLines.{split_at_newlines}
 use Rattle.kc_macros_model.specs.declared.fault.MacroKind.TheVariants.{MissingFile, TooMany}
-use Rattle.kc_macros_model.specs.AnswerFiles.{Recorded}
-use Rattle.kc_macros_model.specs.Limits.{max_files, max_bytes, max_work}
+use Rattle.kc_macros_model.specs.AnswerFiles.{RecordedAnswers}
+use Rattle.kc_value.specs.declared.limits.TheConstants.{MAX_FILES, MAX_TREE_BYTES, MAX_WORK}
 use Rattle.kc_macros_model.specs.Programs.{Fault, Notice, Program, returns, fails, ◌>>=◌}
 use Rattle.kc_macros_model.specs.ReadingStates.{ExpandedFile, ReadingState, initial_state, Progress, progress, counted}
 use Rattle.kc_macros_model.specs.TreeExpansion.{place, lines_read, root_read, tree_read}
@@ -31,7 +31,7 @@ use Rattle.kc_expansion.proofs.WorldLemmas.{world_of, world_agrees, world_allowe
 pub nothing_as_known : (contents : TreeContents) → AreAsKnown contents nothing_known
 nothing_as_known contents = record { files = λ path read e. absurd (let z : ⊥ = cc in z); folders = λ folder read e. absurd (let z : ⊥ = cc in z) }
 
-module _ (contents : TreeContents) (b : FileRun) (answers : Recorded) (root : List ℕ) where
+module _ (contents : TreeContents) (b : FileRun) (answers : RecordedAnswers) (root : List ℕ) where
   module _ (grows : Grows contents nothing_known b.known) where
     abbrev as_known : AreAsKnown contents b.known
     as_known = grows.matched (nothing_as_known contents)
@@ -62,7 +62,7 @@ module _ (contents : TreeContents) (b : FileRun) (answers : Recorded) (root : Li
     wanted_read questions e h r =
         let run = reaches_in here b.known (run_at_start answers false) b.run (tree_read root) e (world_agrees contents b.known answers as_known)
         (world_answers contents b.known answers as_known) r in
-        let o = outcome false here max_work (tree_read root) in
+        let o = outcome false here MAX_WORK (tree_read root) in
         record {
           world = here;
           of_contents = world_allowed contents b.known answers as_known;
@@ -87,7 +87,7 @@ module _ (contents : TreeContents) (b : FileRun) (answers : Recorded) (root : Li
     goes_on view (Err kinds.OutOfMemory) h = tt
 
 -- a run of a program that begins with no known files grows from no known files, and reaches its end from the state at the start
-pub from_start : {A : Type 0} (a b : FileRun) (answers : Recorded) (all_answered : Bool) (p : Program A) (e : RunEnd A) → a.known ≡ nothing_known
+pub from_start : {A : Type 0} (a b : FileRun) (answers : RecordedAnswers) (all_answered : Bool) (p : Program A) (e : RunEnd A) → a.known ≡ nothing_known
     → a.run ≡ run_at_start answers all_answered → Reads a b p e
     → Grows a.contents nothing_known b.known × Reaches b.known (run_at_start answers all_answered) b.run p e
 from_start a b answers all_answered p e k r h = (
@@ -103,7 +103,7 @@ end_there view (Err kinds.Unanswered) h = (stopped, refl)
 end_there view (Err kinds.OutOfMemory) h = absurd h
 
 -- where the code's result has the questions or the fault of a reading of a tree, it is what is wanted of the tree
-pub wanted_of : {X V E : Type 0} (contents : TreeContents) (b : FileRun) (answers : Recorded) (root : List ℕ) (grows : Grows contents nothing_known b.known)
+pub wanted_of : {X V E : Type 0} (contents : TreeContents) (b : FileRun) (answers : RecordedAnswers) (root : List ℕ) (grows : Grows contents nothing_known b.known)
     (view : X → List ExpandedFile) (r : Result X Stop) (of : V → Result (List (List ℕ)) Fault) (result : Result V E) (questions : List (List ℕ))
     → questions ≡ b.run.questions → Reaches b.known (run_at_start answers false) b.run (tree_read root) (end_of view r) → OnOk result (HasEnded r)
     → IfOk result (λ w. (e : Ending (List ExpandedFile)) → end_of view r ≡ ends e → of w ≡ questions_or_fault questions e)
@@ -138,17 +138,17 @@ pub root_missing : (root : List ℕ) (s : ReadingState) (bytes : Option (List �
     → root_read root s bytes ≡ fails (fault_at (place root 0) MissingFile)
 root_missing root s bytes h = ap (root_read root s) h
 
-pub root_too_long : (root : List ℕ) (s : ReadingState) (bytes : Option (List ℕ)) (there : List ℕ) → bytes ≡ Some there → 67108864 < length there
+pub root_too_long : (root : List ℕ) (s : ReadingState) (bytes : Option (List ℕ)) (there : List ℕ) → bytes ≡ Some there → MAX_TREE_BYTES < length there
     → root_read root s bytes ≡ fails (fault_at (place root 0) TooMany)
 unfolding root_by
-root_too_long root s bytes there h k = ap (root_read root s) h ∙ ap (root_by root s there) (let e : nat_lt max_bytes (length there) ≡ true =
+root_too_long root s bytes there h k = ap (root_read root s) h ∙ ap (root_by root s there) (let e : nat_lt MAX_TREE_BYTES (length there) ≡ true =
     grind (arith, nat_tests) in e)
 
-pub root_opened : (root : List ℕ) (s : ReadingState) (bytes : Option (List ℕ)) (there : List ℕ) → bytes ≡ Some there → length there ≤ 67108864
+pub root_opened : (root : List ℕ) (s : ReadingState) (bytes : Option (List ℕ)) (there : List ℕ) → bytes ≡ Some there → length there ≤ MAX_TREE_BYTES
     → root_read root s bytes ≡ lines_read (reader_for root (root ∷ [])) root 0 1 (split_at_newlines there) (counted (length there) s) >>= λ p. returns
     (p.state.expanded ++ record { key = root; path = root; text = p.text } ∷ [])
 unfolding root_by
-root_opened root s bytes there h k = ap (root_read root s) h ∙ ap (root_by root s there) (let e : nat_lt max_bytes (length there) ≡ false =
+root_opened root s bytes there h k = ap (root_read root s) h ∙ ap (root_by root s there) (let e : nat_lt MAX_TREE_BYTES (length there) ≡ false =
     grind (arith, nat_tests) in e)
 
 pub counted_first : (s : ReadingState) (n len : ℕ) → s ≡ initial_state → n ≡ len → (let t : ReadingState = record s { files = 1; bytes = n } in t)
@@ -167,7 +167,7 @@ root_leads a b root s read q i same grows run known h =
     leads_read a b root (root_read root initial_state) q read same grows run known (λ bytes e. ap (λ t. root_read root t bytes) (sym i) ∙ h bytes e)
 
 -- an expansion returns no more expanded files than files may be read for a tree
-pub few_files : (contents : TreeContents) (answers : Recorded) (root : List ℕ) (notices : List Notice) (tree : Result (List ExpandedFile) MacroFault)
-    → IsExpansion contents answers root notices (tree_of tree) → IfOk tree (λ files. length files ≤ max_files)
+pub few_files : (contents : TreeContents) (answers : RecordedAnswers) (root : List ℕ) (notices : List Notice) (tree : Result (List ExpandedFile) MacroFault)
+    → IsExpansion contents answers root notices (tree_of tree) → IfOk tree (λ files. length files ≤ MAX_FILES)
 few_files contents answers root notices (Ok files) e = files_are_bounded e.world root files e.ends_so
 few_files contents answers root notices (Err fault) e = tt

@@ -5,7 +5,7 @@ use Rattle.std.proofs.lemmas.List.{append-nil}
 use Rattle.kc_tree_model.specs.Keywords.{keyword_in_table}
 use Rattle.kc_macros_model.specs.Programs.{Fault, read_file, Program, returns, fails, stops, does, ◌>>=◌}
 use Rattle.kc_macros_model.specs.Worlds.{World, Ending, returned, failed, stopped, Outcome, ended}
-use Rattle.kc_macros_model.specs.AnswerFiles.{Recorded}
+use Rattle.kc_macros_model.specs.AnswerFiles.{RecordedAnswers}
 use Rattle.kc_macros.specs.declared.stop.Stop.{Stop}
 use Rattle.kc_macros.specs.declared.stop.Stop.TheVariants as kinds
 use Rattle.kc_macros.specs.RunStates.{RunState, after_outcome}
@@ -100,7 +100,7 @@ leads_then a b c p q r f g = record {
   grows = grows_then a b c f.same f.grows g.grows;
   meet = λ w k h.
       let one = f.meet w (g.grows.worlds w k) h in
-      let two = g.meet w k (subst (λ (es : Recorded). HasAnswers w es) (sym one.answers) h) in
+      let two = g.meet w k (subst (λ (es : RecordedAnswers). HasAnswers w es) (sym one.answers) h) in
       record { answers = two.answers ∙ one.answers; state = one.state ∙ two.state; ending = one.ending ∙ two.ending };
 }
 
@@ -135,7 +135,7 @@ reads_on {A = A} a b c p q e f r = record { same = r.same ∙ f.same; grows = gr
     by_cases : (e : RunEnd A) → Reaches c.known b.run c.run q e → Reaches c.known a.run c.run p e
     by_cases (ends e) h = reaches_by c.known a.run c.run p e (λ w k x.
         let one = f.meet w (r.grows.worlds w k) x in
-        let two = reaches_in w c.known b.run c.run q e k (subst (λ (es : Recorded). HasAnswers w es) (sym one.answers) x) h in
+        let two = reaches_in w c.known b.run c.run q e k (subst (λ (es : RecordedAnswers). HasAnswers w es) (sym one.answers) x) h in
         record { state = two.state ∙ sym one.state; ending = one.ending ∙ two.ending })
     by_cases out_of_memory h = cut_short
 

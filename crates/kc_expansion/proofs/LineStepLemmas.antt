@@ -5,7 +5,7 @@ use Rattle.std.specs.Str.{is_utf8}
 use Rattle.std.proofs.lemmas.Bool.Decides.{nat_tests}
 use Rattle.kc_tree_model.specs.LogicalLines.{begins_help}
 use Rattle.kc_macros_model.specs.declared.fault.MacroKind.TheVariants.{LineTooLong}
-use Rattle.kc_macros_model.specs.Limits.{max_text_bytes}
+use Rattle.kc_value.specs.declared.limits.TheConstants.{MAX_TEXT_BYTES}
 use Rattle.kc_macros_model.specs.Programs.{Place, Program, returns, fails, stops, ◌>>=◌}
 use Rattle.kc_macros_model.specs.Variables.{Value, with_variable}
 use Rattle.kc_macros_model.specs.LineTokens.{line_tokens}
@@ -21,7 +21,6 @@ use Rattle.kc_macros.specs.Runs.{ends, end_of_stop}
 use Rattle.kc_expansion.specs.between.Reads.{FileRun, cut_short, Reads}
 use Rattle.kc_expansion.specs.checker.ProgramSteps.{Leads}
 use Rattle.kc_macros.specs.declared.assignments.Assignment.{Assignment}
-use Rattle.kc_macros.specs.between.AssignmentViews.{operator_of}
 use Rattle.kc_expansion.specs.checker.SameLines.{Stays}
 use Rattle.kc_expansion.specs.checker.ReadingViews.{fault_at, assigned_or_fault, IsNoPath}
 use Rattle.kc_macros.proofs.QuietLemmas.{narrow_is_utf8}
@@ -34,13 +33,13 @@ module _ (at : Place) (help : Bool) (text : List ℕ) (s : ReadingState) where
   by_length b = elim b [ true ↦ fails (fault_at at LineTooLong) | false ↦ returns (written_line text help s) ]
 
   -- a line whose new text is longer than 65,536 bytes fails by `LineTooLong`
-  pub long_line : 65536 < length text → short_line at help (progress text s) ≡ fails (fault_at at LineTooLong)
+  pub long_line : MAX_TEXT_BYTES < length text → short_line at help (progress text s) ≡ fails (fault_at at LineTooLong)
   unfolding by_length
-  long_line h = ap by_length (let e : nat_lt max_text_bytes (length text) ≡ true = grind (arith, nat_tests) in e)
+  long_line h = ap by_length (let e : nat_lt MAX_TEXT_BYTES (length text) ≡ true = grind (arith, nat_tests) in e)
 
-  pub short_enough : length text ≤ 65536 → short_line at help (progress text s) ≡ returns (written_line text help s)
+  pub short_enough : length text ≤ MAX_TEXT_BYTES → short_line at help (progress text s) ≡ returns (written_line text help s)
   unfolding by_length
-  short_enough h = ap by_length (let e : nat_lt max_text_bytes (length text) ≡ false = grind (arith, nat_tests) in e)
+  short_enough h = ap by_length (let e : nat_lt MAX_TEXT_BYTES (length text) ≡ false = grind (arith, nat_tests) in e)
 
 -- the result of a line with an equal text, and with the names of choices that the state has already, is the same result
 pub written_so : (t u : List ℕ) (s : ReadingState) (names : List (List ℕ)) → t ≡ u → s.choices ≡ names
@@ -75,12 +74,12 @@ module _ (sub : SourceReader) (at : Place) (continued : Bool) (text : List ℕ) 
   ]
 
   -- a line that is UTF-8 and not too long is read into its content, which is then written
-  pub changing_line : (nat_lt max_text_bytes (length text) || not (is_utf8 text)) ≡ false → line_written sub at continued text s
+  pub changing_line : (nat_lt MAX_TEXT_BYTES (length text) || not (is_utf8 text)) ≡ false → line_written sub at continued text s
       ≡ line_content at s.bindings true (line_tokens 0 text) >>= content_written sub at continued s
   unfolding by_size
   changing_line h = ap by_size h
 
-  pub refused_line : (nat_lt max_text_bytes (length text) || not (is_utf8 text)) ≡ true → line_written sub at continued text s
+  pub refused_line : (nat_lt MAX_TEXT_BYTES (length text) || not (is_utf8 text)) ≡ true → line_written sub at continued text s
       ≡ returns (written_line text (begins_help text) s)
   unfolding by_size
   refused_line h = ap by_size h
@@ -90,7 +89,7 @@ usual : (sub : SourceReader) (at : Place) (continued : Bool) (s : ReadingState) 
     ≡ returns (written_line (9 ∷ codes "help") true s)
 usual sub at continued s =
     let text = 9 ∷ codes "help" in
-    ap (λ b. elim (nat_lt max_text_bytes (length text) || not b) as (λ x. Program WrittenLine) [
+    ap (λ b. elim (nat_lt MAX_TEXT_BYTES (length text) || not b) as (λ x. Program WrittenLine) [
       | true ↦ returns (written_line text (begins_help text) s)
       | false ↦ line_content at s.bindings true (line_tokens 0 text) >>= content_written sub at continued s
     ]) (narrow_is_utf8 text refl)
@@ -99,7 +98,7 @@ pub usual_help : (text : List ℕ) → text ≡ 9 ∷ codes "help" → Stays tex
 usual_help text e = rw e (record { written = usual })
 
 -- a line that is too long or isn't UTF-8 stays
-pub refused_stays : (text : List ℕ) (help : Bool) → (nat_lt max_text_bytes (length text) || not (is_utf8 text)) ≡ true → help ≡ begins_help text
+pub refused_stays : (text : List ℕ) (help : Bool) → (nat_lt MAX_TEXT_BYTES (length text) || not (is_utf8 text)) ≡ true → help ≡ begins_help text
     → Stays text help
 refused_stays text help h e = record {
   written = λ sub at continued s. refused_line sub at continued text s h
@@ -108,11 +107,11 @@ refused_stays text help h e = record {
 
 -- the writing of an assignment on a line binds its name, or fails where the line is continued, and leaves an empty line
 pub assigned_line : (sub : SourceReader) (at : Place) (continued : Bool) (s : ReadingState) (a : Assignment)
-    → content_written sub at continued s (assigns a.name (assigned (operator_of a.operator) a.text))
+    → content_written sub at continued s (assigns a.name (assigned a.operator a.text))
     ≡ (assigned_or_fault at continued s.bindings a >>= λ b. let t : ReadingState = record s { bindings = b } in returns (written_line [] false t))
 assigned_line sub at true s a = refl
 assigned_line sub at false s a =
-    sym (grouped (variable_assigned at s.bindings (operator_of a.operator) a.text (s.bindings a.name)) (λ v. returns (with_variable a.name v s.bindings))
+    sym (grouped (variable_assigned at s.bindings a.operator a.text (s.bindings a.name)) (λ v. returns (with_variable a.name v s.bindings))
     (λ b. let t : ReadingState = record s { bindings = b } in returns (written_line [] false t)))
 
 -- the writing of a line whose form is written as a text leads to that text, if it is short enough

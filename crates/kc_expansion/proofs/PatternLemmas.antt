@@ -7,11 +7,11 @@ use Rattle.std.proofs.lemmas.Bool.Decides.{nat_tests}
 use Rattle.std.proofs.lemmas.List.{append-nil}
 use Rattle.std.proofs.Math.Seq.{drop-cons}
 use Rattle.kc_tree_model.specs.Keywords.{keyword_in_table}
-use Rattle.kc_macros_model.specs.Limits.{max_listed_names}
+use Rattle.kc_value.specs.declared.limits.TheConstants.{MAX_LISTED_NAMES}
 use Rattle.kc_macros_model.specs.Programs.{Place, list_folder, Program, returns, fails, does, ◌>>=◌}
 use Rattle.kc_macros_model.specs.Worlds.{World, returned, failed, Outcome, outcome}
 use Rattle.kc_macros_model.specs.PathPatterns.{is_pattern, FoundPaths, found, matches_name, matching_names, paths_in_folder, paths_in_folders, paths_below, path_pieces, readable_paths, files_of_pattern, sorted}
-use Rattle.kc_expansion.specs.declared.patterns.Found.{Found}
+use Rattle.kc_expansion.specs.declared.patterns.FoundPaths.{FoundPaths as CodePaths}
 use Rattle.kc_expansion.specs.declared.patterns.PatternStop.{PatternStop}
 use Rattle.kc_expansion.specs.declared.patterns.PatternStop.TheVariants.{TooMany, OutOfMemory}
 use Rattle.kc_expansion.specs.TreeContents.{TreeContents}
@@ -35,18 +35,18 @@ unmatched_more piece folder name ns before e =
     ap (λ b. before ++ map (λ n. folder ++ n) (cond b (name ∷ filter (matches_name piece) ns) (filter (matches_name piece) ns))) e
 
 -- the paths among the names of a listed folder
-few_names : (at : Place) (piece folder : List ℕ) (listed : ℕ) (all : List (List ℕ)) → nat_lt max_listed_names (listed + length all) ≡ false
+few_names : (at : Place) (piece folder : List ℕ) (listed : ℕ) (all : List (List ℕ)) → nat_lt MAX_LISTED_NAMES (listed + length all) ≡ false
     → matching_names at piece folder listed all ≡ returns (found (map (λ n. folder ++ n) (filter (matches_name piece) all)) (listed + length all))
 few_names at piece folder listed all e =
     ap (λ b. cond b (fails (too_many_at at)) (returns (found (map (λ n. folder ++ n) (filter (matches_name piece) all)) (listed + length all)))) e
 
-many_names : (at : Place) (piece folder : List ℕ) (listed : ℕ) (all : List (List ℕ)) → nat_lt max_listed_names (listed + length all) ≡ true
+many_names : (at : Place) (piece folder : List ℕ) (listed : ℕ) (all : List (List ℕ)) → nat_lt MAX_LISTED_NAMES (listed + length all) ≡ true
     → matching_names at piece folder listed all ≡ fails (too_many_at at)
 many_names at piece folder listed all e =
     ap (λ b. cond b (fails (too_many_at at)) (returns (found (map (λ n. folder ++ n) (filter (matches_name piece) all)) (listed + length all)))) e
 
 module _ (known : KnownFiles) (at : Place) (piece folder : List ℕ) (listed : ℕ) where
-  pub finds_listed : (all : List (List ℕ)) → keyword_in_table known.folders folder ≡ Some (names all) → nat_lt max_listed_names (listed + length all) ≡ false
+  pub finds_listed : (all : List (List ℕ)) → keyword_in_table known.folders folder ≡ Some (names all) → nat_lt MAX_LISTED_NAMES (listed + length all) ≡ false
       → Comes known (does (list_folder folder) (matching_names at piece folder listed))
       (returned (found (map (λ n. folder ++ n) (filter (matches_name piece) all)) (listed + length all)))
   finds_listed all e few =
@@ -60,7 +60,7 @@ module _ (known : KnownFiles) (at : Place) (piece folder : List ℕ) (listed : �
       (found (map (λ n. folder ++ n) (filter (matches_name piece) all)) (listed + length all))) (few_names at piece folder listed all few))
       (comes_at_once known (found (map (λ n. folder ++ n) (filter (matches_name piece) all)) (listed + length all))))
 
-  pub too_many_listed : (all : List (List ℕ)) → keyword_in_table known.folders folder ≡ Some (names all) → nat_lt max_listed_names (listed + length all) ≡ true
+  pub too_many_listed : (all : List (List ℕ)) → keyword_in_table known.folders folder ≡ Some (names all) → nat_lt MAX_LISTED_NAMES (listed + length all) ≡ true
       → Comes known (does (list_folder folder) (matching_names at piece folder listed)) (failed (too_many_at at))
   too_many_listed all e many =
       comes_as known (does (list_folder folder) (matching_names at piece folder listed)) (matching_names at piece folder listed all) (failed (too_many_at at))
@@ -79,7 +79,7 @@ module _ (known : KnownFiles) (at : Place) (piece folder : List ℕ) (listed : �
         (fails_at_once known (too_many_at at))).in_world w a all left;
   }
     where
-      many : (n : ℕ) → max_listed_names < n → nat_lt max_listed_names (listed + n) ≡ true
+      many : (n : ℕ) → MAX_LISTED_NAMES < n → nat_lt MAX_LISTED_NAMES (listed + n) ≡ true
       many n h = grind (arith, nat_tests)
 
 module _ (at : Place) (piece : List ℕ) where
@@ -153,10 +153,10 @@ pub cut_items : (vs : List (Vec ℕ Global)) (i : ℕ) (v : Vec ℕ Global) → 
 cut_items vs i v h e = ap items_of (drop-cons vs i v h ∙ ap (λ x. x ∷ drop (suc i) vs) (sym e) ∙ ap (λ k. v ∷ drop k vs)
     (let k : suc i ≡ i + 1 = omega arith in k))
 
-pub more_is_many : (n : ℕ) → max_listed_names < n → nat_lt max_listed_names n ≡ true
+pub more_is_many : (n : ℕ) → MAX_LISTED_NAMES < n → nat_lt MAX_LISTED_NAMES n ≡ true
 more_is_many n h = grind (arith, nat_tests)
 
-pub less_is_few : (n : ℕ) → n ≤ max_listed_names → nat_lt max_listed_names n ≡ false
+pub less_is_few : (n : ℕ) → n ≤ MAX_LISTED_NAMES → nat_lt MAX_LISTED_NAMES n ≡ false
 less_is_few n h = grind (arith, nat_tests)
 
 -- the paths that a piece with `*` or `?` matches in a folder are found by listing the folder
@@ -231,7 +231,7 @@ module _ (at : Place) where
   stops_same known p q TooMany s h = comes_as known p q (failed (too_many_at at)) s h
   stops_same known p q OutOfMemory s h = tt
 
-  pub finds_same : (known : KnownFiles) (p q : Program FoundPaths) (r : Result Found PatternStop) → HaveSameOutcome known p q → Finds known at q r
+  pub finds_same : (known : KnownFiles) (p q : Program FoundPaths) (r : Result CodePaths PatternStop) → HaveSameOutcome known p q → Finds known at q r
       → Finds known at p r
   finds_same known p q (Ok f) s h = comes_as known p q (returned (found_of f)) s h
   finds_same known p q (Err stop) s h = stops_same known p q stop s h
@@ -262,7 +262,7 @@ module _ (at : Place) where
       ∙ below_piece piece tail folders listed)) (stops_then known p k stop h)
 
   -- the search for a path of one piece is the search for that piece in the folders
-  pub below_last : (known : KnownFiles) (path : List ℕ) (folders : List (List ℕ)) (listed : ℕ) (r : Result Found PatternStop) → path_pieces path ≡ path ∷ []
+  pub below_last : (known : KnownFiles) (path : List ℕ) (folders : List (List ℕ)) (listed : ℕ) (r : Result CodePaths PatternStop) → path_pieces path ≡ path ∷ []
       → Finds known at (paths_in_folders at path folders listed) r → Finds known at (paths_below at (path_pieces path) folders listed) r
   below_last known path folders listed r e h =
       finds_same known (paths_below at (path_pieces path) folders listed) (paths_in_folders at path folders listed) r

@@ -7,14 +7,14 @@ use Rattle.std.proofs.lemmas.Bool.Decides.{nat_tests}
 use Rattle.std.proofs.lemmas.List.{reverse-append}
 use Rattle.kc_tree_model.specs.Limits.{is_in_list}
 use Rattle.kc_macros_model.specs.declared.fault.MacroKind.TheVariants.{SourceLoop, MissingFile, TooDeep, TooMany}
-use Rattle.kc_macros_model.specs.Limits.{max_files, max_bytes, max_open_files}
+use Rattle.kc_value.specs.declared.limits.TheConstants.{MAX_FILES, MAX_TREE_BYTES, MAX_OPEN_FILES}
 use Rattle.kc_macros_model.specs.ReadingStates.{ReadingState}
 use Rattle.kc_macros_model.specs.TreeExpansion.{source_fault}
 use Rattle.kc_macros_model.specs.declared.fault.MacroKind.{MacroKind}
 use Rattle.kc_expansion.specs.declared.source_faults.ReadCounts.{ReadCounts}
 use Rattle.kc_expansion.specs.between.KnownFiles.{FileRead, missing, whole, too_long, AreBytes}
 use Rattle.kc_expansion.specs.checker.Sizes.{size_fault}
-use Rattle.kc_expansion.specs.checker.Slices.{slices_of}
+use Rattle.kc_macros.specs.between.SliceTexts.{texts_of_slices}
 use Rattle.kc_expansion.specs.checker.ReadingViews.{MayBeRead, MayNotBeRead}
 
 any_both : (x : List ℕ) (xs ys : List (List ℕ)) → is_in_list x (xs ++ ys) ≡ (is_in_list x xs || is_in_list x ys)
@@ -39,7 +39,7 @@ in_reverse x (y ∷ xs) = ap (is_in_list x) (reverse-append (y ∷ []) xs) ∙ a
     ∙ ap (λ b. bytes_eq y x || b) (in_reverse x xs)
 
 -- a path is equal to the slice of an open file exactly if it is in the list of the paths of open files
-pub open_by : (path : List ℕ) (os : List (Bor (List ℕ))) → list_any (λ (o : Bor (List ℕ)). bytes_eq o.now path) os ≡ is_in_list path (slices_of os)
+pub open_by : (path : List ℕ) (os : List (Bor (List ℕ))) → list_any (λ (o : Bor (List ℕ)). bytes_eq o.now path) os ≡ is_in_list path (texts_of_slices os)
 open_by path [] = refl
 open_by path (o ∷ os) = ap (λ b. bytes_eq o.now path || b) (open_by path os)
 
@@ -58,16 +58,16 @@ module _ (open_files : List (List ℕ)) (s : ReadingState) (path : List ℕ) whe
       ∙ ap (λ b. cond b (Some SourceLoop) (size_fault (length open_files) s.files (s.bytes + length there))) e
 
 -- a file fails by `TooDeep` where 32 or more files are open within each other
-pub fault_too_deep : (n files bytes : ℕ) → 32 ≤ n → size_fault n files bytes ≡ Some TooDeep
-fault_too_deep n files bytes h = ap (λ b. cond b (Some TooDeep) (cond (nat_le max_files files || nat_lt max_bytes bytes) (Some TooMany) None))
-    (let e : nat_le max_open_files n ≡ true = grind (arith, nat_tests) in e)
+pub fault_too_deep : (n files bytes : ℕ) → MAX_OPEN_FILES ≤ n → size_fault n files bytes ≡ Some TooDeep
+fault_too_deep n files bytes h = ap (λ b. cond b (Some TooDeep) (cond (nat_le MAX_FILES files || nat_lt MAX_TREE_BYTES bytes) (Some TooMany) None))
+    (let e : nat_le MAX_OPEN_FILES n ≡ true = grind (arith, nat_tests) in e)
 
-pub fault_too_many : (n files bytes : ℕ) → n < 32 → 67108864 < bytes → size_fault n files bytes ≡ Some TooMany
+pub fault_too_many : (n files bytes : ℕ) → n < MAX_OPEN_FILES → MAX_TREE_BYTES < bytes → size_fault n files bytes ≡ Some TooMany
 fault_too_many n files bytes h k =
-    ap (λ b. cond b (Some TooDeep) (cond (nat_le max_files files || nat_lt max_bytes bytes) (Some TooMany) None))
-    (let e : nat_le max_open_files n ≡ false = grind (arith, nat_tests) in e)
-    ∙ ap (λ b. cond (nat_le max_files files || b) (Some TooMany) None) (let e : nat_lt max_bytes bytes ≡ true = grind (arith, nat_tests) in e)
-    ∙ ap (λ b. cond b (Some TooMany) None) (or_true (nat_le max_files files))
+    ap (λ b. cond b (Some TooDeep) (cond (nat_le MAX_FILES files || nat_lt MAX_TREE_BYTES bytes) (Some TooMany) None))
+    (let e : nat_le MAX_OPEN_FILES n ≡ false = grind (arith, nat_tests) in e)
+    ∙ ap (λ b. cond (nat_le MAX_FILES files || b) (Some TooMany) None) (let e : nat_lt MAX_TREE_BYTES bytes ≡ true = grind (arith, nat_tests) in e)
+    ∙ ap (λ b. cond b (Some TooMany) None) (or_true (nat_le MAX_FILES files))
   where
     or_true : (b : Bool) → (b || true) ≡ true
     or_true true = refl
@@ -75,18 +75,18 @@ fault_too_many n files bytes h k =
 
 -- a file without a fault of size passes no limit: fewer than 32 files are open, fewer than 4,096 were read, and there are at most
 -- 67,108,864 bytes with it
-pub no_limit_passed : (n files bytes : ℕ) → size_fault n files bytes ≡ None → (n < 32) × (files < 4096) × (bytes ≤ 67108864)
-no_limit_passed n files bytes h = by_tests (nat_le max_open_files n) (nat_le max_files files) (nat_lt max_bytes bytes) refl refl refl h
+pub no_limit_passed : (n files bytes : ℕ) → size_fault n files bytes ≡ None → (n < MAX_OPEN_FILES) × (files < MAX_FILES) × (bytes ≤ MAX_TREE_BYTES)
+no_limit_passed n files bytes h = by_tests (nat_le MAX_OPEN_FILES n) (nat_le MAX_FILES files) (nat_lt MAX_TREE_BYTES bytes) refl refl refl h
   where
-    by_tests : (a b c : Bool) → nat_le max_open_files n ≡ a → nat_le max_files files ≡ b → nat_lt max_bytes bytes ≡ c
-        → cond a (Some TooDeep) (cond (b || c) (Some TooMany) None) ≡ None → (n < 32) × (files < 4096) × (bytes ≤ 67108864)
+    by_tests : (a b c : Bool) → nat_le MAX_OPEN_FILES n ≡ a → nat_le MAX_FILES files ≡ b → nat_lt MAX_TREE_BYTES bytes ≡ c
+        → cond a (Some TooDeep) (cond (b || c) (Some TooMany) None) ≡ None → (n < MAX_OPEN_FILES) × (files < MAX_FILES) × (bytes ≤ MAX_TREE_BYTES)
     by_tests true b c d e f h = absurd (let z : ⊥ = cc in z)
     by_tests false true c d e f h = absurd (let z : ⊥ = cc in z)
     by_tests false false true d e f h = absurd (let z : ⊥ = cc in z)
     by_tests false false false d e f h = (
-      let x : n < 32 = grind (arith, nat_tests) in x,
-      let x : files < 4096 = grind (arith, nat_tests) in x,
-      let x : bytes ≤ 67108864 = grind (arith, nat_tests) in x,
+      let x : n < MAX_OPEN_FILES = grind (arith, nat_tests) in x,
+      let x : files < MAX_FILES = grind (arith, nat_tests) in x,
+      let x : bytes ≤ MAX_TREE_BYTES = grind (arith, nat_tests) in x,
     )
 
 -- the fault of a file's size is the same by the counts of files and bytes in the state of a reading and by equal counts
@@ -124,15 +124,15 @@ module _ (open_files : List (List ℕ)) (counts : ReadCounts) (path : List ℕ) 
         }
 
   module _ (e : is_in_list path open_files ≡ false) (m : read ≡ too_long) where
-    pub refused_deep : 32 ≤ length open_files → MayNotBeRead open_files counts path read TooDeep
+    pub refused_deep : MAX_OPEN_FILES ≤ length open_files → MayNotBeRead open_files counts path read TooDeep
     refused_deep d = record { is_fault = λ s c bytes h. deep s bytes (subst (λ (r : FileRead). AreBytes r bytes) m h) }
       where
         deep : (s : ReadingState) (bytes : Option (List ℕ)) → AreBytes too_long bytes → source_fault open_files s path bytes ≡ Some TooDeep
         deep s bytes (more, b, l) = fault_of_size open_files s path bytes more e b ∙ fault_too_deep (length open_files) s.files (s.bytes + length more) d
 
-    pub refused_long : length open_files < 32 → MayNotBeRead open_files counts path read TooMany
+    pub refused_long : length open_files < MAX_OPEN_FILES → MayNotBeRead open_files counts path read TooMany
     refused_long d = record { is_fault = λ s c bytes h. long s bytes (subst (λ (r : FileRead). AreBytes r bytes) m h) }
       where
         long : (s : ReadingState) (bytes : Option (List ℕ)) → AreBytes too_long bytes → source_fault open_files s path bytes ≡ Some TooMany
         long s bytes (more, b, l) = fault_of_size open_files s path bytes more e b ∙ fault_too_many (length open_files) s.files (s.bytes + length more) d
-            (let x : 67108864 < s.bytes + length more = omega (arith, l) in x)
+            (let x : MAX_TREE_BYTES < s.bytes + length more = omega (arith, l) in x)

@@ -12,7 +12,7 @@ use Rattle.kc_macros_model.specs.WrittenTokens.{WrittenToken, in_quotes_of}
 use Rattle.kc_macros_model.specs.LineForms.{SourceSort, line_bytes}
 use Rattle.kc_macros_model.specs.PathPatterns.{is_pattern, FoundPaths, readable_paths}
 use Rattle.kc_macros_model.specs.ReadingStates.{ExpandedFile, ReadingState, Progress, progress, with_listed, counted, key_of, stored_file}
-use Rattle.kc_macros_model.specs.TreeExpansion.{Sourced, one_file, file_list, sourced_path, SourceReader, path_meant, list_name, source_line, pattern_read, path_read, source_followed, lines_read, list_read, source_fault, contents_read, sourced_read, source_read}
+use Rattle.kc_macros_model.specs.TreeExpansion.{SourceTarget, one_file, file_list, sourced_path, SourceReader, path_meant, list_name, source_line, pattern_read, path_read, source_followed, lines_read, list_read, source_fault, contents_read, sourced_read, source_read}
 use Rattle.kc_macros.specs.declared.stop.Stop.{Stop}
 use Rattle.kc_macros.specs.Runs.{RunEnd, ends, end_of_stop}
 use Rattle.kc_expansion.specs.between.KnownFiles.{FileRead, whole, AreBytes, Grows}
@@ -21,13 +21,14 @@ use Rattle.kc_expansion.specs.checker.ProgramSteps.{Leads}
 use Rattle.kc_expansion.specs.checker.ReadingViews.{reader_for, fault_at, after_text, lists_left, pattern_followed, AreCounts, MayBeRead, MayNotBeRead}
 use Rattle.std.specs.Borrow.{Bor}
 use Rattle.std.proofs.lemmas.List.{length-map}
+use Rattle.kc_value.specs.declared.limits.TheConstants.{MAX_OPEN_FILES}
 use Rattle.kc_expansion.specs.checker.ExpandedViews.{with_file}
-use Rattle.kc_expansion.specs.checker.Slices.{slices_of}
+use Rattle.kc_macros.specs.between.SliceTexts.{texts_of_slices}
 use Rattle.kc_expansion.specs.declared.source_faults.ReadCounts.{ReadCounts}
 use Rattle.kc_expansion.proofs.ProgramLemmas.{grouped, same_rest, nothing_after}
 use Rattle.kc_expansion.proofs.FileProgramLemmas.{leads_same, leads_then, leads_on, leads_read, reads_on, reads_early}
 
-module _ (root : List ℕ) (open_files : List (List ℕ)) (at : Place) (what : Sourced) (s : ReadingState) where
+module _ (root : List ℕ) (open_files : List (List ℕ)) (at : Place) (what : SourceTarget) (s : ReadingState) where
   abbrev inner : SourceReader
   inner = reader_for root (sourced_path what ∷ open_files)
 
@@ -50,7 +51,7 @@ module _ (root : List ℕ) (open_files : List (List ℕ)) (at : Place) (what : S
   may bytes h = ap (by_fault bytes) h
 
 -- with this many files open one more may be
-module _ (root : List ℕ) (open_files : List (List ℕ)) (few : length open_files ≤ 32) (at : Place) (s : ReadingState) where
+module _ (root : List ℕ) (open_files : List (List ℕ)) (few : length open_files ≤ MAX_OPEN_FILES) (at : Place) (s : ReadingState) where
   more_open : 33 - length open_files ≡ suc (33 - suc (length open_files))
   more_open = omega arith
 
@@ -62,7 +63,7 @@ module _ (root : List ℕ) (open_files : List (List ℕ)) (few : length open_fil
       ≡ sourced_read (reader_for root (name ∷ open_files)) root open_files at (file_list name paths) s (Some [])
   list_begins name paths = ap (λ n. source_read n root open_files at (file_list name paths) s) more_open
 
-module _ (a b : FileRun) (root : List ℕ) (open_files : List (List ℕ)) (few : length open_files ≤ 32) (at : Place) (s : ReadingState) (counts : ReadCounts)
+module _ (a b : FileRun) (root : List ℕ) (open_files : List (List ℕ)) (few : length open_files ≤ MAX_OPEN_FILES) (at : Place) (s : ReadingState) (counts : ReadCounts)
     (c : AreCounts counts s) (path : List ℕ) (read : FileRead)
     (same : b.contents ≡ a.contents) (grows : Grows a.contents a.known b.known) (run : b.run ≡ a.run)
     (known : keyword_in_table b.known.files path ≡ Some read) where
@@ -91,7 +92,7 @@ module _ (a b : FileRun) (root : List ℕ) (open_files : List (List ℕ)) (few :
       (λ there h. let e : there ≡ Some bytes = subst (λ (r : FileRead). AreBytes r there) m.is_whole h in
       ap (sourced_read sub root open_files at (one_file path) s) e ∙ may root open_files at (one_file path) s (Some bytes) (m.no_fault s c)))
 
-module _ (root : List ℕ) (open_files : List (List ℕ)) (few : length open_files ≤ 32) (at : Place) (s : ReadingState) (counts : ReadCounts)
+module _ (root : List ℕ) (open_files : List (List ℕ)) (few : length open_files ≤ MAX_OPEN_FILES) (at : Place) (s : ReadingState) (counts : ReadCounts)
     (c : AreCounts counts s) (name : List ℕ) (paths : List (List ℕ)) (read : FileRead) where
   pub list_refused : (kind : MacroKind) → read ≡ whole [] → MayNotBeRead open_files counts name read kind
       → reader_for root open_files at (file_list name paths) s ≡ fails (fault_at at kind)
@@ -231,7 +232,7 @@ kept_so root path text key s files h k =
     ∙ ap (λ x. let t : ReadingState = record s { expanded = files } in progress x t) (sym h)
 
 -- where at most 32 slices are paths of open files, these are at most 32 paths
-pub few_open : (os : List (Bor (List ℕ))) → length os ≤ 32 → length (slices_of os) ≤ 32
+pub few_open : (os : List (Bor (List ℕ))) → length os ≤ MAX_OPEN_FILES → length (texts_of_slices os) ≤ MAX_OPEN_FILES
 few_open os h = omega (arith, length-map os (λ (o : Bor (List ℕ)). o.now))
 
 -- the state of a reading with the code's counts after one more file is the state that counts that file
@@ -255,5 +256,5 @@ list_here b c root paths open_files at files s t e h k r =
     subst (λ ps. Reads b c (list_read (reader_for root ps) at files s) e) h (subst (λ u. Reads b c (list_read (reader_for root paths) at files u) e) k r)
 
 -- where fewer than 32 files are open, opening one more leaves at most 32 open
-pub one_more_open : (os ps : List (Bor (List ℕ))) (path : List ℕ) → slices_of ps ≡ path ∷ slices_of os → length (slices_of os) < 32 → length ps ≤ 32
+pub one_more_open : (os ps : List (Bor (List ℕ))) (path : List ℕ) → texts_of_slices ps ≡ path ∷ texts_of_slices os → length (texts_of_slices os) < MAX_OPEN_FILES → length ps ≤ MAX_OPEN_FILES
 one_more_open os ps path e h = omega (arith, h, ap length e, length-map ps (λ (o : Bor (List ℕ)). o.now))

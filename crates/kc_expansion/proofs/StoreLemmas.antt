@@ -2,7 +2,7 @@
 use Rattle.std.proofs.Common.{◌≡◌, ℕ, List, [], ◌∷◌, ◌++◌, Option, Some, None, sym, ap, subst, ⊎_elim}
 use Rattle.std.specs.Prelude.{Vec, is_some, option_map}
 use Rattle.std.specs.declared.alloc.Global.{Global}
-use Rattle.kc_macros_model.specs.Limits.{max_listed_names}
+use Rattle.kc_value.specs.declared.limits.TheConstants.{MAX_LISTED_NAMES}
 use Rattle.kc_tree_model.specs.Keywords.{keyword_in_table}
 use Rattle.kc_macros_model.specs.Worlds.{World}
 use Rattle.kc_expansion.specs.TreeContents.{TreeContents, FolderContent, ListsAs}
@@ -30,7 +30,7 @@ file_more contents known path read m = record {
 }
 
 -- the names of a folder that was listed as it is known agree with its known content
-pub folder_matched : (content : FolderContent) (names : Option (Vec (Vec ℕ Global) Global)) → ListsAs content max_listed_names (option_map texts_of names)
+pub folder_matched : (content : FolderContent) (names : Option (Vec (Vec ℕ Global) Global)) → ListsAs content MAX_LISTED_NAMES (option_map texts_of names)
     → MatchFolder content (folder_of_names names)
 folder_matched None names h = tt
 folder_matched (Some known) None h = h

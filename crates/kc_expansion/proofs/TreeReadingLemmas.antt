@@ -5,6 +5,7 @@ use Rattle.std.specs.Borrow.{Bor}
 use Rattle.std.specs.declared.rc.Rc.{Rc}
 use Rattle.std.specs.List.{list_any}
 use Rattle.std.proofs.lemmas.List.{append-nil, at_drop_more, length-map}
+use Rattle.kc_value.specs.declared.limits.TheConstants.{MAX_OPEN_FILES}
 use Rattle.kc_tree_model.specs.Keywords.{keyword_in_table}
 use Rattle.kc_tree_model.specs.LogicalLines.{PhysicalLine, split_at_newlines, physical_lines}
 use Rattle.kc_macros_model.specs.Programs.{Place, Program, returns, ◌>>=◌}
@@ -24,7 +25,7 @@ use Rattle.kc_expansion.specs.checker.SameLines.{Stays}
 use Rattle.kc_expansion.specs.checker.ProgramSteps.{Leads, Steps}
 use Rattle.kc_expansion.specs.checker.LineViews.{is_first_continued, IsHelpPassed}
 use Rattle.kc_expansion.specs.checker.ReadingViews.{reader_for, lines_left, lists_left, AreCounts, MayBeRead, IsWrittenTo}
-use Rattle.kc_expansion.specs.checker.Slices.{slices_of}
+use Rattle.kc_macros.specs.between.SliceTexts.{texts_of_slices}
 use Rattle.kc_expansion.specs.checker.WrittenViews.{text_up_to}
 use Rattle.kc_expansion.specs.declared.line_places.LineStart.{LineStart}
 use Rattle.kc_expansion.specs.declared.source_faults.ReadCounts.{ReadCounts}
@@ -64,7 +65,7 @@ module _ (a b : FileRun) (sub : SourceReader) (at : Place) (ts : List WrittenTok
       (followed (progress key t)) source_leads (leads_on a b (path_read sub at sort shown s) followed (progress key t) r)
 
 -- a file that may be read
-module _ (a b c : FileRun) (root : List ℕ) (open_files : List (List ℕ)) (few : length open_files ≤ 32) (at : Place) (s : ReadingState) (counts : ReadCounts)
+module _ (a b c : FileRun) (root : List ℕ) (open_files : List (List ℕ)) (few : length open_files ≤ MAX_OPEN_FILES) (at : Place) (s : ReadingState) (counts : ReadCounts)
     (are : AreCounts counts s) (path : List ℕ) (read : FileRead)
     (same : b.contents ≡ a.contents) (grows : Grows a.contents a.known b.known) (run : b.run ≡ a.run) (known : keyword_in_table b.known.files path ≡ Some read)
     (bytes : List ℕ) (m : MayBeRead open_files counts path read bytes)
@@ -95,7 +96,7 @@ module _ (a b c : FileRun) (root : List ℕ) (open_files : List (List ℕ)) (few
       (keeping_file (progress text u)) file_leads (leads_on b c (lines_of_file paths t) keeping_file (progress text u) r)
 
 -- a list that may be read
-module _ (a c : FileRun) (root : List ℕ) (open_files : List (List ℕ)) (few : length open_files ≤ 32) (at : Place) (s : ReadingState) (counts : ReadCounts)
+module _ (a c : FileRun) (root : List ℕ) (open_files : List (List ℕ)) (few : length open_files ≤ MAX_OPEN_FILES) (at : Place) (s : ReadingState) (counts : ReadCounts)
     (are : AreCounts counts s) (name : List ℕ) (files : List (List ℕ))
     (read : FileRead) (bytes : List ℕ) (none : read ≡ whole []) (m : MayBeRead open_files counts name read bytes) (paths : List (List ℕ)) (t : ReadingState)
     (h : paths ≡ name ∷ open_files) (k : t ≡ counted 0 s) where
@@ -132,7 +133,7 @@ keeps a c p root path text key s files l h k =
     (leads_same c (returns (stored_file root path (progress text s))) (returns x) (ap returns (kept_so root path text key s files h k))))
 
 -- the number of open files with one more path at the front is one more
-pub count_more : (os ps : List (Bor (List ℕ))) (path : List ℕ) → slices_of ps ≡ path ∷ slices_of os → length ps ≡ suc (length os)
+pub count_more : (os ps : List (Bor (List ℕ))) (path : List ℕ) → texts_of_slices ps ≡ path ∷ texts_of_slices os → length ps ≡ suc (length os)
 count_more os ps path e = sym (length-map ps (λ (o : Bor (List ℕ)). o.now)) ∙ ap length e ∙ ap suc (length-map os (λ (o : Bor (List ℕ)). o.now))
 
 -- the reading of the files of a list is that of the remaining files where none was read yet

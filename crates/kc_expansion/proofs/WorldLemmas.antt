@@ -5,8 +5,8 @@ use Rattle.std.proofs.lemmas.List.{append-nil, reverse-append, length-replicate}
 use Rattle.std.proofs.lemmas.Slice.Eq.{bytes_eq-Decides}
 use Rattle.kc_tree_model.specs.Keywords.{keyword_in_table}
 use Rattle.kc_tree_model.specs.Limits.{is_in_list, without_repeats}
-use Rattle.kc_macros_model.specs.AnswerFiles.{Recorded}
-use Rattle.kc_macros_model.specs.Limits.{max_bytes, max_listed_names}
+use Rattle.kc_macros_model.specs.AnswerFiles.{RecordedAnswers}
+use Rattle.kc_value.specs.declared.limits.TheConstants.{MAX_TREE_BYTES, MAX_LISTED_NAMES}
 use Rattle.kc_macros_model.specs.Worlds.{World}
 use Rattle.kc_macros.specs.RunStates.{with_questions}
 use Rattle.kc_macros.specs.Runs.{HasAnswers}
@@ -24,14 +24,14 @@ bytes_of content (Some missing) = None
 bytes_of content (Some (whole bytes)) = Some bytes
 bytes_of (Some (Some known)) (Some too_long) = Some known
 bytes_of (Some None) (Some too_long) = None
-bytes_of None (Some too_long) = Some (longer 0 max_bytes).0
+bytes_of None (Some too_long) = Some (longer 0 MAX_TREE_BYTES).0
 bytes_of (Some known) None = known
 bytes_of None None = None
 
 pub names_of : FolderContent → Option FolderRead → List (List ℕ)
 names_of content (Some (names read)) = read
 names_of (Some known) (Some too_many) = known
-names_of None (Some too_many) = (longer {A = List ℕ} [] max_listed_names).0
+names_of None (Some too_many) = (longer {A = List ℕ} [] MAX_LISTED_NAMES).0
 names_of (Some known) None = known
 names_of None None = []
 
@@ -41,7 +41,7 @@ bytes_agree content missing m = refl
 bytes_agree content (whole bytes) m = refl
 bytes_agree (Some (Some known)) too_long m = (known, refl, m)
 bytes_agree (Some None) too_long m = absurd (let z : ⊥ = cc in z)
-bytes_agree None too_long m = ((longer 0 max_bytes).0, refl, (longer 0 max_bytes).1)
+bytes_agree None too_long m = ((longer 0 MAX_TREE_BYTES).0, refl, (longer 0 MAX_TREE_BYTES).1)
 
 bytes_allowed : (content : FileContent) (read : Option FileRead) → ((r : FileRead) → read ≡ Some r → MatchFile content r)
     → IsContentRead content (bytes_of content read)
@@ -60,7 +60,7 @@ names_agree : (content : FolderContent) (read : FolderRead) → MatchFolder cont
 unfolding names_of
 names_agree content (names ns) m = refl
 names_agree (Some known) too_many m = m
-names_agree None too_many m = (longer {A = List ℕ} [] max_listed_names).1
+names_agree None too_many m = (longer {A = List ℕ} [] MAX_LISTED_NAMES).1
 
 names_allowed : (content : FolderContent) (read : Option FolderRead) → ((r : FolderRead) → read ≡ Some r → MatchFolder content r)
     → IsFolderRead content (names_of content read)
@@ -70,7 +70,7 @@ names_allowed (Some known) None m = refl
 names_allowed (Some known) (Some (names ns)) m = m (names ns) refl
 names_allowed (Some known) (Some too_many) m = refl
 
-module _ (contents : TreeContents) (known : KnownFiles) (answers : Recorded) (m : AreAsKnown contents known) where
+module _ (contents : TreeContents) (known : KnownFiles) (answers : RecordedAnswers) (m : AreAsKnown contents known) where
   abbrev pub world_of : World
   world_of = record {
     answer = keyword_in_table answers;

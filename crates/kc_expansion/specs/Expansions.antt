@@ -1,7 +1,7 @@
 -- The expansion of a tree, and the questions that it asks, in a world of known files.
 use Rattle.std.specs.Prelude.{◌≡◌, ℕ, List, Vec, Result, Ok, Err}
 use Rattle.std.specs.declared.alloc.Global.{Global}
-use Rattle.kc_macros_model.specs.AnswerFiles.{Recorded}
+use Rattle.kc_macros_model.specs.AnswerFiles.{RecordedAnswers}
 use Rattle.kc_macros_model.specs.Programs.{Fault, Notice}
 use Rattle.kc_macros_model.specs.ReadingStates.{ExpandedFile}
 use Rattle.kc_macros_model.specs.Worlds.{World, Ending, returned, failed, expansion, wanted}
@@ -27,7 +27,7 @@ ending_of (Err fault) = failed fault
 
 -- the expansion of the tree with the first file `root` has these notices, and returns these expanded files or fails by this
 -- fault, in some `World` whose files and folders agree with `contents`, and that has just these answers
-pub record IsExpansion (contents : TreeContents) (answers : Recorded) (root : List ℕ) (notices : List Notice) (tree : Result (List ExpandedFile) Fault) : Type 0 where
+pub record IsExpansion (contents : TreeContents) (answers : RecordedAnswers) (root : List ℕ) (notices : List Notice) (tree : Result (List ExpandedFile) Fault) : Type 0 where
   pub world : World
   pub of_contents : IsWorldOf contents world
   pub answered : HasAnswers world answers
@@ -36,7 +36,7 @@ pub record IsExpansion (contents : TreeContents) (answers : Recorded) (root : Li
 
 -- the tree with the first file `root` asks these questions without an answer, or asks none and has this fault, in some `World`
 -- whose files and folders agree with `contents`, and that has just these answers
-pub record AreWanted (contents : TreeContents) (answers : Recorded) (root : List ℕ) (questions : Result (List (List ℕ)) Fault) : Type 0 where
+pub record AreWanted (contents : TreeContents) (answers : RecordedAnswers) (root : List ℕ) (questions : Result (List (List ℕ)) Fault) : Type 0 where
   pub world : World
   pub of_contents : IsWorldOf contents world
   pub answered : HasAnswers world answers

@@ -10,7 +10,7 @@ use Rattle.kc_tree_model.specs.Limits.{is_in_list}
 use Rattle.kc_tree_model.specs.TreeReading.{statement_on_line, path_to_read, reading}
 use Rattle.kc_tree_model.specs.TreeFaults.{first_tree_fault}
 use Rattle.kc_tree_model.specs.MoreFiles.{reading_from, AreAmong}
-use Rattle.kc_macros_model.specs.Limits.{max_work}
+use Rattle.kc_value.specs.declared.limits.TheConstants.{MAX_WORK}
 use Rattle.kc_macros_model.specs.PlainLines.{is_plain_line, is_before_help}
 use Rattle.kc_macros_model.specs.ReadingStates.{ExpandedFile, has_key}
 use Rattle.kc_macros_model.specs.Worlds.{World, returned, Outcome, expansion, wanted}
@@ -48,7 +48,7 @@ pub record IsFileOf (files : Files) (f : ExpandedFile) : Type 0 where
 pub record IsGivenBack (files : Files) (root : List ℕ) (o : Outcome (List ExpandedFile)) : Type 0 where
   pub notices : o.notices ≡ []
   pub questions : o.questions ≡ []
-  pub work : o.left ≡ max_work
+  pub work : o.left ≡ MAX_WORK
   pub expanded : List ExpandedFile
   pub ending : o.ending ≡ returned expanded
   pub own : All (IsFileOf files) expanded

@@ -8,7 +8,6 @@ pub mod Sizes
 pub mod ProgramSteps
 pub mod ReadingViews
 pub mod ChoiceViews
-pub mod Slices
 pub mod SameLines
 pub mod LineViews
 pub mod ExpansionViews

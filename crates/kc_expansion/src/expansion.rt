@@ -19,7 +19,6 @@ use super::expanded_tree::ExpandedTree;
 use super::faults::fault;
 use super::file_bytes::FileRead;
 use super::files::TreeFiles;
-use super::limits::{MAX_FILES, MAX_TREE_BYTES};
 use super::line_steps::LineState;
 use super::open_files::{OpenFiles, with_path};
 use super::reading_state::Reading;
@@ -27,7 +26,7 @@ use super::source_faults::ReadCounts;
 use super::store::Store;
 use super::tree_reading::read_lines;
 use kc_macros::{Answers, Bindings, MacroFault, MacroKind, MacroNotice, Place, Run, Stop};
-use kc_value::Seed;
+use kc_value::{MAX_FILES, MAX_TREE_BYTES, Seed};
 use std::alloc::{AllocError, Global};
 use std::rc::Rc;
 

@@ -5,8 +5,7 @@ ghost use Rattle.kc_expansion.specs.between.KnownFiles.{MatchFile, content_of_re
 ghost use Rattle.kc_expansion.specs.checker.FileViews.{file_of};
 
 use super::files::TreeFiles;
-use super::limits::{MAX_BLOCK_BYTES, MAX_FILE_BYTES};
-use kc_value::Source;
+use kc_value::{MAX_BLOCK_BYTES, MAX_FILE_BYTES, Source};
 use std::alloc::{AllocError, Global};
 use std::rc::Rc;
 

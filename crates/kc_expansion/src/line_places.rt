@@ -5,9 +5,9 @@ ghost use Rattle.kc_macros_model.specs.TreeExpansion.{lines_written};
 ghost use Rattle.kc_expansion.specs.checker.LineViews.{is_first_continued, IsHelpPassed};
 ghost use Rattle.kc_expansion.specs.checker.WrittenViews.{text_up_to};
 
-use super::limits::MAX_TREE_BYTES;
 use super::written_file::WrittenFile;
 use kc_lines::{help_at, physical_at};
+use kc_value::MAX_TREE_BYTES;
 use std::alloc::AllocError;
 
 /// Where a line of a file begins: its place in the bytes, counted from 0, and its number, counted from 1.

@@ -1,7 +1,6 @@
 //! The first step of a line: it is written, or sources files.
 ghost use Rattle.std.specs.Prelude.{◌≡◌, false, ◌||◌, not, nat_lt, length, IfOk, IfErr, Some, option_map};
 ghost use Rattle.std.specs.Str.{is_utf8};
-ghost use Rattle.kc_macros_model.specs.Limits.{max_text_bytes};
 ghost use Rattle.kc_macros_model.specs.LineForms.{without_gaps};
 ghost use Rattle.kc_macros_model.specs.Programs.{Place as LinePlace, returns};
 ghost use Rattle.kc_macros_model.specs.ReadingStates.{ReadingState, progress, written_line};
@@ -18,12 +17,12 @@ ghost use Rattle.kc_expansion.specs.checker.ReadingViews.{with_lines, step_left,
 
 use super::choice_names::ChoiceNames;
 use super::faults::fault;
-use super::limits::MAX_LINE_BYTES;
 use kc_macros::{
     Assignment, Bindings, LineContent, LineForm, MacroKind, Place, Run, SourceSort, Stop,
     WrittenToken, assign, is_help_line, is_undecided, line_bytes, line_form, read_line,
     with_bare_prompt, with_replacement, without_choice_name,
 };
+use kc_value::MAX_TEXT_BYTES;
 use std::alloc::{AllocError, Global};
 
 /// The state of a reading that the lines of a file change: the run, the variables, and the names of choices.
@@ -65,7 +64,7 @@ pub(crate) fn short_line(
 ) -> Result<NewLine, Stop>
     ensures { (a : FileRun) (s : ReadingState) → Reads a a (short_line (place_of at.entry) begins_help (progress text.items s)) (end_of (λ l. written_line l.text.items l.begins_help s) result) }
 {
-    if text.len() > MAX_LINE_BYTES {
+    if text.len() > MAX_TEXT_BYTES {
         return Err(fault(alloc, at, MacroKind::LineTooLong));
     }
     Ok(NewLine { text, begins_help })
@@ -171,7 +170,7 @@ pub(crate) fn line_step(
     joined: bool,
     text: &[u8],
 ) -> Result<LineStep, Stop>
-    requires may_change { (nat_lt max_text_bytes (length text.now) || not (is_utf8 text.now)) ≡ false }
+    requires may_change { (nat_lt MAX_TEXT_BYTES (length text.now) || not (is_utf8 text.now)) ≡ false }
     ensures steps { (contents : TreeContents) (known : KnownFiles) (sub : SourceReader) (s : ReadingState)
         → Steps (file_run contents known state.old.run) (file_run contents known state.new.run) (line_written sub (place_of at.entry) joined text.now (with_lines state.old s)) (λ step. step_left sub (place_of at.entry) step (with_lines state.new s)) result }
 {

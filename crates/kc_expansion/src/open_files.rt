@@ -1,6 +1,6 @@
 //! The files that are open within each other.
 ghost use Rattle.std.specs.Prelude.{◌≡◌, ◌∷◌, IfOk};
-ghost use Rattle.kc_expansion.specs.checker.Slices.{slices_of};
+ghost use Rattle.kc_macros.specs.between.SliceTexts.{texts_of_slices};
 
 use std::alloc::{AllocError, Global};
 
@@ -17,7 +17,7 @@ pub(crate) fn with_path<'a>(
     path: &'a [u8],
     paths: &[&'a [u8]],
 ) -> Result<Vec<&'a [u8]>, AllocError>
-    ensures { IfOk result (λ ps. slices_of ps.items ≡ path.now ∷ slices_of paths.now) }
+    ensures { IfOk result (λ ps. texts_of_slices ps.items ≡ path.now ∷ texts_of_slices paths.now) }
 {
     let mut all = Vec::new(alloc);
     all.push(path)?;

@@ -10,15 +10,15 @@ ghost use Rattle.kc_expansion.specs.checker.FileViews.{known_of};
 ghost use Rattle.kc_expansion.specs.checker.PatternRuns.{found_of, slashed, IsCut, Finds, FindsMore};
 
 use super::files::TreeFiles;
-use super::limits::MAX_LISTED_NAMES;
 use super::name_matches::matches_name;
 use super::paths::is_pattern;
 use super::store::Store;
+use kc_value::MAX_LISTED_NAMES;
 use std::alloc::{AllocError, Global};
 
 /// The paths that a pattern matches, and how many names in folders were listed for the tree so far.
 #[derive(Drop)]
-pub(crate) struct Found {
+pub(crate) struct FoundPaths {
     pub paths: Vec<Vec<u8>>,
     pub listed: usize,
 }
@@ -76,7 +76,7 @@ fn push_listed<F: TreeFiles>(
     files: &mut F,
     piece: &[u8],
     folder: &[u8],
-    found: &mut Found,
+    found: &mut FoundPaths,
 ) -> Result<(), PatternStop>
     ensures same { F.contents files.new ≡ F.contents files.old }
     ensures grows { Grows (F.contents files.old) (known_of store.old) (known_of store.new) }
@@ -102,7 +102,7 @@ fn push_paths<F: TreeFiles>(
     files: &mut F,
     piece: &[u8],
     folder: &[u8],
-    found: &mut Found,
+    found: &mut FoundPaths,
 ) -> Result<(), PatternStop>
     ensures same { F.contents files.new ≡ F.contents files.old }
     ensures grows { Grows (F.contents files.old) (known_of store.old) (known_of store.new) }
@@ -126,12 +126,12 @@ fn paths_in_folders<F: TreeFiles>(
     piece: &[u8],
     folders: &[Vec<u8>],
     listed: usize,
-) -> Result<Found, PatternStop>
+) -> Result<FoundPaths, PatternStop>
     ensures same { F.contents files.new ≡ F.contents files.old }
     ensures grows { Grows (F.contents files.old) (known_of store.old) (known_of store.new) }
     ensures finds { (at : Place) → Finds (known_of store.new) at (paths_in_folders at piece.now (items_of folders.now) listed) result }
 {
-    let mut found = Found {
+    let mut found = FoundPaths {
         paths: Vec::new(alloc),
         listed,
     };
@@ -206,13 +206,13 @@ fn folders_in_folders<F: TreeFiles>(
     piece: &[u8],
     folders: &[Vec<u8>],
     listed: usize,
-) -> Result<Found, PatternStop>
+) -> Result<FoundPaths, PatternStop>
     ensures same { F.contents files.new ≡ F.contents files.old }
     ensures grows { Grows (F.contents files.old) (known_of store.old) (known_of store.new) }
     ensures finds { (at : Place) → Finds (known_of store.new) at (slashed (paths_in_folders at piece.now (items_of folders.now) listed)) result }
 {
     match paths_in_folders(alloc, store, files, piece, folders, listed) {
-        Ok(found) => Ok(Found {
+        Ok(found) => Ok(FoundPaths {
             paths: with_slashes(alloc, &found.paths)?,
             listed: found.listed,
         }),
@@ -227,13 +227,13 @@ fn matching_paths<F: TreeFiles>(
     files: &mut F,
     pattern: &[u8],
     listed: usize,
-) -> Result<Found, PatternStop>
+) -> Result<FoundPaths, PatternStop>
     ensures same { F.contents files.new ≡ F.contents files.old }
     ensures grows { Grows (F.contents files.old) (known_of store.old) (known_of store.new) }
     ensures finds { (at : Place) → Finds (known_of store.new) at (paths_below at (path_pieces pattern.now) ([] ∷ []) listed) result }
 {
     let mut rest = pattern;
-    let mut found = Found {
+    let mut found = FoundPaths {
         paths: root_folder(alloc)?,
         listed,
     };
@@ -289,7 +289,7 @@ pub(crate) fn files_of_pattern<F: TreeFiles>(
     files: &mut F,
     pattern: &[u8],
     listed: usize,
-) -> Result<Found, PatternStop>
+) -> Result<FoundPaths, PatternStop>
     ensures same { F.contents files.new ≡ F.contents files.old }
     ensures grows { Grows (F.contents files.old) (known_of store.old) (known_of store.new) }
     ensures finds { (at : Place) → Finds (known_of store.new) at (files_of_pattern at pattern.now listed) result }
@@ -300,7 +300,7 @@ pub(crate) fn files_of_pattern<F: TreeFiles>(
     };
     let mut paths = readable_paths(alloc, store, files, &found.paths)?;
     paths.sort()?;
-    Ok(Found {
+    Ok(FoundPaths {
         paths,
         listed: found.listed,
     })

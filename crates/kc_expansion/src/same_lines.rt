@@ -1,22 +1,21 @@
 //! Lines that stay as they are.
 ghost use Rattle.std.specs.Prelude.{◌≡◌, ◌||◌, not, nat_lt, length};
 ghost use Rattle.std.specs.Str.{is_utf8};
-ghost use Rattle.kc_macros_model.specs.Limits.{max_text_bytes};
 ghost use Rattle.kc_expansion.specs.checker.SameLines.{MayStay};
 
 use super::help_words::begins_help;
-use super::limits::MAX_LINE_BYTES;
 use super::name_matches::is_utf8;
 use kc_macros::is_copied;
+use kc_value::MAX_TEXT_BYTES;
 
 /// The line after which most help texts begin.
 const USUAL_HELP: &[u8] = b"\thelp";
 
 /// Whether a line is too long, or isn't UTF-8.
 fn is_refused(text: &[u8]) -> bool
-    ensures { result ≡ (nat_lt max_text_bytes (length text.now) || not (is_utf8 text.now)) }
+    ensures { result ≡ (nat_lt MAX_TEXT_BYTES (length text.now) || not (is_utf8 text.now)) }
 {
-    text.len() > MAX_LINE_BYTES || !is_utf8(text)
+    text.len() > MAX_TEXT_BYTES || !is_utf8(text)
 }
 
 /// Whether a help text follows a line that stays as it is: one without macros, one that is too long, or one that isn't

@@ -1,15 +1,14 @@
 //! Faults of `source` lines.
 ghost use Rattle.std.specs.Prelude.{◌≡◌, ◌+◌, ◌<◌, ◌≤◌, ◌||◌, nat_le, nat_lt, bytes_eq, IfOk, IfErr};
 ghost use Rattle.std.specs.List.{list_any};
-ghost use Rattle.kc_macros_model.specs.Limits.{max_files, max_bytes};
 ghost use Rattle.kc_expansion.specs.checker.FileViews.{file_of};
-ghost use Rattle.kc_expansion.specs.checker.Slices.{slices_of};
+ghost use Rattle.kc_macros.specs.between.SliceTexts.{texts_of_slices};
 ghost use Rattle.kc_expansion.specs.checker.ReadingViews.{MayBeRead, MayNotBeRead};
 ghost use Rattle.kc_expansion.specs.checker.Sizes.{size_fault};
 
 use super::file_bytes::FileRead;
-use super::limits::{MAX_FILES, MAX_OPEN_FILES, MAX_TREE_BYTES};
 use kc_macros_model::MacroKind;
+use kc_value::{MAX_FILES, MAX_OPEN_FILES, MAX_TREE_BYTES};
 use std::rc::Rc;
 
 /// How many files and bytes of a tree were read so far.
@@ -49,7 +48,7 @@ fn is_open(open_files: &[&[u8]], path: &[u8]) -> bool
 
 /// Whether a file of `bytes` bytes is one too many, or has too many bytes.
 fn is_too_many(counts: ReadCounts, bytes: usize) -> bool
-    ensures { result ≡ (nat_le max_files counts.files || nat_lt max_bytes (counts.bytes + bytes)) }
+    ensures { result ≡ (nat_le MAX_FILES counts.files || nat_lt MAX_TREE_BYTES (counts.bytes + bytes)) }
 {
     counts.files >= MAX_FILES || counts.bytes.saturating_add(bytes) > MAX_TREE_BYTES
 }
@@ -79,8 +78,8 @@ pub(crate) fn bytes_to_read(
     path: &[u8],
     read: FileRead,
 ) -> Result<Rc<Vec<u8>>, MacroKind>
-    ensures ok { IfOk result (λ b. MayBeRead (slices_of open_files.now) counts path.now (file_of read) b.value.items) }
-    ensures err { IfErr result (λ kind. MayNotBeRead (slices_of open_files.now) counts path.now (file_of read) kind) }
+    ensures ok { IfOk result (λ b. MayBeRead (texts_of_slices open_files.now) counts path.now (file_of read) b.value.items) }
+    ensures err { IfErr result (λ kind. MayNotBeRead (texts_of_slices open_files.now) counts path.now (file_of read) kind) }
 {
     if is_open(open_files, path) {
         return Err(MacroKind::SourceLoop);

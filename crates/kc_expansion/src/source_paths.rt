@@ -15,7 +15,7 @@ ghost use Rattle.kc_expansion.specs.checker.ReadingViews.{state_of, file_run_of,
 use super::faults::fault;
 use super::files::TreeFiles;
 use super::paths::is_pattern;
-use super::patterns::{Found, PatternStop, files_of_pattern, readable_paths};
+use super::patterns::{FoundPaths, PatternStop, files_of_pattern, readable_paths};
 use super::reading_state::Reading;
 use super::store::Store;
 use kc_macros::{MacroKind, Place, SourceSort, Stop};

@@ -9,8 +9,7 @@ use super::file_bytes::{FileRead, read_file};
 use super::file_table::FileTable;
 use super::files::TreeFiles;
 use super::folder_table::FolderTable;
-use super::limits::{MAX_BLOCK_BYTES, MAX_LISTED_NAMES};
-use kc_value::Seed;
+use kc_value::{MAX_BLOCK_BYTES, MAX_LISTED_NAMES, Seed};
 use std::alloc::{AllocError, Global};
 use std::rc::Rc;
 

@@ -2,7 +2,7 @@
 ghost use Rattle.std.specs.Prelude.{◌≡◌, ◌<◌, ◌≤◌, ◌||◌, not, nat_lt, false, Some, length, drop, IfOk};
 ghost use Rattle.std.specs.Str.{is_utf8};
 ghost use Rattle.kc_tree_model.specs.LogicalLines.{split_at_newlines};
-ghost use Rattle.kc_macros_model.specs.Limits.{max_text_bytes};
+ghost use Rattle.kc_value.specs.declared.limits.TheConstants.{MAX_TEXT_BYTES};
 ghost use Rattle.kc_macros_model.specs.ReadingStates.{progress, written_line};
 ghost use Rattle.kc_macros_model.specs.TreeExpansion.{one_file, file_list, path_read, source_followed, line_written, list_read, lines_read};
 ghost use Rattle.kc_macros.specs.Runs.{place_of, end_of};
@@ -17,7 +17,6 @@ ghost use Rattle.kc_expansion.specs.checker.WrittenViews.{text_up_to};
 use super::faults::fault;
 use super::file_bytes::FileRead;
 use super::files::TreeFiles;
-use super::limits::{MAX_OPEN_FILES, MAX_TREE_BYTES};
 use super::line_places::{LineStart, after_help, is_continued_at, write_over};
 use super::line_steps::{LineStep, NewLine, SourceLine, line_step, short_line};
 use super::open_files::{OpenFiles, with_path};
@@ -30,6 +29,7 @@ use super::source_paths::paths_to_read;
 use super::written_file::WrittenFile;
 use kc_lines::logical_at;
 use kc_macros::{Place, SourceSort, Stop, line_bytes, source_line};
+use kc_value::{MAX_OPEN_FILES, MAX_TREE_BYTES};
 use std::rc::Rc;
 
 /// Reads the file of a path with all that it sources; returns the key of its expanded text.
@@ -163,7 +163,7 @@ fn write_line<F: TreeFiles>(
     text: &[u8],
 ) -> Result<NewLine, Stop>
     requires few { length opened.now.paths.now ≤ MAX_OPEN_FILES }
-    requires may_change { (nat_lt max_text_bytes (length text.now) || not (is_utf8 text.now)) ≡ false }
+    requires may_change { (nat_lt MAX_TEXT_BYTES (length text.now) || not (is_utf8 text.now)) ≡ false }
     ensures reads { Reads (file_run_of (F.contents files.old) reading.old) (file_run_of (F.contents files.new) reading.new) (line_written (reader_of opened.now) (place_of at.entry) joined text.now (state_of reading.old)) (end_of (λ l. written_line l.text.items l.begins_help (state_of reading.new)) result) }
 {
     match line_step(&mut reading.lines, at, joined, text)? {

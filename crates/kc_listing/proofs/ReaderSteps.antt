@@ -16,7 +16,7 @@ use Rattle.kc_listing.specs.between.ListingView.{RepresentsListing}
 use Rattle.kc_lines.specs.between.LinePlaces.{IsLogicalAt, IsLineAt}
 use Rattle.kc_listing.specs.checker.StateViews.{Describes, at_line}
 use Rattle.kc_listing.specs.checker.Faults.{IsMemory, fault_in}
-use Rattle.kc_listing.specs.checker.Steps.{line_here, HasStatement, IsSource, LineRead, IsEnded, FileRead, HelpRead, Sourced, IsAfter, EndRead, IsSourceRead, SourceRead, left_from, IsOneRead, IsLeft}
+use Rattle.kc_listing.specs.checker.Steps.{line_here, HasStatement, IsSource, ReturnsLineRead, IsEnded, ReturnsFileRead, ReturnsHelpRead, AppendsSource, IsAfter, ReturnsEndRead, IsSourceRead, ReturnsSourceRead, left_from, IsOneRead, IsLeft}
 use Rattle.kc_lines.proofs.ContinuedLines.{logical_step, help_step}
 use Rattle.std.proofs.lemmas.Bool.Decides.{nat_tests}
 use Rattle.std.specs.Prelude.{nat_lt, nat_le, is_some, sum_by, slice_range, take_while}
@@ -51,7 +51,7 @@ module _ (r : FileSource) (sub : List ℕ → List Group → Outcome) (file : �
       (number + lines) (physical_lines (drop next bytes)))) r (at_line file number) before (statement_on_line r.language before (line_here number text))
   front = ap (λ ls. read_lines sub r file ls before) (logical_step bytes at number text next lines here cut)
 
-  pub one_faulty : (new : ReaderState) (k : TreeKind) (f : TreeFault) → LineRead r file number text before new (Err k)
+  pub one_faulty : (new : ReaderState) (k : TreeKind) (f : TreeFault) → ReturnsLineRead r file number text before new (Err k)
       → (k ≡ OutOfMemory → IsMemory f) → IsMemory f ⊎ (f ≡ fault_in file number k) → IsEnded r (left_from sub r file bytes at number before) new f
   one_faulty new k f (inl m) a t = inl (a m)
   one_faulty new k f (inr h) a (inl m) = inl m
@@ -73,7 +73,7 @@ module _ (r : FileSource) (sub : List ℕ → List Group → Outcome) (file : �
 
   pub one_help : (new : ReaderState) (count : ℕ) (p : ℕ × ℕ) → HasStatement r file number text before true new
       → count ≡ help_line_count (physical_lines (drop next bytes))
-      → HelpRead file bytes next (number + lines) count (Ok p) → IsOneRead r sub file bytes at number before new p.0 (lines + p.1)
+      → ReturnsHelpRead file bytes next (number + lines) count (Ok p) → IsOneRead r sub file bytes at number before new p.0 (lines + p.1)
   one_help new count p s e h = record {
     now = with_statement (at_line file number) s.statement before;
     describes = s.describes;
@@ -86,7 +86,7 @@ module _ (r : FileSource) (sub : List ℕ → List Group → Outcome) (file : �
 
   pub one_help_faulty : (new : ReaderState) (count : ℕ) (f : TreeFault) → HasStatement r file number text before true new
       → count ≡ help_line_count (physical_lines (drop next bytes))
-      → HelpRead file bytes next (number + lines) count (Err f) → IsEnded r (left_from sub r file bytes at number before) new f
+      → ReturnsHelpRead file bytes next (number + lines) count (Err f) → IsEnded r (left_from sub r file bytes at number before) new f
   one_help_faulty new count f s e (inl m) = inl m
   one_help_faulty new count f s e (inr h) =
       ended_as r (left_from sub r file bytes at number before) (record { read = with_statement (at_line file number) s.statement before; fault = Some f }) new f
@@ -96,28 +96,28 @@ module _ (r : FileSource) (sub : List ℕ → List Group → Outcome) (file : �
       ∙ h sub r (with_statement (at_line file number) s.statement before))
       (inr (refl, shown_of r new (with_statement (at_line file number) s.statement before) s.describes))
 
-  source_left : (path : List ℕ) (said : ReaderState) → IsSource r number text path before said
+  source_left : (path : List ℕ) (middle : ReaderState) → IsSource r number text path before middle
       → left_from sub r file bytes at number before ≡ continue_after_statement sub
       (read_lines sub r file (logical_lines_from 0 0 (number + lines) (physical_lines (drop next bytes)))) r (at_line file number) before
       (Some (head (source path))) (Some path)
-  source_left path said s = front ∙ rw (s.gives, s.begins) refl
+  source_left path middle s = front ∙ rw (s.gives, s.begins) refl
 
-  pub one_source : (path : List ℕ) (said new : ReaderState) → IsSource r number text path before said → IsSourceRead r sub file number path before new
+  pub one_source : (path : List ℕ) (middle new : ReaderState) → IsSource r number text path before middle → IsSourceRead r sub file number path before new
       → IsOneRead r sub file bytes at number before new next lines
-  one_source path said new s t =
+  one_source path middle new s t =
       record {
         now = t.now;
         describes = t.describes;
-        left = source_left path said s
+        left = source_left path middle s
             ∙ t.left (read_lines sub r file (logical_lines_from 0 0 (number + lines) (physical_lines (drop next bytes))));
       }
 
-  pub one_source_faulty : (path : List ℕ) (said new : ReaderState) (f : TreeFault) → IsSource r number text path before said
-      → SourceRead r sub file number path before new (Err f) → IsEnded r (left_from sub r file bytes at number before) new f
-  one_source_faulty path said new f s (inl m) = inl m
-  one_source_faulty path said new f s (inr t) =
+  pub one_source_faulty : (path : List ℕ) (middle new : ReaderState) (f : TreeFault) → IsSource r number text path before middle
+      → ReturnsSourceRead r sub file number path before new (Err f) → IsEnded r (left_from sub r file bytes at number before) new f
+  one_source_faulty path middle new f s (inl m) = inl m
+  one_source_faulty path middle new f s (inr t) =
       ended_as r (left_from sub r file bytes at number before) t.outcome new f
-      (source_left path said s ∙ t.is (read_lines sub r file (logical_lines_from 0 0 (number + lines) (physical_lines (drop next bytes)))))
+      (source_left path middle s ∙ t.is (read_lines sub r file (logical_lines_from 0 0 (number + lines) (physical_lines (drop next bytes)))))
       (inr (t.fault_is, t.shows))
 
 -- reading a file is reading its logical lines, where one file fewer may be open within another
@@ -150,7 +150,8 @@ end_left r sub file bytes number at now a b = let e : at ≡ length bytes = omeg
 pub file_ended : (r : FileSource) (sub : List ℕ → List Group → Outcome) (file : ℕ) (bytes : List ℕ) (before : List Group) (new : ReaderState) (at number : ℕ)
     (result : Result (Unit {0}) TreeFault)
     → length bytes ≤ at → at ≤ length bytes
-    → (l : IsLeft r sub file bytes before new at number) → EndRead file l.now result → FileRead r (read_lines sub r file (lines_of bytes) before) new result
+    → (l : IsLeft r sub file bytes before new at number) → ReturnsEndRead file l.now result
+    → ReturnsFileRead r (read_lines sub r file (lines_of bytes) before) new result
 file_ended r sub file bytes before new at number (Ok u) a b l h =
     let e = sym l.left ∙ end_left r sub file bytes number at l.now a b in
     let d = ended_read file l.now (innermost l.now) in
@@ -167,7 +168,8 @@ module _ (r : FileSource) (sub : List ℕ → List Group → Outcome) (file line
   source_group : List Group
   source_group = with_statement (at_line file line) (Some (head (source path))) before
 
-  pub not_sourced : (new : ReaderState) (f : TreeFault) → Sourced r file line path before new (Err f) → SourceRead r sub file line path before new (Err f)
+  pub not_sourced : (new : ReaderState) (f : TreeFault) → AppendsSource r file line path before new (Err f)
+      → ReturnsSourceRead r sub file line path before new (Err f)
   not_sourced new f (inl m) = inl m
   not_sourced new f (inr h) = inr (record {
     outcome = ended_by_fault (at_line file line) h.0 (with_statement (at_line file line) (Some (head (source path))) before);
@@ -177,7 +179,8 @@ module _ (r : FileSource) (sub : List ℕ → List Group → Outcome) (file line
   })
 
   pub file_faulty : (new : ReaderState) (f : TreeFault) → source_fault r before path ≡ None
-      → IsEnded r (sub path (with_statement (at_line file line) (Some (head (source path))) before)) new f → SourceRead r sub file line path before new (Err f)
+      → IsEnded r (sub path (with_statement (at_line file line) (Some (head (source path))) before)) new f
+      → ReturnsSourceRead r sub file line path before new (Err f)
   file_faulty new f s (inl m) = inl m
   file_faulty new f s (inr h) = inr (record {
     outcome = sub path (with_statement (at_line file line) (Some (head (source path))) before);
@@ -189,7 +192,7 @@ module _ (r : FileSource) (sub : List ℕ → List Group → Outcome) (file line
   pub source_done : (new : ReaderState) (result : Result (Unit {0}) TreeFault) → source_fault r before path ≡ None
       → (sub path (with_statement (at_line file line) (Some (head (source path))) before)).fault ≡ None
       → IsAfter r file line (sub path (with_statement (at_line file line) (Some (head (source path))) before)).read new result
-      → SourceRead r sub file line path before new result
+      → ReturnsSourceRead r sub file line path before new result
   source_done new (Ok u) s n a = record {
     now = with_group (at_line file line) file_end (sub path (with_statement (at_line file line) (Some (head (source path))) before)).read;
     describes = a;
@@ -243,7 +246,7 @@ indented_end columns bytes begin a b = let e : begin ≡ length bytes = omega ar
 
 module _ (file : ℕ) (bytes : List ℕ) (at number columns begin lines : ℕ) (h : IsIndentedLeft file bytes at number columns begin lines) where
   -- no line is left
-  help_done : indented columns bytes begin ≡ 0 → HelpRead file bytes at number (indented columns bytes at) (Ok (begin, lines))
+  help_done : indented columns bytes begin ≡ 0 → ReturnsHelpRead file bytes at number (indented columns bytes at) (Ok (begin, lines))
   help_done e = (
     λ sub r read. h.is sub r read ∙ ap (λ n. read_lines sub r file (logical_lines_from 0 n (number + lines) (physical_lines (drop begin bytes))) read) e,
     h.later,
@@ -251,11 +254,11 @@ module _ (file : ℕ) (bytes : List ℕ) (at number columns begin lines : ℕ) (
     h.few,
   )
 
-  pub help_at_end : length bytes ≤ begin → HelpRead file bytes at number (indented columns bytes at) (Ok (begin, lines))
+  pub help_at_end : length bytes ≤ begin → ReturnsHelpRead file bytes at number (indented columns bytes at) (Ok (begin, lines))
   help_at_end a = help_done (indented_end columns bytes begin a h.within)
 
   module _ (p : PhysicalLine) (l : IsLineAt bytes begin p) where
-    pub help_stops : is_of_help columns (line_of bytes begin p) ≡ false → HelpRead file bytes at number (indented columns bytes at) (Ok (begin, lines))
+    pub help_stops : is_of_help columns (line_of bytes begin p) ≡ false → ReturnsHelpRead file bytes at number (indented columns bytes at) (Ok (begin, lines))
     help_stops e = help_done (indented_none columns bytes begin p l e)
 
     pub indented_more : is_of_help columns (line_of bytes begin p) ≡ true → nat_lt MAX_LINE_BYTES (length (slice_range bytes begin p.end)) ≡ false
@@ -276,7 +279,7 @@ module _ (file : ℕ) (bytes : List ℕ) (at number columns begin lines : ℕ) (
     pub help_faulty : (kind : TreeKind) (f : TreeFault) → is_of_help columns (line_of bytes begin p) ≡ true
         → ((language : Language) (read : List Group) → statement_on_line language read
         (record { number = number + lines; text = slice_range bytes begin p.end; help = true }) ≡ Err kind)
-        → f ≡ fault_in file (number + lines) kind → HelpRead file bytes at number (indented columns bytes at) (Err f)
+        → f ≡ fault_in file (number + lines) kind → ReturnsHelpRead file bytes at number (indented columns bytes at) (Err f)
     help_faulty kind f i gives e = inr (λ sub r read.
         h.is sub r read
         ∙ ap (λ k. read_lines sub r file (logical_lines_from 0 k (number + lines) (physical_lines (drop begin bytes))) read)
@@ -288,8 +291,8 @@ module _ (file : ℕ) (bytes : List ℕ) (at number columns begin lines : ℕ) (
 
 -- a whole help text by its indentation
 help_as : (file : ℕ) (bytes : List ℕ) (at number count other : ℕ) (result : Result (ℕ × ℕ) TreeFault) → count ≡ other
-    → HelpRead file bytes at number count result → HelpRead file bytes at number other result
-help_as file bytes at number count other result e h = let P : ℕ → Type 0 = λ n. HelpRead file bytes at number n result in subst P e h
+    → ReturnsHelpRead file bytes at number count result → ReturnsHelpRead file bytes at number other result
+help_as file bytes at number count other result e h = let P : ℕ → Type 0 = λ n. ReturnsHelpRead file bytes at number n result in subst P e h
 
 no_indentation : (bytes : List ℕ) (at : ℕ) → first_indentation (physical_lines (drop at bytes)) ≡ 0 → help_line_count (physical_lines (drop at bytes)) ≡ 0
 no_indentation bytes at e = rw e refl
@@ -300,7 +303,7 @@ an_indentation bytes at zero e h = absurd (h refl)
 an_indentation bytes at (suc k) e h = rw (← e, eqb-suc-zero k) refl
 
 pub help_nothing : (file : ℕ) (bytes : List ℕ) (at number : ℕ) → at ≤ length bytes → first_indentation (physical_lines (drop at bytes)) ≡ 0
-    → HelpRead file bytes at number (help_line_count (physical_lines (drop at bytes))) (Ok (at, 0))
+    → ReturnsHelpRead file bytes at number (help_line_count (physical_lines (drop at bytes))) (Ok (at, 0))
 help_nothing file bytes at number w e =
     help_as file bytes at number 0 (help_line_count (physical_lines (drop at bytes))) (Ok (at, 0)) (sym (no_indentation bytes at e)) (
       λ sub r read. ap (λ n. read_lines sub r file (logical_lines_from 0 0 n (physical_lines (drop at bytes))) read) (omega arith),
@@ -312,7 +315,8 @@ help_nothing file bytes at number w e =
 
 pub help_by : (file : ℕ) (bytes : List ℕ) (at number columns : ℕ) (result : Result (ℕ × ℕ) TreeFault)
     → columns ≡ first_indentation (physical_lines (drop at bytes)) → (columns ≡ 0 → ⊥)
-    → HelpRead file bytes at number (indented columns bytes at) result → HelpRead file bytes at number (help_line_count (physical_lines (drop at bytes))) result
+    → ReturnsHelpRead file bytes at number (indented columns bytes at) result
+    → ReturnsHelpRead file bytes at number (help_line_count (physical_lines (drop at bytes))) result
 help_by file bytes at number columns result e n h =
     help_as file bytes at number (indented columns bytes at) (help_line_count (physical_lines (drop at bytes))) result (an_indentation bytes at columns e n) h
 

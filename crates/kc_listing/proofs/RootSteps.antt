@@ -20,8 +20,8 @@ use Rattle.kc_listing.specs.between.ListingView.{RepresentsListing, RepresentsLi
 use Rattle.kc_listing.specs.between.MemoryFaults.{no_memory}
 use Rattle.kc_listing.specs.checker.Faults.{fault_in}
 use Rattle.kc_listing.specs.checker.StateViews.{Describes, file_source_of, at_line}
-use Rattle.kc_listing.specs.checker.Roots.{OutcomeRead, of_first}
-use Rattle.kc_listing.specs.checker.Steps.{FileRead}
+use Rattle.kc_listing.specs.checker.Roots.{ReturnsOutcome, of_first}
+use Rattle.kc_listing.specs.checker.Steps.{ReturnsFileRead}
 use Rattle.kc_listing.proofs.ReaderSteps.{shown_of}
 
 no_number : (held : List (List ℕ)) (numbers name : List ℕ) → held ≡ [] → number_in held numbers name ≡ None
@@ -56,17 +56,17 @@ unfolding Describes
 begun r p s k c f b = record { shows = s; counted = record { stack = rw k tt; choices_are = c; files_are = f; bytes_are = omega (arith, b) } }
 
 -- if the first file was read without a fault, its listing without a fault is the result of the reading
-pub first_read : (r : FileSource) (o : Outcome) (new : ReaderState) → (o.fault ≡ None) × Describes r new o.read → OutcomeRead o (new.listing, None)
+pub first_read : (r : FileSource) (o : Outcome) (new : ReaderState) → (o.fault ≡ None) × Describes r new o.read → ReturnsOutcome o (new.listing, None)
 first_read r o new h = inr (sym h.0, shown_of r new o.read h.1)
 
-pub first_faulty : (r : FileSource) (o : Outcome) (new : ReaderState) (f : TreeFault) → FileRead r o new (Err f) → OutcomeRead o (new.listing, Some f)
+pub first_faulty : (r : FileSource) (o : Outcome) (new : ReaderState) (f : TreeFault) → ReturnsFileRead r o new (Err f) → ReturnsOutcome o (new.listing, Some f)
 first_faulty r o new f (inl m) = inl (ap Some m)
 first_faulty r o new f (inr h) = inr (sym h.0, h.1)
 
 -- the result of a call that reads the file of the root path, with no statements before, is that of reading the first file
 pub first_of : (r : FileSource) (number : ℕ) (bytes : List ℕ) (new : ReaderState) (result : Result (Unit {0}) TreeFault)
-    → (number ≡ r.number r.root → bytes ≡ bytes_in r r.root → FileRead r (read_file 32 r r.root []) new result)
-    → number ≡ r.number r.root → bytes ≡ bytes_in r r.root → FileRead r (of_first r) new result
+    → (number ≡ r.number r.root → bytes ≡ bytes_in r r.root → ReturnsFileRead r (read_file 32 r r.root []) new result)
+    → number ≡ r.number r.root → bytes ≡ bytes_in r r.root → ReturnsFileRead r (of_first r) new result
 unfolding of_first
 first_of r number bytes new result h n b = h n b
 
@@ -88,7 +88,7 @@ fitting_by r None e h = cc
 fitting_by r (Some bytes) e h = let t : nat_lt MAX_TREE_BYTES (length bytes) ≡ false = le-ltb _ _ h in rw t refl
 
 -- where an outcome is another one
-outcome_as : (o p : Outcome) (l : Listing × Option TreeFault) → o ≡ p → OutcomeRead p l → OutcomeRead o l
+outcome_as : (o p : Outcome) (l : Listing × Option TreeFault) → o ≡ p → ReturnsOutcome p l → ReturnsOutcome o l
 outcome_as o p l e h = rw e h
 
 -- the root path of a file source is that of the reader's files
@@ -98,7 +98,7 @@ root_is f = refl
 
 pub absent_root : (f : SourceFiles) (l : Listing) (k : TreeKind)
     → (k ≡ OutOfMemory) ⊎ ((k ≡ MissingFile) × (is_some ((file_source_of f).bytes f.root.now) ≡ false)) → RepresentsListing l []
-    → OutcomeRead (read_root (file_source_of f) ((file_source_of f).bytes (file_source_of f).root)) (l, Some (record { file = None; line = 0; kind = k }))
+    → ReturnsOutcome (read_root (file_source_of f) ((file_source_of f).bytes (file_source_of f).root)) (l, Some (record { file = None; line = 0; kind = k }))
 absent_root f l k (inl m) s = inl (rw m refl)
 absent_root f l k (inr h) s =
     outcome_as _ _ (l, Some (record { file = None; line = 0; kind = k }))
@@ -106,7 +106,7 @@ absent_root f l k (inr h) s =
 
 pub large_root : (f : SourceFiles) (l : Listing) (number : ℕ) (bytes : List ℕ) → is_some ((file_source_of f).bytes f.root.now) ≡ true
     → number ≡ (file_source_of f).number f.root.now → bytes ≡ bytes_in (file_source_of f) f.root.now
-    → MAX_TREE_BYTES < length bytes → RepresentsListing l [] → OutcomeRead (read_root (file_source_of f) ((file_source_of f).bytes (file_source_of f).root))
+    → MAX_TREE_BYTES < length bytes → RepresentsListing l [] → ReturnsOutcome (read_root (file_source_of f) ((file_source_of f).bytes (file_source_of f).root))
     (l, Some (fault_in number 0 TooMany))
 large_root f l number bytes there n b h s =
     outcome_as _ _ (l, Some (fault_in number 0 TooMany)) (large_by (file_source_of f) ((file_source_of f).bytes (file_source_of f).root) (rw (root_is f) there)
@@ -115,15 +115,15 @@ large_root f l number bytes there n b h s =
 
 pub fitting_root : (f : SourceFiles) (l : Listing × Option TreeFault) (bytes : List ℕ) → is_some ((file_source_of f).bytes f.root.now) ≡ true
     → bytes ≡ bytes_in (file_source_of f) f.root.now → length bytes ≤ MAX_TREE_BYTES
-    → OutcomeRead (of_first (file_source_of f)) l → OutcomeRead (read_root (file_source_of f) ((file_source_of f).bytes (file_source_of f).root)) l
+    → ReturnsOutcome (of_first (file_source_of f)) l → ReturnsOutcome (read_root (file_source_of f) ((file_source_of f).bytes (file_source_of f).root)) l
 fitting_root f l bytes there b h =
     outcome_as _ _ l (fitting_by (file_source_of f) ((file_source_of f).bytes (file_source_of f).root) (rw (root_is f) there) (rw (root_is f, sym b) h))
 
 -- the fault in the result of a reading is out of memory, or is the fault of the reading by the definition
-pub fault_of : (o : Outcome) (l : Listing × Option TreeFault) → OutcomeRead o l → (l.1 ≡ Some no_memory) ⊎ (l.1 ≡ o.fault)
+pub fault_of : (o : Outcome) (l : Listing × Option TreeFault) → ReturnsOutcome o l → (l.1 ≡ Some no_memory) ⊎ (l.1 ≡ o.fault)
 fault_of o l (inl m) = inl m
 fault_of o l (inr h) = inr h.0
 
-pub read_of : (o : Outcome) (l : Listing × Option TreeFault) → OutcomeRead o l → (l.1 ≡ Some no_memory) ⊎ RepresentsListing l.0 o.read
+pub read_of : (o : Outcome) (l : Listing × Option TreeFault) → ReturnsOutcome o l → (l.1 ≡ Some no_memory) ⊎ RepresentsListing l.0 o.read
 read_of o l (inl m) = inl m
 read_of o l (inr h) = inr h.1

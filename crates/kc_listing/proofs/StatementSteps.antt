@@ -31,7 +31,7 @@ use Rattle.kc_listing.specs.declared.state.ReaderState.{ReaderState}
 use Rattle.kc_listing.specs.declared.state.Step.{Step}
 use Rattle.kc_listing.specs.declared.state.Step.TheVariants.{Next, Help, Source}
 use Rattle.kc_listing.specs.checker.LinePlacement.{fault_before}
-use Rattle.kc_listing.specs.checker.Steps.{line_here, limits, AppendsHead, AppendsAttribute, LineRead}
+use Rattle.kc_listing.specs.checker.Steps.{line_here, limits, AppendsHead, AppendsAttribute, ReturnsLineRead}
 use Rattle.kc_listing.proofs.AppendSteps.{lists_grown}
 use Rattle.kc_listing.specs.checker.StatementResults.{no_path, AppendsStatement, begins_with, IsGiven, IsSourceGiven, ReturnsStatementRead}
 
@@ -204,7 +204,8 @@ gives_tokens language before line text e u = rw (e, u) refl
 module _ (r : FileSource) (file line : ℕ) (before : List Group) (text : List ℕ) (new : ReaderState) (short : nat_lt MAX_LINE_BYTES (length text) ≡ false)
     (utf8 : is_utf8 text ≡ true) where
   pub line_of_tokens : (ts : List Lexeme) (result : Result Step TreeKind) → lexemes_from r.language 0 0 text ≡ Ok ts
-      → ReturnsStatementRead r file line (statement_of_tokens r.language before ts) (is_help ts) before new result → LineRead r file line text before new result
+      → ReturnsStatementRead r file line (statement_of_tokens r.language before ts) (is_help ts) before new result
+      → ReturnsLineRead r file line text before new result
   line_of_tokens ts (Ok Next) e g = record {
     statement = g.statement;
     gives = gives_tokens r.language before line text short utf8 ∙ ap (statement_or_fault r.language before) e ∙ g.gives;
@@ -229,6 +230,6 @@ module _ (r : FileSource) (file line : ℕ) (before : List Group) (text : List �
 
   -- a line whose tokens can't be read has the fault of its first token that can't be read, or memory ran out
   pub line_of_fault : (f : ExprFault) (kind : TreeKind) → kind ≡ kind_of_fault f.kind → (f.kind ≡ expr_kinds.OutOfMemory)
-      ⊎ (lexemes_from r.language 0 0 text ≡ Err f) → RepresentsListing new.listing before → LineRead r file line text before new (Err kind)
+      ⊎ (lexemes_from r.language 0 0 text ≡ Err f) → RepresentsListing new.listing before → ReturnsLineRead r file line text before new (Err kind)
   line_of_fault f kind e (inl m) s = inl (e ∙ ap kind_of_fault m)
   line_of_fault f kind e (inr h) s = inr (gives_tokens r.language before line text short utf8 ∙ ap (statement_or_fault r.language before) h ∙ ap Err (sym e), s)

@@ -8,7 +8,7 @@ ghost use Rattle.kc_tree_model.specs.LogicalLines.{is_help, is_help_word};
 ghost use Rattle.kc_tree_model.specs.TreeReading.{statement_of_tokens, statement_by_keyword};
 ghost use Rattle.kc_listing.specs.checker.StateViews.{Describes, file_source_of};
 ghost use Rattle.kc_listing.specs.checker.StatementResults.{begins_with, ReturnsStatementRead};
-ghost use Rattle.kc_listing.specs.checker.Steps.{LineRead};
+ghost use Rattle.kc_listing.specs.checker.Steps.{ReturnsLineRead};
 
 use super::placement::fault_before_form;
 use super::state::{ReaderState, SourceFiles, Step};
@@ -41,11 +41,11 @@ fn read_form(
     if let Some(kind) = fault_before_form(read, language, keyword, tokens) {
         return Err(kind);
     }
-    let said = match statement_of(read.alloc, &mut read.listing.names.arena, keyword, tokens) {
-        Ok(said) => said,
+    let statement = match statement_of(read.alloc, &mut read.listing.names.arena, keyword, tokens) {
+        Ok(statement) => statement,
         Err(kind) => return Err(kind),
     };
-    match push_statement(read, file, line, said) {
+    match push_statement(read, file, line, statement) {
         Ok(Some(path)) => Ok(Step::Source(path)),
         Ok(None) if is_help_keyword(keyword) => Ok(Step::Help),
         Ok(None) => Ok(Step::Next),
@@ -82,7 +82,8 @@ pub(crate) fn read_line<'a>(
     bytes: &'a [u8],
     found: &mut Vec<Token<'a>>,
 ) -> Result<Step, TreeKind>
-    ensures { (before : List Group) → Describes (file_source_of from.entry) read.old before → LineRead (file_source_of from.entry) file line bytes.now before read.new result }
+    ensures { (before : List Group) → Describes (file_source_of from.entry) read.old before
+        → ReturnsLineRead (file_source_of from.entry) file line bytes.now before read.new result }
 {
     let text = match text_of(bytes) {
         Ok(text) => text,
@@ -104,7 +105,8 @@ fn read_joined(
     line: u32,
     bytes: &[u8],
 ) -> Result<Step, TreeKind>
-    ensures { (before : List Group) → Describes (file_source_of from.entry) read.old before → LineRead (file_source_of from.entry) file line bytes.now before read.new result }
+    ensures { (before : List Group) → Describes (file_source_of from.entry) read.old before
+        → ReturnsLineRead (file_source_of from.entry) file line bytes.now before read.new result }
 {
     let mut found = Vec::new(read.alloc);
     read_line(read, from, file, line, bytes, &mut found)
@@ -119,7 +121,8 @@ pub(crate) fn read_logical<'a>(
     text: &CowSlice<'a, u8>,
     found: &mut Vec<Token<'a>>,
 ) -> Result<Step, TreeKind>
-    ensures { (before : List Group) → Describes (file_source_of from.entry) read.old before → LineRead (file_source_of from.entry) file line (cow_slice_items text.now) before read.new result }
+    ensures { (before : List Group) → Describes (file_source_of from.entry) read.old before
+        → ReturnsLineRead (file_source_of from.entry) file line (cow_slice_items text.now) before read.new result }
 {
     match text {
         CowSlice::Borrowed(bytes) => read_line(read, from, file, line, bytes, found),

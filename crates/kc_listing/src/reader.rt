@@ -4,7 +4,7 @@ ghost use Rattle.kc_tree_model.specs.Blocks.{Group};
 ghost use Rattle.kc_tree_model.specs.LogicalLines.{physical_lines, help_line_count};
 ghost use Rattle.kc_tree_model.specs.TreeReading.{read_file};
 ghost use Rattle.kc_listing.specs.checker.StateViews.{Describes, file_source_of};
-ghost use Rattle.kc_listing.specs.checker.Steps.{HelpRead, indented, SourceRead, OneRead, IsForward, FileOfRead};
+ghost use Rattle.kc_listing.specs.checker.Steps.{ReturnsHelpRead, indented, ReturnsSourceRead, ReturnsOneRead, IsForward, ReturnsReadOfFile};
 
 use super::fault::{fault_at, fault_or_out_of_memory, out_of_memory};
 use super::line::read_logical;
@@ -26,7 +26,7 @@ fn read_indented(
     requires within { at ≤ length file.bytes.now }
     requires few { number ≤ at + 1 }
     requires small { length file.bytes.now < 2 ^ 31 }
-    ensures read { HelpRead file.entry.number file.entry.bytes.now at number (indented columns file.entry.bytes.now at) result }
+    ensures read { ReturnsHelpRead file.entry.number file.entry.bytes.now at number (indented columns file.entry.bytes.now at) result }
 {
     let mut begin = at;
     let mut lines = 0;
@@ -50,7 +50,7 @@ fn read_help(file: SourceFile<'_>, at: usize, number: u32) -> Result<(usize, u32
     requires within { at ≤ length file.bytes.now }
     requires few { number ≤ at + 1 }
     requires small { length file.bytes.now < 2 ^ 31 }
-    ensures read { HelpRead file.entry.number file.entry.bytes.now at number (help_line_count (physical_lines (drop at file.entry.bytes.now))) result }
+    ensures read { ReturnsHelpRead file.entry.number file.entry.bytes.now at number (help_line_count (physical_lines (drop at file.entry.bytes.now))) result }
 {
     let columns = first_columns(file.bytes, at);
     if columns == 0 {
@@ -69,7 +69,8 @@ fn read_sourced(
     line: u32,
     path: Text,
 ) -> Result<(), TreeFault>
-    ensures { (before : List Group) → Describes (file_source_of from.entry) read.old before → SourceRead (file_source_of from.entry) (read_file depth (file_source_of from.entry)) file line path before read.new result }
+    ensures { (before : List Group) → Describes (file_source_of from.entry) read.old before
+        → ReturnsSourceRead (file_source_of from.entry) (read_file depth (file_source_of from.entry)) file line path before read.new result }
 {
     let sourced = open_source(read, from, file, line, path)?;
     read_open_file(read, from, depth, sourced)?;
@@ -91,7 +92,8 @@ fn read_statement<'a>(
     requires few { number ≤ at + 1 }
     requires small { length file.bytes.now < 2 ^ 31 }
     ensures bounds { IfOk result (λ p. IsForward file.entry.bytes.now at p.0 p.1) }
-    ensures read { (before : List Group) → Describes (file_source_of from.entry) read.old before → OneRead (file_source_of from.entry) (read_file depth (file_source_of from.entry)) file.entry.number file.entry.bytes.now at number before read.new result }
+    ensures read { (before : List Group) → Describes (file_source_of from.entry) read.old before
+        → ReturnsOneRead (file_source_of from.entry) (read_file depth (file_source_of from.entry)) file.entry.number file.entry.bytes.now at number before read.new result }
 {
     let Ok(line) = logical_at(read.alloc, file.bytes, at) else {
         return Err(out_of_memory());
@@ -102,8 +104,8 @@ fn read_statement<'a>(
         Err(kind) => Err(fault_or_out_of_memory(file.number, number, kind)),
         Ok(Step::Next) => Ok((next, lines)),
         Ok(Step::Help) => {
-            let (behind, more) = read_help(file, next, number + lines)?;
-            Ok((behind, lines + more))
+            let (end, more) = read_help(file, next, number + lines)?;
+            Ok((end, lines + more))
         }
         Ok(Step::Source(path)) => {
             read_sourced(read, from, depth, file.number, number, path)?;
@@ -123,7 +125,7 @@ pub(crate) fn read_open_file(
 ) -> Result<(), TreeFault>
     requires small { length file.bytes.now < 2 ^ 31 }
     ensures read { (before : List Group) → Describes (file_source_of from.entry) read.old before
-        → FileOfRead (file_source_of from.entry) depth file.entry before read.new result }
+        → ReturnsReadOfFile (file_source_of from.entry) depth file.entry before read.new result }
 {
     if depth == 0 {
         return Ok(());

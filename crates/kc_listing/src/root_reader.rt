@@ -5,7 +5,7 @@ ghost use Rattle.kc_tree_model.specs.TreeReading.{read_root, reading, lenient_re
 ghost use Rattle.kc_listing.specs.between.ListingView.{RepresentsListing};
 ghost use Rattle.kc_listing.specs.between.MemoryFaults.{no_memory};
 ghost use Rattle.kc_listing.specs.checker.StateViews.{Describes, file_source_of};
-ghost use Rattle.kc_listing.specs.checker.Roots.{OutcomeRead, of_first};
+ghost use Rattle.kc_listing.specs.checker.Roots.{ReturnsOutcome, of_first};
 
 use super::fault::fault_at;
 use super::listing::{Listing, SymbolTable};
@@ -60,7 +60,7 @@ fn read_first(
 ) -> (Listing, Option<TreeFault>)
     requires small { length file.bytes.now ≤ MAX_TREE_BYTES }
     ensures read { file.entry.number ≡ (file_source_of from.entry).number (file_source_of from.entry).root → file.entry.bytes.now ≡ bytes_in (file_source_of from.entry) (file_source_of from.entry).root
-        → OutcomeRead (of_first (file_source_of from.entry)) result }
+        → ReturnsOutcome (of_first (file_source_of from.entry)) result }
 {
     let mut read = ReaderState::new(alloc, from.texts.seed(), file.bytes.len());
     let fault = match read_open_file(&mut read, from, MAX_OPEN_FILES, file) {
@@ -72,7 +72,7 @@ fn read_first(
 
 /// Reads the first file, which may be absent or too large, and all that it sources.
 fn read_all(alloc: Global, from: SourceFiles<'_>) -> (Listing, Option<TreeFault>)
-    ensures { OutcomeRead (read_root (file_source_of from.entry) ((file_source_of from.entry).bytes (file_source_of from.entry).root)) result }
+    ensures { ReturnsOutcome (read_root (file_source_of from.entry) ((file_source_of from.entry).bytes (file_source_of from.entry).root)) result }
 {
     let file = match file_of(from, from.root) {
         Ok(file) => file,

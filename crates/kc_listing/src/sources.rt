@@ -4,7 +4,7 @@ ghost use Rattle.std.specs.List.{list_any};
 ghost use Rattle.kc_tree_model.specs.Blocks.{Group};
 ghost use Rattle.kc_listing.specs.checker.StateViews.{Describes, file_source_of};
 ghost use Rattle.kc_listing.specs.checker.OpenBlockViews.{is_file_of};
-ghost use Rattle.kc_listing.specs.checker.Steps.{Sourced, IsAfter, EndRead, SourcedFile, FileFound};
+ghost use Rattle.kc_listing.specs.checker.Steps.{AppendsSource, IsAfter, ReturnsEndRead, ReturnsSourceFile, ReturnsFile};
 
 use super::append::{push_end, push_group, push_source, push_text};
 use super::fault::{fault_at, fault_or_out_of_memory, out_of_memory};
@@ -17,7 +17,7 @@ use kc_value::{MAX_FILES, MAX_OPEN_FILES, MAX_TREE_BYTES, Text};
 /// The file of a path. An absent file is `MissingFile` or read as empty; a file whose number doesn't fit 32 bits is
 /// out of memory.
 pub(crate) fn file_of<'a>(from: SourceFiles<'a>, path: &str) -> Result<SourceFile<'a>, TreeKind>
-    ensures { FileFound (file_source_of from.entry) path.now result }
+    ensures { ReturnsFile (file_source_of from.entry) path.now result }
 {
     let Ok(number) = u32::try_from(from.texts.number_of(path)) else {
         return Err(TreeKind::OutOfMemory);
@@ -44,7 +44,8 @@ fn sourced<'a>(
 ) -> Result<SourceFile<'a>, TreeKind>
     ensures few { IfOk result (λ o. read.now.files < MAX_FILES) }
     ensures small { IfOk result (λ o. read.now.bytes + length o.bytes.now ≤ MAX_TREE_BYTES) }
-    ensures sourced { (before : List Group) → Describes (file_source_of from.entry) read.now before → SourcedFile (file_source_of from.entry) path.now before result }
+    ensures sourced { (before : List Group) → Describes (file_source_of from.entry) read.now before
+        → ReturnsSourceFile (file_source_of from.entry) path.now before result }
 {
     if is_open(read, from, path) {
         return Err(TreeKind::SourceLoop);
@@ -74,7 +75,8 @@ pub(crate) fn open_source<'a>(
     path: Text,
 ) -> Result<SourceFile<'a>, TreeFault>
     ensures small { IfOk result (λ o. length o.bytes.now < 2 ^ 31) }
-    ensures sourced { (before : List Group) → Describes (file_source_of from.entry) read.old before → Sourced (file_source_of from.entry) file line path before read.new result }
+    ensures sourced { (before : List Group) → Describes (file_source_of from.entry) read.old before
+        → AppendsSource (file_source_of from.entry) file line path before read.new result }
 {
     let found = sourced(read, from, path.as_str());
     let Ok(place) = push_text(read, path) else {
@@ -113,7 +115,7 @@ pub(crate) fn end_of_file(
     from: SourceFiles<'_>,
     file: u32,
 ) -> Result<(), TreeFault>
-    ensures { (before : List Group) → Describes (file_source_of from.entry) read.now before → EndRead file before result }
+    ensures { (before : List Group) → Describes (file_source_of from.entry) read.now before → ReturnsEndRead file before result }
 {
     match innermost(&read.stack) {
         Some((_, line)) => Err(fault_at(file, line, TreeKind::Unclosed)),

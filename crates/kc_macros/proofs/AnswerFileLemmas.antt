@@ -10,20 +10,21 @@ use Rattle.kc_tree_model.specs.LogicalLines.{PhysicalLine, split_at_newlines}
 use Rattle.kc_macros_model.specs.declared.fault.AnswersKind.{AnswersKind}
 use Rattle.kc_macros_model.specs.declared.fault.AnswersKind.TheVariants.{Malformed, TwoAnswers, NotUtf8, LineTooLong, TooManyLines, TooLarge, Read, OutOfMemory}
 use Rattle.kc_macros_model.specs.declared.fault.AnswersFault.{AnswersFault}
-use Rattle.kc_macros_model.specs.Limits.{max_text_bytes, max_answer_lines, max_answer_bytes}
+use Rattle.std.specs.Option.{option_or}
+use Rattle.kc_value.specs.declared.limits.TheConstants.{MAX_ANSWER_BYTES, MAX_ANSWER_LINES, MAX_ANSWER_LINE_BYTES}
 use Rattle.kc_macros_model.specs.Programs.{Answer}
 use Rattle.kc_macros_model.specs.Variables.{without_white_end}
-use Rattle.kc_macros_model.specs.AnswerFiles.{Recorded, AnswerLine, comment, answer, command, malformed, meaning_of_line, is_same_answer, LinesSoFar, fault_at, one_line_more, with_answer, malformed_line, with_meaning, fault_of_size, fault_of_line, with_line, FileEnd, complete, cut_by, unless_waiting, cut_line, and_then, recorded_from, first_line, answers_read}
+use Rattle.kc_macros_model.specs.AnswerFiles.{RecordedAnswers, AnswerLine, comment, answer, command, malformed, meaning_of_line, is_same_answer, LinesSoFar, fault_at, one_line_more, with_answer, malformed_line, with_meaning, fault_of_size, fault_of_line, with_line, FileEnd, complete, cut_by, unless_waiting, cut_line, and_then, recorded_from, first_line, answers_read}
 use Rattle.kc_macros.specs.checker.AnswerFaults.{no_memory}
 use Rattle.kc_macros.specs.ReadAnswers.{ReadsToEnd, end_of_file, AreRecorded, IsRefused}
 
 -- a file that a fault cuts isn't recorded
-cut_is_refused : (kind : AnswersKind) (lines : LinesSoFar) (ls : List PhysicalLine) (r : Recorded) → recorded_from (cut_by kind) lines ls ≡ Ok r → ⊥
+cut_is_refused : (kind : AnswersKind) (lines : LinesSoFar) (ls : List PhysicalLine) (r : RecordedAnswers) → recorded_from (cut_by kind) lines ls ≡ Ok r → ⊥
 cut_is_refused kind lines [] r e = let z : ⊥ = cc in z
 cut_is_refused kind lines (l ∷ ls) r e = by_test (λ more h. cut_is_refused kind more ls r h) l.ended (with_line lines l.text) e
   where
     by_test : ((more : LinesSoFar) → recorded_from (cut_by kind) more ls ≡ Ok r → ⊥) → (b : Bool) (x : Result LinesSoFar AnswersFault)
-        → (elim b as (λ z. Result Recorded AnswersFault) [
+        → (elim b as (λ z. Result RecordedAnswers AnswersFault) [
           | true ↦ and_then x (λ more. recorded_from (cut_by kind) more ls)
           | false ↦ Err (cut_line kind lines l.text)
         ]) ≡ Ok r → ⊥
@@ -55,7 +56,7 @@ meaning_has_memory lines malformed = by_command lines.waiting
     by_command (Some question) = λ e. cc
 
 size_has_memory : (count : ℕ) (line : List ℕ) → fault_of_size count line ≢ Some OutOfMemory
-size_has_memory count line = by_tests (nat_lt count max_answer_lines) (nat_lt max_text_bytes (length line))
+size_has_memory count line = by_tests (nat_lt count MAX_ANSWER_LINES) (nat_lt MAX_ANSWER_LINE_BYTES (length line))
   where
     by_tests : (few long : Bool) → cond few (cond long (Some LineTooLong) None) (Some TooManyLines) ≢ Some OutOfMemory
     by_tests true true = λ e. cc
@@ -66,7 +67,7 @@ bytes_have_memory : (count : ℕ) (line : List ℕ) → fault_of_line count line
 bytes_have_memory count line = by_size (fault_of_size count line) (size_has_memory count line) (is_utf8 line)
   where
     by_size : (size : Option AnswersKind) → size ≢ Some OutOfMemory → (text : Bool)
-        → (elim size as (λ z. Option AnswersKind) [ Some kind ↦ Some kind | None ↦ cond text None (Some NotUtf8) ]) ≢ Some OutOfMemory
+        → option_or size (cond text None (Some NotUtf8)) ≢ Some OutOfMemory
     by_size (Some kind) other text = other
     by_size None other true = λ e. cc
     by_size None other false = λ e. cc
@@ -106,7 +107,7 @@ cut_has_memory kind lines (l ∷ ls) other = by_test (λ more. cut_has_memory ki
     by_size (Some earlier) apart = λ e. apart (ap (λ k. Some k) e)
     by_size None apart = other
 
-    by_test : ((more : LinesSoFar) → HasMemory (recorded_from (cut_by kind) more ls)) → (b : Bool) → HasMemory (elim b as (λ z. Result Recorded AnswersFault) [
+    by_test : ((more : LinesSoFar) → HasMemory (recorded_from (cut_by kind) more ls)) → (b : Bool) → HasMemory (elim b as (λ z. Result RecordedAnswers AnswersFault) [
       | true ↦ and_then (with_line lines l.text) (λ more. recorded_from (cut_by kind) more ls)
       | false ↦ Err (cut_line kind lines l.text)
     ])
@@ -114,39 +115,39 @@ cut_has_memory kind lines (l ∷ ls) other = by_test (λ more. cut_has_memory ki
     by_test ih false = by_size (fault_of_size lines.count l.text) (size_has_memory lines.count l.text)
 
 -- a fault of a file isn't that memory ran out
-fault_has_memory : (r : Result Recorded AnswersFault) (f : AnswersFault) → HasMemory r → r ≡ Err f → f.kind ≢ OutOfMemory
+fault_has_memory : (r : Result RecordedAnswers AnswersFault) (f : AnswersFault) → HasMemory r → r ≡ Err f → f.kind ≢ OutOfMemory
 fault_has_memory r f h e = subst HasMemory e h
 
 -- a file within the size is read as it is
-small_file : (end : FileEnd) (bytes : List ℕ) (earlier : Recorded) → length bytes ≤ max_answer_bytes
-    → answers_read end bytes earlier ≡ recorded_from end (first_line earlier) (split_at_newlines (take max_answer_bytes bytes))
+small_file : (end : FileEnd) (bytes : List ℕ) (earlier : RecordedAnswers) → length bytes ≤ MAX_ANSWER_BYTES
+    → answers_read end bytes earlier ≡ recorded_from end (first_line earlier) (split_at_newlines (take MAX_ANSWER_BYTES bytes))
 unfolding answers_read
 small_file end bytes earlier h =
-    ap (λ b. cond b (recorded_from (cut_by TooLarge) (first_line earlier) (split_at_newlines (take max_answer_bytes bytes)))
-    (recorded_from end (first_line earlier) (split_at_newlines bytes))) (le-ltb max_answer_bytes (length bytes) h)
-    ∙ ap (λ s. recorded_from end (first_line earlier) (split_at_newlines s)) (sym (take_all max_answer_bytes bytes h))
+    ap (λ b. cond b (recorded_from (cut_by TooLarge) (first_line earlier) (split_at_newlines (take MAX_ANSWER_BYTES bytes)))
+    (recorded_from end (first_line earlier) (split_at_newlines bytes))) (le-ltb MAX_ANSWER_BYTES (length bytes) h)
+    ∙ ap (λ s. recorded_from end (first_line earlier) (split_at_newlines s)) (sym (take_all MAX_ANSWER_BYTES bytes h))
 
 -- a larger one is cut
-large_file : (end : FileEnd) (bytes : List ℕ) (earlier : Recorded) → max_answer_bytes < length bytes
-    → answers_read end bytes earlier ≡ recorded_from (cut_by TooLarge) (first_line earlier) (split_at_newlines (take max_answer_bytes bytes))
+large_file : (end : FileEnd) (bytes : List ℕ) (earlier : RecordedAnswers) → MAX_ANSWER_BYTES < length bytes
+    → answers_read end bytes earlier ≡ recorded_from (cut_by TooLarge) (first_line earlier) (split_at_newlines (take MAX_ANSWER_BYTES bytes))
 unfolding answers_read
 large_file end bytes earlier h =
-    ap (λ b. cond b (recorded_from (cut_by TooLarge) (first_line earlier) (split_at_newlines (take max_answer_bytes bytes)))
-    (recorded_from end (first_line earlier) (split_at_newlines bytes))) (lt-ltb max_answer_bytes (length bytes) h)
+    ap (λ b. cond b (recorded_from (cut_by TooLarge) (first_line earlier) (split_at_newlines (take MAX_ANSWER_BYTES bytes)))
+    (recorded_from end (first_line earlier) (split_at_newlines bytes))) (lt-ltb MAX_ANSWER_BYTES (length bytes) h)
 
-module _ (before after : Option (List ℕ)) (failed failed_after : ℕ) (bytes : List ℕ) (earlier : Recorded) (consumed : Consumes before after bytes) where
-  abbrev Reads : Option AnswersKind → Result Recorded AnswersFault → Type 0
-  Reads cut r = recorded_from (end_of_file cut) (first_line earlier) (split_at_newlines (take max_answer_bytes bytes)) ≡ r
+module _ (before after : Option (List ℕ)) (failed failed_after : ℕ) (bytes : List ℕ) (earlier : RecordedAnswers) (consumed : Consumes before after bytes) where
+  abbrev Reads : Option AnswersKind → Result RecordedAnswers AnswersFault → Type 0
+  Reads cut r = recorded_from (end_of_file cut) (first_line earlier) (split_at_newlines (take MAX_ANSWER_BYTES bytes)) ≡ r
 
-  pub file_recorded : (cut : Option AnswersKind) → ReadsToEnd after failed failed_after bytes cut → (recorded : Recorded) → Reads cut (Ok recorded)
+  pub file_recorded : (cut : Option AnswersKind) → ReadsToEnd after failed failed_after bytes cut → (recorded : RecordedAnswers) → Reads cut (Ok recorded)
       → AreRecorded before after earlier recorded
   file_recorded None ends recorded e = record { bytes = bytes; consumed = consumed; ended = ends.0; read = small_file complete bytes earlier ends.1 ∙ e }
-  file_recorded (Some kind) ends recorded e = absurd (cut_is_refused kind (first_line earlier) (split_at_newlines (take max_answer_bytes bytes)) recorded e)
+  file_recorded (Some kind) ends recorded e = absurd (cut_is_refused kind (first_line earlier) (split_at_newlines (take MAX_ANSWER_BYTES bytes)) recorded e)
 
-  pub file_unfailed : (cut : Option AnswersKind) → ReadsToEnd after failed failed_after bytes cut → (recorded : Recorded) → Reads cut (Ok recorded)
+  pub file_unfailed : (cut : Option AnswersKind) → ReadsToEnd after failed failed_after bytes cut → (recorded : RecordedAnswers) → Reads cut (Ok recorded)
       → failed_after ≡ failed
   file_unfailed None ends recorded e = ends.2
-  file_unfailed (Some kind) ends recorded e = absurd (cut_is_refused kind (first_line earlier) (split_at_newlines (take max_answer_bytes bytes)) recorded e)
+  file_unfailed (Some kind) ends recorded e = absurd (cut_is_refused kind (first_line earlier) (split_at_newlines (take MAX_ANSWER_BYTES bytes)) recorded e)
 
   pub file_refused : (cut : Option AnswersKind) → ReadsToEnd after failed failed_after bytes cut → (f : AnswersFault) → Reads cut (Err f)
       → IsRefused before after failed failed_after earlier f
@@ -179,7 +180,7 @@ module _ (before after : Option (List ℕ)) (failed failed_after : ℕ) (bytes :
   memory_has_no_line cut ends f (inr e) kind = absurd (fault_has_memory _ f (by_end cut ends) e kind)
     where
       lines : List PhysicalLine
-      lines = split_at_newlines (take max_answer_bytes bytes)
+      lines = split_at_newlines (take MAX_ANSWER_BYTES bytes)
 
       by_end : (cut : Option AnswersKind) → ReadsToEnd after failed failed_after bytes cut
           → HasMemory (recorded_from (end_of_file cut) (first_line earlier) lines)

@@ -1,10 +1,12 @@
 -- The steps of an assignment.
 use Rattle.std.proofs.Common.{◌≡◌, ℕ, ◌<◌, ◌≤◌, List, [], ◌∷◌, Option, Some, refl, sym, ap, subst}
-use Rattle.kc_macros_model.specs.Limits.{max_text_bytes}
+use Rattle.kc_value.specs.declared.limits.TheConstants.{MAX_TEXT_BYTES}
 use Rattle.kc_macros_model.specs.Programs.{Place, Program, returns, fails, ◌>>=◌}
 use Rattle.kc_macros_model.specs.Variables.{Value, value_length, joined_values, Variable, simple, Bindings, with_variable}
 use Rattle.kc_macros_model.specs.Expansion.{text_value}
-use Rattle.kc_macros_model.specs.Assignments.{Operator, sets_now, appends, stored, stored_simple, variable_assigned}
+use Rattle.kc_macros_model.specs.declared.operator.Operator.{Operator}
+use Rattle.kc_macros_model.specs.declared.operator.Operator.TheVariants.{SetsNow, Appends}
+use Rattle.kc_macros_model.specs.Assignments.{stored, stored_simple, variable_assigned}
 use Rattle.kc_macros_model.specs.Worlds.{returned}
 use Rattle.kc_macros.specs.declared.stop.Stop.{Stop}
 use Rattle.kc_macros.specs.RunStates.{RunState}
@@ -17,10 +19,10 @@ use Rattle.kc_macros.proofs.RunLemmas.{then_runs, stops_early, runs_nothing, ret
 use Rattle.kc_macros.proofs.ProgramLemmas.{runs_same}
 use Rattle.kc_macros.proofs.PartialValueLemmas.{fits, fits_not, long_then}
 
-pub stores_too_much : (s : RunState) (at : Place) (n : ℕ) → max_text_bytes < n → stored_bytes at n ≡ fails (too_long at)
+pub stores_too_much : (s : RunState) (at : Place) (n : ℕ) → MAX_TEXT_BYTES < n → stored_bytes at n ≡ fails (too_long at)
 stores_too_much s at n h = fits_not at n (spent at n) h
 
-pub stores_by : (s t : RunState) (at : Place) (n : ℕ) (e : RunEnd (Unit {0})) → n ≤ max_text_bytes → Runs s t (spent at n) e → Runs s t (stored_bytes at n) e
+pub stores_by : (s t : RunState) (at : Place) (n : ℕ) (e : RunEnd (Unit {0})) → n ≤ MAX_TEXT_BYTES → Runs s t (spent at n) e → Runs s t (stored_bytes at n) e
 stores_by s t at n e h a = runs_same s t (stored_bytes at n) (spent at n) e (fits at n (spent at n) h) a
 
 module _ (s t : RunState) (at : Place) (value : Value) (v : Variable) where
@@ -62,19 +64,19 @@ module _ (s t : RunState) (at : Place) (b : Bindings) (text : List ℕ) (before 
   abbrev appended_by : Program Variable
   appended_by = text_value at b text >>= (λ v. stored_simple at (appended_value v))
 
-  pub append_unstored : (stop : Stop) → Runs s t (text_value at b text) (end_of_stop stop) → Runs s t (variable_assigned at b appends text before)
+  pub append_unstored : (stop : Stop) → Runs s t (text_value at b text) (end_of_stop stop) → Runs s t (variable_assigned at b Appends text before)
       (end_of_stop stop)
-  append_unstored stop a = runs_same s t (variable_assigned at b appends text before) appended_by (end_of_stop stop)
-      (ap (variable_assigned at b appends text) h) (value_unstored s t t at b text appended_value stop a)
+  append_unstored stop a = runs_same s t (variable_assigned at b Appends text before) appended_by (end_of_stop stop)
+      (ap (variable_assigned at b Appends text) h) (value_unstored s t t at b text appended_value stop a)
 
   pub append_stored : (u : RunState) (x y : Value) (e : RunEnd Variable) → y ≡ appended_value x → Runs s t (text_value at b text) (ends (returned x))
       → Runs t u (stored_simple at y) e
-      → Runs s u (variable_assigned at b appends text before) e
+      → Runs s u (variable_assigned at b Appends text before) e
   append_stored u x y e k a c =
-      runs_same s u (variable_assigned at b appends text before) appended_by e (ap (variable_assigned at b appends text) h)
+      runs_same s u (variable_assigned at b Appends text before) appended_by e (ap (variable_assigned at b Appends text) h)
       (value_stored s t u at b text appended_value x e a (subst (λ v. Runs t u (stored_simple at v) e) k c))
 
-module _ (s t : RunState) (at : Place) (b : Bindings) (op : Operator) (text text2 : List ℕ) (before : Option Variable) (h : op ≡ sets_now)
+module _ (s t : RunState) (at : Place) (b : Bindings) (op : Operator) (text text2 : List ℕ) (before : Option Variable) (h : op ≡ SetsNow)
     (k : text2 ≡ text) where
   pub set_unstored : (stop : Stop) → Runs s t (text_value at b text2) (end_of_stop stop) → Runs s t (variable_assigned at b op text before) (end_of_stop stop)
   set_unstored stop a =

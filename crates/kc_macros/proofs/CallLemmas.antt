@@ -2,12 +2,12 @@
 use Rattle.std.proofs.Common.{◌≡◌, ℕ, suc, ◌+◌, ◌-◌, ◌<◌, ◌≤◌, Bool, true, false, List, [], ◌∷◌, ◌++◌, length, take, drop, get_or, Some, None, refl, sym, ap, ◌∙◌, append_assoc, arith}
 use Rattle.std.specs.Prelude.{bytes_eq, ◌||◌}
 use Rattle.std.specs.Borrow.{Bor}
-use Rattle.kc_macros.specs.checker.Texts.{texts_of}
+use Rattle.kc_macros.specs.between.SliceTexts.{texts_of_slices}
 use Rattle.std.specs.List.{list_any}
 use Rattle.std.proofs.lemmas.Bool.{le-leb, lt-leb}
 use Rattle.std.proofs.lemmas.List.{append-nil, take_all, at_drop_more}
 use Rattle.kc_macros_model.specs.declared.fault.MacroKind.TheVariants.{Recursion, Arguments}
-use Rattle.kc_macros_model.specs.Limits.{max_pieces}
+use Rattle.kc_value.specs.declared.limits.TheConstants.{MAX_PIECES}
 use Rattle.kc_macros_model.specs.Programs.{Place, Program, returns, fails, ◌>>=◌}
 use Rattle.kc_macros_model.specs.References.{reference, pieces}
 use Rattle.kc_macros_model.specs.Variables.{Value, recursive, Bindings, argument_of}
@@ -51,12 +51,12 @@ module _ (sub : Expander) (at : Place) (b : Bindings) (names : List (List ℕ)) 
     | false ↦ fails (record { at = at; kind = Arguments; text = [] })
   ]
 
-  pub too_many_pieces : argument_of args inside ≡ None → max_pieces < length (pieces 0 inside) → meant ≡ fails (record { at = at; kind = Arguments; text = [] })
-  too_many_pieces h k = ap (reference_value sub at b names args inside) h ∙ ap by_count (lt-leb (length (pieces 0 inside)) max_pieces k)
+  pub too_many_pieces : argument_of args inside ≡ None → MAX_PIECES < length (pieces 0 inside) → meant ≡ fails (record { at = at; kind = Arguments; text = [] })
+  too_many_pieces h k = ap (reference_value sub at b names args inside) h ∙ ap by_count (lt-leb (length (pieces 0 inside)) MAX_PIECES k)
 
-  pub few_pieces : argument_of args inside ≡ None → length (pieces 0 inside) ≤ max_pieces → meant ≡ piece_values (sub names args)
+  pub few_pieces : argument_of args inside ≡ None → length (pieces 0 inside) ≤ MAX_PIECES → meant ≡ piece_values (sub names args)
       (pieces 0 inside) >>= call_value sub at b names
-  few_pieces h k = ap (reference_value sub at b names args inside) h ∙ ap by_count (le-leb (length (pieces 0 inside)) max_pieces k)
+  few_pieces h k = ap (reference_value sub at b names args inside) h ∙ ap by_count (le-leb (length (pieces 0 inside)) MAX_PIECES k)
 
 -- a list that isn't empty is its first element and the elements after it
 pub first_and_rest : {A : Type 0} (xs : List A) (x : A) → 0 < length xs → x ≡ get_or xs 0 x → xs ≡ x ∷ take (length xs - 1) (drop 1 xs)
@@ -75,21 +75,21 @@ module _ (sub : Expander) (at : Place) (names : List (List ℕ)) (name : List �
   is_not_recursive h = ap by_recursion h
 
 any_of_texts : (name : List ℕ) (names : List (Bor (List ℕ))) → list_any (λ (n : Bor (List ℕ)). bytes_eq name n.now) names
-    ≡ list_any (bytes_eq name) (texts_of names)
+    ≡ list_any (bytes_eq name) (texts_of_slices names)
 any_of_texts name [] = refl
 any_of_texts name (n ∷ ns) = ap (λ b. bytes_eq name n.now || b) (any_of_texts name ns)
 
 -- a reference without arguments is a recursion if its name is among those that are being expanded
 pub recursion_by : (names : List (Bor (List ℕ))) (name : List ℕ) (args : List Value) (b : Bool) → length args ≡ 0
-    → b ≡ list_any (λ (n : Bor (List ℕ)). bytes_eq name n.now) names → b ≡ is_recursion (texts_of names) name args
+    → b ≡ list_any (λ (n : Bor (List ℕ)). bytes_eq name n.now) names → b ≡ is_recursion (texts_of_slices names) name args
 recursion_by names name [] b h e = e ∙ any_of_texts name names
 recursion_by names name (a ∷ args) b h e = absurd (omega (arith, h))
 
-pub no_recursion : (names : List (Bor (List ℕ))) (name : List ℕ) (args : List Value) → 0 < length args → is_recursion (texts_of names) name args ≡ false
+pub no_recursion : (names : List (Bor (List ℕ))) (name : List ℕ) (args : List Value) → 0 < length args → is_recursion (texts_of_slices names) name args ≡ false
 no_recursion names name [] h = absurd (omega arith)
 no_recursion names name (a ∷ args) h = refl
 
-pub texts_length : (ts : List (Bor (List ℕ))) → length (texts_of ts) ≡ length ts
+pub texts_length : (ts : List (Bor (List ℕ))) → length (texts_of_slices ts) ≡ length ts
 texts_length [] = refl
 texts_length (t ∷ ts) = ap suc (texts_length ts)
 
@@ -122,9 +122,9 @@ module _ (expand : List ℕ → Program Value) (first s : RunState) (whole : Pro
 -- a program that leads to the pieces of a reference from index `i` on leads to piece `i` and those after it
 pub piece_front : (expand : List ℕ → Program Value) (first s : RunState) (whole : Program (List Value)) (vs : List Value) (ps : List (Bor (List ℕ))) (i : ℕ)
     (d : Bor (List ℕ)) → i < length ps
-    → Leads first whole s (pieces_left expand vs (texts_of (drop i ps)))
-    → Leads first whole s (pieces_left expand vs ((get_or ps i d).now ∷ texts_of (drop (i + 1) ps)))
+    → Leads first whole s (pieces_left expand vs (texts_of_slices (drop i ps)))
+    → Leads first whole s (pieces_left expand vs ((get_or ps i d).now ∷ texts_of_slices (drop (i + 1) ps)))
 piece_front expand first s whole vs ps i d h a =
-    leads_then first s s whole (pieces_left expand vs (texts_of (drop i ps))) (pieces_left expand vs ((get_or ps i d).now ∷ texts_of (drop (i + 1) ps))) a
-    (leads_same s (pieces_left expand vs (texts_of (drop i ps))) (pieces_left expand vs ((get_or ps i d).now ∷ texts_of (drop (i + 1) ps)))
-    (ap (pieces_left expand vs) (at_drop_more texts_of ps i d h)))
+    leads_then first s s whole (pieces_left expand vs (texts_of_slices (drop i ps))) (pieces_left expand vs ((get_or ps i d).now ∷ texts_of_slices (drop (i + 1) ps))) a
+    (leads_same s (pieces_left expand vs (texts_of_slices (drop i ps))) (pieces_left expand vs ((get_or ps i d).now ∷ texts_of_slices (drop (i + 1) ps)))
+    (ap (pieces_left expand vs) (at_drop_more texts_of_slices ps i d h)))

@@ -9,14 +9,15 @@ use Rattle.kc_expr.specs.Token.{is_white_byte}
 use Rattle.kc_tree_model.specs.Limits.{is_in_list}
 use Rattle.kc_tree_model.specs.LogicalLines.{begins_help}
 use Rattle.kc_macros_model.specs.declared.fault.MacroKind.TheVariants.{LineTooLong}
-use Rattle.kc_macros_model.specs.Limits.{max_text_bytes}
+use Rattle.kc_value.specs.declared.limits.TheConstants.{MAX_TEXT_BYTES}
 use Rattle.kc_macros_model.specs.Expansion.{fault}
 use Rattle.kc_macros_model.specs.Programs.{Place, Program, returns, stops, ◌>>=◌}
 use Rattle.kc_macros_model.specs.References.{Item, byte, escaped, item_bytes, reference_of, first_item, items, inside_length, is_unterminated, is_reference, is_plain_dollar}
 use Rattle.kc_macros_model.specs.Variables.{Bindings}
 use Rattle.kc_macros_model.specs.LineTokens.{LineToken, gap, run, quoted, other, broken, token_bytes, extent, is_run_byte, run_token, quoted_token, first_token, line_tokens, bytes_of_tokens}
-use Rattle.kc_macros_model.specs.WrittenTokens.{WrittenToken, a_gap, a_word, an_other, written_as, body_of, joined_bodies, written_items, token_of_body, written_token, run_value, token_of_text}
-use Rattle.kc_macros_model.specs.Assignments.{Assigned, LineContent, tokens, with_token, is_gap, is_unknown, is_gap_token, is_open_front, assignment_to, assignment_at, assignment_or, line_content, without_front}
+use Rattle.kc_macros_model.specs.declared.token_sort.TokenSort.TheVariants.{Gap, Word, Other}
+use Rattle.kc_macros_model.specs.WrittenTokens.{WrittenToken, written_as, body_of, joined_bodies, written_items, token_of_body, written_token, run_value, token_of_text}
+use Rattle.kc_macros_model.specs.Assignments.{AssignedText, LineContent, tokens, with_token, is_gap, is_unknown, is_gap_token, is_open_front, assignment_to, assignment_at, assignment_or, line_content, without_front}
 use Rattle.kc_macros_model.specs.LineForms.{LineForm, plain, bare_prompt, replaced_by, named_choice, sources, sort_of_source, is_path, form_of, form_by_word, form_of_pair, is_word, is_bare_prompt, is_help_line, is_undecided, without_gaps, line_bytes, prompt_words, source_words, help_words}
 use Rattle.kc_macros_model.specs.ReadingStates.{ReadingState, progress, WrittenLine, written_line}
 use Rattle.kc_macros_model.specs.TreeExpansion.{SourceReader, form_written, short_line, tokens_written, content_written, line_written}
@@ -132,15 +133,15 @@ record PlainToken (t : LineToken) : Type 0 where
   is : IsPlain t token
 
 gap_plain : (s : List ℕ) → PlainToken (gap s)
-gap_plain s = record { token = written_as a_gap s []; is = record { written = λ at b. refl; bytes = refl; known = refl; gone = refl; word = refl } }
+gap_plain s = record { token = written_as Gap s []; is = record { written = λ at b. refl; bytes = refl; known = refl; gone = refl; word = refl } }
 
 other_plain : (s : List ℕ) → PlainToken (other s)
-other_plain s = record { token = written_as an_other s []; is = record { written = λ at b. refl; bytes = refl; known = refl; gone = refl; word = refl } }
+other_plain s = record { token = written_as Other s []; is = record { written = λ at b. refl; bytes = refl; known = refl; gone = refl; word = refl } }
 
 run_plain : (s : List ℕ) → has_dollar s ≡ false → PlainToken (run_token s)
 run_plain s h = subst (λ (t : LineToken). PlainToken t) (sym (ap (λ b. cond b (broken s) (run s)) (all_terminated false s h)))
     (record {
-      token = written_as a_word s s;
+      token = written_as Word s s;
       is = record {
         written = λ at b. run_is_word at b s (no_dollar s h) (no_reference s h);
         bytes = refl;
@@ -232,7 +233,7 @@ module _ (at : Place) (b : Bindings) where
   abbrev after_written : Bool → List LineToken → WrittenToken → Program LineContent
   after_written may ts w = elim (is_open_front may w ts) [ true ↦ stops | false ↦ with_first w (line_content at b (may && is_gap w) ts) ]
 
-  abbrev content_by : Bool → LineToken → List LineToken → Option Assigned → Program LineContent
+  abbrev content_by : Bool → LineToken → List LineToken → Option AssignedText → Program LineContent
   content_by may t ts o =
       elim o [
         | Some a ↦ run_value at b (token_bytes t) >>= assignment_or (with_first (token_of_text []) (line_content at b true ts)) a
@@ -388,7 +389,7 @@ still : {ts : List LineToken} {ws : List WrittenToken} → ArePlain ts ws → Is
 still no_tokens q = record { form = refl; help = refl; decided = refl }
 still (next_plain {t = t} {w = w} {ts = ts} {ws = ws} p r) q = still_first t w ts ws p r (still r) q
 
-module _ (text : List ℕ) (short : length text ≤ max_text_bytes) (utf8 : is_utf8 text ≡ true) (plain_text : has_dollar text ≡ false)
+module _ (text : List ℕ) (short : length text ≤ MAX_TEXT_BYTES) (utf8 : is_utf8 text ≡ true) (plain_text : has_dollar text ≡ false)
     (quiet : IsQuiet (line_tokens 0 text)) (sub : SourceReader) (at : Place) (continued : Bool) (s : ReadingState) where
   abbrev line : PlainLine (line_tokens 0 text)
   line = plain_line 0 text plain_text
@@ -396,10 +397,10 @@ module _ (text : List ℕ) (short : length text ≤ max_text_bytes) (utf8 : is_u
   same_bytes : line_bytes line.written ≡ text
   same_bytes = bytes_kept line.are ∙ row_of_tokens 0 text
 
-  within : nat_lt max_text_bytes (length text) ≡ false
-  within = le-ltb max_text_bytes (length text) short
+  within : nat_lt MAX_TEXT_BYTES (length text) ≡ false
+  within = le-ltb MAX_TEXT_BYTES (length text) short
 
-  readable : (nat_lt max_text_bytes (length text) || not (is_utf8 text)) ≡ false
+  readable : (nat_lt MAX_TEXT_BYTES (length text) || not (is_utf8 text)) ≡ false
   readable = ap (λ b. b || not (is_utf8 text)) within ∙ ap not utf8
 
   abbrev left : List WrittenToken
@@ -427,7 +428,7 @@ module _ (text : List ℕ) (short : length text ≤ max_text_bytes) (utf8 : is_u
       ∙ ap (λ p. p >>= content_written sub at continued s) (content_quiet at s.bindings line.are quiet)
       ∙ copied_tokens
 
-pub copied : (text : List ℕ) → length text ≤ max_text_bytes → is_utf8 text ≡ true → has_dollar text ≡ false → IsQuiet (line_tokens 0 text) → IsCopied text
+pub copied : (text : List ℕ) → length text ≤ MAX_TEXT_BYTES → is_utf8 text ≡ true → has_dollar text ≡ false → IsQuiet (line_tokens 0 text) → IsCopied text
 copied text short utf8 plain_text quiet = record { written = copied_line text short utf8 plain_text quiet }
 
 -- a line of gaps alone

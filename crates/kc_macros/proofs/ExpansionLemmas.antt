@@ -2,7 +2,7 @@
 use Rattle.std.proofs.Common.{◌≡◌, ℕ, suc, ◌+◌, ◌-◌, ◌<◌, ◌≤◌, Bool, true, false, ◌&&◌, List, [], ◌∷◌, ◌++◌, length, map, Some, sym, ap, ◌∙◌, subst, arith}
 use Rattle.std.specs.Prelude.{is_some}
 use Rattle.kc_macros_model.specs.declared.fault.MacroKind.TheVariants.{TooDeep}
-use Rattle.kc_macros_model.specs.Limits.{max_text_bytes}
+use Rattle.kc_value.specs.declared.limits.TheConstants.{MAX_TEXT_BYTES}
 use Rattle.kc_macros_model.specs.Programs.{Place, Fault, Program, returns, fails, ◌>>=◌}
 use Rattle.kc_macros_model.specs.References.{Item, byte, items}
 use Rattle.kc_macros_model.specs.Variables.{Value, value_length, Bindings}
@@ -96,17 +96,17 @@ module _ (at : Place) (value : Item → Program Value) (s : RunState) (known : B
 
 module _ (at : Place) (value : Item → Program Value) (bytes_stay : (c : ℕ) → value (byte c) ≡ returns (Some (c ∷ []))) (s : RunState) (known : Bool)
     (bytes text plain : List ℕ) (later : List Item)
-    (cut : items false 0 text ≡ map byte plain ++ later) (within : length bytes ≤ max_text_bytes) where
+    (cut : items false 0 text ≡ map byte plain ++ later) (within : length bytes ≤ MAX_TEXT_BYTES) where
   abbrev at_first : Program Value
   at_first = values_left at value known bytes (items false 0 text)
 
   -- if the plain bytes before the next reference make the value of a text too long, its program stops with that fault
-  pub plain_too_long : (stop : Stop) → FailsIf (max_text_bytes < length bytes + length plain) (too_long at) stop → Runs s s at_first (end_of_stop stop)
+  pub plain_too_long : (stop : Stop) → FailsIf (MAX_TEXT_BYTES < length bytes + length plain) (too_long at) stop → Runs s s at_first (end_of_stop stop)
   plain_too_long stop h =
-      fails_where s at_first (max_text_bytes < length bytes + length plain) (too_long at) stop
+      fails_where s at_first (MAX_TEXT_BYTES < length bytes + length plain) (too_long at) stop
       (λ l. ap (values_left at value known bytes) cut ∙ text_left_out at value bytes_stay known plain bytes later within l) h
 
-  module _ (short : length bytes + length plain ≤ max_text_bytes) (known2 : Bool) (bytes2 : List ℕ) (same_known : known2 ≡ known)
+  module _ (short : length bytes + length plain ≤ MAX_TEXT_BYTES) (known2 : Bool) (bytes2 : List ℕ) (same_known : known2 ≡ known)
       (same_bytes : bytes2 ≡ bytes ++ plain) where
     after_plain : at_first ≡ values_left at value known2 bytes2 later
     after_plain =
@@ -139,16 +139,16 @@ module _ (at : Place) (value : Item → Program Value) (bytes_stay : (c : ℕ) �
 
       -- if the value of an item makes the value of a text too long, the program for that value stops with this fault
       pub item_too_long : (t : RunState) (v : Value) (stop : Stop) → Runs s t (value i) (ends (returned v))
-          → FailsIf (max_text_bytes < length bytes2 + value_length v) (too_long at) stop → Runs s t at_first (end_of_stop stop)
+          → FailsIf (MAX_TEXT_BYTES < length bytes2 + value_length v) (too_long at) stop → Runs s t at_first (end_of_stop stop)
       item_too_long t v stop a h =
           runs_same s t at_first (value i >>= rest_after) (end_of_stop stop) to_item
           (then_runs s t (value i) rest_after v t (end_of_stop stop) a
-          (fails_where t (rest_after v) (max_text_bytes < length bytes2 + value_length v) (too_long at) stop
+          (fails_where t (rest_after v) (MAX_TEXT_BYTES < length bytes2 + value_length v) (too_long at) stop
           (λ l. fits_not at (length bytes2 + value_length v) (values_left at value (known2 && is_some v) (bytes2 ++ known_bytes v) more) l) h))
 
       -- the value of an item that doesn't make the value of a text too long leads to the items after it
       pub item_leads : (t : RunState) (v : Value) (known3 : Bool) (bytes3 : List ℕ) → Runs s t (value i) (ends (returned v))
-          → length bytes2 + value_length v ≤ max_text_bytes
+          → length bytes2 + value_length v ≤ MAX_TEXT_BYTES
           → known3 ≡ (known2 && is_some v) → bytes3 ≡ bytes2 ++ known_bytes v → Leads s at_first t (values_left at value known3 bytes3 more)
       item_leads t v known3 bytes3 a l k b =
           leads_then s s t at_first (value i >>= rest_after) (values_left at value known3 bytes3 more) (leads_same s at_first (value i >>= rest_after) to_item)

@@ -6,13 +6,13 @@ use Rattle.std.specs.List.{list_any, prefix_len}
 use Rattle.kc_expr.specs.Token.{is_white_byte}
 use Rattle.kc_macros_model.specs.LineTokens.{LineToken, run, token_bytes, line_tokens, bytes_of_tokens}
 use Rattle.kc_macros_model.specs.WrittenTokens.{is_keyword, WrittenToken}
-use Rattle.kc_macros_model.specs.Assignments.{Assigned, assigned, without_front, is_blank_byte, operator_at, assignment_to, is_gap_token, is_unknown, is_open_front}
+use Rattle.kc_macros_model.specs.Assignments.{AssignedText, assigned, without_front, is_blank_byte, operator_at, assignment_to, is_gap_token, is_unknown, is_open_front}
 use Rattle.kc_macros.specs.checker.LineTexts.{first_token_of, has_token}
 use Rattle.kc_macros.proofs.LineTokenLemmas.{row_of_tokens, tokens_first, token_fits, any_token}
 use Rattle.kc_macros.proofs.PieceLemmas.{rest_is}
 
 -- an assignment without the blanks before its text
-abbrev pub without_blanks : Assigned → Assigned
+abbrev pub without_blanks : AssignedText → AssignedText
 without_blanks a = assigned a.operator (without_front is_blank_byte a.text)
 
 module _ (name after : List ℕ) where
@@ -20,7 +20,7 @@ module _ (name after : List ℕ) where
   keyword_assigns_not e = sym (ap
       (λ b. cond b None (option_map without_blanks (operator_at (without_front is_white_byte (bytes_of_tokens (line_tokens 0 after)))))) e)
 
-  pub assigns_by : is_keyword name ≡ false → (o : Option Assigned) → o ≡ operator_at (without_front is_white_byte after)
+  pub assigns_by : is_keyword name ≡ false → (o : Option AssignedText) → o ≡ operator_at (without_front is_white_byte after)
       → option_map without_blanks o ≡ assignment_to (run name) (line_tokens 0 after)
   assigns_by e o h =
       sym (ap (λ b. cond b None (option_map without_blanks (operator_at (without_front is_white_byte (bytes_of_tokens (line_tokens 0 after)))))) e

@@ -6,7 +6,7 @@ use Rattle.kc_macros_model.specs.Variables.{Value, Bindings}
 use Rattle.std.specs.Borrow.{Bor}
 use Rattle.kc_macros_model.specs.LineTokens.{LineToken, run, token_bytes, line_tokens}
 use Rattle.kc_macros_model.specs.WrittenTokens.{WrittenToken, token_of_text, run_value, written_token}
-use Rattle.kc_macros_model.specs.Assignments.{Assigned, assigned, LineContent, assigns, tokens, with_token, is_gap, is_open_front, assignment_to, assignment_at, assignment_or, line_content}
+use Rattle.kc_macros_model.specs.Assignments.{AssignedText, assigned, LineContent, assigns, tokens, with_token, is_gap, is_open_front, assignment_to, assignment_at, assignment_or, line_content}
 use Rattle.kc_macros_model.specs.Worlds.{returned, stopped}
 use Rattle.kc_macros.specs.declared.written_tokens.WrittenToken.{WrittenToken as CodeToken}
 use Rattle.kc_macros.specs.declared.assignments.Assignment.{Assignment}
@@ -17,7 +17,6 @@ use Rattle.kc_macros.specs.declared.stop.Stop.{Stop}
 use Rattle.kc_macros.specs.RunStates.{RunState}
 use Rattle.kc_macros.specs.Runs.{ends, end_of_stop, Runs}
 use Rattle.kc_macros.specs.between.WrittenTokens.{token_of}
-use Rattle.kc_macros.specs.between.AssignmentViews.{operator_of}
 use Rattle.kc_macros.specs.between.LineContents.{tokens_of}
 use Rattle.kc_macros.specs.checker.ProgramSteps.{Leads, Steps}
 use Rattle.kc_macros.specs.checker.LineFronts.{with_tokens, content_left, front_left, step_left, IsShorter}
@@ -73,7 +72,7 @@ module _ (at : Place) (b : Bindings) where
     abbrev left_after : WrittenToken → Bool → Program LineContent
     left_after w is_open = elim is_open [ true ↦ stops | false ↦ content_left at b (before ++ w ∷ []) (may_assign && is_gap w) ts ]
 
-    abbrev by_assignment : Option Assigned → Program LineContent
+    abbrev by_assignment : Option AssignedText → Program LineContent
     by_assignment o =
         elim o [
           | Some a ↦ run_value at b (token_bytes t) >>= assignment_or (line_content at b true ts >>= λ rest. returns (with_token (token_of_text []) rest)) a
@@ -114,7 +113,7 @@ module _ (at : Place) (b : Bindings) where
           (leads_same u (next w) (content_left at b after may ts) (ap (left_after w) e ∙ ap (λ x. content_left at b x (may_assign && is_gap w) ts) (sym k)
           ∙ ap (λ m. content_left at b after m ts) (sym l))))
 
-  module _ (s : RunState) (before : List WrittenToken) (may_assign : Bool) (may : may_assign ≡ true) (name : List ℕ) (ts : List LineToken) (a : Assigned)
+  module _ (s : RunState) (before : List WrittenToken) (may_assign : Bool) (may : may_assign ≡ true) (name : List ℕ) (ts : List LineToken) (a : AssignedText)
       (h : assignment_to (run name) ts ≡ Some a) where
     abbrev at_name : Program LineContent
     at_name = content_left at b before may_assign (run name ∷ ts)
@@ -122,7 +121,7 @@ module _ (at : Place) (b : Bindings) where
     abbrev gap_first : Program LineContent
     gap_first = line_content at b true ts >>= λ rest. returns (with_token (token_of_text []) rest)
 
-    abbrev by_name : Option Assigned → Program LineContent
+    abbrev by_name : Option AssignedText → Program LineContent
     by_name o =
         elim o [
           | Some x ↦ run_value at b name >>= assignment_or gap_first x
@@ -165,12 +164,12 @@ module _ (at : Place) (b : Bindings) where
           (ap named e ∙ token_then before (token_of_text []) (line_content at b true ts) ∙ ap (λ y. content_left at b y true ts) (sym l)
           ∙ ap (λ m. content_left at b after m ts) (sym may))
 
-      pub name_assigned : (x : List ℕ) → v ≡ Some x → 0 < length x → (y : Assigned) → y ≡ a → Leads s at_name u (returns (assigns x y))
+      pub name_assigned : (x : List ℕ) → v ≡ Some x → 0 < length x → (y : AssignedText) → y ≡ a → Leads s at_name u (returns (assigns x y))
       name_assigned [] e k y l = absurd (omega arith)
       name_assigned (c ∷ x) e k y l = after_name (returns (assigns (c ∷ x) y)) (ap named e ∙ ap (λ z. returns (assigns (c ∷ x) z)) (sym l))
 
 -- a run that is the name of an assignment where one may come is the name of this assignment to the run
-pub found_assigned : (may_assign : Bool) (t : LineToken) (ts : List LineToken) (name : List ℕ) (a : Assigned) → may_assign ≡ true → t ≡ run name
+pub found_assigned : (may_assign : Bool) (t : LineToken) (ts : List LineToken) (name : List ℕ) (a : AssignedText) → may_assign ≡ true → t ≡ run name
     → Some a ≡ assignment_at may_assign t ts → assignment_to (run name) ts ≡ Some a
 found_assigned may_assign t ts name a may e h = sym (h ∙ ap (λ m. assignment_at m t ts) may ∙ ap (λ x. assignment_to x ts) e)
 
@@ -182,12 +181,12 @@ module _ (at : Place) (b : Bindings) (first s t : RunState) (p q : Program LineC
     (k : Leads s q t (step_left at b front step)) where
   -- if the next step along a line finds an assignment, the program for the content of the line returns it
   pub content_assigned : (a : Assignment) → step ≡ steps.Assigns a → Runs first t p
-      (ends (returned (assigns a.name (assigned (operator_of a.operator) a.text))))
+      (ends (returned (assigns a.name (assigned a.operator a.text))))
   content_assigned a e =
       let end = step_left at b front (steps.Assigns a) in
       let last : Leads s q t end = subst (λ x. Leads s q t (step_left at b front x)) e k in
-      (leads_then first s t p q end l last).leads t (ends (returned (assigns a.name (assigned (operator_of a.operator) a.text))))
-      (runs_nothing t (assigns a.name (assigned (operator_of a.operator) a.text)))
+      (leads_then first s t p q end l last).leads t (ends (returned (assigns a.name (assigned a.operator a.text))))
+      (runs_nothing t (assigns a.name (assigned a.operator a.text)))
 
   -- if the next step along a line gives the bytes after a token, the program for the content of the line leads to their tokens
   pub content_goes_on : (after : Bor (List ℕ)) → step ≡ steps.Rest after → Leads first p t (front_left at b front (line_tokens 0 after.now))

@@ -4,7 +4,9 @@ use Rattle.std.specs.Prelude.{decimal, codes, bytes_eq}
 use Rattle.kc_macros_model.specs.declared.fault.MacroKind.TheVariants.{Undefined, Arguments, Error}
 use Rattle.kc_macros_model.specs.declared.fault.MacroNoticeKind.TheVariants.{Info, Warning}
 use Rattle.kc_macros_model.specs.Programs.{Place, Program, returns, fails}
-use Rattle.kc_macros_model.specs.Variables.{Value, is_number, is_environment_name, BuiltIn, filename, lineno, shell, info, warning_if, error_if}
+use Rattle.kc_macros_model.specs.declared.built_in.BuiltIn.{BuiltIn}
+use Rattle.kc_macros_model.specs.declared.built_in.BuiltIn.TheVariants as functions
+use Rattle.kc_macros_model.specs.Variables.{Value, is_number, is_environment_name}
 use Rattle.kc_macros_model.specs.Expansion.{fault, reported, asked_value, message_if, shell_value, built_in_value, other_value}
 use Rattle.kc_macros.specs.checker.BuiltIns.{arity_of, message_text, message_value}
 
@@ -35,25 +37,25 @@ info_value m None = refl
 info_value m (Some text) = refl
 
 module _ (at : Place) (name : List ℕ) (args : List Value) where
-  pub file_named : length args ≡ 0 → built_in_value at name filename args ≡ returns (Some at.file)
-  file_named h = ap (built_in_value at name filename) (no_element args h)
+  pub file_named : length args ≡ 0 → built_in_value at name functions.Filename args ≡ returns (Some at.file)
+  file_named h = ap (built_in_value at name functions.Filename) (no_element args h)
 
-  pub line_named : length args ≡ 0 → built_in_value at name lineno args ≡ returns (Some (decimal at.line))
-  line_named h = ap (built_in_value at name lineno) (no_element args h)
+  pub line_named : length args ≡ 0 → built_in_value at name functions.Lineno args ≡ returns (Some (decimal at.line))
+  line_named h = ap (built_in_value at name functions.Lineno) (no_element args h)
 
-  pub shell_called : (a : Value) → length args ≡ 1 → a ≡ get_or args 0 a → built_in_value at name shell args ≡ shell_value at a
-  shell_called a h e = ap (built_in_value at name shell) (one_element args a h e)
+  pub shell_called : (a : Value) → length args ≡ 1 → a ≡ get_or args 0 a → built_in_value at name functions.Shell args ≡ shell_value at a
+  shell_called a h e = ap (built_in_value at name functions.Shell) (one_element args a h e)
 
-  pub info_called : (a : Value) → length args ≡ 1 → a ≡ get_or args 0 a → built_in_value at name info args ≡ message_value (reported at Info) a
-  info_called a h e = ap (built_in_value at name info) (one_element args a h e) ∙ info_value (reported at Info) a
+  pub info_called : (a : Value) → length args ≡ 1 → a ≡ get_or args 0 a → built_in_value at name functions.Info args ≡ message_value (reported at Info) a
+  info_called a h e = ap (built_in_value at name functions.Info) (one_element args a h e) ∙ info_value (reported at Info) a
 
-  pub warning_called : (a b : Value) → length args ≡ 2 → a ≡ get_or args 0 a → b ≡ get_or args 1 b → built_in_value at name warning_if args
+  pub warning_called : (a b : Value) → length args ≡ 2 → a ≡ get_or args 0 a → b ≡ get_or args 1 b → built_in_value at name functions.WarningIf args
       ≡ message_value (reported at Warning) (message_text a b)
-  warning_called a b h e f = ap (built_in_value at name warning_if) (two_elements args a b h e f) ∙ message_by_text (reported at Warning) a b
+  warning_called a b h e f = ap (built_in_value at name functions.WarningIf) (two_elements args a b h e f) ∙ message_by_text (reported at Warning) a b
 
-  pub error_called : (a b : Value) → length args ≡ 2 → a ≡ get_or args 0 a → b ≡ get_or args 1 b → built_in_value at name error_if args
+  pub error_called : (a b : Value) → length args ≡ 2 → a ≡ get_or args 0 a → b ≡ get_or args 1 b → built_in_value at name functions.ErrorIf args
       ≡ message_value (fault at Error) (message_text a b)
-  error_called a b h e f = ap (built_in_value at name error_if) (two_elements args a b h e f) ∙ message_by_text (fault at Error) a b
+  error_called a b h e f = ap (built_in_value at name functions.ErrorIf) (two_elements args a b h e f) ∙ message_by_text (fault at Error) a b
 
   pub other_with_args : 0 < length args → other_value at name args ≡ fails (record { at = at; kind = Undefined; text = name })
   other_with_args h = by_args args h
@@ -84,21 +86,21 @@ module _ (at : Place) (name : List ℕ) (args : List Value) where
 -- a built-in function that is called with another count of arguments than it takes fails with `Arguments`
 pub wrong_count : (at : Place) (name : List ℕ) (f : BuiltIn) (args : List Value) → length args ≢ arity_of f
     → built_in_value at name f args ≡ fails (record { at = at; kind = Arguments; text = name })
-wrong_count at name filename [] h = absurd (h refl)
-wrong_count at name filename (a ∷ args) h = refl
-wrong_count at name lineno [] h = absurd (h refl)
-wrong_count at name lineno (a ∷ args) h = refl
-wrong_count at name shell [] h = refl
-wrong_count at name shell (a ∷ []) h = absurd (h refl)
-wrong_count at name shell (a ∷ b ∷ args) h = refl
-wrong_count at name info [] h = refl
-wrong_count at name info (a ∷ []) h = absurd (h refl)
-wrong_count at name info (a ∷ b ∷ args) h = refl
-wrong_count at name warning_if [] h = refl
-wrong_count at name warning_if (a ∷ []) h = refl
-wrong_count at name warning_if (a ∷ b ∷ []) h = absurd (h refl)
-wrong_count at name warning_if (a ∷ b ∷ d ∷ args) h = refl
-wrong_count at name error_if [] h = refl
-wrong_count at name error_if (a ∷ []) h = refl
-wrong_count at name error_if (a ∷ b ∷ []) h = absurd (h refl)
-wrong_count at name error_if (a ∷ b ∷ d ∷ args) h = refl
+wrong_count at name functions.Filename [] h = absurd (h refl)
+wrong_count at name functions.Filename (a ∷ args) h = refl
+wrong_count at name functions.Lineno [] h = absurd (h refl)
+wrong_count at name functions.Lineno (a ∷ args) h = refl
+wrong_count at name functions.Shell [] h = refl
+wrong_count at name functions.Shell (a ∷ []) h = absurd (h refl)
+wrong_count at name functions.Shell (a ∷ b ∷ args) h = refl
+wrong_count at name functions.Info [] h = refl
+wrong_count at name functions.Info (a ∷ []) h = absurd (h refl)
+wrong_count at name functions.Info (a ∷ b ∷ args) h = refl
+wrong_count at name functions.WarningIf [] h = refl
+wrong_count at name functions.WarningIf (a ∷ []) h = refl
+wrong_count at name functions.WarningIf (a ∷ b ∷ []) h = absurd (h refl)
+wrong_count at name functions.WarningIf (a ∷ b ∷ d ∷ args) h = refl
+wrong_count at name functions.ErrorIf [] h = refl
+wrong_count at name functions.ErrorIf (a ∷ []) h = refl
+wrong_count at name functions.ErrorIf (a ∷ b ∷ []) h = absurd (h refl)
+wrong_count at name functions.ErrorIf (a ∷ b ∷ d ∷ args) h = refl

@@ -3,7 +3,7 @@ use Rattle.std.proofs.Common.{◌≡◌, ℕ, ◌+◌, ◌<◌, ◌≤◌, Bool,
 use Rattle.std.specs.Prelude.{nat_le, is_some, ◌⊎◌}
 use Rattle.std.proofs.lemmas.List.{append-nil}
 use Rattle.std.proofs.lemmas.Bool.{le-leb, lt-leb, cases_lt}
-use Rattle.kc_macros_model.specs.Limits.{max_text_bytes}
+use Rattle.kc_value.specs.declared.limits.TheConstants.{MAX_TEXT_BYTES}
 use Rattle.kc_macros_model.specs.Programs.{Place, Program, returns, fails, ◌>>=◌}
 use Rattle.kc_macros_model.specs.References.{Item, byte}
 use Rattle.kc_macros_model.specs.Variables.{Value, value_length, joined_values}
@@ -35,14 +35,14 @@ known_length : (v : Value) → length (known_bytes v) ≡ value_length v
 known_length (Some s) = refl
 known_length None = refl
 
-pub fits : {A : Type 0} (at : Place) (n : ℕ) (p : Program A) → n ≤ max_text_bytes → unless_too_long at n p ≡ p
-fits at n p h = ap (λ b. elim b [ true ↦ p | false ↦ fails (too_long at) ]) (le-leb n max_text_bytes h)
+pub fits : {A : Type 0} (at : Place) (n : ℕ) (p : Program A) → n ≤ MAX_TEXT_BYTES → unless_too_long at n p ≡ p
+fits at n p h = ap (λ b. elim b [ true ↦ p | false ↦ fails (too_long at) ]) (le-leb n MAX_TEXT_BYTES h)
 
-pub fits_not : {A : Type 0} (at : Place) (n : ℕ) (p : Program A) → max_text_bytes < n → unless_too_long at n p ≡ fails (too_long at)
-fits_not at n p h = ap (λ b. elim b [ true ↦ p | false ↦ fails (too_long at) ]) (lt-leb n max_text_bytes h)
+pub fits_not : {A : Type 0} (at : Place) (n : ℕ) (p : Program A) → MAX_TEXT_BYTES < n → unless_too_long at n p ≡ fails (too_long at)
+fits_not at n p h = ap (λ b. elim b [ true ↦ p | false ↦ fails (too_long at) ]) (lt-leb n MAX_TEXT_BYTES h)
 
 pub long_then : {A B : Type 0} (at : Place) (n : ℕ) (p : Program A) (f : A → Program B) → unless_too_long at n p >>= f ≡ unless_too_long at n (p >>= f)
-long_then {A = A} {B = B} at n p f = by_test (nat_le n max_text_bytes)
+long_then {A = A} {B = B} at n p f = by_test (nat_le n MAX_TEXT_BYTES)
   where
     by_test : (b : Bool) → (elim b as (λ z. Program A) [ true ↦ p | false ↦ fails (too_long at) ]) >>= f
         ≡ (elim b as (λ z. Program B) [ true ↦ p >>= f | false ↦ fails (too_long at) ])
@@ -101,7 +101,7 @@ module _ (at : Place) (value : Item → Program Value) (bytes_stay : (c : ℕ) �
       ∙ ap (λ b. unless_too_long at (length bytes + 1) (values_left at value b (bytes ++ c ∷ []) is)) (always known)
 
   -- plain bytes of a text that don't make its value too long are appended to the values of the items before them
-  pub text_left : (text bytes : List ℕ) (is : List Item) → length bytes + length text ≤ max_text_bytes
+  pub text_left : (text bytes : List ℕ) (is : List Item) → length bytes + length text ≤ MAX_TEXT_BYTES
       → values_left at value known bytes (map byte text ++ is) ≡ values_left at value known (bytes ++ text) is
   text_left [] bytes is h = ap (λ b. values_left at value known b is) (sym (append-nil bytes))
   text_left (c ∷ text) bytes is h =
@@ -111,15 +111,15 @@ module _ (at : Place) (value : Item → Program Value) (bytes_stay : (c : ℕ) �
       ∙ ap (λ b. values_left at value known b is) (append_assoc bytes (c ∷ []) text)
 
   -- plain bytes of a text that make its value too long are a fault
-  pub text_left_out : (text bytes : List ℕ) (is : List Item) → length bytes ≤ max_text_bytes → max_text_bytes < length bytes + length text
+  pub text_left_out : (text bytes : List ℕ) (is : List Item) → length bytes ≤ MAX_TEXT_BYTES → MAX_TEXT_BYTES < length bytes + length text
       → values_left at value known bytes (map byte text ++ is) ≡ fails (too_long at)
   text_left_out [] bytes is h k = absurd (omega (arith, h, k))
   text_left_out (c ∷ text) bytes is h k = byte_left bytes c (map byte text ++ is) ∙ by_order (λ x y. text_left_out text (bytes ++ c ∷ []) is x y)
-      (cases_lt max_text_bytes (length bytes + 1))
+      (cases_lt MAX_TEXT_BYTES (length bytes + 1))
     where
-      by_order : (length (bytes ++ c ∷ []) ≤ max_text_bytes → max_text_bytes < length (bytes ++ c ∷ []) + length text
+      by_order : (length (bytes ++ c ∷ []) ≤ MAX_TEXT_BYTES → MAX_TEXT_BYTES < length (bytes ++ c ∷ []) + length text
           → values_left at value known (bytes ++ c ∷ []) (map byte text ++ is) ≡ fails (too_long at))
-          → (max_text_bytes < length bytes + 1) ⊎ (length bytes + 1 ≤ max_text_bytes)
+          → (MAX_TEXT_BYTES < length bytes + 1) ⊎ (length bytes + 1 ≤ MAX_TEXT_BYTES)
           → unless_too_long at (length bytes + 1) (values_left at value known (bytes ++ c ∷ []) (map byte text ++ is)) ≡ fails (too_long at)
       by_order ih (inl l) = fits_not at (length bytes + 1) (values_left at value known (bytes ++ c ∷ []) (map byte text ++ is)) l
       by_order ih (inr l) =

@@ -11,7 +11,8 @@ use Rattle.kc_macros_model.specs.ExpansionRules.{begins_reference}
 use Rattle.kc_macros_model.proofs.TextItems.{IsInside, inside_found, items_of_byte, items_of_reference}
 use Rattle.std.proofs.lemmas.Grind.{common_steps}
 use Rattle.std.specs.Borrow.{Bor}
-use Rattle.kc_macros.specs.checker.Texts.{texts_of, pieces_from}
+use Rattle.kc_macros.specs.between.SliceTexts.{texts_of_slices}
+use Rattle.kc_macros.specs.checker.Pieces.{pieces_from}
 
 -- a place, if there is one, moved on by a count of bytes
 abbrev pub after : ℕ → Option ℕ → Option ℕ
@@ -181,29 +182,29 @@ drop_one s zero = refl
 drop_one [] (suc n) = sym (ap (λ k. drop k []) (let e : suc n + 1 ≡ suc (n + 1) = omega arith in e))
 drop_one (c ∷ s) (suc n) = drop_one s n ∙ ap (λ k. drop k (c ∷ s)) (let e : suc (n + 1) ≡ suc n + 1 = omega arith in e)
 
-texts_push : (ts : List (Bor (List ℕ))) (t : Bor (List ℕ)) → texts_of (ts ++ t ∷ []) ≡ texts_of ts ++ t.now ∷ []
+texts_push : (ts : List (Bor (List ℕ))) (t : Bor (List ℕ)) → texts_of_slices (ts ++ t ∷ []) ≡ texts_of_slices ts ++ t.now ∷ []
 texts_push [] t = refl
 texts_push (s ∷ ts) t = ap (λ xs. s.now ∷ xs) (texts_push ts t)
 
 -- the code's slice of the next piece, appended to those of the pieces so far, leaves the pieces after its comma
 pub pieces_kept : (before after : List (Bor (List ℕ))) (piece : Bor (List ℕ)) (rest : List ℕ) (n : ℕ) (whole : List (List ℕ)) → n < length rest
     → piece.now ≡ take n rest → after ≡ before ++ piece ∷ []
-    → whole ≡ texts_of before ++ pieces 0 rest → pieces 0 rest ≡ pieces_from n rest → (next : List ℕ)
+    → whole ≡ texts_of_slices before ++ pieces 0 rest → pieces 0 rest ≡ pieces_from n rest → (next : List ℕ)
     → next ≡ take (length (take (length rest - n) (drop n rest)) - 1) (drop 1 (take (length rest - n) (drop n rest)))
-    → whole ≡ texts_of after ++ pieces 0 next
+    → whole ≡ texts_of_slices after ++ pieces 0 next
 pieces_kept before after piece rest n whole h text pushed same cut next is =
-    pieces_more (texts_of before) rest n whole h same cut
-    ∙ ap (λ t. (texts_of before ++ t ∷ []) ++ pieces 0 (drop (n + 1) rest)) (sym text)
-    ∙ ap (λ ts. ts ++ pieces 0 (drop (n + 1) rest)) (sym (ap texts_of pushed ∙ texts_push before piece))
-    ∙ ap (λ s. texts_of after ++ pieces 0 s) (sym (is ∙ rest_is (take (length rest - n) (drop n rest)) 1 ∙ ap (drop 1) (rest_is rest n) ∙ drop_one rest n))
+    pieces_more (texts_of_slices before) rest n whole h same cut
+    ∙ ap (λ t. (texts_of_slices before ++ t ∷ []) ++ pieces 0 (drop (n + 1) rest)) (sym text)
+    ∙ ap (λ ts. ts ++ pieces 0 (drop (n + 1) rest)) (sym (ap texts_of_slices pushed ∙ texts_push before piece))
+    ∙ ap (λ s. texts_of_slices after ++ pieces 0 s) (sym (is ∙ rest_is (take (length rest - n) (drop n rest)) 1 ∙ ap (drop 1) (rest_is rest n) ∙ drop_one rest n))
 
 -- the code's slice of the last piece, appended to those of the pieces so far, makes them all pieces of the reference
 pub pieces_done : (before after : List (Bor (List ℕ))) (piece : Bor (List ℕ)) (rest : List ℕ) (n : ℕ) (whole : List (List ℕ)) → n ≡ length rest
     → piece.now ≡ take n rest → after ≡ before ++ piece ∷ []
-    → whole ≡ texts_of before ++ pieces 0 rest → pieces 0 rest ≡ pieces_from n rest → texts_of after ≡ whole
+    → whole ≡ texts_of_slices before ++ pieces 0 rest → pieces 0 rest ≡ pieces_from n rest → texts_of_slices after ≡ whole
 pieces_done before after piece rest n whole h text pushed same cut =
-    ap texts_of pushed ∙ texts_push before piece ∙ ap (λ t. texts_of before ++ t ∷ []) (text ∙ take_all n rest (omega (arith, h)))
-    ∙ sym (pieces_all (texts_of before) rest n whole h same cut)
+    ap texts_of_slices pushed ∙ texts_push before piece ∙ ap (λ t. texts_of_slices before ++ t ∷ []) (text ∙ take_all n rest (omega (arith, h)))
+    ∙ sym (pieces_all (texts_of_slices before) rest n whole h same cut)
 
 -- the items of a text that begins with a reference, given the slices that the code cuts from the text
 pub front_cut : (text : List ℕ) (n : ℕ) → begins_reference text ≡ true → inside_length 0 (take (length text - 2) (drop 2 text)) ≡ Some n → (q : Bool)

@@ -4,7 +4,9 @@ use Rattle.std.specs.Prelude.{not, bytes_eq, codes}
 use Rattle.std.specs.List.{list_any}
 use Rattle.std.proofs.lemmas.List.{append-nil, at_drop_more, at_drop_all, take_all}
 use Rattle.kc_macros_model.specs.Variables.{Value}
-use Rattle.kc_macros_model.specs.WrittenTokens.{WrittenToken, TokenSort, a_gap, a_word, a_quoted, an_other, an_unknown, written_as}
+use Rattle.kc_macros_model.specs.declared.token_sort.TokenSort.{TokenSort}
+use Rattle.kc_macros_model.specs.declared.token_sort.TokenSort.TheVariants.{Gap, Word, Quoted, Other, Unknown}
+use Rattle.kc_macros_model.specs.WrittenTokens.{WrittenToken, written_as}
 use Rattle.kc_macros_model.specs.Assignments.{is_gap, is_unknown}
 use Rattle.kc_macros_model.specs.LineForms.{is_word, form_of, form_by_word, plain, is_help_line, help_words, is_undecided, with_nth_token, line_bytes, with_replacement, quoted_text_token}
 use Rattle.kc_macros_model.specs.TreeExpansion.{source_line}
@@ -111,11 +113,11 @@ unknown_first t ts = by_sort t.sort t.bytes t.meaning
   where
     by_sort : (s : TokenSort) (bytes : List ℕ) (meaning : Value) → (let t : WrittenToken = record { sort = s; bytes = bytes; meaning = meaning } in
         (is_unknown t || list_any is_unknown ts) ≡ list_any is_unknown (cond (not (is_gap t)) (t ∷ ts) ts))
-    by_sort a_gap bytes meaning = refl
-    by_sort a_word bytes meaning = refl
-    by_sort a_quoted bytes meaning = refl
-    by_sort an_other bytes meaning = refl
-    by_sort an_unknown bytes meaning = refl
+    by_sort Gap bytes meaning = refl
+    by_sort Word bytes meaning = refl
+    by_sort Quoted bytes meaning = refl
+    by_sort Other bytes meaning = refl
+    by_sort Unknown bytes meaning = refl
 
 -- a line has a token that depends on a question if one of its tokens that are no gaps does
 pub unknown_real : (ts : List CodeToken) → list_any (λ (t : CodeToken). is_unknown (token_of t)) ts ≡ list_any is_unknown (real_tokens ts)
@@ -302,7 +304,7 @@ prompt_is text none quote words whole a b d e = e ∙ ap (λ x. x ++ 34 ∷ []) 
 -- a `source` line by whether its path is the key
 module _ (ts : List CodeToken) (given key none one : List ℕ) (empty : none ≡ []) where
   abbrev keyword : WrittenToken
-  keyword = written_as a_word (codes "source") []
+  keyword = written_as Word (codes "source") []
 
   pub source_same : bytes_eq key given ≡ true → one ≡ none ++ with_first keyword ts → one ≡ source_line (tokens_of ts) given key
   source_same h e =

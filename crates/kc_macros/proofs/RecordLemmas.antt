@@ -8,7 +8,7 @@ use Rattle.bstr.specs.Find.{IsFirstByte, is_byte}
 use Rattle.kc_tree_model.specs.LogicalLines.{PhysicalLine, with_first_byte, split_at_newlines}
 use Rattle.kc_macros_model.specs.declared.fault.AnswersFault.{AnswersFault}
 use Rattle.kc_macros_model.specs.Variables.{without_white_end}
-use Rattle.kc_macros_model.specs.AnswerFiles.{Recorded, LinesSoFar, fault_at, fault_of_line, meaning_of_line, with_meaning, with_line, FileEnd, complete, cut_by, and_then, recorded_from}
+use Rattle.kc_macros_model.specs.AnswerFiles.{RecordedAnswers, LinesSoFar, fault_at, fault_of_line, meaning_of_line, with_meaning, with_line, FileEnd, complete, cut_by, and_then, recorded_from}
 use Rattle.kc_macros.specs.checker.LinesView.{last_line}
 
 -- a line of a file of answers that has no fault of size or encoding is recorded by its meaning
@@ -89,7 +89,7 @@ module _ (end : FileEnd) (lines : LinesSoFar) (rest : List ℕ) (at : ℕ) (firs
   line_first = ap (recorded_from end lines) (first_line_split rest at first) ∙ after_line end lines (take at rest) (split_at_newlines (drop (at + 1) rest))
 
   -- after a line of a file of answers was recorded, the result of the file is that of the lines after it
-  pub one_recorded : (result : Result Recorded AnswersFault) (next : LinesSoFar) → result ≡ recorded_from end lines (split_at_newlines rest)
+  pub one_recorded : (result : Result RecordedAnswers AnswersFault) (next : LinesSoFar) → result ≡ recorded_from end lines (split_at_newlines rest)
       → with_line lines (take at rest) ≡ Ok next
       → result ≡ recorded_from end next (split_at_newlines (take (length rest - (at + 1)) (drop (at + 1) rest)))
   one_recorded result next e h =
@@ -97,6 +97,6 @@ module _ (end : FileEnd) (lines : LinesSoFar) (rest : List ℕ) (at : ℕ) (firs
       ∙ ap (λ bytes. recorded_from end next (split_at_newlines bytes)) (sym (rest_is rest (at + 1)))
 
   -- if a line of a file of answers is refused, the file is refused with the fault of the line
-  pub one_refused : (result : Result Recorded AnswersFault) (f : AnswersFault) → result ≡ recorded_from end lines (split_at_newlines rest)
+  pub one_refused : (result : Result RecordedAnswers AnswersFault) (f : AnswersFault) → result ≡ recorded_from end lines (split_at_newlines rest)
       → with_line lines (take at rest) ≡ Err f → result ≡ Err f
   one_refused result f e h = e ∙ line_first ∙ ap (λ r. and_then r (λ more. recorded_from end more (split_at_newlines (drop (at + 1) rest)))) h

@@ -5,7 +5,7 @@ use Rattle.std.proofs.lemmas.List.{append-nil}
 use Rattle.kc_macros_model.specs.Programs.{Fault, Program, returns, fails, stops, ◌>>=◌}
 use Rattle.kc_macros_model.specs.Worlds.{World, Ending, returned, failed, stopped, Outcome, outcome}
 use Rattle.kc_macros_model.proofs.Outcomes.{continued_by, composed}
-use Rattle.kc_macros_model.specs.AnswerFiles.{Recorded}
+use Rattle.kc_macros_model.specs.AnswerFiles.{RecordedAnswers}
 use Rattle.kc_macros.specs.declared.stop.Stop.{Stop}
 use Rattle.kc_macros.specs.declared.stop.Stop.TheVariants as kinds
 use Rattle.kc_macros.specs.RunStates.{RunState, with_question, with_questions, after_outcome}
@@ -76,7 +76,7 @@ module _ {A B : Type 0} (s t : RunState) (p : Program A) (f : A → Program B) w
   then_runs x u (ends e) a b =
       in_each_world s u (p >>= f) e (λ w h.
       let first = in_world w s t p (returned x) h a in
-      let later : HasAnswers w t.answers = subst (λ (q : Recorded). HasAnswers w q) (sym (same_answers w s t p (returned x) first)) h in
+      let later : HasAnswers w t.answers = subst (λ (q : RecordedAnswers). HasAnswers w q) (sym (same_answers w s t p (returned x) first)) h in
       in_world_then w s p f x t u e first (in_world w t u (f x) e later b))
   then_runs x u out_of_memory a b = cut_short
 

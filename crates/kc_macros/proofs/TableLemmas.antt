@@ -2,7 +2,7 @@
 use Rattle.std.proofs.Common.{◌≡◌, ℕ, zero, suc, Bool, true, false, cond, List, [], ◌∷◌, ◌++◌, length, take, map, Option, Some, None, refl, sym, ap, ◌∙◌}
 use Rattle.std.specs.Prelude.{Vec, bytes_eq, option_map, is_some, IfOk, Result, Ok, Err, ◌||◌}
 use Rattle.kc_tree_model.specs.Limits.{is_in_list}
-use Rattle.kc_macros_model.specs.AnswerFiles.{Recorded}
+use Rattle.kc_macros_model.specs.AnswerFiles.{RecordedAnswers}
 use Rattle.kc_macros.specs.RunStates.{questions_of, with_question}
 use Rattle.std.specs.declared.alloc.Global.{Global}
 use Rattle.std.proofs.lemmas.Slice.Eq.{bytes_eq-Decides}
@@ -68,7 +68,7 @@ length_entries [] = refl
 length_entries (e ∷ es) = ap suc (length_entries es)
 
 -- a question is among those of a table of answers if the table has an answer to it
-pub listed_is_found : (es : Recorded) (question : List ℕ) → is_in_list question (questions_of es) ≡ is_some (keyword_in_table es question)
+pub listed_is_found : (es : RecordedAnswers) (question : List ℕ) → is_in_list question (questions_of es) ≡ is_some (keyword_in_table es question)
 listed_is_found [] question = refl
 listed_is_found (e ∷ es) question = by_test (bytes_eq e.0 question) (listed_is_found es question)
   where
@@ -82,13 +82,13 @@ is_some_map f None = refl
 is_some_map f (Some x) = refl
 
 -- the questions of a table of answers after noting one: the same if the table has it, otherwise those and the new one
-pub noted : {A : Type 0} (es : Recorded) (question : List ℕ) (f : A → Answer) (found : Option A) (b : Bool) → option_map f found ≡ keyword_in_table es question
+pub noted : {A : Type 0} (es : RecordedAnswers) (question : List ℕ) (f : A → Answer) (found : Option A) (b : Bool) → option_map f found ≡ keyword_in_table es question
     → is_some found ≡ b
     → with_question (questions_of es) question ≡ cond b (questions_of es) (questions_of es ++ question ∷ [])
 noted es question f found b e h = ap (λ t. cond t (questions_of es) (questions_of es ++ question ∷ []))
     (listed_is_found es question ∙ ap is_some (sym e) ∙ is_some_map f found ∙ h)
 
-pub questions_of_append : (es fs : Recorded) → questions_of (es ++ fs) ≡ questions_of es ++ questions_of fs
+pub questions_of_append : (es fs : RecordedAnswers) → questions_of (es ++ fs) ≡ questions_of es ++ questions_of fs
 questions_of_append [] fs = refl
 questions_of_append (e ∷ es) fs = ap (λ qs. e.0 ∷ qs) (questions_of_append es fs)
 
@@ -97,7 +97,7 @@ questions_of_keys [] = refl
 questions_of_keys (e ∷ es) = ap (λ xs. e.0.items ∷ xs) (questions_of_keys es)
 
 -- the keys of the code's table of answers, collected in a vector, are the questions of the table
-pub questions_collected : {E : Type 0} (r : Result (Vec (Vec ℕ Global) Global) E) (es : List Entry) (table : Recorded) → map answer_of_entry es ≡ table
+pub questions_collected : {E : Type 0} (r : Result (Vec (Vec ℕ Global) Global) E) (es : List Entry) (table : RecordedAnswers) → map answer_of_entry es ≡ table
     → IfOk r (λ qs. qs.items ≡ keys_of es)
     → IfOk r (λ qs. map (λ (q : Vec ℕ Global). q.items) qs.items ≡ questions_of table)
 questions_collected (Ok qs) es table e h = ap (λ ks. map (λ (q : Vec ℕ Global). q.items) ks) h ∙ questions_of_keys es ∙ ap questions_of e

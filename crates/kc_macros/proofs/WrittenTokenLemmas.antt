@@ -6,7 +6,8 @@ use Rattle.kc_macros_model.specs.Programs.{Place, Program, returns, ◌>>=◌}
 use Rattle.kc_macros_model.specs.References.{items, is_reference, is_plain_dollar}
 use Rattle.kc_macros_model.specs.Variables.{Value, Bindings}
 use Rattle.kc_macros_model.specs.Expansion.{text_value}
-use Rattle.kc_macros_model.specs.WrittenTokens.{WrittenToken, a_word, an_other, written_as, token_of_value, run_value, written_run}
+use Rattle.kc_macros_model.specs.declared.token_sort.TokenSort.TheVariants.{Word, Other}
+use Rattle.kc_macros_model.specs.WrittenTokens.{WrittenToken, written_as, token_of_value, run_value, written_run}
 use Rattle.kc_macros_model.specs.Worlds.{returned}
 use Rattle.kc_macros.specs.declared.stop.Stop.{Stop}
 use Rattle.kc_macros.specs.RunStates.{RunState}
@@ -19,16 +20,16 @@ module _ (at : Place) (b : Bindings) (s : List ℕ) where
   plain_run h = ap (λ t. elim t as (λ x. Program Value) [ true ↦ text_value at b s | false ↦ returns (Some s) ]) h
 
   abbrev without_plain_dollar : Bool → Program WrittenToken
-  without_plain_dollar t = elim t [ true ↦ text_value at b s >>= λ v. returns (token_of_value v) | false ↦ returns (written_as a_word s s) ]
+  without_plain_dollar t = elim t [ true ↦ text_value at b s >>= λ v. returns (token_of_value v) | false ↦ returns (written_as Word s s) ]
 
   abbrev by_dollar : Bool → Bool → Program WrittenToken
-  by_dollar t u = elim t [ true ↦ returns (written_as an_other s []) | false ↦ without_plain_dollar u ]
+  by_dollar t u = elim t [ true ↦ returns (written_as Other s []) | false ↦ without_plain_dollar u ]
 
-  pub run_stays : list_any is_plain_dollar (items false 0 s) ≡ true → written_run at b s ≡ returns (written_as an_other s [])
+  pub run_stays : list_any is_plain_dollar (items false 0 s) ≡ true → written_run at b s ≡ returns (written_as Other s [])
   run_stays h = ap (λ t. by_dollar t (list_any is_reference (items false 0 s))) h
 
   pub run_is_word : list_any is_plain_dollar (items false 0 s) ≡ false → list_any is_reference (items false 0 s) ≡ false
-      → written_run at b s ≡ returns (written_as a_word s s)
+      → written_run at b s ≡ returns (written_as Word s s)
   run_is_word h k = ap (λ t. by_dollar t (list_any is_reference (items false 0 s))) h ∙ ap without_plain_dollar k
 
   run_has_value : list_any is_plain_dollar (items false 0 s) ≡ false → list_any is_reference (items false 0 s) ≡ true

@@ -1,27 +1,27 @@
 -- The state of a run of an expansion.
 use Rattle.std.specs.Prelude.{ℕ, Bool, List, [], ◌∷◌, ◌++◌, map, if◌then◌else◌}
 use Rattle.kc_tree_model.specs.Limits.{is_in_list}
-use Rattle.kc_macros_model.specs.Limits.{max_work}
+use Rattle.kc_value.specs.declared.limits.TheConstants.{MAX_WORK}
 use Rattle.kc_macros_model.specs.Programs.{Notice, Answer}
-use Rattle.kc_macros_model.specs.AnswerFiles.{Recorded}
+use Rattle.kc_macros_model.specs.AnswerFiles.{RecordedAnswers}
 use Rattle.kc_macros_model.specs.Worlds.{Outcome}
 
 -- the state of a run of the expansion: the answers, whether each question must have an answer, the work that is left, the notices
 -- so far, and the questions without an answer so far
 pub record RunState : Type 0 where
-  pub answers : Recorded
+  pub answers : RecordedAnswers
   pub all_answered : Bool
   pub left : ℕ
   pub notices : List Notice
   pub questions : List (List ℕ)
 
 -- the questions that recorded answers answer, in their order
-abbrev pub questions_of : Recorded → List (List ℕ)
+abbrev pub questions_of : RecordedAnswers → List (List ℕ)
 questions_of es = map (λ (e : List ℕ × Answer). e.0) es
 
 -- the state of a run of the expansion at its start: no work is spent, and there are no notices and no open questions
-abbrev pub run_at_start : Recorded → Bool → RunState
-run_at_start answers all_answered = record { answers = answers; all_answered = all_answered; left = max_work; notices = []; questions = [] }
+abbrev pub run_at_start : RecordedAnswers → Bool → RunState
+run_at_start answers all_answered = record { answers = answers; all_answered = all_answered; left = MAX_WORK; notices = []; questions = [] }
 
 -- a list of questions with this question at its end, unless the list has it already
 abbrev pub with_question : List (List ℕ) → List ℕ → List (List ℕ)

@@ -1,7 +1,7 @@
 -- Programs that code runs: the state that a program takes a run to, and its end.
 use Rattle.std.specs.Prelude.{◌≡◌, ℕ, List, Result, Ok, Err}
 use Rattle.kc_tree_model.specs.Keywords.{keyword_in_table}
-use Rattle.kc_macros_model.specs.AnswerFiles.{Recorded}
+use Rattle.kc_macros_model.specs.AnswerFiles.{RecordedAnswers}
 use Rattle.kc_macros_model.specs.Programs.{Place, Fault, Notice, Program}
 use Rattle.kc_macros_model.specs.Worlds.{World, Ending, returned, failed, stopped, outcome}
 use Rattle.kc_macros.specs.declared.stop.Place.{Place as LinePlace}
@@ -40,7 +40,7 @@ end_of view (Ok x) = ends (returned (view x))
 end_of view (Err s) = end_of_stop s
 
 -- a world answers each question as these recorded answers do, and no other question
-abbrev pub HasAnswers : World → Recorded → Type 0
+abbrev pub HasAnswers : World → RecordedAnswers → Type 0
 HasAnswers w answers = (question : List ℕ) → w.answer question ≡ keyword_in_table answers question
 
 -- code that goes from the state `before` to `after` and to this end runs the program `p`: with the recorded answers, `p` comes

@@ -5,3 +5,4 @@ pub mod LineContents
 pub mod LineFormViews
 pub mod CopiedLines
 pub mod Stops
+pub mod SliceTexts

@@ -10,7 +10,6 @@ pub mod Frames
 pub mod ProgramSteps
 pub mod PartialValues
 pub mod BuiltIns
-pub mod Texts
 pub mod Events
 pub mod TableView
 pub mod LineView

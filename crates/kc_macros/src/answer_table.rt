@@ -18,9 +18,9 @@ pub(crate) struct AnswerTable {
 
 impl Model for AnswerTable {
     ghost use Rattle.std.specs.Prelude.{map};
-    ghost use Rattle.kc_macros_model.specs.AnswerFiles.{Recorded};
+    ghost use Rattle.kc_macros_model.specs.AnswerFiles.{RecordedAnswers};
 
-    ghost Value = { Recorded };
+    ghost Value = { RecordedAnswers };
 
     ghost use Rattle.kc_macros.specs.checker.TableView.{answer_of_entry};
 

@@ -6,10 +6,9 @@ ghost use Rattle.kc_macros.specs.ReadAnswers.{ReadsToEnd, AreRecorded, IsRefused
 
 use super::answer_table::AnswerTable;
 use super::file_records::record_lines;
-use super::limits::MAX_ANSWER_BYTES;
 use super::line_records::out_of_memory;
 use kc_macros_model::{AnswersFault, AnswersKind};
-use kc_value::{ReadBytes, ReadEnd, Seed, Source, read_up_to};
+use kc_value::{MAX_ANSWER_BYTES, ReadBytes, ReadEnd, Seed, Source, read_up_to};
 use std::alloc::{AllocError, Global};
 use std::marker::Model;
 
@@ -51,9 +50,9 @@ pub struct Answers {
 }
 
 impl Model for Answers {
-    ghost use Rattle.kc_macros_model.specs.AnswerFiles.{Recorded};
+    ghost use Rattle.kc_macros_model.specs.AnswerFiles.{RecordedAnswers};
 
-    ghost Value = { Recorded };
+    ghost Value = { RecordedAnswers };
 
     ghost view = { λ a. a.table };
 }

@@ -3,14 +3,13 @@ ghost use Rattle.std.specs.Prelude.{◌≡◌, true, IfSome, option_map};
 ghost use Rattle.kc_expr.specs.Token.{is_white_byte};
 ghost use Rattle.kc_macros_model.specs.LineTokens.{line_tokens};
 ghost use Rattle.kc_macros_model.specs.Assignments.{assigned, without_front, is_blank_byte, operator_at, assignment_to, assignment_at};
-ghost use Rattle.kc_macros.specs.between.AssignmentViews.{operator_of};
 ghost use Rattle.kc_macros.specs.checker.LineTexts.{token_view};
 ghost use Rattle.kc_macros.specs.checker.LineFronts.{name_token, assigned_of};
 
 use super::answer_lines::{byte_at, is_white};
-use super::assignments::Operator;
 use super::keywords::is_keyword;
 use super::line_tokens::LineToken;
+use kc_macros_model::Operator;
 
 /// An assignment as a line has it: its name before expansion, its operator, and the text after the operator.
 #[derive(Clone, Copy)]
@@ -57,7 +56,7 @@ fn without_blank_front(text: &[u8]) -> &[u8]
 
 /// The assignment operator at the front of a text, and the bytes after it.
 fn operator_at(text: &[u8]) -> Option<(Operator, &[u8])>
-    ensures { option_map (λ r. assigned (operator_of r.0) r.1.now) result ≡ operator_at text.now }
+    ensures { option_map (λ r. assigned r.0 r.1.now) result ≡ operator_at text.now }
 {
     if byte_at(text, 0) == b'=' {
         return Some((Operator::Sets, &text[1..]));

@@ -1,32 +1,23 @@
 //! Assignments of variables.
 ghost use Rattle.std.specs.Prelude.{◌≡◌, [], ◌∷◌, ◌++◌, Some, IfOk, OnErr};
 ghost use Rattle.kc_macros_model.specs.Variables.{joined_values};
-ghost use Rattle.kc_macros_model.specs.Assignments.{appends, stored_simple, stored_recursive, variable_assigned};
+ghost use Rattle.kc_macros_model.specs.Assignments.{stored_simple, stored_recursive, variable_assigned};
 ghost use Rattle.kc_macros.specs.between.Variables.{bindings_of, variable_of};
-ghost use Rattle.kc_macros.specs.between.AssignmentViews.{operator_of, bindings_assigned};
+ghost use Rattle.kc_macros.specs.between.AssignmentViews.{bindings_assigned};
 ghost use Rattle.kc_macros.specs.checker.StoredBytes.{stored_bytes};
 ghost use Rattle.kc_macros.specs.Runs.{place_of, Runs, end_of};
 
 use super::bindings::Bindings;
 use super::bytes::Bytes;
 use super::events::{fault, spend};
-use super::limits::MAX_TEXT_BYTES;
 use super::partial_value::value_length;
 use super::run::Run;
 use super::stop::{Place, Stop};
 use super::text_values::text_value;
 use super::variable::Variable;
-use kc_macros_model::MacroKind;
+use kc_macros_model::{MacroKind, Operator};
+use kc_value::MAX_TEXT_BYTES;
 use std::alloc::{AllocError, Global};
-
-/// The operators of assignments: `:=` stores the value of its text, `+=` appends its text, `=` stores a text that each use
-/// expands.
-#[derive(Clone, Copy, Debug, PartialEq, Eq)]
-pub enum Operator {
-    SetsNow,
-    Appends,
-    Sets,
-}
 
 /// An assignment to a variable: its name, which is expanded already, its operator, and its text, which isn't expanded.
 #[derive(Drop)]
@@ -94,7 +85,7 @@ fn appended(
     text: &[u8],
     before: &Variable,
 ) -> Result<Variable, Stop>
-    ensures { Runs run.old run.new (variable_assigned (place_of at.entry) (bindings_of bindings.now) appends text.now (Some (variable_of before.now))) (end_of variable_of result) }
+    ensures { Runs run.old run.new (variable_assigned (place_of at.entry) (bindings_of bindings.now) Operator.Appends text.now (Some (variable_of before.now))) (end_of variable_of result) }
 {
     match before {
         Variable::Simple(value) => {
@@ -118,7 +109,7 @@ fn variable_assigned(
     operator: Operator,
     text: Bytes,
 ) -> Result<Variable, Stop>
-    ensures { Runs run.old run.new (variable_assigned (place_of at.entry) (bindings_of bindings.now) (operator_of operator) text (bindings_of bindings.now name.now)) (end_of variable_of result) }
+    ensures { Runs run.old run.new (variable_assigned (place_of at.entry) (bindings_of bindings.now) operator text (bindings_of bindings.now name.now)) (end_of variable_of result) }
 {
     match operator {
         Operator::SetsNow => {
@@ -145,7 +136,7 @@ pub fn assign(
     bindings: &mut Bindings,
     assignment: Assignment,
 ) -> Result<(), Stop>
-    ensures run { Runs run.old run.new (bindings_assigned (place_of at.entry) (bindings_of bindings.old) assignment.name (operator_of assignment.operator) assignment.text) (end_of (λ u. bindings_of bindings.new) result) }
+    ensures run { Runs run.old run.new (bindings_assigned (place_of at.entry) (bindings_of bindings.old) assignment.name assignment.operator assignment.text) (end_of (λ u. bindings_of bindings.new) result) }
     ensures err { OnErr result (bindings.new ≡ bindings.old) }
 {
     let Assignment {

@@ -1,19 +1,10 @@
 //! The built-in functions of the macro language.
-ghost use Rattle.std.specs.Prelude.{◌≡◌, bytes_eq, option_map};
+ghost use Rattle.std.specs.Prelude.{◌≡◌, bytes_eq};
 ghost use Rattle.kc_tree_model.specs.Keywords.{keyword_in_table};
 ghost use Rattle.kc_macros_model.specs.Variables.{built_ins};
-ghost use Rattle.kc_macros.specs.checker.BuiltIns.{built_in_of, arity_of};
+ghost use Rattle.kc_macros.specs.checker.BuiltIns.{arity_of};
 
-/// A built-in function of the macro language, which a tree can call without defining it.
-#[derive(Clone, Copy)]
-pub(crate) enum BuiltIn {
-    Filename,
-    Lineno,
-    Shell,
-    Info,
-    WarningIf,
-    ErrorIf,
-}
+use kc_macros_model::BuiltIn;
 
 /// Whether two texts are equal.
 pub(crate) fn is_text(text: &[u8], other: &[u8]) -> bool
@@ -24,7 +15,7 @@ pub(crate) fn is_text(text: &[u8], other: &[u8]) -> bool
 
 /// The built-in function of this name, if there is one.
 pub(crate) fn built_in(name: &[u8]) -> Option<BuiltIn>
-    ensures { option_map built_in_of result ≡ keyword_in_table built_ins name.now }
+    ensures { result ≡ keyword_in_table built_ins name.now }
 {
     if is_text(b"filename", name) {
         Some(BuiltIn::Filename)
@@ -45,7 +36,7 @@ pub(crate) fn built_in(name: &[u8]) -> Option<BuiltIn>
 
 /// The number of arguments that a built-in function takes.
 pub(crate) fn arity(function: BuiltIn) -> usize
-    ensures { result ≡ arity_of (built_in_of function) }
+    ensures { result ≡ arity_of function }
 {
     match function {
         BuiltIn::Filename | BuiltIn::Lineno => 0,

@@ -10,8 +10,8 @@ use super::answer_lines::byte_at;
 use super::assignment_syntax::{assignment_to, without_white_front};
 use super::built_in_functions::is_text;
 use super::form_words::{is_help_word, is_prompt_word, is_source_word};
-use super::limits::MAX_TEXT_BYTES;
 use super::line_tokens::is_run_byte;
+use kc_value::MAX_TEXT_BYTES;
 
 /// The last byte of a word; 0 of none.
 fn last_byte(word: &[u8]) -> u8

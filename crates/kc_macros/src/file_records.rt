@@ -1,16 +1,16 @@
 //! The records of all lines of a file of answers.
 ghost use Rattle.std.specs.Prelude.{◌≡◌, ◌⊎◌, ℕ, ◌≤◌, List, Option, length, take, None, Ok, Err, IfErr, OnOk};
 ghost use Rattle.kc_tree_model.specs.LogicalLines.{split_at_newlines};
-ghost use Rattle.kc_macros_model.specs.AnswerFiles.{Recorded, first_line, recorded_at_end, cut_line, recorded_from};
+ghost use Rattle.kc_macros_model.specs.AnswerFiles.{RecordedAnswers, first_line, recorded_at_end, cut_line, recorded_from};
 ghost use Rattle.kc_macros.specs.ReadAnswers.{end_of_file};
 ghost use Rattle.kc_macros.specs.checker.AnswerFaults.{no_memory};
 ghost use Rattle.kc_macros.specs.checker.LinesView.{bytes_of, lines_view, last_line};
 
 use super::answer_table::AnswerTable;
-use super::limits::MAX_ANSWER_LINES;
 use super::line_records::{fault_of_size, fault_on_next_line, malformed_line, record_line};
 use bstr::ByteSlice;
 use kc_macros_model::{AnswersFault, AnswersKind};
+use kc_value::MAX_ANSWER_LINES;
 
 /// Ends a file after `count` lines: with the fault `cut` that ended its bytes early, or that of a command without its answer.
 fn end_of_lines(
@@ -19,8 +19,8 @@ fn end_of_lines(
     cut: Option<AnswersKind>,
 ) -> Result<(), AnswersFault>
     requires few { count ≤ MAX_ANSWER_LINES }
-    ensures ok { OnOk result ((recorded : Recorded) → recorded_at_end (end_of_file cut) (lines_view count (bytes_of waiting.entry) recorded) ≡ Ok recorded) }
-    ensures err { IfErr result (λ f. (recorded : Recorded) → recorded_at_end (end_of_file cut) (lines_view count (bytes_of waiting.entry) recorded) ≡ Err f) }
+    ensures ok { OnOk result ((recorded : RecordedAnswers) → recorded_at_end (end_of_file cut) (lines_view count (bytes_of waiting.entry) recorded) ≡ Ok recorded) }
+    ensures err { IfErr result (λ f. (recorded : RecordedAnswers) → recorded_at_end (end_of_file cut) (lines_view count (bytes_of waiting.entry) recorded) ≡ Err f) }
 {
     if let Some(kind) = cut {
         return Err(fault_on_next_line(count, kind));
@@ -34,7 +34,7 @@ fn end_of_lines(
 /// The fault of a last line of which only these bytes are known: that of its size, or the fault `kind` that cut it.
 fn fault_of_cut_line(count: u32, line: &[u8], kind: AnswersKind) -> AnswersFault
     requires few { count ≤ MAX_ANSWER_LINES }
-    ensures value { (waiting : Option (List ℕ)) → (recorded : Recorded) → result ≡ cut_line kind (lines_view count waiting recorded) line.now }
+    ensures value { (waiting : Option (List ℕ)) → (recorded : RecordedAnswers) → result ≡ cut_line kind (lines_view count waiting recorded) line.now }
 {
     match fault_of_size(count, line) {
         Some(earlier) => fault_on_next_line(count, earlier),

@@ -2,7 +2,7 @@
 ghost use Rattle.std.specs.Prelude.{◌≡◌, ◌∷◌, IfOk, bytes_eq};
 ghost use Rattle.std.specs.List.{list_any};
 ghost use Rattle.kc_macros_model.specs.Expansion.{is_recursion};
-ghost use Rattle.kc_macros.specs.checker.Texts.{texts_of};
+ghost use Rattle.kc_macros.specs.between.SliceTexts.{texts_of_slices};
 
 use super::bindings::Bindings;
 use super::built_in_functions::is_text;
@@ -30,7 +30,7 @@ fn is_open(names: &[&[u8]], name: &[u8]) -> bool
 
 /// Whether a reference without arguments is to a variable whose value is being expanded already.
 pub(crate) fn is_recursion(names: &[&[u8]], name: &[u8], args: &[Option<Bytes>]) -> bool
-    ensures { result ≡ is_recursion (texts_of names.now) name.now args.now }
+    ensures { result ≡ is_recursion (texts_of_slices names.now) name.now args.now }
 {
     if args.is_empty() {
         return is_open(names, name);
@@ -44,7 +44,7 @@ pub(crate) fn with_name<'a>(
     name: &'a [u8],
     names: &[&'a [u8]],
 ) -> Result<Vec<&'a [u8]>, AllocError>
-    ensures { IfOk result (λ ns. texts_of ns.items ≡ name.now ∷ texts_of names.now) }
+    ensures { IfOk result (λ ns. texts_of_slices ns.items ≡ name.now ∷ texts_of_slices names.now) }
 {
     let mut all = Vec::new(alloc);
     all.push(name)?;

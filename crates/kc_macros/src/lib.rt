@@ -16,7 +16,6 @@ mod form_words;
 mod forms;
 mod frame;
 mod keywords;
-mod limits;
 mod line_content;
 mod line_records;
 mod line_texts;
@@ -36,13 +35,15 @@ mod variable;
 mod written_tokens;
 
 pub use answers::Answers;
-pub use assignments::{Assignment, Operator, assign};
+pub use assignments::{Assignment, assign};
 pub use bindings::Bindings;
 pub use bytes::Bytes;
 pub use copied_lines::is_copied;
 pub use forms::{LineForm, SourceSort, is_help_line, is_undecided, line_form};
-pub use kc_macros_model::{AnswersFault, AnswersKind, MacroKind, MacroNoticeKind};
-pub use limits::{
+pub use kc_macros_model::{
+    AnswersFault, AnswersKind, MacroKind, MacroNoticeKind, Operator, TokenSort,
+};
+pub use kc_value::{
     MAX_ANSWER_BYTES, MAX_ANSWER_LINE_BYTES, MAX_ANSWER_LINES, MAX_OPEN_EXPANSIONS, MAX_PIECES,
     MAX_TEXT_BYTES, MAX_WORK,
 };
@@ -54,4 +55,4 @@ pub use run::Run;
 pub use stop::{MacroFault, MacroNotice, Place, Stop};
 pub use text_values::text_value;
 pub use variable::Variable;
-pub use written_tokens::{TokenSort, WrittenToken, quoted_text_token};
+pub use written_tokens::{WrittenToken, quoted_text_token};

@@ -9,8 +9,8 @@ ghost use Rattle.kc_macros.specs.checker.LinesView.{bytes_of, lines_view};
 
 use super::answer_lines::{AnswerLine, meaning_of_line, without_white_end};
 use super::answer_table::AnswerTable;
-use super::limits::{MAX_ANSWER_LINE_BYTES, MAX_ANSWER_LINES};
 use kc_macros_model::{AnswersFault, AnswersKind};
+use kc_value::{MAX_ANSWER_LINE_BYTES, MAX_ANSWER_LINES};
 
 /// The fault of a file of answers when memory runs out, which has the line 0.
 pub(crate) fn out_of_memory() -> AnswersFault

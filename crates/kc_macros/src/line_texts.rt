@@ -1,6 +1,7 @@
 //! The bytes of written lines.
 ghost use Rattle.std.specs.Prelude.{◌≡◌, ◌++◌, ◌∷◌, [], codes, OnOk, IfOk};
-ghost use Rattle.kc_macros_model.specs.WrittenTokens.{WrittenToken as Written, a_word, written_as};
+ghost use Rattle.kc_macros_model.specs.declared.token_sort.TokenSort.TheVariants.{Word};
+ghost use Rattle.kc_macros_model.specs.WrittenTokens.{WrittenToken as Written, written_as};
 ghost use Rattle.kc_macros_model.specs.LineForms.{with_nth_token, line_bytes, with_replacement, quoted_text_token};
 ghost use Rattle.kc_macros_model.specs.TreeExpansion.{source_line};
 ghost use Rattle.kc_macros.specs.between.LineContents.{tokens_of};
@@ -40,7 +41,7 @@ fn push_with_first(
 
 /// The bytes of tokens, with `bytes` in place of the second token that isn't white, a comment or empty in value.
 fn with_second(alloc: Global, tokens: &[WrittenToken], bytes: &[u8]) -> Result<Vec<u8>, AllocError>
-    ensures { IfOk result (λ t. t.items ≡ line_bytes (with_nth_token 1 (written_as a_word bytes.now []) (tokens_of tokens.now))) }
+    ensures { IfOk result (λ t. t.items ≡ line_bytes (with_nth_token 1 (written_as Word bytes.now []) (tokens_of tokens.now))) }
 {
     let mut text = Vec::new(alloc);
     let place = gap_count(tokens);
@@ -77,7 +78,7 @@ pub fn with_bare_prompt(
     tokens: &[WrittenToken],
     text: &[u8],
 ) -> Result<Vec<u8>, AllocError>
-    ensures { IfOk result (λ t. t.items ≡ line_bytes (with_nth_token 1 (written_as a_word (34 ∷ (text.now ++ 34 ∷ [])) []) (tokens_of tokens.now))) }
+    ensures { IfOk result (λ t. t.items ≡ line_bytes (with_nth_token 1 (written_as Word (34 ∷ (text.now ++ 34 ∷ [])) []) (tokens_of tokens.now))) }
 {
     let mut prompt = Vec::new(alloc);
     prompt.push(b'"')?;
@@ -111,7 +112,7 @@ pub fn with_replacement(
 ///
 /// Memory ran out.
 pub fn without_choice_name(alloc: Global, tokens: &[WrittenToken]) -> Result<Vec<u8>, AllocError>
-    ensures { IfOk result (λ t. t.items ≡ line_bytes (with_nth_token 1 (written_as a_word [] []) (tokens_of tokens.now))) }
+    ensures { IfOk result (λ t. t.items ≡ line_bytes (with_nth_token 1 (written_as Word [] []) (tokens_of tokens.now))) }
 {
     with_second(alloc, tokens, b"")
 }
@@ -146,7 +147,7 @@ fn push_with_key(
     tokens: &[WrittenToken],
     key: &[u8],
 ) -> Result<(), AllocError>
-    ensures { OnOk result (out.new.items ≡ out.old.items ++ line_bytes (with_nth_token 1 (quoted_text_token key.now) (with_nth_token 0 (written_as a_word (codes "source") []) (tokens_of tokens.now)))) }
+    ensures { OnOk result (out.new.items ≡ out.old.items ++ line_bytes (with_nth_token 1 (quoted_text_token key.now) (with_nth_token 0 (written_as Word (codes "source") []) (tokens_of tokens.now)))) }
 {
     let place = gap_count(tokens);
     push_tokens(out, &tokens[..place])?;

@@ -4,17 +4,17 @@ ghost use Rattle.kc_tree_model.specs.Keywords.{keyword_in_table};
 ghost use Rattle.kc_macros_model.specs.Variables.{command_question, built_ins};
 ghost use Rattle.kc_macros_model.specs.Expansion.{fault as fault_program, reported, shell_value, built_in_value, other_value, unbound_value};
 ghost use Rattle.kc_macros.specs.Runs.{place_of, Runs, end_of};
-ghost use Rattle.kc_macros.specs.checker.BuiltIns.{built_in_of, arity_of, message_text, message_value};
+ghost use Rattle.kc_macros.specs.checker.BuiltIns.{arity_of, message_text, message_value};
 
 use super::answer_lines::{is_environment_name, without_white_end};
-use super::built_in_functions::{BuiltIn, arity, built_in, is_text};
+use super::built_in_functions::{arity, built_in, is_text};
 use super::bytes::Bytes;
 use super::events::{ask, fault, report};
 use super::parameter::is_number;
 use super::run::Run;
 use super::stop::{Place, Stop};
 use itoa::Buffer;
-use kc_macros_model::{MacroKind, MacroNoticeKind};
+use kc_macros_model::{BuiltIn, MacroKind, MacroNoticeKind};
 use std::alloc::{AllocError, Global};
 
 /// The decimal digits of a number.
@@ -105,8 +105,8 @@ fn called_value(
     function: BuiltIn,
     args: &[Option<Bytes>],
 ) -> Result<Option<Bytes>, Stop>
-    requires arity { length args.now ≡ arity_of (built_in_of function) }
-    ensures run { Runs run.old run.new (built_in_value (place_of at.entry) name.now (built_in_of function) args.now) (end_of (λ v. v) result) }
+    requires arity { length args.now ≡ arity_of function }
+    ensures run { Runs run.old run.new (built_in_value (place_of at.entry) name.now function args.now) (end_of (λ v. v) result) }
 {
     match function {
         BuiltIn::Filename => Ok(Some(Bytes::copied(run.alloc(), at.file)?)),
@@ -133,7 +133,7 @@ fn built_in_value(
     function: BuiltIn,
     args: &[Option<Bytes>],
 ) -> Result<Option<Bytes>, Stop>
-    ensures { Runs run.old run.new (built_in_value (place_of at.entry) name.now (built_in_of function) args.now) (end_of (λ v. v) result) }
+    ensures { Runs run.old run.new (built_in_value (place_of at.entry) name.now function args.now) (end_of (λ v. v) result) }
 {
     if args.len() != arity(function) {
         return Err(fault(run.alloc(), at, MacroKind::Arguments, name));

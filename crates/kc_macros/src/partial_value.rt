@@ -1,6 +1,5 @@
 //! The value of a text so far, item by item.
 ghost use Rattle.std.specs.Prelude.{◌≡◌, ◌≤◌, ◌<◌, ◌+◌, ◌&&◌, [], ◌++◌, true, length, is_some, IfOk, OnOk, IfErr};
-ghost use Rattle.kc_macros_model.specs.Limits.{max_text_bytes};
 ghost use Rattle.kc_macros_model.specs.Variables.{value_length};
 ghost use Rattle.kc_macros.specs.Runs.{place_of};
 ghost use Rattle.kc_macros.specs.checker.Events.{FailsIf};
@@ -8,9 +7,9 @@ ghost use Rattle.kc_macros.specs.checker.PartialValues.{known_bytes, value_if_kn
 
 use super::bytes::Bytes;
 use super::events::fault;
-use super::limits::MAX_TEXT_BYTES;
 use super::stop::{Place, Stop};
 use kc_macros_model::MacroKind;
+use kc_value::MAX_TEXT_BYTES;
 use std::alloc::{AllocError, Global};
 
 /// The joined values of the first items of a text, which are unknown if that of one item is.
@@ -42,11 +41,11 @@ pub(crate) fn push_text(
     at: Place<'_>,
     text: &[u8],
 ) -> Result<(), Stop>
-    requires small { length out.old.bytes.items ≤ max_text_bytes }
+    requires small { length out.old.bytes.items ≤ MAX_TEXT_BYTES }
     ensures bytes { OnOk result (out.new.bytes.items ≡ out.old.bytes.items ++ text.now) }
     ensures known { OnOk result (out.new.known ≡ out.old.known) }
-    ensures small { OnOk result (length out.old.bytes.items + length text.now ≤ max_text_bytes) }
-    ensures err { IfErr result (FailsIf (max_text_bytes < length out.old.bytes.items + length text.now) (too_long (place_of at.entry))) }
+    ensures small { OnOk result (length out.old.bytes.items + length text.now ≤ MAX_TEXT_BYTES) }
+    ensures err { IfErr result (FailsIf (MAX_TEXT_BYTES < length out.old.bytes.items + length text.now) (too_long (place_of at.entry))) }
 {
     if text.len() > MAX_TEXT_BYTES - out.bytes.len() {
         return Err(fault(alloc, at, MacroKind::LineTooLong, b""));
@@ -66,11 +65,11 @@ pub(crate) fn push_value(
     at: Place<'_>,
     value: Option<Bytes>,
 ) -> Result<(), Stop>
-    requires small { length out.old.bytes.items ≤ max_text_bytes }
+    requires small { length out.old.bytes.items ≤ MAX_TEXT_BYTES }
     ensures bytes { OnOk result (out.new.bytes.items ≡ out.old.bytes.items ++ known_bytes value) }
     ensures known { OnOk result (out.new.known ≡ (out.old.known && is_some value)) }
-    ensures small { OnOk result (length out.old.bytes.items + value_length value ≤ max_text_bytes) }
-    ensures err { IfErr result (FailsIf (max_text_bytes < length out.old.bytes.items + value_length value) (too_long (place_of at.entry))) }
+    ensures small { OnOk result (length out.old.bytes.items + value_length value ≤ MAX_TEXT_BYTES) }
+    ensures err { IfErr result (FailsIf (MAX_TEXT_BYTES < length out.old.bytes.items + value_length value) (too_long (place_of at.entry))) }
 {
     match value {
         Some(text) => push_text(out, alloc, at, text.as_slice()),

@@ -19,8 +19,8 @@ use super::run::Run;
 use super::stop::{Place, Stop};
 use super::text_values::text_value;
 use super::token_values::{Body, push_byte, push_pair, push_reference, written_run};
-use super::written_tokens::{TokenSort, WrittenToken, new_token};
-use kc_macros_model::MacroKind;
+use super::written_tokens::{WrittenToken, new_token};
+use kc_macros_model::{MacroKind, TokenSort};
 use std::alloc::{AllocError, Global};
 
 /// Appends the value of the reference at the front of a text between quotes to `out`; returns the rest.

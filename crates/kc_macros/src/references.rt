@@ -2,7 +2,8 @@
 ghost use Rattle.std.specs.Prelude.{◌≡◌, ◌==◌, ◌&&◌, ◌<◌, ◌≤◌, ◌+◌, ◌^◌, Bool, List, true, false, ◌∷◌, ◌++◌, drop, take, length, map, IfOk, IfSome, IfNone};
 ghost use Rattle.kc_macros_model.specs.References.{Item, item_bytes, open_after, inside_length, pieces, byte, reference, unterminated, items};
 ghost use Rattle.kc_macros_model.specs.ExpansionRules.{begins_reference};
-ghost use Rattle.kc_macros.specs.checker.Texts.{pieces_from, texts_of};
+ghost use Rattle.kc_macros.specs.between.SliceTexts.{texts_of_slices};
+ghost use Rattle.kc_macros.specs.checker.Pieces.{pieces_from};
 
 use std::alloc::{AllocError, Global};
 
@@ -61,7 +62,7 @@ fn piece_length(inside: &[u8]) -> usize
 
 /// The pieces of a reference, by the bytes between its parentheses: a name and its arguments, separated by commas.
 pub(crate) fn pieces(alloc: Global, inside: &[u8]) -> Result<Vec<&[u8]>, AllocError>
-    ensures { IfOk result (λ ps. texts_of ps.items ≡ pieces 0 inside.now) }
+    ensures { IfOk result (λ ps. texts_of_slices ps.items ≡ pieces 0 inside.now) }
 {
     let mut pieces = Vec::new(alloc);
     let mut rest = inside;

@@ -7,9 +7,8 @@ ghost use Rattle.kc_macros.specs.Runs.{notice_of};
 
 use super::answer_table::AnswerTable;
 use super::answers::Answers;
-use super::limits::MAX_WORK;
 use super::stop::MacroNotice;
-use kc_value::Seed;
+use kc_value::{MAX_WORK, Seed};
 use std::alloc::{AllocError, Global};
 use std::marker::Model;
 

@@ -3,10 +3,10 @@ ghost use Rattle.std.specs.Prelude.{◌<◌, ◌≤◌, false, Some, length, IfO
 ghost use Rattle.kc_macros_model.specs.References.{reference, items};
 ghost use Rattle.kc_macros_model.specs.Variables.{recursive};
 ghost use Rattle.kc_macros_model.specs.Expansion.{piece_values, call_value, named_value, text_value};
-ghost use Rattle.kc_macros_model.specs.Limits.{max_text_bytes};
+ghost use Rattle.kc_value.specs.declared.limits.TheConstants.{MAX_TEXT_BYTES};
 ghost use Rattle.kc_macros.specs.between.Variables.{bindings_of};
 ghost use Rattle.kc_macros.specs.Runs.{place_of, Runs, end_of};
-ghost use Rattle.kc_macros.specs.checker.Texts.{texts_of};
+ghost use Rattle.kc_macros.specs.between.SliceTexts.{texts_of_slices};
 ghost use Rattle.kc_macros.specs.checker.PartialValues.{values_left};
 ghost use Rattle.kc_macros.specs.checker.ProgramSteps.{Steps};
 ghost use Rattle.kc_macros.specs.checker.Frames.{frame_place, frame_bindings, frame_names, frame_expander, frame_item, frame_value, frame_items};
@@ -15,7 +15,6 @@ use super::bindings::Bindings;
 use super::bytes::Bytes;
 use super::events::{fault, spend};
 use super::frame::{Frame, is_recursion, with_name};
-use super::limits::{MAX_OPEN_EXPANSIONS, MAX_PIECES};
 use super::names::unbound_value;
 use super::parameter::argument_of;
 use super::partial_value::{
@@ -26,6 +25,7 @@ use super::run::Run;
 use super::stop::{Place, Stop};
 use super::variable::Variable;
 use kc_macros_model::MacroKind;
+use kc_value::{MAX_OPEN_EXPANSIONS, MAX_PIECES};
 
 /// The value of a text in a frame; a fault where too many expansions are open within each other.
 #[cycle(expansion)]
@@ -70,10 +70,10 @@ fn next_items<'t>(
     out: &mut PartialValue,
 ) -> Result<&'t [u8], Stop>
     requires not_empty { 0 < length text.now }
-    requires small { length out.old.bytes.items ≤ max_text_bytes }
+    requires small { length out.old.bytes.items ≤ MAX_TEXT_BYTES }
     ensures steps { Steps run.old run.new (values_left (frame_place frame.now) (frame_item frame.now) out.old.known out.old.bytes.items (items false 0 text.now)) (λ rest. values_left (frame_place frame.now) (frame_item frame.now) out.new.known out.new.bytes.items (items false 0 rest.now)) result }
     ensures shorter { IfOk result (λ rest. length rest.now < length text.now) }
-    ensures small { IfOk result (λ rest. length out.new.bytes.items ≤ max_text_bytes) }
+    ensures small { IfOk result (λ rest. length out.new.bytes.items ≤ MAX_TEXT_BYTES) }
 {
     let plain = plain_length(text);
     push_text(out, run.alloc(), frame.at, &text[..plain])?;
@@ -116,7 +116,7 @@ fn piece_values(
     frame: &Frame<'_>,
     pieces: &[&[u8]],
 ) -> Result<Vec<Option<Bytes>>, Stop>
-    ensures { Runs run.old run.new (piece_values (frame_value frame.now) (texts_of pieces.now)) (end_of (λ vs. vs.items) result) }
+    ensures { Runs run.old run.new (piece_values (frame_value frame.now) (texts_of_slices pieces.now)) (end_of (λ vs. vs.items) result) }
 {
     let mut values = Vec::new(run.alloc());
     'pieces: for piece in pieces {

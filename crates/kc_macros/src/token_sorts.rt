@@ -5,7 +5,8 @@ ghost use Rattle.kc_macros_model.specs.LineForms.{is_word, is_path, is_bare_prom
 ghost use Rattle.kc_macros.specs.between.WrittenTokens.{token_of};
 
 use super::form_words::is_condition_word;
-use super::written_tokens::{TokenSort, WrittenToken};
+use super::written_tokens::WrittenToken;
+use kc_macros_model::TokenSort;
 
 /// Whether a written token is a gap: white, a comment, or a token with an empty value.
 pub(crate) fn is_gap(token: &WrittenToken) -> bool

@@ -16,7 +16,8 @@ use super::references::{begins_reference_at, inside_length};
 use super::run::Run;
 use super::stop::{Place, Stop};
 use super::text_values::text_value;
-use super::written_tokens::{TokenSort, WrittenToken, new_token, push_escaped, token_of_value};
+use super::written_tokens::{WrittenToken, new_token, push_escaped, token_of_value};
+use kc_macros_model::TokenSort;
 use std::alloc::AllocError;
 
 /// Whether a text has a `$`.

@@ -3,22 +3,12 @@ ghost use Rattle.std.specs.Prelude.{◌≡◌, ◌++◌, ◌||◌, ◌&&◌, ◌
 ghost use Rattle.std.specs.List.{list_all};
 ghost use Rattle.kc_macros_model.specs.WrittenTokens.{is_bare_byte, is_keyword, escaped_text, in_quotes_of, written_as, token_of_text, token_of_value};
 ghost use Rattle.kc_macros_model.specs.LineForms.{quoted_text_token};
-ghost use Rattle.kc_macros.specs.between.WrittenTokens.{sort_of, token_of};
+ghost use Rattle.kc_macros.specs.between.WrittenTokens.{token_of};
 
 use super::bytes::Bytes;
 use super::keywords::is_keyword;
+use kc_macros_model::TokenSort;
 use std::alloc::{AllocError, Global};
-
-/// The sort of a token as the expansion writes it. A gap is white, a comment or a token with an empty value; an unknown token
-/// depends on a question without an answer, and isn't written yet.
-#[derive(Clone, Copy, Debug, PartialEq, Eq)]
-pub enum TokenSort {
-    Gap,
-    Word,
-    Quoted,
-    Other,
-    Unknown,
-}
 
 /// A token as the expansion writes it: its sort, its bytes, and the text that they mean, if it is known.
 #[derive(Drop)]
@@ -35,7 +25,7 @@ pub(crate) fn new_token(
     bytes: &[u8],
     meaning: &[u8],
 ) -> Result<WrittenToken, AllocError>
-    ensures { IfOk result (λ t. token_of t ≡ written_as (sort_of sort) bytes.now meaning.now) }
+    ensures { IfOk result (λ t. token_of t ≡ written_as sort bytes.now meaning.now) }
 {
     Ok(WrittenToken {
         sort,

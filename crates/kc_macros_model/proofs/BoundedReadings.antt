@@ -6,7 +6,7 @@ use Rattle.std.proofs.lemmas.Bool.{ltb-false}
 use Rattle.std.proofs.lemmas.List.Elements.{All-append, All-cons, All-nil}
 use Rattle.kc_tree_model.specs.LogicalLines.{split_at_newlines}
 use Rattle.kc_macros_model.specs.declared.fault.MacroKind.TheVariants.{TooMany}
-use Rattle.kc_macros_model.specs.Limits.{max_files, max_bytes, max_open_files, max_work}
+use Rattle.kc_value.specs.declared.limits.TheConstants.{MAX_FILES, MAX_TREE_BYTES, MAX_OPEN_FILES, MAX_WORK}
 use Rattle.kc_macros_model.specs.Programs.{Place, Answer, spend, report, ask, read_file, list_folder, Program, returns, fails, stops, does, ◌>>=◌}
 use Rattle.kc_macros_model.specs.Expansion.{fault}
 use Rattle.kc_macros_model.specs.ReadingStates.{ExpandedFile, ReadingState, initial_state, Progress, counted, has_key, key_of, stored_file}
@@ -44,15 +44,15 @@ counts_are_bounded w more root open_files at what s p g e =
     (source_keeps w root (λ k s. IsWithinLimits s) (limits_kept root) more 0 open_files at what s g) e
 
 -- the first file is within the limits
-first_within : (n : ℕ) → n ≤ max_bytes → IsWithinLimits (counted n initial_state)
+first_within : (n : ℕ) → n ≤ MAX_TREE_BYTES → IsWithinLimits (counted n initial_state)
 first_within n h = record { files = omega arith; bytes = omega (arith, h); listed = omega arith }
 
 pub tree_counts_are_bounded : TreeCountsAreBounded
 tree_counts_are_bounded w root bytes p h e =
-    let sub = source_read max_open_files root (root ∷ []) in
+    let sub = source_read MAX_OPEN_FILES root (root ∷ []) in
     fact_of_ending w (λ p. IsWithinLimits p.state) (lines_read sub root 0 1 (split_at_newlines bytes) (counted (length bytes) initial_state)) p
     (lines_keep w root (λ k s. IsWithinLimits s) (limits_kept root) 0 sub
-    (source_keeps w root (λ k s. IsWithinLimits s) (limits_kept root) max_open_files 0 (root ∷ [])) root 0 1 (split_at_newlines bytes)
+    (source_keeps w root (λ k s. IsWithinLimits s) (limits_kept root) MAX_OPEN_FILES 0 (root ∷ [])) root 0 1 (split_at_newlines bytes)
     (counted (length bytes) initial_state) (first_within (length bytes) h)) e
 
 abbrev key_of_file : ExpandedFile → List ℕ
@@ -121,7 +121,7 @@ module _ (root : List ℕ) where
         not_root = g.not_root;
       }
       by_test false e =
-          let room : length files + 2 ≤ max_files = omega (arith, g.count, limits.files) in
+          let room : length files + 2 ≤ MAX_FILES = omega (arith, g.count, limits.files) in
           let free : IsFreeKey root files path p.text key = key_is_free root files path p.text room in
           record {
             limits = record { files = limits.files; bytes = limits.bytes; listed = limits.listed };
@@ -167,7 +167,7 @@ module _ (root : List ℕ) where
     keeps = kept_keys;
   }
 
-  first_keys : (n : ℕ) → n ≤ max_bytes → HasKeys 0 (counted n initial_state)
+  first_keys : (n : ℕ) → n ≤ MAX_TREE_BYTES → HasKeys 0 (counted n initial_state)
   unfolding IsDistinct
   first_keys n h = record {
     limits = first_within n h;
@@ -181,7 +181,7 @@ module _ (root : List ℕ) where
   record TreeKeys (files : List ExpandedFile) : Type 0 where
     keys : All (λ (f : ExpandedFile). IsKeyOf f.path f.key) files
     differ : IsDistinct bytes_eq (map key_of_file files)
-    few : length files ≤ max_files
+    few : length files ≤ MAX_FILES
 
   all_keys : (p : Progress) → HasKeys 0 p.state → TreeKeys (p.state.expanded ++ record { key = root; path = root; text = p.text } ∷ [])
   all_keys p g =
@@ -196,12 +196,12 @@ module _ (root : List ℕ) where
 
   tree_keys : (w : World) (bytes : Option (List ℕ)) → Along w AnyEvent TreeKeys (root_read root initial_state bytes)
   tree_keys w None = tt
-  tree_keys w (Some bytes) = by_test (nat_lt max_bytes (length bytes)) refl
+  tree_keys w (Some bytes) = by_test (nat_lt MAX_TREE_BYTES (length bytes)) refl
     where
       sub : SourceReader
-      sub = source_read max_open_files root (root ∷ [])
+      sub = source_read MAX_OPEN_FILES root (root ∷ [])
 
-      by_test : (b : Bool) → nat_lt max_bytes (length bytes) ≡ b → Along w AnyEvent TreeKeys (elim b as (λ z. Program (List ExpandedFile)) [
+      by_test : (b : Bool) → nat_lt MAX_TREE_BYTES (length bytes) ≡ b → Along w AnyEvent TreeKeys (elim b as (λ z. Program (List ExpandedFile)) [
         | true ↦ fault (place root 0) TooMany []
         | false ↦ lines_read sub root 0 1 (split_at_newlines bytes) (counted (length bytes) initial_state) >>= λ p. returns
             (p.state.expanded ++ record { key = root; path = root; text = p.text } ∷ [])
@@ -210,8 +210,8 @@ module _ (root : List ℕ) where
       by_test false e =
           along_then w AnyEvent (λ p. HasKeys 0 p.state) TreeKeys (lines_read sub root 0 1 (split_at_newlines bytes) (counted (length bytes) initial_state))
           (λ p. returns (p.state.expanded ++ record { key = root; path = root; text = p.text } ∷ []))
-          (lines_keep w root HasKeys keys_kept 0 sub (source_keeps w root HasKeys keys_kept max_open_files 0 (root ∷ [])) root 0 1 (split_at_newlines bytes)
-          (counted (length bytes) initial_state) (first_keys (length bytes) (ltb-false max_bytes (length bytes) e))) all_keys
+          (lines_keep w root HasKeys keys_kept 0 sub (source_keeps w root HasKeys keys_kept MAX_OPEN_FILES 0 (root ∷ [])) root 0 1 (split_at_newlines bytes)
+          (counted (length bytes) initial_state) (first_keys (length bytes) (ltb-false MAX_TREE_BYTES (length bytes) e))) all_keys
 
   keys_of_tree : (w : World) → Along w AnyEvent TreeKeys (tree_read root)
   unfolding tree_read
@@ -219,7 +219,7 @@ module _ (root : List ℕ) where
 
   keys_of_expansion : (w : World) (files : List ExpandedFile) → (expansion w root).ending ≡ returned files → TreeKeys files
   unfolding expansion
-  keys_of_expansion w files e = fact_of_success w AnyEvent TreeKeys files (tree_read root) (job_succeeds w files max_work (tree_read root) e) (keys_of_tree w)
+  keys_of_expansion w files e = fact_of_success w AnyEvent TreeKeys files (tree_read root) (job_succeeds w files MAX_WORK (tree_read root) e) (keys_of_tree w)
 
 pub keys_are_bounded : KeysAreBounded
 keys_are_bounded w root files e = let k = keys_of_expansion root w files e in k.keys
@@ -267,4 +267,4 @@ module _ {A : Type 0} (w : World) (y : A) where
 
 pub work_is_bounded : WorkIsBounded
 unfolding expansion
-work_is_bounded w root files e = job_adds w files max_work (tree_read root) e
+work_is_bounded w root files e = job_adds w files MAX_WORK (tree_read root) e

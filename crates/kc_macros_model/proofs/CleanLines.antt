@@ -4,14 +4,17 @@ use Rattle.std.specs.Prelude.{◌==◌, not, nat_lt, nat_le, pred, option_map}
 use Rattle.std.specs.List.{list_all, list_any, prefix_len}
 use Rattle.kc_expr.specs.Token.{is_white_byte}
 use Rattle.kc_macros_model.specs.declared.fault.MacroKind.TheVariants.{LineTooLong}
-use Rattle.kc_macros_model.specs.Limits.{max_text_bytes}
+use Rattle.kc_value.specs.declared.limits.TheConstants.{MAX_TEXT_BYTES}
 use Rattle.kc_macros_model.specs.Programs.{Place, Event, Program, returns, stops, ◌>>=◌}
 use Rattle.kc_macros_model.specs.References.{Item, byte, escaped, reference, unterminated, item_bytes, inside_length, reference_of, first_item, items, is_reference, is_plain_dollar, is_unterminated}
 use Rattle.kc_macros_model.specs.Variables.{Value, value_length, joined_values, Variable, simple, recursive, Bindings}
 use Rattle.kc_macros_model.specs.Expansion.{fault, spends, unless_too_long, text_value}
 use Rattle.kc_macros_model.specs.LineTokens.{LineToken, gap, run, quoted, other, broken, token_bytes, extent, is_run_byte, run_token, quoted_token, first_token, line_tokens, bytes_of_tokens}
-use Rattle.kc_macros_model.specs.WrittenTokens.{is_bare_byte, is_keyword, escaped_text, in_quotes_of, a_word, a_quoted, an_other, WrittenToken, written_as, token_of_text, token_of_value, WrittenBody, body_of_value, joined_bodies, written_item, written_items, token_of_body, run_value, written_run, written_token}
-use Rattle.kc_macros_model.specs.Assignments.{Operator, sets_now, appends, sets, Assigned, assigned, without_front, is_blank_byte, operator_at, assignment_at, LineContent, assigns, tokens, with_token, is_gap, is_open_front, assignment_or, line_content, stored, stored_simple, stored_recursive, variable_assigned}
+use Rattle.kc_macros_model.specs.declared.token_sort.TokenSort.TheVariants.{Word, Quoted, Other}
+use Rattle.kc_macros_model.specs.WrittenTokens.{is_bare_byte, is_keyword, escaped_text, in_quotes_of, WrittenToken, written_as, token_of_text, token_of_value, WrittenBody, body_of_value, joined_bodies, written_item, written_items, token_of_body, run_value, written_run, written_token}
+use Rattle.kc_macros_model.specs.declared.operator.Operator.{Operator}
+use Rattle.kc_macros_model.specs.declared.operator.Operator.TheVariants.{SetsNow, Appends, Sets}
+use Rattle.kc_macros_model.specs.Assignments.{AssignedText, assigned, without_front, is_blank_byte, operator_at, assignment_at, LineContent, assigns, tokens, with_token, is_gap, is_open_front, assignment_or, line_content, stored, stored_simple, stored_recursive, variable_assigned}
 use Rattle.kc_macros_model.specs.Worlds.{World}
 use Rattle.kc_macros_model.proofs.RunInvariants.{Along, along_then}
 use Rattle.kc_macros_model.proofs.CleanTexts.{IsClean, clean, clean_none, clean_cons, clean_first, clean_rest, clean_append, clean_left, clean_take, clean_drop, IsCleanValue, unknown_clean, text_clean, IsCleanVariable, simple_clean, recursive_clean, joined_clean, CleanBindings, CleanAnswers, text_value_clean}
@@ -120,7 +123,7 @@ pub token_of_text_clean : (s : List ℕ) → IsClean s → IsCleanToken (token_o
 token_of_text_clean [] h = record { bytes = clean refl; meaning = text_clean clean_none }
 token_of_text_clean (c ∷ s) h = by_test (list_all is_bare_byte (c ∷ s) && not (is_keyword (c ∷ s)))
   where
-    by_test : (x : Bool) → IsCleanToken (cond x (written_as a_word (c ∷ s) (c ∷ s)) (written_as a_quoted (in_quotes_of 34 (c ∷ s)) (c ∷ s)))
+    by_test : (x : Bool) → IsCleanToken (cond x (written_as Word (c ∷ s) (c ∷ s)) (written_as Quoted (in_quotes_of 34 (c ∷ s)) (c ∷ s)))
     by_test true = record { bytes = h; meaning = text_clean h }
     by_test false = record { bytes = in_quotes_clean 34 (c ∷ s) refl h; meaning = text_clean h }
 
@@ -133,32 +136,32 @@ record IsCleanBody (x : WrittenBody) : Type 0 where
   meaning : IsCleanValue x.meaning
 
 pub data IsCleanContent : LineContent → Type 0 where
-  clean_assignment : {name : List ℕ} {a : Assigned} → IsClean a.text → IsCleanContent (assigns name a)
+  clean_assignment : {name : List ℕ} {a : AssignedText} → IsClean a.text → IsCleanContent (assigns name a)
   clean_tokens : {ts : List WrittenToken} → AreCleanWritten ts → IsCleanContent (tokens ts)
 
 -- the text after the operator, if there is one
-data IsCleanAssigned : Option Assigned → Type 0 where
+data IsCleanAssigned : Option AssignedText → Type 0 where
   no_assignment : IsCleanAssigned None
-  an_assignment : {a : Assigned} → IsClean a.text → IsCleanAssigned (Some a)
+  an_assignment : {a : AssignedText} → IsClean a.text → IsCleanAssigned (Some a)
 
 operator_clean : (s : List ℕ) → IsClean s → IsCleanAssigned (operator_at s)
 operator_clean [] h = no_assignment
 operator_clean (c ∷ []) h = by_test (c == 61)
   where
-    by_test : (x : Bool) → IsCleanAssigned (cond x (Some (assigned sets [])) None)
+    by_test : (x : Bool) → IsCleanAssigned (cond x (Some (assigned Sets [])) None)
     by_test true = an_assignment clean_none
     by_test false = no_assignment
 operator_clean (c ∷ d ∷ s) h = by_tests (c == 61) (c == 58 && (d == 61)) (c == 43 && (d == 61))
   where
     by_tests : (x y z : Bool)
-        → IsCleanAssigned (cond x (Some (assigned sets (d ∷ s))) (cond y (Some (assigned sets_now s)) (cond z (Some (assigned appends s)) None)))
+        → IsCleanAssigned (cond x (Some (assigned Sets (d ∷ s))) (cond y (Some (assigned SetsNow s)) (cond z (Some (assigned Appends s)) None)))
     by_tests true y z = an_assignment (clean_rest h)
     by_tests false true z = an_assignment (clean_rest (clean_rest h))
     by_tests false false true = an_assignment (clean_rest (clean_rest h))
     by_tests false false false = no_assignment
 
-blanks_clean : {a : Option Assigned} → IsCleanAssigned a → IsCleanAssigned
-    (option_map (λ (a : Assigned). assigned a.operator (without_front is_blank_byte a.text)) a)
+blanks_clean : {a : Option AssignedText} → IsCleanAssigned a → IsCleanAssigned
+    (option_map (λ (a : AssignedText). assigned a.operator (without_front is_blank_byte a.text)) a)
 blanks_clean no_assignment = no_assignment
 blanks_clean (an_assignment {a = a} h) = an_assignment (clean_drop (prefix_len is_blank_byte a.text) a.text h)
 
@@ -170,7 +173,7 @@ assignment_clean true (other s) r = no_assignment
 assignment_clean true (broken s) r = no_assignment
 assignment_clean true (run s) {ts = ts} r = by_test (is_keyword s)
   where
-    by_test : (x : Bool) → IsCleanAssigned (cond x None (option_map (λ (a : Assigned). assigned a.operator (without_front is_blank_byte a.text))
+    by_test : (x : Bool) → IsCleanAssigned (cond x None (option_map (λ (a : AssignedText). assigned a.operator (without_front is_blank_byte a.text))
         (operator_at (without_front is_white_byte (bytes_of_tokens ts)))))
     by_test true = no_assignment
     by_test false = blanks_clean (operator_clean (without_front is_white_byte (bytes_of_tokens ts))
@@ -216,8 +219,8 @@ module _ (w : World) (answers : CleanAnswers w) (at : Place) (file : IsClean at.
   run_clean s h = by_tests (list_any is_plain_dollar (items false 0 s)) (list_any is_reference (items false 0 s))
     where
       by_tests : (x y : Bool) → Gives IsCleanToken (elim x as (λ z. Program WrittenToken) [
-        | true ↦ returns (written_as an_other s [])
-        | false ↦ elim y [ true ↦ text_value at b s >>= λ v. returns (token_of_value v) | false ↦ returns (written_as a_word s s) ]
+        | true ↦ returns (written_as Other s [])
+        | false ↦ elim y [ true ↦ text_value at b s >>= λ v. returns (token_of_value v) | false ↦ returns (written_as Word s s) ]
       ])
       by_tests true y = record { bytes = h; meaning = text_clean clean_none }
       by_tests false false = record { bytes = h; meaning = text_clean h }
@@ -253,7 +256,7 @@ module _ (w : World) (answers : CleanAnswers w) (at : Place) (file : IsClean at.
       → Gives IsCleanContent (p >>= λ rest. returns (with_token t rest))
   then_token t h p r = along_then w E IsCleanContent IsCleanContent p (λ rest. returns (with_token t rest)) r (λ x k. with_token_clean t h k)
 
-  or_assignment_clean : (rest : Program LineContent) (a : Assigned) → IsClean a.text → Gives IsCleanContent rest → (v : Value)
+  or_assignment_clean : (rest : Program LineContent) (a : AssignedText) → IsClean a.text → Gives IsCleanContent rest → (v : Value)
       → Gives IsCleanContent (assignment_or rest a v)
   or_assignment_clean rest a h r None = tt
   or_assignment_clean rest a h r (Some []) = r
@@ -269,7 +272,7 @@ module _ (w : World) (answers : CleanAnswers w) (at : Place) (file : IsClean at.
       or_stop t h true m r = tt
       or_stop t h false m r = then_token t h (line_content at b m ts) r
 
-      by_assignment : ((m : Bool) → Gives IsCleanContent (line_content at b m ts)) → {a : Option Assigned} → IsCleanAssigned a
+      by_assignment : ((m : Bool) → Gives IsCleanContent (line_content at b m ts)) → {a : Option AssignedText} → IsCleanAssigned a
           → Gives IsCleanContent (elim a as (λ z. Program LineContent) [
             | Some a ↦ run_value at b (token_bytes t) >>= assignment_or (line_content at b true ts >>= λ rest. returns (with_token (token_of_text []) rest)) a
             | None ↦ written_token at b t >>= λ x. elim (is_open_front may_assign x ts) as (λ z. Program LineContent)
@@ -289,7 +292,7 @@ module _ (w : World) (answers : CleanAnswers w) (at : Place) (file : IsClean at.
           (then_token (token_of_text []) (token_of_text_clean [] clean_none) (line_content at b true ts) (ih true)) v)
 
   unless_long_clean : {A : Type 0} (P : A → Type 0) (n : ℕ) (p : Program A) → Gives P p → Gives P (unless_too_long at n p)
-  unless_long_clean {A = A} P n p h = by_test (nat_le n max_text_bytes)
+  unless_long_clean {A = A} P n p h = by_test (nat_le n MAX_TEXT_BYTES)
     where
       by_test : (x : Bool) → Gives P (elim x as (λ z. Program A) [ true ↦ p | false ↦ fault at LineTooLong [] ])
       by_test true = h
@@ -309,13 +312,13 @@ module _ (w : World) (answers : CleanAnswers w) (at : Place) (file : IsClean at.
 
   pub variable_clean : (operator : Operator) (s : List ℕ) → IsClean s → (before : Option Variable) → ((x : Variable) → before ≡ Some x → IsCleanVariable x)
       → Gives IsCleanVariable (variable_assigned at b operator s before)
-  variable_clean sets_now s h before k = along_then w E IsCleanValue IsCleanVariable (text_value at b s) (stored_simple at) (value_clean s h)
+  variable_clean SetsNow s h before k = along_then w E IsCleanValue IsCleanVariable (text_value at b s) (stored_simple at) (value_clean s h)
       (λ v l. stored_clean v (simple v) (simple_clean l))
-  variable_clean sets s h before k = text_stored_clean s h
-  variable_clean appends s h None k = text_stored_clean s h
-  variable_clean appends s h (Some (recursive t)) k = text_stored_clean (t ++ 32 ∷ s)
+  variable_clean Sets s h before k = text_stored_clean s h
+  variable_clean Appends s h None k = text_stored_clean s h
+  variable_clean Appends s h (Some (recursive t)) k = text_stored_clean (t ++ 32 ∷ s)
       (clean_append t (32 ∷ s) (recursive_text (k (recursive t) refl)) (clean_cons refl h))
-  variable_clean appends s h (Some (simple v)) k =
+  variable_clean Appends s h (Some (simple v)) k =
       along_then w E IsCleanValue IsCleanVariable (text_value at b s) (λ x. stored_simple at (joined_values v (joined_values (Some (32 ∷ [])) x)))
       (value_clean s h)
       (λ x l. stored_clean (joined_values v (joined_values (Some (32 ∷ [])) x)) (simple (joined_values v (joined_values (Some (32 ∷ [])) x)))

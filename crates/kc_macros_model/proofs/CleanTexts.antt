@@ -12,9 +12,11 @@ use Rattle.kc_macros_model.specs.declared.fault.MacroKind.TheVariants.{Undefined
 use Rattle.kc_macros_model.specs.declared.fault.MacroNoticeKind.TheVariants.{Info, Warning}
 use Rattle.kc_macros_model.specs.Programs.{Place, Answer, Program, returns, fails, stops, does}
 use Rattle.kc_macros_model.specs.References.{open_after, pieces}
-use Rattle.kc_macros_model.specs.Variables.{Value, joined_values, Variable, simple, recursive, Bindings, is_number, is_environment_name, command_question, argument_of, BuiltIn, filename, lineno, shell, info, warning_if, error_if, built_ins, value_of_answer}
+use Rattle.kc_macros_model.specs.declared.built_in.BuiltIn.{BuiltIn}
+use Rattle.kc_macros_model.specs.declared.built_in.BuiltIn.TheVariants as functions
+use Rattle.kc_macros_model.specs.Variables.{Value, joined_values, Variable, simple, recursive, Bindings, is_number, is_environment_name, command_question, argument_of, built_ins, value_of_answer}
 use Rattle.kc_macros_model.specs.Expansion.{fault, asked_value, reported, message_if, shell_value, built_in_value, other_value, unbound_value, text_value}
-use Rattle.kc_macros_model.specs.Limits.{max_open_expansions}
+use Rattle.kc_value.specs.declared.limits.TheConstants.{MAX_OPEN_EXPANSIONS}
 use Rattle.kc_macros_model.specs.Worlds.{World, reply, returned}
 use Rattle.kc_macros_model.specs.ExpansionRules.{ending_in, Expands, done, byte, reference, Refers, parameter, call, unknown_name, ExpandEach, no_pieces, piece, Means, simple_variable, recursive_variable, unbound}
 use Rattle.kc_macros_model.proofs.RunInvariants.{Along}
@@ -191,12 +193,12 @@ module _ (w : World) (answers : CleanAnswers w) (at : Place) (file : IsClean at.
   shell_clean (Some command) = asked_clean (command_question command)
 
   built_in_clean : (name : List ℕ) (f : BuiltIn) (vs : List Value) → Clean (built_in_value at name f vs)
-  built_in_clean name filename [] = given (Some at.file) (text_clean file)
-  built_in_clean name lineno [] = given (Some (decimal at.line)) (text_clean (clean_decimal at.line))
-  built_in_clean name shell (v ∷ []) = shell_clean v
-  built_in_clean name info (v ∷ []) = message_clean (reported at Info) (λ s. given (Some []) empty) (Some (codes "y")) v
-  built_in_clean name warning_if (c ∷ v ∷ []) = message_clean (reported at Warning) (λ s. given (Some []) empty) c v
-  built_in_clean name error_if (c ∷ v ∷ []) = message_clean (fault at Error) (λ s v e. absurd (let z : ⊥ = cc in z)) c v
+  built_in_clean name functions.Filename [] = given (Some at.file) (text_clean file)
+  built_in_clean name functions.Lineno [] = given (Some (decimal at.line)) (text_clean (clean_decimal at.line))
+  built_in_clean name functions.Shell (v ∷ []) = shell_clean v
+  built_in_clean name functions.Info (v ∷ []) = message_clean (reported at Info) (λ s. given (Some []) empty) (Some (codes "y")) v
+  built_in_clean name functions.WarningIf (c ∷ v ∷ []) = message_clean (reported at Warning) (λ s. given (Some []) empty) c v
+  built_in_clean name functions.ErrorIf (c ∷ v ∷ []) = message_clean (fault at Error) (λ s v e. absurd (let z : ⊥ = cc in z)) c v
   built_in_clean name f vs = λ v e. absurd (let z : ⊥ = cc in z)
 
   other_clean : (name : List ℕ) (vs : List Value) → Clean (other_value at name vs)
@@ -249,4 +251,4 @@ module _ (w : World) (answers : CleanAnswers w) (at : Place) (file : IsClean at.
     pub text_value_clean : (s : List ℕ) → IsClean s → Along w (λ e. Unit {0}) IsCleanValue (text_value at b s)
     unfolding text_value
     text_value_clean s h = along_ending w IsCleanValue (text_value at b s)
-        (λ v e. expands_clean (expansion_keeps_the_rules w at b max_open_expansions [] [] s v e) no_values h)
+        (λ v e. expands_clean (expansion_keeps_the_rules w at b MAX_OPEN_EXPANSIONS [] [] s v e) no_values h)

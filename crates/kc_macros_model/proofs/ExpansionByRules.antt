@@ -3,7 +3,7 @@ use Rattle.std.proofs.Common.{◌≡◌, ℕ, zero, suc, ◌+◌, ◌≤◌, Boo
 use Rattle.std.specs.Prelude.{nat_le}
 use Rattle.std.proofs.lemmas.Bool.{leb-true}
 use Rattle.kc_macros_model.specs.declared.fault.MacroKind.TheVariants.{Arguments, Recursion, LineTooLong}
-use Rattle.kc_macros_model.specs.Limits.{max_text_bytes, max_pieces}
+use Rattle.kc_value.specs.declared.limits.TheConstants.{MAX_TEXT_BYTES, MAX_PIECES}
 use Rattle.kc_macros_model.specs.Programs.{Place, Program, returns, fails, stops, does, ◌>>=◌}
 use Rattle.kc_macros_model.specs.References.{pieces, Item, items}
 use Rattle.kc_macros_model.specs.Variables.{Value, value_length, joined_values, Variable, simple, recursive, Bindings, argument_of}
@@ -64,7 +64,7 @@ module _ (w : World) (at : Place) (b : Bindings) where
         by_test true e = absurd (let z : ⊥ = cc in z)
         by_test false e = recursive_variable x (keeps (name ∷ open_names) given s u e)
 
-    call_keeps : (inside : List ℕ) (vs : List Value) (u : Value) → argument_of args inside ≡ None → length (pieces 0 inside) ≤ max_pieces
+    call_keeps : (inside : List ℕ) (vs : List Value) (u : Value) → argument_of args inside ≡ None → length (pieces 0 inside) ≤ MAX_PIECES
         → ExpandEach w at b args (pieces 0 inside) vs → ending_in w (call_value sub at b open_names vs) ≡ returned u → Refers w at b args inside u
     call_keeps inside [] u a few each e = absurd (let z : ⊥ = cc in z)
     call_keeps inside (None ∷ given) u a few each e = subst (λ x. Refers w at b args inside x) (same_return None u e) (unknown_name a few each)
@@ -73,9 +73,9 @@ module _ (w : World) (at : Place) (b : Bindings) where
     reference_keeps : (inside : List ℕ) (a : Option Value) (u : Value) → argument_of args inside ≡ a
         → ending_in w (reference_value sub at b open_names args inside a) ≡ returned u → Refers w at b args inside u
     reference_keeps inside (Some v) u a e = subst (λ x. Refers w at b args inside x) (same_return v u e) (parameter a)
-    reference_keeps inside None u a e = by_test (nat_le (length (pieces 0 inside)) max_pieces) refl e
+    reference_keeps inside None u a e = by_test (nat_le (length (pieces 0 inside)) MAX_PIECES) refl e
       where
-        by_test : (c : Bool) → nat_le (length (pieces 0 inside)) max_pieces ≡ c
+        by_test : (c : Bool) → nat_le (length (pieces 0 inside)) MAX_PIECES ≡ c
             → ending_in w (elim c as (λ z. Program Value) [
               | true ↦ piece_values (sub open_names args) (pieces 0 inside) >>= call_value sub at b open_names
               | false ↦ fault at Arguments []
@@ -84,7 +84,7 @@ module _ (w : World) (at : Place) (b : Bindings) where
         by_test false few e = absurd (let z : ⊥ = cc in z)
         by_test true few e =
             let (vs, ev, e2) = split_return w (piece_values (sub open_names args) (pieces 0 inside)) (call_value sub at b open_names) u e in
-            call_keeps inside vs u a (leb-true (length (pieces 0 inside)) max_pieces few) (pieces_keep (pieces 0 inside) vs ev) e2
+            call_keeps inside vs u a (leb-true (length (pieces 0 inside)) MAX_PIECES few) (pieces_keep (pieces 0 inside) vs ev) e2
 
     abbrev values : ℕ → List Item → Program Value
     values n is = item_values at (item_value sub at b open_names args) n is
@@ -93,7 +93,7 @@ module _ (w : World) (at : Place) (b : Bindings) where
     values_split : (n m : ℕ) (u v : Value) (is : List Item) → ending_in w (unless_too_long at m (values m is >>= λ rest. returns (joined_values u rest)))
         ≡ returned v
         → (x : Value) × (ending_in w (values m is) ≡ returned x) × (joined_values u x ≡ v)
-    values_split n m u v is e = by_test (nat_le m max_text_bytes) e
+    values_split n m u v is e = by_test (nat_le m MAX_TEXT_BYTES) e
       where
         by_test : (c : Bool) → ending_in w (elim c as (λ z. Program Value) [
           | true ↦ values m is >>= λ rest. returns (joined_values u rest)

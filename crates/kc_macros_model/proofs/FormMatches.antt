@@ -5,7 +5,8 @@ use Rattle.std.specs.List.{list_any, list_all}
 use Rattle.std.proofs.lemmas.Slice.Eq.{bytes_eq-Decides}
 use Rattle.kc_tree_model.specs.Limits.{is_in_list}
 use Rattle.kc_macros_model.specs.Variables.{Value}
-use Rattle.kc_macros_model.specs.WrittenTokens.{is_bare_byte, is_keyword, a_word, a_quoted, WrittenToken, written_as, in_quotes_of, token_of_value, token_of_body, WrittenBody}
+use Rattle.kc_macros_model.specs.declared.token_sort.TokenSort.TheVariants.{Word, Quoted}
+use Rattle.kc_macros_model.specs.WrittenTokens.{is_bare_byte, is_keyword, WrittenToken, written_as, in_quotes_of, token_of_value, token_of_body, WrittenBody}
 use Rattle.kc_macros_model.specs.Assignments.{is_gap, is_unknown}
 use Rattle.kc_macros_model.specs.LineForms.{SourceSort, LineForm, plain, bare_prompt, replaced_by, named_choice, sources, prompt_words, source_words, help_words, sort_of_source, is_word, is_path, is_bare_prompt, form_of_pair, form_by_word, form_of, without_gaps, is_help_line, is_undecided}
 use Rattle.kc_macros_model.proofs.TextMatches.{NoLess, unknown, same}
@@ -189,7 +190,7 @@ value_alone (Some []) = record { form = no_source refl refl; help = refl }
 value_alone (Some (c ∷ s)) = by_tests (list_all is_bare_byte (c ∷ s)) (is_keyword (c ∷ s)) refl
   where
     token : Bool → WrittenToken
-    token b = cond b (written_as a_word (c ∷ s) (c ∷ s)) (written_as a_quoted (in_quotes_of 34 (c ∷ s)) (c ∷ s))
+    token b = cond b (written_as Word (c ∷ s) (c ∷ s)) (written_as Quoted (in_quotes_of 34 (c ∷ s)) (c ∷ s))
 
     by_tests : (b k : Bool) → is_keyword (c ∷ s) ≡ k → SameEffect (token_of_value None ∷ [])
         (cond (not (is_gap (token (b && not k)))) (token (b && not k) ∷ []) [])

@@ -11,17 +11,18 @@ use Rattle.kc_tree_model.specs.Limits.{is_in_list}
 use Rattle.kc_tree_model.specs.LogicalLines.{PhysicalLine, split_at_newlines, without_return, is_continued, joined_bytes, continuation_count, begins_help}
 use Rattle.kc_macros_model.specs.declared.fault.MacroKind.{MacroKind}
 use Rattle.kc_macros_model.specs.declared.fault.MacroKind.TheVariants.{MissingFile, TooMany, LineTooLong, SourceLoop}
-use Rattle.kc_macros_model.specs.Limits.{max_text_bytes, max_bytes, max_open_files, max_listed_names}
+use Rattle.kc_value.specs.declared.limits.TheConstants.{MAX_TEXT_BYTES, MAX_TREE_BYTES, MAX_OPEN_FILES, MAX_LISTED_NAMES}
 use Rattle.kc_macros_model.specs.Programs.{Place, Event, Program, returns, stops, list_folder, does, ◌>>=◌}
 use Rattle.kc_macros_model.specs.Variables.{Value, Variable}
 use Rattle.kc_macros_model.specs.Expansion.{fault}
 use Rattle.kc_macros_model.specs.LineTokens.{line_tokens}
-use Rattle.kc_macros_model.specs.WrittenTokens.{WrittenToken, in_quotes_of, written_as, a_word}
+use Rattle.kc_macros_model.specs.declared.token_sort.TokenSort.TheVariants.{Word}
+use Rattle.kc_macros_model.specs.WrittenTokens.{WrittenToken, in_quotes_of, written_as}
 use Rattle.kc_macros_model.specs.Assignments.{without_front, is_gap, LineContent, line_content, variable_assigned}
 use Rattle.kc_macros_model.specs.LineForms.{SourceSort, LineForm, plain, bare_prompt, replaced_by, named_choice, sources, form_of_pair, form_by_word, form_of, without_gaps, with_nth_token, with_replacement, line_bytes, quoted_text_token, is_help_line, is_undecided}
 use Rattle.kc_macros_model.specs.PathPatterns.{is_pattern, is_writable_name, matches_name, path_pieces, is_in_order, inserted, sorted, FoundPaths, found, matching_names, paths_in_folder, paths_in_folders, paths_below, readable_paths, files_of_pattern, matches}
 use Rattle.kc_macros_model.specs.ReadingStates.{ExpandedFile, ReadingState, initial_state, Progress, progress, WrittenLine, written_line, bound, with_choice, with_listed, counted, has_key, is_taken, free_key, key_of, stored_file}
-use Rattle.kc_macros_model.specs.TreeExpansion.{place, Sourced, one_file, file_list, SourceReader, folder_of, begins_with_slash, path_meant, list_name, source_line, pattern_read, path_read, source_followed, form_written, short_line, tokens_written, content_written, line_written, bytes_of_lines, lines_written, help_after, lines_read, list_read, source_fault, contents_read, sourced_read, source_read, root_read, tree_read}
+use Rattle.kc_macros_model.specs.TreeExpansion.{place, SourceTarget, one_file, file_list, SourceReader, folder_of, begins_with_slash, path_meant, list_name, source_line, pattern_read, path_read, source_followed, form_written, short_line, tokens_written, content_written, line_written, bytes_of_lines, lines_written, help_after, lines_read, list_read, source_fault, contents_read, sourced_read, source_read, root_read, tree_read}
 use Rattle.kc_macros_model.specs.Worlds.{World}
 use Rattle.kc_macros_model.specs.TreeLaws.{newline_count, HasItsLines, of_file, of_list}
 use Rattle.kc_macros_model.proofs.RunInvariants.{Along, along_then}
@@ -104,10 +105,10 @@ source_line_clean : (given key : List ℕ) {ts : List WrittenToken} → AreClean
 source_line_clean given key {ts = ts} r h = by_test (bytes_eq key given)
   where
     first : List WrittenToken
-    first = with_nth_token 0 (written_as a_word (codes "source") []) ts
+    first = with_nth_token 0 (written_as Word (codes "source") []) ts
 
     first_clean : AreCleanWritten first
-    first_clean = nth_token_clean 0 (written_as a_word (codes "source") []) (record { bytes = clean refl; meaning = text_clean clean_none }) r
+    first_clean = nth_token_clean 0 (written_as Word (codes "source") []) (record { bytes = clean refl; meaning = text_clean clean_none }) r
 
     by_test : (b : Bool) → IsClean (line_bytes (cond b first (with_nth_token 1 (quoted_text_token key) first)))
     by_test true = line_bytes_clean first_clean
@@ -214,7 +215,7 @@ module _ (w : World) (answers : CleanAnswers w) where
         | true ↦ does (list_folder folder) (matching_names at piece folder n)
         | false ↦ returns (found ((folder ++ piece) ∷ []) n)
       ])
-      by_test true = (tt, by_size (nat_lt max_listed_names (n + length (w.names folder))))
+      by_test true = (tt, by_size (nat_lt MAX_LISTED_NAMES (n + length (w.names folder))))
       by_test false = record { paths = next_text (clean_append folder piece k h) no_texts }
 
   folders_good : (at : Place) (piece : List ℕ) → IsClean piece → {folders : List (List ℕ)} → AreClean folders → (n : ℕ)
@@ -258,12 +259,12 @@ module _ (w : World) (answers : CleanAnswers w) where
       (λ paths k. record { paths = sorted_clean k }))
 
   -- a file or the list of a line
-  data IsCleanSourced : Sourced → Type 0 where
-    clean_file : {path : List ℕ} → IsClean path → IsCleanSourced (one_file path)
-    clean_list : (from : Place) {paths : List (List ℕ)} → IsClean from.file → AreClean paths → IsCleanSourced (file_list (list_name from) paths)
+  data IsCleanTarget : SourceTarget → Type 0 where
+    clean_file : {path : List ℕ} → IsClean path → IsCleanTarget (one_file path)
+    clean_list : (from : Place) {paths : List (List ℕ)} → IsClean from.file → AreClean paths → IsCleanTarget (file_list (list_name from) paths)
 
   abbrev ReadsWell : SourceReader → Type 0
-  ReadsWell sub = (at : Place) (what : Sourced) (s : ReadingState) → IsClean at.file → IsCleanSourced what → IsGood s → Gives GoodProgress (sub at what s)
+  ReadsWell sub = (at : Place) (what : SourceTarget) (s : ReadingState) → IsClean at.file → IsCleanTarget what → IsGood s → Gives GoodProgress (sub at what s)
 
   module _ (sub : SourceReader) (reads : ReadsWell sub) where
     path_good : (at : Place) (sort : SourceSort) (path : List ℕ) (s : ReadingState) → IsClean at.file → IsClean path → IsGood s
@@ -312,7 +313,7 @@ module _ (w : World) (answers : CleanAnswers w) where
     form_good at s k r clean_plain g = record { text = line_bytes_clean r; state = g }
     form_good at s k r (clean_prompt {s = text} h) g =
         record {
-          text = line_bytes_clean (nth_token_clean 1 (written_as a_word (34 ∷ (text ++ 34 ∷ [])) [])
+          text = line_bytes_clean (nth_token_clean 1 (written_as Word (34 ∷ (text ++ 34 ∷ [])) [])
               (record { bytes = clean_cons refl (clean_append text (34 ∷ []) h (clean refl)); meaning = text_clean clean_none }) r);
           state = g;
         }
@@ -320,10 +321,10 @@ module _ (w : World) (answers : CleanAnswers w) where
     form_good at {ts = ts} s k r (clean_choice {s = name}) g = by_test (is_in_list name s.choices)
       where
         by_test : (b : Bool) → GoodProgress (cond b (progress (line_bytes ts) s)
-            (progress (line_bytes (with_nth_token 1 (written_as a_word [] []) ts)) (with_choice name s)))
+            (progress (line_bytes (with_nth_token 1 (written_as Word [] []) ts)) (with_choice name s)))
         by_test true = record { text = line_bytes_clean r; state = g }
         by_test false = record {
-          text = line_bytes_clean (nth_token_clean 1 (written_as a_word [] [])
+          text = line_bytes_clean (nth_token_clean 1 (written_as Word [] [])
               (record { bytes = clean_none; meaning = text_clean clean_none }) r);
           state = record { bindings = g.bindings; files = g.files };
         }
@@ -350,7 +351,7 @@ module _ (w : World) (answers : CleanAnswers w) where
         by_test true = tt
         by_test false =
             along_then w E GoodProgress GoodLine (form_written sub at ts (form_of (without_gaps ts)) s) (short_line at (is_help_line (without_gaps ts)))
-            (form_good at s k r (form_clean (gaps_gone_clean r)) g) (λ p h. short p h (nat_lt max_text_bytes (length p.text)))
+            (form_good at s k r (form_clean (gaps_gone_clean r)) g) (λ p h. short p h (nat_lt MAX_TEXT_BYTES (length p.text)))
 
     bound_good : (name : List ℕ) (x : Variable) (s : ReadingState) → IsCleanVariable x → IsGood s → IsGood (bound name x s)
     bound_good name x s h g = record { bindings = record { each = λ key y e. by_test key y (bytes_eq key name) e }; files = g.files }
@@ -372,7 +373,7 @@ module _ (w : World) (answers : CleanAnswers w) where
 
     line_good : (at : Place) (continued : Bool) (text : List ℕ) (s : ReadingState) → IsClean at.file → IsClean text → IsGood s
         → Gives GoodLine (line_written sub at continued text s)
-    line_good at continued text s k h g = by_test (nat_lt max_text_bytes (length text) || not (is_utf8 text))
+    line_good at continued text s k h g = by_test (nat_lt MAX_TEXT_BYTES (length text) || not (is_utf8 text))
       where
         by_test : (b : Bool) → Gives GoodLine (elim b as (λ z. Program WrittenLine) [
           | true ↦ returns (written_line text (begins_help text) s)
@@ -514,13 +515,13 @@ module _ (w : World) (answers : CleanAnswers w) where
   root_good : (root : List ℕ) → IsClean root → (s : ReadingState) → IsGood s → (bytes : Option (List ℕ)) → w.bytes root ≡ bytes
       → Gives (All (HasItsLines w)) (root_read root s bytes)
   root_good root h s g None e = tt
-  root_good root h s g (Some bytes) e = by_test (nat_lt max_bytes (length bytes))
+  root_good root h s g (Some bytes) e = by_test (nat_lt MAX_TREE_BYTES (length bytes))
     where
       sub : SourceReader
-      sub = source_read max_open_files root (root ∷ [])
+      sub = source_read MAX_OPEN_FILES root (root ∷ [])
 
       reads : ReadsWell sub
-      reads = source_good max_open_files root (root ∷ [])
+      reads = source_good MAX_OPEN_FILES root (root ∷ [])
 
       by_test : (b : Bool) → Gives (All (HasItsLines w)) (elim b as (λ z. Program (List ExpandedFile)) [
         | true ↦ fault (place root 0) TooMany []

@@ -10,7 +10,7 @@ use Rattle.std.proofs.lemmas.Cmp.{nat_list_eq_equiv}
 use Rattle.std.proofs.lemmas.Fmt.{decimal_injective}
 use Rattle.std.proofs.lemmas.Map.Made.{length-le_from_is_member}
 use Rattle.std.proofs.lemmas.Slice.Eq.{bytes_eq-Decides}
-use Rattle.kc_macros_model.specs.Limits.{max_files}
+use Rattle.kc_value.specs.declared.limits.TheConstants.{MAX_FILES}
 use Rattle.kc_macros_model.specs.ReadingStates.{ExpandedFile, is_taken, free_key, key_of}
 use Rattle.kc_macros_model.specs.ReadingLaws.{IsKeyOf, the_path, numbered}
 
@@ -35,7 +35,7 @@ longer path s c e = omega (arith, ap length e, length-append path (c ∷ s))
 same_tail : (c : ℕ) (s t : List ℕ) → c ∷ s ≡ c ∷ t → s ≡ t
 same_tail c s t e = cc
 
-keys_differ : (path : List ℕ) (i j : ℕ) → j < i → i ≤ max_files → key_at path i ≡ key_at path j → ⊥
+keys_differ : (path : List ℕ) (i j : ℕ) → j < i → i ≤ MAX_FILES → key_at path i ≡ key_at path j → ⊥
 keys_differ path zero j h b e = omega (arith, h)
 keys_differ path (suc i) zero h b e = longer path (decimal (i + 2)) 35 e
 keys_differ path (suc i) (suc j) h b e =
@@ -55,14 +55,14 @@ first_keys_count : (path : List ℕ) (n : ℕ) → length (first_keys path n) �
 first_keys_count path zero = refl
 first_keys_count path (suc n) = ap suc (first_keys_count path n)
 
-later_keys_differ : (path : List ℕ) (i n : ℕ) → n ≤ i → i ≤ max_files → AllByRecursion (λ y. bytes_eq (key_at path i) y ≡ false) (first_keys path n)
+later_keys_differ : (path : List ℕ) (i n : ℕ) → n ≤ i → i ≤ MAX_FILES → AllByRecursion (λ y. bytes_eq (key_at path i) y ≡ false) (first_keys path n)
 later_keys_differ path i zero h b = tt
 later_keys_differ path i (suc n) h b = (
   other_text (key_at path i) (key_at path n) (keys_differ path i n (omega (arith, h)) b),
   later_keys_differ path i n (omega (arith, h)) b,
 )
 
-first_keys_differ : (path : List ℕ) (n : ℕ) → n ≤ suc max_files → IsDistinct bytes_eq (first_keys path n)
+first_keys_differ : (path : List ℕ) (n : ℕ) → n ≤ suc MAX_FILES → IsDistinct bytes_eq (first_keys path n)
 unfolding IsDistinct
 first_keys_differ path zero h = tt
 first_keys_differ path (suc n) h = (later_keys_differ path n n (omega arith) (omega (arith, h)), first_keys_differ path n (omega (arith, h)))
@@ -113,7 +113,7 @@ module _ (root : List ℕ) (files : List ExpandedFile) (path text : List ℕ) wh
       by_test ih false t e = ih q e
 
   -- no more keys are taken than there are files and the first file
-  few_taken : (n : ℕ) → n ≤ suc max_files → ((j : ℕ) → j < n → IsTaken (key_at path j)) → n ≤ suc (length files)
+  few_taken : (n : ℕ) → n ≤ suc MAX_FILES → ((j : ℕ) → j < n → IsTaken (key_at path j)) → n ≤ suc (length files)
   few_taken n b h =
       let few = length-le_from_is_member nat_list_eq_equiv (first_keys path n) keys (first_keys_differ path n b) (taken_keys n h) in
       omega (arith, few, first_keys_count path n, length-map files (λ (f : ExpandedFile). f.key))
@@ -123,7 +123,7 @@ module _ (root : List ℕ) (files : List ExpandedFile) (path text : List ℕ) wh
     pub free : is_taken root files text key ≡ false
     pub of_path : IsKeyOf path key
 
-  key_is : (i : ℕ) → suc i ≤ max_files → IsKeyOf path (key_at path i)
+  key_is : (i : ℕ) → suc i ≤ MAX_FILES → IsKeyOf path (key_at path i)
   key_is zero h = the_path
   key_is (suc i) h = numbered (omega arith) (omega (arith, h))
 
@@ -138,7 +138,7 @@ module _ (root : List ℕ) (files : List ExpandedFile) (path text : List ℕ) wh
       by_order (inl a) = h j a
       by_order (inr a) = let e : i ≡ j = omega (arith, l, a) in subst (λ x. IsTaken (key_at path x)) e t
 
-  found_free : (more i n : ℕ) (key : List ℕ) → key ≡ key_at path i → n ≡ i + 2 → i + more ≡ suc (length files) → length files + 2 ≤ max_files
+  found_free : (more i n : ℕ) (key : List ℕ) → key ≡ key_at path i → n ≡ i + 2 → i + more ≡ suc (length files) → length files + 2 ≤ MAX_FILES
       → ((j : ℕ) → j < i → IsTaken (key_at path j))
       → IsFreeKey (free_key more root files path text key n)
   found_free zero i n key k e c b h = record {
@@ -159,5 +159,5 @@ module _ (root : List ℕ) (files : List ExpandedFile) (path text : List ℕ) wh
       by_test ih false t = record { free = t; of_path = subst (λ x. IsKeyOf path x) (sym k) (key_is i (omega (arith, c, b))) }
 
   -- the key that `key_of` gives to an expanded text isn't taken, and is the text's path or that path with `#` and a number
-  pub key_is_free : length files + 2 ≤ max_files → IsFreeKey (key_of root files path text)
+  pub key_is_free : length files + 2 ≤ MAX_FILES → IsFreeKey (key_of root files path text)
   key_is_free b = found_free (suc (length files)) 0 2 path refl refl (omega arith) b (λ j l. absurd (omega (arith, l)))

@@ -7,8 +7,11 @@ use Rattle.kc_macros_model.specs.References.{Item, byte, escaped, reference, unt
 use Rattle.kc_macros_model.specs.Variables.{Value, value_length, joined_values, Variable, simple, recursive, Bindings}
 use Rattle.kc_macros_model.specs.Expansion.{spends, text_value}
 use Rattle.kc_macros_model.specs.LineTokens.{LineToken, gap, run, quoted, other, broken, token_bytes}
-use Rattle.kc_macros_model.specs.WrittenTokens.{is_bare_byte, is_keyword, in_quotes_of, a_word, a_quoted, an_other, WrittenToken, written_as, token_of_text, token_of_value, WrittenBody, body_of_value, joined_bodies, written_item, written_items, token_of_body, run_value, written_run, written_token}
-use Rattle.kc_macros_model.specs.Assignments.{Operator, sets_now, appends, sets, Assigned, assignment_at, LineContent, assigns, tokens, with_token, is_gap, is_unknown, is_gap_token, is_open_front, assignment_or, line_content, stored, stored_simple, stored_recursive, variable_assigned}
+use Rattle.kc_macros_model.specs.declared.token_sort.TokenSort.TheVariants.{Word, Quoted, Other}
+use Rattle.kc_macros_model.specs.WrittenTokens.{is_bare_byte, is_keyword, in_quotes_of, WrittenToken, written_as, token_of_text, token_of_value, WrittenBody, body_of_value, joined_bodies, written_item, written_items, token_of_body, run_value, written_run, written_token}
+use Rattle.kc_macros_model.specs.declared.operator.Operator.{Operator}
+use Rattle.kc_macros_model.specs.declared.operator.Operator.TheVariants.{SetsNow, Appends, Sets}
+use Rattle.kc_macros_model.specs.Assignments.{AssignedText, assignment_at, LineContent, assigns, tokens, with_token, is_gap, is_unknown, is_gap_token, is_open_front, assignment_or, line_content, stored, stored_simple, stored_recursive, variable_assigned}
 use Rattle.kc_macros_model.specs.Worlds.{World}
 use Rattle.kc_macros_model.proofs.AnsweredPrograms.{NeverStops, never_then}
 use Rattle.kc_macros_model.proofs.KnownTexts.{IsKnown, known, IsKnownVariable, known_simple, known_recursive, KnownBindings, joined_known, value_of_simple, unless_long_known, text_value_known}
@@ -23,14 +26,14 @@ pub data AreKnownTokens : List WrittenToken → Type 0 where
   next_known_token : {t : WrittenToken} {ts : List WrittenToken} → IsKnownToken t → AreKnownTokens ts → AreKnownTokens (t ∷ ts)
 
 pub data IsKnownContent : LineContent → Type 0 where
-  known_assignment : {name : List ℕ} {a : Assigned} → IsKnownContent (assigns name a)
+  known_assignment : {name : List ℕ} {a : AssignedText} → IsKnownContent (assigns name a)
   known_tokens : {ts : List WrittenToken} → AreKnownTokens ts → IsKnownContent (tokens ts)
 
 token_of_text_known : (s : List ℕ) → IsKnownToken (token_of_text s)
 token_of_text_known [] = record { sort = refl; meaning = known }
 token_of_text_known (c ∷ s) = by_test (list_all is_bare_byte (c ∷ s) && not (is_keyword (c ∷ s)))
   where
-    by_test : (x : Bool) → IsKnownToken (cond x (written_as a_word (c ∷ s) (c ∷ s)) (written_as a_quoted (in_quotes_of 34 (c ∷ s)) (c ∷ s)))
+    by_test : (x : Bool) → IsKnownToken (cond x (written_as Word (c ∷ s) (c ∷ s)) (written_as Quoted (in_quotes_of 34 (c ∷ s)) (c ∷ s)))
     by_test true = record { sort = refl; meaning = known }
     by_test false = record { sort = refl; meaning = known }
 
@@ -80,8 +83,8 @@ module _ (w : World) (at : Place) (b : Bindings) (bindings : KnownBindings b) wh
   run_written_known s = by_tests (list_any is_plain_dollar (items false 0 s)) (list_any is_reference (items false 0 s))
     where
       by_tests : (x y : Bool) → Gives IsKnownToken (elim x as (λ z. Program WrittenToken) [
-        | true ↦ returns (written_as an_other s [])
-        | false ↦ elim y [ true ↦ text_value at b s >>= λ v. returns (token_of_value v) | false ↦ returns (written_as a_word s s) ]
+        | true ↦ returns (written_as Other s [])
+        | false ↦ elim y [ true ↦ text_value at b s >>= λ v. returns (token_of_value v) | false ↦ returns (written_as Word s s) ]
       ])
       by_tests true y = record { sort = refl; meaning = known }
       by_tests false false = record { sort = refl; meaning = known }
@@ -112,7 +115,7 @@ module _ (w : World) (at : Place) (b : Bindings) (bindings : KnownBindings b) wh
       → Gives IsKnownContent (p >>= λ rest. returns (with_token t rest))
   then_token t h p r = never_then w IsKnownContent IsKnownContent p (λ rest. returns (with_token t rest)) r (λ x k. with_token_known t h k)
 
-  or_assignment_known : (rest : Program LineContent) (a : Assigned) → Gives IsKnownContent rest → {v : Value} → IsKnown v
+  or_assignment_known : (rest : Program LineContent) (a : AssignedText) → Gives IsKnownContent rest → {v : Value} → IsKnown v
       → Gives IsKnownContent (assignment_or rest a v)
   or_assignment_known rest a r (known {s = []}) = r
   or_assignment_known rest a r (known {s = c ∷ name}) = known_assignment
@@ -127,7 +130,7 @@ module _ (w : World) (at : Place) (b : Bindings) (bindings : KnownBindings b) wh
       goes_on x h m r true e = let z : ⊥ = cc in absurd z
       goes_on x h m r false e = then_token x h (line_content at b m ts) r
 
-      by_assignment : ((m : Bool) → Gives IsKnownContent (line_content at b m ts)) → (a : Option Assigned)
+      by_assignment : ((m : Bool) → Gives IsKnownContent (line_content at b m ts)) → (a : Option AssignedText)
           → Gives IsKnownContent (elim a as (λ z. Program LineContent) [
             | Some a ↦ run_value at b (token_bytes t) >>= assignment_or (line_content at b true ts >>= λ rest. returns (with_token (token_of_text []) rest)) a
             | None ↦ written_token at b t >>= λ x. elim (is_open_front may_assign x ts) as (λ z. Program LineContent)
@@ -154,12 +157,12 @@ module _ (w : World) (at : Place) (b : Bindings) (bindings : KnownBindings b) wh
 
   pub variable_known : (operator : Operator) (s : List ℕ) (before : Option Variable) → ((x : Variable) → before ≡ Some x → IsKnownVariable x)
       → Gives IsKnownVariable (variable_assigned at b operator s before)
-  variable_known sets_now s before k = never_then w IsKnown IsKnownVariable (text_value at b s) (stored_simple at) (value_known s)
+  variable_known SetsNow s before k = never_then w IsKnown IsKnownVariable (text_value at b s) (stored_simple at) (value_known s)
       (λ v l. stored_known v (simple v) (known_simple l))
-  variable_known sets s before k = text_stored_known s
-  variable_known appends s None k = text_stored_known s
-  variable_known appends s (Some (recursive t)) k = text_stored_known (t ++ 32 ∷ s)
-  variable_known appends s (Some (simple v)) k =
+  variable_known Sets s before k = text_stored_known s
+  variable_known Appends s None k = text_stored_known s
+  variable_known Appends s (Some (recursive t)) k = text_stored_known (t ++ 32 ∷ s)
+  variable_known Appends s (Some (simple v)) k =
       never_then w IsKnown IsKnownVariable (text_value at b s) (λ x. stored_simple at (joined_values v (joined_values (Some (32 ∷ [])) x))) (value_known s)
       (λ x l. stored_known (joined_values v (joined_values (Some (32 ∷ [])) x)) (simple (joined_values v (joined_values (Some (32 ∷ [])) x)))
       (known_simple (joined_known (value_of_simple (k (simple v) refl)) (joined_known (known {s = 32 ∷ []}) l))))

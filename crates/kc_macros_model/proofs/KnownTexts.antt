@@ -5,10 +5,12 @@ use Rattle.std.specs.Str.Parse.{digits_value}
 use Rattle.kc_tree_model.specs.Keywords.{keyword_in_table}
 use Rattle.kc_macros_model.specs.declared.fault.MacroKind.TheVariants.{Undefined, Error, Recursion, Arguments, LineTooLong}
 use Rattle.kc_macros_model.specs.declared.fault.MacroNoticeKind.TheVariants.{Info, Warning}
-use Rattle.kc_macros_model.specs.Limits.{max_text_bytes, max_pieces, max_open_expansions}
+use Rattle.kc_value.specs.declared.limits.TheConstants.{MAX_TEXT_BYTES, MAX_PIECES, MAX_OPEN_EXPANSIONS}
 use Rattle.kc_macros_model.specs.Programs.{Place, Answer, Program, returns, ◌>>=◌}
 use Rattle.kc_macros_model.specs.References.{Item, byte, escaped, reference, unterminated, items, pieces}
-use Rattle.kc_macros_model.specs.Variables.{Value, value_length, joined_values, Variable, simple, recursive, Bindings, is_number, is_environment_name, command_question, argument_of, BuiltIn, filename, lineno, shell, info, warning_if, error_if, built_ins, value_of_answer}
+use Rattle.kc_macros_model.specs.declared.built_in.BuiltIn.{BuiltIn}
+use Rattle.kc_macros_model.specs.declared.built_in.BuiltIn.TheVariants as functions
+use Rattle.kc_macros_model.specs.Variables.{Value, value_length, joined_values, Variable, simple, recursive, Bindings, is_number, is_environment_name, command_question, argument_of, built_ins, value_of_answer}
 use Rattle.kc_macros_model.specs.Expansion.{fault, spends, asked_value, reported, message_if, shell_value, built_in_value, other_value, unbound_value, is_recursion, Expander, named_value, piece_values, call_value, reference_value, item_value, unless_too_long, item_values, expanded, text_value}
 use Rattle.kc_macros_model.specs.Worlds.{World, if_unanswered}
 use Rattle.kc_macros_model.proofs.AnsweredPrograms.{NeverStops, never_then}
@@ -71,12 +73,12 @@ module _ (w : World) (at : Place) where
   shell_known (known {s = command}) = asked_known (command_question command)
 
   built_in_known : (name : List ℕ) (f : BuiltIn) {vs : List Value} → AreKnown vs → Knows (built_in_value at name f vs)
-  built_in_known name filename none_known = known
-  built_in_known name lineno none_known = known
-  built_in_known name shell (next_known h none_known) = shell_known h
-  built_in_known name info (next_known {v = v} h none_known) = message_known (reported at Info) (λ s n. known) (Some (codes "y")) v
-  built_in_known name warning_if (next_known {v = c} g (next_known {v = v} h none_known)) = message_known (reported at Warning) (λ s n. known) c v
-  built_in_known name error_if (next_known {v = c} g (next_known {v = v} h none_known)) = message_known (fault at Error) (λ s. tt) c v
+  built_in_known name functions.Filename none_known = known
+  built_in_known name functions.Lineno none_known = known
+  built_in_known name functions.Shell (next_known h none_known) = shell_known h
+  built_in_known name functions.Info (next_known {v = v} h none_known) = message_known (reported at Info) (λ s n. known) (Some (codes "y")) v
+  built_in_known name functions.WarningIf (next_known {v = c} g (next_known {v = v} h none_known)) = message_known (reported at Warning) (λ s n. known) c v
+  built_in_known name functions.ErrorIf (next_known {v = c} g (next_known {v = v} h none_known)) = message_known (fault at Error) (λ s. tt) c v
   built_in_known name f h = tt
 
   other_known : (name : List ℕ) (vs : List Value) → Knows (other_value at name vs)
@@ -93,7 +95,7 @@ module _ (w : World) (at : Place) where
   unbound_known name {vs = vs} h None = other_known name vs
 
   pub unless_long_known : {A : Type 0} (P : A → Type 0) (n : ℕ) (p : Program A) → NeverStops w P p → NeverStops w P (unless_too_long at n p)
-  unless_long_known {A = A} P n p h = by_test (nat_le n max_text_bytes)
+  unless_long_known {A = A} P n p h = by_test (nat_le n MAX_TEXT_BYTES)
     where
       by_test : (c : Bool) → NeverStops w P (elim c as (λ z. Program A) [ true ↦ p | false ↦ fault at LineTooLong [] ])
       by_test true = h
@@ -137,7 +139,7 @@ module _ (w : World) (at : Place) where
       reference_known : {args : List Value} → AreKnown args → (inside : List ℕ) (x : Option Value) → argument_of args inside ≡ x
           → Knows (reference_value sub at b open_names args inside x)
       reference_known h inside (Some v) e = argument_known h inside v e
-      reference_known {args = args} h inside None e = by_test (nat_le (length (pieces 0 inside)) max_pieces)
+      reference_known {args = args} h inside None e = by_test (nat_le (length (pieces 0 inside)) MAX_PIECES)
         where
           by_test : (c : Bool) → Knows (elim c as (λ z. Program Value)
               [ true ↦ piece_values (sub open_names args) (pieces 0 inside) >>= call_value sub at b open_names | false ↦ fault at Arguments [] ])
@@ -161,4 +163,4 @@ module _ (w : World) (at : Place) where
     -- the expansion of a text never stops where each question has an answer, and returns a known value
     pub text_value_known : (text : List ℕ) → NeverStops w IsKnown (text_value at b text)
     unfolding text_value
-    text_value_known text = expanded_known max_open_expansions [] [] text none_known
+    text_value_known text = expanded_known MAX_OPEN_EXPANSIONS [] [] text none_known

@@ -7,17 +7,18 @@ use Rattle.kc_tree_model.specs.Limits.{is_in_list}
 use Rattle.kc_tree_model.specs.LogicalLines.{PhysicalLine, split_at_newlines, without_return, is_continued, joined_bytes, continuation_count, begins_help}
 use Rattle.kc_macros_model.specs.declared.fault.MacroKind.{MacroKind}
 use Rattle.kc_macros_model.specs.declared.fault.MacroKind.TheVariants.{MissingFile, TooMany, LineTooLong}
-use Rattle.kc_macros_model.specs.Limits.{max_text_bytes, max_bytes, max_open_files, max_work, max_listed_names}
+use Rattle.kc_value.specs.declared.limits.TheConstants.{MAX_TEXT_BYTES, MAX_TREE_BYTES, MAX_OPEN_FILES, MAX_WORK, MAX_LISTED_NAMES}
 use Rattle.kc_macros_model.specs.Programs.{Place, Program, returns, stops, list_folder, does, ◌>>=◌}
 use Rattle.kc_macros_model.specs.Variables.{Value, Variable}
 use Rattle.kc_macros_model.specs.Expansion.{fault}
 use Rattle.kc_macros_model.specs.LineTokens.{line_tokens}
-use Rattle.kc_macros_model.specs.WrittenTokens.{WrittenToken, written_as, a_word, in_quotes_of}
+use Rattle.kc_macros_model.specs.declared.token_sort.TokenSort.TheVariants.{Word}
+use Rattle.kc_macros_model.specs.WrittenTokens.{WrittenToken, written_as, in_quotes_of}
 use Rattle.kc_macros_model.specs.Assignments.{LineContent, is_gap, is_unknown, line_content, variable_assigned}
 use Rattle.kc_macros_model.specs.LineForms.{SourceSort, LineForm, plain, bare_prompt, replaced_by, named_choice, sources, source_words, help_words, is_word, form_of_pair, form_by_word, form_of, without_gaps, with_nth_token, line_bytes, is_help_line, is_undecided}
 use Rattle.kc_macros_model.specs.PathPatterns.{is_pattern, matches_name, path_pieces, sorted, FoundPaths, found, matching_names, paths_in_folder, paths_in_folders, paths_below, readable_paths, files_of_pattern}
 use Rattle.kc_macros_model.specs.ReadingStates.{ExpandedFile, ReadingState, initial_state, Progress, progress, WrittenLine, written_line, bound, with_choice, with_listed, counted, stored_file}
-use Rattle.kc_macros_model.specs.TreeExpansion.{place, Sourced, one_file, file_list, sourced_path, SourceReader, path_meant, list_name, source_line, pattern_read, path_read, source_followed, form_written, short_line, tokens_written, content_written, line_written, bytes_of_lines, lines_written, help_after, lines_read, list_read, source_fault, contents_read, sourced_read, source_read, root_read, tree_read}
+use Rattle.kc_macros_model.specs.TreeExpansion.{place, SourceTarget, one_file, file_list, sourced_path, SourceReader, path_meant, list_name, source_line, pattern_read, path_read, source_followed, form_written, short_line, tokens_written, content_written, line_written, bytes_of_lines, lines_written, help_after, lines_read, list_read, source_fault, contents_read, sourced_read, source_read, root_read, tree_read}
 use Rattle.kc_macros_model.specs.Worlds.{World, expansion}
 use Rattle.kc_macros_model.specs.TreeLaws.{ExpansionNeverStops}
 use Rattle.kc_macros_model.proofs.AnsweredPrograms.{NeverStops, never_then, job_never_stops}
@@ -104,7 +105,7 @@ module _ (w : World) where
         | true ↦ does (list_folder folder) (matching_names at piece folder n)
         | false ↦ returns (found ((folder ++ piece) ∷ []) n)
       ])
-      by_test true = λ e. by_size (nat_lt max_listed_names (n + length (w.names folder)))
+      by_test true = λ e. by_size (nat_lt MAX_LISTED_NAMES (n + length (w.names folder)))
       by_test false = tt
 
   folders_go_on : (at : Place) (piece : List ℕ) (folders : List (List ℕ)) (n : ℕ) → Gives Anything (paths_in_folders at piece folders n)
@@ -137,7 +138,7 @@ module _ (w : World) where
       (λ paths k. tt))
 
   abbrev ReadsOn : SourceReader → Type 0
-  ReadsOn sub = (at : Place) (what : Sourced) (s : ReadingState) → KnownState s → Gives KnownProgress (sub at what s)
+  ReadsOn sub = (at : Place) (what : SourceTarget) (s : ReadingState) → KnownState s → Gives KnownProgress (sub at what s)
 
   module _ (sub : SourceReader) (reads : ReadsOn sub) where
     path_goes_on : (at : Place) (sort : SourceSort) (path : List ℕ) (s : ReadingState) → KnownState s → Gives KnownProgress (path_read sub at sort path s)
@@ -184,7 +185,7 @@ module _ (w : World) where
     form_goes_on at ts s (known_choice {s = name}) g = by_test (is_in_list name s.choices)
       where
         by_test : (b : Bool) → KnownProgress (cond b (progress (line_bytes ts) s)
-            (progress (line_bytes (with_nth_token 1 (written_as a_word [] []) ts)) (with_choice name s)))
+            (progress (line_bytes (with_nth_token 1 (written_as Word [] []) ts)) (with_choice name s)))
         by_test true = g
         by_test false = g
     form_goes_on at ts s (known_source {sort = sort} h) g = followed_goes_on at ts sort s h g
@@ -209,7 +210,7 @@ module _ (w : World) where
         by_test true e = let z : ⊥ = cc in absurd z
         by_test false e =
             never_then w KnownProgress KnownLine (form_written sub at ts (form_of (without_gaps ts)) s) (short_line at (is_help_line (without_gaps ts)))
-            (form_goes_on at ts s (form_known (gaps_gone_known r)) g) (λ p h. short p h (nat_lt max_text_bytes (length p.text)))
+            (form_goes_on at ts s (form_known (gaps_gone_known r)) g) (λ p h. short p h (nat_lt MAX_TEXT_BYTES (length p.text)))
 
     bound_known : (name : List ℕ) (x : Variable) (s : ReadingState) → IsKnownVariable x → KnownState s → KnownState (bound name x s)
     bound_known name x s h g = record { each = λ key y e. by_test key y (bytes_eq key name) e }
@@ -229,7 +230,7 @@ module _ (w : World) where
         (variable_known w at s.bindings g a.operator a.text (s.bindings name) (g.each name)) (λ v l. bound_known name v s l g)
 
     line_goes_on : (at : Place) (continued : Bool) (text : List ℕ) (s : ReadingState) → KnownState s → Gives KnownLine (line_written sub at continued text s)
-    line_goes_on at continued text s g = by_test (nat_lt max_text_bytes (length text) || not (is_utf8 text))
+    line_goes_on at continued text s g = by_test (nat_lt MAX_TEXT_BYTES (length text) || not (is_utf8 text))
       where
         by_test : (b : Bool) → Gives KnownLine (elim b as (λ z. Program WrittenLine) [
           | true ↦ returns (written_line text (begins_help text) s)
@@ -272,14 +273,14 @@ module _ (w : World) where
         (λ rest. returns (progress (codes "source " ++ (in_quotes_of 34 p.text ++ 10 ∷ rest.text)) rest.state)) (list_goes_on at paths p.state x)
         (λ rest y. y))
 
-    contents_go_on : (at : Place) (what : Sourced) (bytes : Option (List ℕ)) (s : ReadingState) → KnownState s
+    contents_go_on : (at : Place) (what : SourceTarget) (bytes : Option (List ℕ)) (s : ReadingState) → KnownState s
         → Gives KnownProgress (contents_read sub at what bytes s)
     contents_go_on at (one_file path) None s g = g
     contents_go_on at (one_file path) (Some bytes) s g = lines_go_on path 0 1 (split_at_newlines bytes) (counted (length bytes) s) g
     contents_go_on at (file_list name paths) None s g = list_goes_on at paths (counted 0 s) g
     contents_go_on at (file_list name paths) (Some bytes) s g = list_goes_on at paths (counted 0 s) g
 
-    sourced_goes_on : (root : List ℕ) (open_files : List (List ℕ)) (at : Place) (what : Sourced) (s : ReadingState) → KnownState s → (bytes : Option (List ℕ))
+    sourced_goes_on : (root : List ℕ) (open_files : List (List ℕ)) (at : Place) (what : SourceTarget) (s : ReadingState) → KnownState s → (bytes : Option (List ℕ))
         → Gives KnownProgress (sourced_read sub root open_files at what s bytes)
     sourced_goes_on root open_files at what s g bytes = by_fault (source_fault open_files s (sourced_path what) bytes)
       where
@@ -302,10 +303,10 @@ module _ (w : World) where
 
   root_goes_on : (root : List ℕ) (s : ReadingState) → KnownState s → (bytes : Option (List ℕ)) → Gives Anything (root_read root s bytes)
   root_goes_on root s g None = tt
-  root_goes_on root s g (Some bytes) = by_test (nat_lt max_bytes (length bytes))
+  root_goes_on root s g (Some bytes) = by_test (nat_lt MAX_TREE_BYTES (length bytes))
     where
       sub : SourceReader
-      sub = source_read max_open_files root (root ∷ [])
+      sub = source_read MAX_OPEN_FILES root (root ∷ [])
 
       by_test : (b : Bool) → Gives Anything (elim b as (λ z. Program (List ExpandedFile)) [
         | true ↦ fault (place root 0) TooMany []
@@ -316,7 +317,7 @@ module _ (w : World) where
       by_test false =
           never_then w KnownProgress Anything (lines_read sub root 0 1 (split_at_newlines bytes) (counted (length bytes) s))
           (λ p. returns (p.state.expanded ++ record { key = root; path = root; text = p.text } ∷ []))
-          (lines_go_on sub (source_goes_on max_open_files root (root ∷ [])) root 0 1 (split_at_newlines bytes) (counted (length bytes) s) g) (λ p x. tt)
+          (lines_go_on sub (source_goes_on MAX_OPEN_FILES root (root ∷ [])) root 0 1 (split_at_newlines bytes) (counted (length bytes) s) g) (λ p x. tt)
 
   -- the reading of a tree never stops where each question has an answer
   pub tree_goes_on : (root : List ℕ) → NeverStops w (λ files. Unit {0}) (tree_read root)
@@ -325,4 +326,4 @@ module _ (w : World) where
 
 pub expansion_never_stops : ExpansionNeverStops
 unfolding expansion
-expansion_never_stops w root e = job_never_stops w (λ files. Unit {0}) max_work (tree_read root) (tree_goes_on w root) e
+expansion_never_stops w root e = job_never_stops w (λ files. Unit {0}) MAX_WORK (tree_read root) (tree_goes_on w root) e

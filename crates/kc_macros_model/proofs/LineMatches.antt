@@ -8,8 +8,11 @@ use Rattle.kc_macros_model.specs.References.{Item, byte, escaped, reference, unt
 use Rattle.kc_macros_model.specs.Variables.{Value, value_length, joined_values, Variable, simple, recursive, Bindings, with_variable}
 use Rattle.kc_macros_model.specs.Expansion.{fault, spends, text_value}
 use Rattle.kc_macros_model.specs.LineTokens.{LineToken, gap, run, quoted, other, broken, token_bytes}
-use Rattle.kc_macros_model.specs.WrittenTokens.{WrittenToken, a_gap, a_word, an_other, written_as, token_of_text, token_of_value, WrittenBody, body_of, body_of_value, joined_bodies, written_item, written_items, token_of_body, run_value, written_run, written_token, is_bare_byte, a_quoted, in_quotes_of, is_keyword}
-use Rattle.kc_macros_model.specs.Assignments.{Operator, sets_now, appends, sets, Assigned, assignment_at, LineContent, assigns, tokens, with_token, is_gap, is_unknown, is_gap_token, is_open_front, assignment_or, line_content, stored, stored_simple, stored_recursive, variable_assigned}
+use Rattle.kc_macros_model.specs.declared.token_sort.TokenSort.TheVariants.{Gap, Word, Quoted, Other}
+use Rattle.kc_macros_model.specs.WrittenTokens.{WrittenToken, written_as, token_of_text, token_of_value, WrittenBody, body_of, body_of_value, joined_bodies, written_item, written_items, token_of_body, run_value, written_run, written_token, is_bare_byte, in_quotes_of, is_keyword}
+use Rattle.kc_macros_model.specs.declared.operator.Operator.{Operator}
+use Rattle.kc_macros_model.specs.declared.operator.Operator.TheVariants.{SetsNow, Appends, Sets}
+use Rattle.kc_macros_model.specs.Assignments.{AssignedText, assignment_at, LineContent, assigns, tokens, with_token, is_gap, is_unknown, is_gap_token, is_open_front, assignment_or, line_content, stored, stored_simple, stored_recursive, variable_assigned}
 use Rattle.kc_macros_model.specs.LineForms.{without_gaps}
 use Rattle.kc_macros_model.specs.Worlds.{World}
 use Rattle.kc_macros_model.specs.ProgramLaws.{Extends}
@@ -39,7 +42,7 @@ pub data RestContent : LineContent → LineContent → Type 0 where
   rest_tokens : {ts us : List WrittenToken} → RestNoLess ts us → RestContent (tokens ts) (tokens us)
 
 pub data ContentNoLess : LineContent → LineContent → Type 0 where
-  same_assignment : {name : List ℕ} {a : Assigned} → ContentNoLess (assigns name a) (assigns name a)
+  same_assignment : {name : List ℕ} {a : AssignedText} → ContentNoLess (assigns name a) (assigns name a)
   line_tokens : {ts us : List WrittenToken} → LineNoLess ts us → ContentNoLess (tokens ts) (tokens us)
 
 -- the value of a text is never an unknown token
@@ -47,14 +50,14 @@ known_text : (s : List ℕ) → is_unknown (token_of_text s) ≡ false
 known_text [] = refl
 known_text (c ∷ s) = by_test (list_all is_bare_byte (c ∷ s) && not (is_keyword (c ∷ s)))
   where
-    by_test : (b : Bool) → is_unknown (cond b (written_as a_word (c ∷ s) (c ∷ s)) (written_as a_quoted (in_quotes_of 34 (c ∷ s)) (c ∷ s))) ≡ false
+    by_test : (b : Bool) → is_unknown (cond b (written_as Word (c ∷ s) (c ∷ s)) (written_as Quoted (in_quotes_of 34 (c ∷ s)) (c ∷ s))) ≡ false
     by_test true = refl
     by_test false = refl
 
 -- the gaps of a line of gaps alone
 gaps_of : List LineToken → List WrittenToken
 gaps_of [] = []
-gaps_of (t ∷ ts) = written_as a_gap (token_bytes t) [] ∷ gaps_of ts
+gaps_of (t ∷ ts) = written_as Gap (token_bytes t) [] ∷ gaps_of ts
 
 gaps_are_gaps : (ts : List LineToken) → without_gaps (gaps_of ts) ≡ []
 unfolding gaps_of
@@ -63,9 +66,9 @@ gaps_are_gaps (t ∷ ts) = gaps_are_gaps ts
 
 module _ (at : Place) (b : Bindings) where
   gap_content : (may_assign : Bool) (s : List ℕ) (ts : List LineToken) (rest : Program LineContent) → line_content at b may_assign ts ≡ rest
-      → line_content at b may_assign (gap s ∷ ts) ≡ (rest >>= λ x. returns (with_token (written_as a_gap s []) x))
-  gap_content true s ts rest e = ap (λ (p : Program LineContent). p >>= λ x. returns (with_token (written_as a_gap s []) x)) e
-  gap_content false s ts rest e = ap (λ (p : Program LineContent). p >>= λ x. returns (with_token (written_as a_gap s []) x)) e
+      → line_content at b may_assign (gap s ∷ ts) ≡ (rest >>= λ x. returns (with_token (written_as Gap s []) x))
+  gap_content true s ts rest e = ap (λ (p : Program LineContent). p >>= λ x. returns (with_token (written_as Gap s []) x)) e
+  gap_content false s ts rest e = ap (λ (p : Program LineContent). p >>= λ x. returns (with_token (written_as Gap s []) x)) e
 
   -- a line of gaps alone
   gaps_content : (may_assign : Bool) (ts : List LineToken) → list_any (λ t. not (is_gap_token t)) ts ≡ false
@@ -130,21 +133,21 @@ module _ (w more : World) (ext : Extends w more) (question : List ℕ) (unanswer
     where
       written : Bindings → Bool → Bool → Program WrittenToken
       written d x y = elim x [
-        | true ↦ returns (written_as an_other s [])
-        | false ↦ elim y [ true ↦ text_value at d s >>= λ v. returns (token_of_value v) | false ↦ returns (written_as a_word s s) ]
+        | true ↦ returns (written_as Other s [])
+        | false ↦ elim y [ true ↦ text_value at d s >>= λ v. returns (token_of_value v) | false ↦ returns (written_as Word s s) ]
       ]
 
       by_tests : (x y : Bool) → M TokenNoLess (written b x y) (written c x y)
-      by_tests true y = same_tokens (written_as an_other s []) refl
-      by_tests false false = same_tokens (written_as a_word s s) refl
+      by_tests true y = same_tokens (written_as Other s []) refl
+      by_tests false false = same_tokens (written_as Word s s) refl
       by_tests false true =
           match_then w more ext question unanswered NoLess TokenNoLess (text_value at b s) (text_value at c s) (λ v. returns (token_of_value v))
           (λ v. returns (token_of_value v)) (value_matches s)
           (λ v u n. match_return w more ext question unanswered TokenNoLess (token_of_value v) (token_of_value u) (value_token n))
 
   token_matches : (t : LineToken) → M TokenNoLess (written_token at b t) (written_token at c t)
-  token_matches (gap s) = same_tokens (written_as a_gap s []) refl
-  token_matches (other s) = same_tokens (written_as an_other s []) refl
+  token_matches (gap s) = same_tokens (written_as Gap s []) refl
+  token_matches (other s) = same_tokens (written_as Other s []) refl
   token_matches (broken s) = match_fault w more ext question unanswered TokenNoLess (fault at Unterminated [])
       (record { at = at; kind = Unterminated; text = [] })
   token_matches (run s) = run_matches s
@@ -187,7 +190,7 @@ module _ (w more : World) (ext : Extends w more) (question : List ℕ) (unanswer
       match_then w more ext question unanswered ContentNoLess ContentNoLess p m (λ rest. returns (with_token t rest)) (λ rest. returns (with_token t rest)) h
       (λ x y r. match_return w more ext question unanswered ContentNoLess (with_token t x) (with_token t y) (with_gap t e r))
 
-  or_assignment : (p m : Program LineContent) (a : Assigned) {v u : Value} → NoLess v u → M ContentNoLess p m
+  or_assignment : (p m : Program LineContent) (a : AssignedText) {v u : Value} → NoLess v u → M ContentNoLess p m
       → M ContentNoLess (assignment_or p a v) (assignment_or m a u)
   or_assignment p m a (unknown {v = u}) h = match_stop w more ext question unanswered ContentNoLess (assignment_or m a u)
   or_assignment p m a (same {s = []}) h = h
@@ -252,7 +255,7 @@ module _ (w more : World) (ext : Extends w more) (question : List ℕ) (unanswer
   token_then ts ih (quoted_tokens quote x y r) = known_then (token_of_body quote x) (token_of_body quote y) (quoted_tokens quote x y r) refl refl refl ts
   token_then ts ih (unknown_token v) = unknown_then v ts (list_any (λ t. not (is_gap_token t)) ts) refl
 
-  by_assignment : (t : LineToken) (ts : List LineToken) → M ContentNoLess (line_content at b true ts) (line_content at c true ts) → (a : Option Assigned)
+  by_assignment : (t : LineToken) (ts : List LineToken) → M ContentNoLess (line_content at b true ts) (line_content at c true ts) → (a : Option AssignedText)
       → M ContentNoLess (elim a [
         | Some a ↦ run_value at b (token_bytes t) >>= assignment_or (line_content at b true ts >>= λ rest. returns (with_token (token_of_text []) rest)) a
         | None ↦ written_token at b t >>= λ x. after_token b x ts
@@ -292,13 +295,13 @@ module _ (w more : World) (ext : Extends w more) (question : List ℕ) (unanswer
 
   pub variable_matches : (operator : Operator) (s : List ℕ) {x y : Option Variable} → VariableNoLess x y
       → M VariablesNoLess (variable_assigned at b operator s x) (variable_assigned at c operator s y)
-  variable_matches sets_now s r =
+  variable_matches SetsNow s r =
       match_then w more ext question unanswered NoLess VariablesNoLess (text_value at b s) (text_value at c s) (stored_simple at) (stored_simple at)
       (value_matches s) (λ v u n. stored_match v u (simple v) (simple u) (simple_both n))
-  variable_matches sets s r = text_stored s
-  variable_matches appends s not_set = text_stored s
-  variable_matches appends s (recursive_both {s = t}) = text_stored (t ++ 32 ∷ s)
-  variable_matches appends s (simple_both {v = v} {u = u} n) =
+  variable_matches Sets s r = text_stored s
+  variable_matches Appends s not_set = text_stored s
+  variable_matches Appends s (recursive_both {s = t}) = text_stored (t ++ 32 ∷ s)
+  variable_matches Appends s (simple_both {v = v} {u = u} n) =
       match_then w more ext question unanswered NoLess VariablesNoLess (text_value at b s) (text_value at c s)
       (λ x. stored_simple at (joined_values v (joined_values (Some (32 ∷ [])) x)))
       (λ x. stored_simple at (joined_values u (joined_values (Some (32 ∷ [])) x))) (value_matches s)

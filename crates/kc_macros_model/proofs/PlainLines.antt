@@ -7,11 +7,12 @@ use Rattle.std.specs.Cmp.{first_so, second_so}
 use Rattle.std.proofs.lemmas.List.{take-append-drop}
 use Rattle.kc_tree_model.specs.LogicalLines.{PhysicalLine, split_at_newlines, without_return, is_continued, joined_bytes, continuation_count, begins_help}
 use Rattle.kc_macros_model.specs.declared.fault.MacroKind.TheVariants.{LineTooLong}
-use Rattle.kc_macros_model.specs.Limits.{max_text_bytes}
+use Rattle.kc_value.specs.declared.limits.TheConstants.{MAX_TEXT_BYTES}
 use Rattle.kc_macros_model.specs.Programs.{Place, Program, returns, stops, ◌>>=◌}
 use Rattle.kc_macros_model.specs.Expansion.{fault}
 use Rattle.kc_macros_model.specs.LineTokens.{line_tokens}
-use Rattle.kc_macros_model.specs.WrittenTokens.{WrittenToken, written_as, a_word}
+use Rattle.kc_macros_model.specs.declared.token_sort.TokenSort.TheVariants.{Word}
+use Rattle.kc_macros_model.specs.WrittenTokens.{WrittenToken, written_as}
 use Rattle.kc_macros_model.specs.Assignments.{LineContent, tokens, is_gap, line_content}
 use Rattle.kc_macros_model.specs.LineForms.{SourceSort, LineForm, plain, bare_prompt, replaced_by, named_choice, sources, is_word, is_path, form_by_word, form_of, without_gaps, with_nth_token, line_bytes, is_help_line}
 use Rattle.kc_macros_model.specs.PathPatterns.{is_pattern}
@@ -56,8 +57,8 @@ line_by_form sub at continued text s f free no_name form =
     either_way true = refl
     either_way false = refl
 
--- a text of at most `max_text_bytes` bytes is an expanded line without fault
-pub short_stays : (at : Place) (help : Bool) (text new : List ℕ) (s : ReadingState) → new ≡ text → nat_lt max_text_bytes (length text) ≡ false
+-- a text of at most `MAX_TEXT_BYTES` bytes is an expanded line without fault
+pub short_stays : (at : Place) (help : Bool) (text new : List ℕ) (s : ReadingState) → new ≡ text → nat_lt MAX_TEXT_BYTES (length text) ≡ false
     → short_line at help (progress new s) ≡ returns (written_line text help s)
 short_stays at help text new s e h =
     ap (λ x. short_line at help (progress x s)) e ∙ ap (λ b. elim b as (λ z. Program WrittenLine) [
@@ -75,7 +76,7 @@ plain_form_is (sources sort path) e = let z : ⊥ = cc in absurd z
 -- a plain line that sources nothing and isn't too long is written as it is
 pub plain_line_stays : (sub : SourceReader) (at : Place) (continued : Bool) (text : List ℕ) (s : ReadingState)
     → list_all is_kept_token (line_tokens 0 text) ≡ true → is_assignment (line_tokens 0 text) ≡ false
-    → is_plain_form (form_of (tokens_as_they_are text)) ≡ true → nat_lt max_text_bytes (length text) ≡ false
+    → is_plain_form (form_of (tokens_as_they_are text)) ≡ true → nat_lt MAX_TEXT_BYTES (length text) ≡ false
     → (line_content at s.bindings true (line_tokens 0 text) >>= content_written sub at continued s) ≡ returns
     (written_line text (is_help_line (tokens_as_they_are text)) s)
 plain_line_stays sub at continued text s free no_name form short =
@@ -121,7 +122,7 @@ plain_lines_stay sub at continued text s e = by_test (is_copied text) refl e
         let rest = second_so free (no_name && form) e in
         plain_line_stays sub at continued text s (first_so free (no_name && form) e) (not_so (is_assignment (line_tokens 0 text)) (first_so no_name form rest))
         (no_other (is_plain_form (form_of real)) (is_one_of no_paths (plain_path real)) (none_of_none (plain_path real)) (second_so no_name form rest))
-        (neither_first (nat_lt max_text_bytes (length text)) (not (is_utf8 text)) c)
+        (neither_first (nat_lt MAX_TEXT_BYTES (length text)) (not (is_utf8 text)) c)
 
 -- the physical lines of a logical line, those of its help text, and the remaining ones are all the lines
 pub whole_lines : (l : PhysicalLine) (ls : List PhysicalLine) (more help : ℕ) (text : List ℕ)
@@ -173,7 +174,7 @@ pub record BeginsWithSource (ts : List WrittenToken) : Type 0 where
   pub bytes : first.bytes ≡ codes "source"
 
 abbrev source_word : WrittenToken
-source_word = written_as a_word (codes "source") []
+source_word = written_as Word (codes "source") []
 
 same_head : (x y : WrittenToken) (xs ys : List WrittenToken) → x ∷ xs ≡ y ∷ ys → x ≡ y
 same_head x y xs ys e = cc

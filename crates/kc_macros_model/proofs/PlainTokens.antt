@@ -11,8 +11,9 @@ use Rattle.kc_macros_model.specs.References.{Item, byte, escaped, item_bytes, in
 use Rattle.kc_macros_model.specs.Variables.{Bindings}
 use Rattle.kc_macros_model.specs.Expansion.{text_value}
 use Rattle.kc_macros_model.specs.LineTokens.{LineToken, gap, run, quoted, other, broken, token_bytes, extent, is_run_byte, run_token, quoted_token, first_token, bytes_of_tokens}
-use Rattle.kc_macros_model.specs.WrittenTokens.{WrittenToken, a_word, an_other, written_as, token_of_text, token_of_value, WrittenBody, body_of, joined_bodies, written_items, token_of_body, run_value, written_token}
-use Rattle.kc_macros_model.specs.Assignments.{Assigned, assignment_to, LineContent, tokens, with_token, is_gap, is_open_front, assignment_or, line_content}
+use Rattle.kc_macros_model.specs.declared.token_sort.TokenSort.TheVariants.{Word, Other}
+use Rattle.kc_macros_model.specs.WrittenTokens.{WrittenToken, written_as, token_of_text, token_of_value, WrittenBody, body_of, joined_bodies, written_items, token_of_body, run_value, written_token}
+use Rattle.kc_macros_model.specs.Assignments.{AssignedText, assignment_to, LineContent, tokens, with_token, is_gap, is_open_front, assignment_or, line_content}
 use Rattle.kc_macros_model.specs.LineForms.{line_bytes}
 use Rattle.kc_macros_model.specs.PlainLines.{is_kept_item, has_dollar, LinesWithoutDollars, is_kept_token, text_of_items, token_as_it_is, is_assignment}
 use Rattle.kc_macros_model.proofs.CleanTexts.{neither_first, neither_second}
@@ -172,7 +173,7 @@ bytes_as_they_are [] = refl
 bytes_as_they_are (gap s ∷ ts) = ap (λ x. s ++ x) (bytes_as_they_are ts)
 bytes_as_they_are (run s ∷ ts) = by_test (list_any is_plain_dollar (items false 0 s)) (bytes_as_they_are ts)
   where
-    by_test : (b : Bool) → line_bytes (map token_as_it_is ts) ≡ bytes_of_tokens ts → (cond b (written_as an_other s []) (written_as a_word s s)).bytes
+    by_test : (b : Bool) → line_bytes (map token_as_it_is ts) ≡ bytes_of_tokens ts → (cond b (written_as Other s []) (written_as Word s s)).bytes
         ++ line_bytes (map token_as_it_is ts) ≡ s ++ bytes_of_tokens ts
     by_test true h = ap (λ x. s ++ x) h
     by_test false h = ap (λ x. s ++ x) h
@@ -184,7 +185,7 @@ known_as_it_is : (t : LineToken) → IsKnownToken (token_as_it_is t)
 known_as_it_is (gap s) = record { sort = refl; meaning = known }
 known_as_it_is (run s) = by_test (list_any is_plain_dollar (items false 0 s))
   where
-    by_test : (b : Bool) → IsKnownToken (cond b (written_as an_other s []) (written_as a_word s s))
+    by_test : (b : Bool) → IsKnownToken (cond b (written_as Other s []) (written_as Word s s))
     by_test true = record { sort = refl; meaning = known }
     by_test false = record { sort = refl; meaning = known }
 known_as_it_is (quoted quote s) = record { sort = refl; meaning = known }
@@ -208,11 +209,11 @@ module _ (at : Place) (b : Bindings) where
 
   run_stays : (s : List ℕ) (x y : Bool) → (x || not y) ≡ true
       → (elim x as (λ z. Program WrittenToken) [
-        | true ↦ returns (written_as an_other s [])
+        | true ↦ returns (written_as Other s [])
         | false ↦
-            elim y [ true ↦ text_value at b s >>= λ v. returns (token_of_value v) | false ↦ returns (written_as a_word s s) ]
+            elim y [ true ↦ text_value at b s >>= λ v. returns (token_of_value v) | false ↦ returns (written_as Word s s) ]
       ])
-      ≡ returns (cond x (written_as an_other s []) (written_as a_word s s))
+      ≡ returns (cond x (written_as Other s []) (written_as Word s s))
   run_stays s true y e = refl
   run_stays s false false e = refl
   run_stays s false true e = let z : ⊥ = cc in absurd z
@@ -240,7 +241,7 @@ module _ (at : Place) (b : Bindings) where
       ∙ ap (λ (p : Program LineContent). p >>= λ rest. returns (with_token (token_as_it_is t) rest))
       (tokens_stay_inside ts (second_so (is_kept_token t) (list_all is_kept_token ts) e))
 
-  no_name : (a : Option Assigned) → is_some a ≡ false → a ≡ None
+  no_name : (a : Option AssignedText) → is_some a ≡ false → a ≡ None
   no_name (Some a) e = let z : ⊥ = cc in absurd z
   no_name None e = refl
 
@@ -271,11 +272,11 @@ module _ (at : Place) (b : Bindings) where
   tokens_stay (run s ∷ ts) e n = first_stays (run s) ts (closed (list_any is_plain_dollar (items false 0 s)))
       (solid (list_any is_plain_dollar (items false 0 s))) e n
     where
-      closed : (x : Bool) → is_open_front true (cond x (written_as an_other s []) (written_as a_word s s)) ts ≡ false
+      closed : (x : Bool) → is_open_front true (cond x (written_as Other s []) (written_as Word s s)) ts ≡ false
       closed true = refl
       closed false = refl
 
-      solid : (x : Bool) → is_gap (cond x (written_as an_other s []) (written_as a_word s s)) ≡ false
+      solid : (x : Bool) → is_gap (cond x (written_as Other s []) (written_as Word s s)) ≡ false
       solid true = refl
       solid false = refl
   tokens_stay (quoted quote s ∷ ts) e n = first_stays (quoted quote s) ts refl refl e n

@@ -11,11 +11,12 @@ use Rattle.kc_tree_model.specs.Limits.{is_in_list}
 use Rattle.kc_tree_model.specs.LogicalLines.{PhysicalLine, split_at_newlines, without_return, is_continued, joined_bytes, continuation_count, begins_help}
 use Rattle.kc_macros_model.specs.declared.fault.MacroKind.{MacroKind}
 use Rattle.kc_macros_model.specs.declared.fault.MacroKind.TheVariants.{MissingFile, SourceLoop, TooDeep, TooMany}
-use Rattle.kc_macros_model.specs.Limits.{max_text_bytes, max_files, max_bytes, max_open_files, max_work}
+use Rattle.kc_value.specs.declared.limits.TheConstants.{MAX_TEXT_BYTES, MAX_FILES, MAX_TREE_BYTES, MAX_OPEN_FILES, MAX_WORK}
 use Rattle.kc_macros_model.specs.Programs.{Place, Fault, Answer, spend, report, ask, read_file, list_folder, Program, returns, fails, stops, does, ◌>>=◌}
 use Rattle.kc_macros_model.specs.Expansion.{fault}
 use Rattle.kc_macros_model.specs.LineTokens.{line_tokens}
-use Rattle.kc_macros_model.specs.WrittenTokens.{WrittenToken, written_as, a_word}
+use Rattle.kc_macros_model.specs.declared.token_sort.TokenSort.TheVariants.{Word}
+use Rattle.kc_macros_model.specs.WrittenTokens.{WrittenToken, written_as}
 use Rattle.kc_macros_model.specs.Assignments.{line_content}
 use Rattle.kc_macros_model.specs.LineForms.{sources, form_of, with_nth_token, line_bytes, quoted_text_token, is_help_line}
 use Rattle.kc_macros_model.specs.PathPatterns.{is_pattern, files_of_pattern}
@@ -103,8 +104,8 @@ module _ {A : Type 0} (w : World) (P : A → Type 0) where
 -- faults of sources, and what holds where there is none
 module _ (open_files : List (List ℕ)) (s : ReadingState) (path : List ℕ) where
   fault_kind : (bytes : List ℕ) (kind : MacroKind) → source_fault open_files s path (Some bytes) ≡ Some kind → is_fault_of_sources kind ≡ true
-  fault_kind bytes kind e = by_tests (is_in_list path open_files) (nat_le max_open_files (length open_files))
-      (nat_le max_files s.files || nat_lt max_bytes (s.bytes + length bytes)) e
+  fault_kind bytes kind e = by_tests (is_in_list path open_files) (nat_le MAX_OPEN_FILES (length open_files))
+      (nat_le MAX_FILES s.files || nat_lt MAX_TREE_BYTES (s.bytes + length bytes)) e
     where
       by_tests : (a b c : Bool) → cond a (Some SourceLoop) (cond b (Some TooDeep) (cond c (Some TooMany) None)) ≡ Some kind → is_fault_of_sources kind ≡ true
       by_tests true b c e = let p : SourceLoop ≡ kind = cc in ap is_fault_of_sources (sym p)
@@ -112,16 +113,16 @@ module _ (open_files : List (List ℕ)) (s : ReadingState) (path : List ℕ) whe
       by_tests false false true e = let p : TooMany ≡ kind = cc in ap is_fault_of_sources (sym p)
       by_tests false false false e = let z : ⊥ = cc in absurd z
 
-  not_open : (bytes : List ℕ) → source_fault open_files s path (Some bytes) ≡ None → (is_in_list path open_files ≡ false) × (length open_files < max_open_files)
-  not_open bytes e = by_tests (is_in_list path open_files) (nat_le max_open_files (length open_files))
-      (nat_le max_files s.files || nat_lt max_bytes (s.bytes + length bytes)) refl refl e
+  not_open : (bytes : List ℕ) → source_fault open_files s path (Some bytes) ≡ None → (is_in_list path open_files ≡ false) × (length open_files < MAX_OPEN_FILES)
+  not_open bytes e = by_tests (is_in_list path open_files) (nat_le MAX_OPEN_FILES (length open_files))
+      (nat_le MAX_FILES s.files || nat_lt MAX_TREE_BYTES (s.bytes + length bytes)) refl refl e
     where
-      by_tests : (a b c : Bool) → is_in_list path open_files ≡ a → nat_le max_open_files (length open_files) ≡ b
+      by_tests : (a b c : Bool) → is_in_list path open_files ≡ a → nat_le MAX_OPEN_FILES (length open_files) ≡ b
           → cond a (Some SourceLoop) (cond b (Some TooDeep) (cond c (Some TooMany) None)) ≡ None
-          → (is_in_list path open_files ≡ false) × (length open_files < max_open_files)
+          → (is_in_list path open_files ≡ false) × (length open_files < MAX_OPEN_FILES)
       by_tests true b c f g e = let z : ⊥ = cc in absurd z
       by_tests false true c f g e = let z : ⊥ = cc in absurd z
-      by_tests false false c f g e = (f, leb-false max_open_files (length open_files) g)
+      by_tests false false c f g e = (f, leb-false MAX_OPEN_FILES (length open_files) g)
 
 module _ (w : World) where
   data AreOwnFiles : List ExpandedFile → Type 0 where
@@ -186,7 +187,7 @@ module _ (w : World) where
           (reads at path s p g) (λ q k. record { text = written q.text k.text; state = k.state })))
         where
           first : List WrittenToken
-          first = with_nth_token 0 (written_as a_word (codes "source") []) ts
+          first = with_nth_token 0 (written_as Word (codes "source") []) ts
 
           written : (key : List ℕ) → key ≡ path → source_line ts path key ≡ text
           written key e =
@@ -196,7 +197,7 @@ module _ (w : World) where
       plain_line_own : (at : Place) (continued : Bool) (text : List ℕ) (s : ReadingState) → list_all is_kept_token (line_tokens 0 text) ≡ true
           → is_assignment (line_tokens 0 text) ≡ false
           → (is_plain_form (form_of (tokens_as_they_are text)) || is_one_of paths (plain_path (tokens_as_they_are text))) ≡ true
-          → nat_lt max_text_bytes (length text) ≡ false
+          → nat_lt MAX_TEXT_BYTES (length text) ≡ false
           → is_before_help text ≡ is_help_line (tokens_as_they_are text) → IsOwnState s
           → OnlyReads w (IsOwnLine text) (line_content at s.bindings true (line_tokens 0 text) >>= content_written sub at continued s)
       plain_line_own at continued text s free no_name form short help g = by_form (is_plain_form (form_of real)) refl form
@@ -265,7 +266,7 @@ module _ (w : World) where
               let rest = second_so free (no_name && form) e in
               plain_line_own at continued text s (first_so free (no_name && form) e) (not_so (is_assignment (line_tokens 0 text)) (first_so no_name form rest))
               (second_so no_name form rest)
-              (neither_first (nat_lt max_text_bytes (length text)) (not (is_utf8 text)) c) (help_is false c) g
+              (neither_first (nat_lt MAX_TEXT_BYTES (length text)) (not (is_utf8 text)) c) (help_is false c) g
 
       lines_own : (file : List ℕ) (skip n : ℕ) (ls : List PhysicalLine) (s : ReadingState) → list_all (is_plain_line paths) (logical_texts skip ls) ≡ true
           → IsOwnState s → OnlyReads w (IsOwnText (bytes_of_lines (drop skip ls))) (lines_read sub file skip n ls s)
@@ -342,7 +343,7 @@ module _ (w : World) where
         by_test true e = let z : true ≡ false = sym h ∙ ap (λ x. is_in_list x open_files) (sym (same_text path root e)) ∙ n in let y : ⊥ = cc in absurd y
         by_test false e = refl
 
-    file_own : (sub : SourceReader) (open_files : List (List ℕ)) → (length open_files < max_open_files → ReadsOwn sub) → is_in_list root open_files ≡ true
+    file_own : (sub : SourceReader) (open_files : List (List ℕ)) → (length open_files < MAX_OPEN_FILES → ReadsOwn sub) → is_in_list root open_files ≡ true
         → (at : Place) (path : List ℕ) (s : ReadingState) → paths path ≡ true → IsOwnState s
         → (bytes : Option (List ℕ)) → w.bytes path ≡ bytes → OnlyReads w (IsOwnText path) (sourced_read sub root open_files at (one_file path) s bytes)
     file_own sub open_files reads h at path s p g None e = by_test (is_in_list path open_files)
@@ -366,7 +367,7 @@ module _ (w : World) where
             (lines_own sub (reads n.1) path 0 1 (split_at_newlines bytes) (counted (length bytes) s) (tree.files path bytes p e) (record { files = g.files }))
             (λ p q. kept_own path bytes p e (other_path path open_files h n.0) (record { text = q.text ∙ split_bytes bytes; state = q.state }))
 
-    sources_own : (depth : ℕ) (open_files : List (List ℕ)) → max_open_files < depth + length open_files → length open_files ≤ max_open_files
+    sources_own : (depth : ℕ) (open_files : List (List ℕ)) → MAX_OPEN_FILES < depth + length open_files → length open_files ≤ MAX_OPEN_FILES
         → is_in_list root open_files ≡ true → ReadsOwn (source_read depth root open_files)
     sources_own zero open_files deep few h at path s p g = absurd (omega (arith, deep, few))
     sources_own (suc depth) open_files deep few h at path s p g =
@@ -380,10 +381,10 @@ module _ (w : World) where
 
     root_own : (bytes : Option (List ℕ)) → w.bytes root ≡ bytes → OnlyReads w AreOwnFiles (root_read root initial_state bytes)
     root_own None e = refl
-    root_own (Some bytes) e = by_test (nat_lt max_bytes (length bytes))
+    root_own (Some bytes) e = by_test (nat_lt MAX_TREE_BYTES (length bytes))
       where
         sub : SourceReader
-        sub = source_read max_open_files root (root ∷ [])
+        sub = source_read MAX_OPEN_FILES root (root ∷ [])
 
         by_test : (b : Bool) → OnlyReads w AreOwnFiles (elim b as (λ z. Program (List ExpandedFile)) [
           | true ↦ fault (place root 0) TooMany []
@@ -395,7 +396,7 @@ module _ (w : World) where
             only_both w (IsOwnText (bytes_of_lines (split_at_newlines bytes))) AreOwnFiles
             (lines_read sub root 0 1 (split_at_newlines bytes) (counted (length bytes) initial_state))
             (λ p. returns (p.state.expanded ++ record { key = root; path = root; text = p.text } ∷ []))
-            (lines_own sub (sources_own max_open_files (root ∷ []) (omega arith) (omega arith) (ap (λ b. b || false) (nat_list_eq_equiv.refl root))) root 0 1
+            (lines_own sub (sources_own MAX_OPEN_FILES (root ∷ []) (omega arith) (omega arith) (ap (λ b. b || false) (nat_list_eq_equiv.refl root))) root 0 1
             (split_at_newlines bytes) (counted (length bytes) initial_state) (tree.files root bytes tree.first e) (record { files = no_files }))
             (λ p q. one_more_own p.state.expanded (record { key = root; path = root; text = p.text }) q.state.files
             (record { key = refl; text = e ∙ ap Some (sym (q.text ∙ split_bytes bytes)) }))
@@ -407,7 +408,7 @@ module _ (w : World) where
 pub plain_trees_stay : PlainTreesStay
 unfolding expansion
 plain_trees_stay w paths root answer tree =
-    let q = quiet_outcome w (AreOwnFiles w) max_work (tree_read root) (tree_own w paths root tree) in (
+    let q = quiet_outcome w (AreOwnFiles w) MAX_WORK (tree_read root) (tree_own w paths root tree) in (
       record { notices = q.notices; questions = q.questions; files = λ files e. all_own w (q.value files e); faults = q.faults },
-      same_outcome w (AreOwnFiles w) answer max_work (tree_read root) (tree_own w paths root tree),
+      same_outcome w (AreOwnFiles w) answer MAX_WORK (tree_read root) (tree_own w paths root tree),
     )

@@ -2,7 +2,7 @@
 use Rattle.std.proofs.Common.{◌≡◌, ℕ, Bool, true, false, List, [], Option, Some, None, refl, sym, ap, ◌∙◌, subst}
 use Rattle.std.specs.Prelude.{nat_le}
 use Rattle.kc_macros_model.specs.declared.fault.MacroKind.TheVariants.{LineTooLong}
-use Rattle.kc_macros_model.specs.Limits.{max_text_bytes}
+use Rattle.kc_value.specs.declared.limits.TheConstants.{MAX_TEXT_BYTES}
 use Rattle.kc_macros_model.specs.Programs.{Place, Fault, Notice, Answer, Event, spend, report, ask, read_file, list_folder, Program, returns, fails, stops, does, ◌>>=◌}
 use Rattle.kc_macros_model.specs.Expansion.{fault, spends, unless_too_long}
 use Rattle.kc_macros_model.specs.Worlds.{World, if_unanswered}
@@ -76,7 +76,7 @@ module _ (w more : World) (ext : Extends w more) (question : List ℕ) (unanswer
 
   pub match_unless_long : {A : Type 0} (R : A → A → Type 0) (at : Place) (n l : ℕ) (p m : Program A) → Matches R p m
       → Matches R (unless_too_long at n p) (unless_too_long at l m)
-  match_unless_long {A = A} R at n l p m h = by_tests (nat_le n max_text_bytes) (nat_le l max_text_bytes)
+  match_unless_long {A = A} R at n l p m h = by_tests (nat_le n MAX_TEXT_BYTES) (nat_le l MAX_TEXT_BYTES)
     where
       short : Program A → Bool → Program A
       short x c = elim c [ true ↦ x | false ↦ fault at LineTooLong [] ]

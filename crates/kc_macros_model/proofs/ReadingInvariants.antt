@@ -8,17 +8,18 @@ use Rattle.kc_tree_model.specs.Limits.{is_in_list}
 use Rattle.kc_tree_model.specs.LogicalLines.{PhysicalLine, split_at_newlines, without_return, is_continued, joined_bytes, continuation_count, begins_help}
 use Rattle.kc_macros_model.specs.declared.fault.MacroKind.{MacroKind}
 use Rattle.kc_macros_model.specs.declared.fault.MacroKind.TheVariants.{MissingFile, TooMany, LineTooLong, SourceLoop, TooDeep}
-use Rattle.kc_macros_model.specs.Limits.{max_text_bytes, max_files, max_bytes, max_open_files, max_listed_names}
+use Rattle.kc_value.specs.declared.limits.TheConstants.{MAX_TEXT_BYTES, MAX_FILES, MAX_TREE_BYTES, MAX_OPEN_FILES, MAX_LISTED_NAMES}
 use Rattle.kc_macros_model.specs.Programs.{Place, Event, Program, returns, fails, stops, list_folder, does, ◌>>=◌}
 use Rattle.kc_macros_model.specs.Variables.{Value, Variable}
 use Rattle.kc_macros_model.specs.Expansion.{fault}
 use Rattle.kc_macros_model.specs.LineTokens.{line_tokens}
-use Rattle.kc_macros_model.specs.WrittenTokens.{WrittenToken, written_as, a_word, in_quotes_of}
+use Rattle.kc_macros_model.specs.declared.token_sort.TokenSort.TheVariants.{Word}
+use Rattle.kc_macros_model.specs.WrittenTokens.{WrittenToken, written_as, in_quotes_of}
 use Rattle.kc_macros_model.specs.Assignments.{LineContent, assigns, tokens, line_content, variable_assigned}
 use Rattle.kc_macros_model.specs.LineForms.{SourceSort, LineForm, plain, bare_prompt, replaced_by, named_choice, sources, form_of, without_gaps, with_nth_token, line_bytes, is_help_line, is_undecided}
 use Rattle.kc_macros_model.specs.PathPatterns.{is_pattern, matches_name, path_pieces, sorted, FoundPaths, found, matching_names, paths_in_folder, paths_in_folders, paths_below, readable_paths, files_of_pattern}
 use Rattle.kc_macros_model.specs.ReadingStates.{ReadingState, Progress, progress, WrittenLine, written_line, bound, with_choice, with_listed, counted, stored_file}
-use Rattle.kc_macros_model.specs.TreeExpansion.{place, Sourced, one_file, file_list, sourced_path, SourceReader, path_meant, list_name, source_line, pattern_read, path_read, source_followed, form_written, short_line, tokens_written, content_written, line_written, bytes_of_lines, lines_written, help_after, lines_read, list_read, source_fault, contents_read, sourced_read, source_read}
+use Rattle.kc_macros_model.specs.TreeExpansion.{place, SourceTarget, one_file, file_list, sourced_path, SourceReader, path_meant, list_name, source_line, pattern_read, path_read, source_followed, form_written, short_line, tokens_written, content_written, line_written, bytes_of_lines, lines_written, help_after, lines_read, list_read, source_fault, contents_read, sourced_read, source_read}
 use Rattle.kc_macros_model.specs.Worlds.{World, reply}
 use Rattle.kc_macros_model.proofs.RunInvariants.{Along, along_then}
 
@@ -36,27 +37,27 @@ anything w (does e k) = (tt, anything w (k (reply w e)))
 -- names that were listed within the limit stay within it
 module _ (w : World) where
   abbrev IsListed : FoundPaths → Type 0
-  IsListed f = f.listed ≤ max_listed_names
+  IsListed f = f.listed ≤ MAX_LISTED_NAMES
 
-  folder_listed : (at : Place) (piece folder : List ℕ) (n : ℕ) → n ≤ max_listed_names → Along w AnyEvent IsListed (paths_in_folder at piece folder n)
+  folder_listed : (at : Place) (piece folder : List ℕ) (n : ℕ) → n ≤ MAX_LISTED_NAMES → Along w AnyEvent IsListed (paths_in_folder at piece folder n)
   folder_listed at piece folder n h = by_test (is_pattern piece)
     where
-      by_size : (b : Bool) → nat_lt max_listed_names (n + length (w.names folder)) ≡ b
+      by_size : (b : Bool) → nat_lt MAX_LISTED_NAMES (n + length (w.names folder)) ≡ b
           → Along w AnyEvent IsListed
           (cond b (fault at TooMany []) (returns (found (map (λ name. folder ++ name) (filter (matches_name piece) (w.names folder)))
           (n + length (w.names folder)))))
       by_size true e = tt
-      by_size false e = ltb-false max_listed_names (n + length (w.names folder)) e
+      by_size false e = ltb-false MAX_LISTED_NAMES (n + length (w.names folder)) e
 
       by_test : (b : Bool) → Along w AnyEvent IsListed (elim b as (λ z. Program FoundPaths) [
         | true ↦
             does (list_folder folder) (matching_names at piece folder n)
         | false ↦ returns (found ((folder ++ piece) ∷ []) n)
       ])
-      by_test true = (tt, by_size (nat_lt max_listed_names (n + length (w.names folder))) refl)
+      by_test true = (tt, by_size (nat_lt MAX_LISTED_NAMES (n + length (w.names folder))) refl)
       by_test false = h
 
-  folders_listed : (at : Place) (piece : List ℕ) (folders : List (List ℕ)) (n : ℕ) → n ≤ max_listed_names
+  folders_listed : (at : Place) (piece : List ℕ) (folders : List (List ℕ)) (n : ℕ) → n ≤ MAX_LISTED_NAMES
       → Along w AnyEvent IsListed (paths_in_folders at piece folders n)
   folders_listed at piece [] n h = h
   folders_listed at piece (folder ∷ folders) n h =
@@ -66,7 +67,7 @@ module _ (w : World) where
       (λ f g. along_then w AnyEvent IsListed IsListed (paths_in_folders at piece folders f.listed) (λ rest. returns (found (f.paths ++ rest.paths) rest.listed))
       (folders_listed at piece folders f.listed g) (λ x y. y))
 
-  below_listed : (at : Place) (pieces folders : List (List ℕ)) (n : ℕ) → n ≤ max_listed_names → Along w AnyEvent IsListed (paths_below at pieces folders n)
+  below_listed : (at : Place) (pieces folders : List (List ℕ)) (n : ℕ) → n ≤ MAX_LISTED_NAMES → Along w AnyEvent IsListed (paths_below at pieces folders n)
   below_listed at [] folders n h = h
   below_listed at (piece ∷ []) folders n h = folders_listed at piece folders n h
   below_listed at (piece ∷ next ∷ pieces) folders n h =
@@ -74,7 +75,7 @@ module _ (w : World) where
       (λ f. paths_below at (next ∷ pieces) (map (λ path. path ++ 47 ∷ []) f.paths) f.listed) (folders_listed at piece folders n h)
       (λ f g. below_listed at (next ∷ pieces) (map (λ path. path ++ 47 ∷ []) f.paths) f.listed g)
 
-  pattern_listed : (at : Place) (pattern : List ℕ) (n : ℕ) → n ≤ max_listed_names → Along w AnyEvent IsListed (files_of_pattern at pattern n)
+  pattern_listed : (at : Place) (pattern : List ℕ) (n : ℕ) → n ≤ MAX_LISTED_NAMES → Along w AnyEvent IsListed (files_of_pattern at pattern n)
   pattern_listed at pattern n h =
       along_then w AnyEvent IsListed IsListed (paths_below at (path_pieces pattern) ([] ∷ []) n)
       (λ f. readable_paths f.paths >>= λ paths. returns (found (sorted paths) f.listed)) (below_listed at (path_pieces pattern) ([] ∷ []) n h)
@@ -85,25 +86,25 @@ module _ (w : World) where
 pub record IsKept (root : List ℕ) (I : ℕ → ReadingState → Type 0) : Type 0 where
   pub binds : (k : ℕ) (name : List ℕ) (v : Variable) (s : ReadingState) → I k s → I k (bound name v s)
   pub chooses : (k : ℕ) (name : List ℕ) (s : ReadingState) → I k s → I k (with_choice name s)
-  pub listed : (k : ℕ) (s : ReadingState) → I k s → s.listed ≤ max_listed_names
-  pub lists : (k n : ℕ) (s : ReadingState) → n ≤ max_listed_names → I k s → I k (with_listed n s)
-  pub counts : (k n : ℕ) (s : ReadingState) → s.files < max_files → s.bytes + n ≤ max_bytes → I k s → I (suc k) (counted n s)
+  pub listed : (k : ℕ) (s : ReadingState) → I k s → s.listed ≤ MAX_LISTED_NAMES
+  pub lists : (k n : ℕ) (s : ReadingState) → n ≤ MAX_LISTED_NAMES → I k s → I k (with_listed n s)
+  pub counts : (k n : ℕ) (s : ReadingState) → s.files < MAX_FILES → s.bytes + n ≤ MAX_TREE_BYTES → I k s → I (suc k) (counted n s)
   pub keeps : (k : ℕ) (path : List ℕ) (p : Progress) → I (suc k) p.state → I k (stored_file root path p).state
 
 -- a source that is no fault is within the limits
 room_for : (open_files : List (List ℕ)) (s : ReadingState) (path bytes : List ℕ) → source_fault open_files s path (Some bytes) ≡ None
-    → (s.files < max_files) × (s.bytes + length bytes ≤ max_bytes)
-room_for open_files s path bytes e = by_tests (is_in_list path open_files) (nat_le max_open_files (length open_files)) (nat_le max_files s.files)
-    (nat_lt max_bytes (s.bytes + length bytes)) refl refl e
+    → (s.files < MAX_FILES) × (s.bytes + length bytes ≤ MAX_TREE_BYTES)
+room_for open_files s path bytes e = by_tests (is_in_list path open_files) (nat_le MAX_OPEN_FILES (length open_files)) (nat_le MAX_FILES s.files)
+    (nat_lt MAX_TREE_BYTES (s.bytes + length bytes)) refl refl e
   where
-    by_tests : (a b c d : Bool) → nat_le max_files s.files ≡ c → nat_lt max_bytes (s.bytes + length bytes) ≡ d
+    by_tests : (a b c d : Bool) → nat_le MAX_FILES s.files ≡ c → nat_lt MAX_TREE_BYTES (s.bytes + length bytes) ≡ d
         → cond a (Some SourceLoop) (cond b (Some TooDeep) (cond (c || d) (Some TooMany) None)) ≡ None
-        → (s.files < max_files) × (s.bytes + length bytes ≤ max_bytes)
+        → (s.files < MAX_FILES) × (s.bytes + length bytes ≤ MAX_TREE_BYTES)
     by_tests true b c d f g e = absurd (let z : ⊥ = cc in z)
     by_tests false true c d f g e = absurd (let z : ⊥ = cc in z)
     by_tests false false true d f g e = absurd (let z : ⊥ = cc in z)
     by_tests false false false true f g e = absurd (let z : ⊥ = cc in z)
-    by_tests false false false false f g e = (leb-false max_files s.files f, ltb-false max_bytes (s.bytes + length bytes) g)
+    by_tests false false false false f g e = (leb-false MAX_FILES s.files f, ltb-false MAX_TREE_BYTES (s.bytes + length bytes) g)
 
 module _ (w : World) (root : List ℕ) (I : ℕ → ReadingState → Type 0) (keep : IsKept root I) where
   abbrev After : ℕ → Progress → Type 0
@@ -113,13 +114,13 @@ module _ (w : World) (root : List ℕ) (I : ℕ → ReadingState → Type 0) (ke
   AfterLine k x = I k x.state
 
   abbrev ReadsKeeping : ℕ → SourceReader → Type 0
-  ReadsKeeping k sub = (at : Place) (what : Sourced) (s : ReadingState) → I k s → Along w AnyEvent (After k) (sub at what s)
+  ReadsKeeping k sub = (at : Place) (what : SourceTarget) (s : ReadingState) → I k s → Along w AnyEvent (After k) (sub at what s)
 
   module _ (k : ℕ) (sub : SourceReader) (reads : ReadsKeeping k sub) where
     path_keeps : (at : Place) (sort : SourceSort) (path : List ℕ) (s : ReadingState) → I k s → Along w AnyEvent (After k) (path_read sub at sort path s)
     path_keeps at sort path s g = by_tests (is_pattern path) sort.optional
       where
-        list_keeps : (x : FoundPaths) → x.listed ≤ max_listed_names → (b : Bool) → Along w AnyEvent (After k)
+        list_keeps : (x : FoundPaths) → x.listed ≤ MAX_LISTED_NAMES → (b : Bool) → Along w AnyEvent (After k)
             (elim b as (λ z. Program Progress) [ true ↦ sub at (file_list (list_name at) x.paths) (with_listed x.listed s) | false ↦ fault at MissingFile [] ])
         list_keeps x h true = reads at (file_list (list_name at) x.paths) (with_listed x.listed s) (keep.lists k x.listed s h g)
         list_keeps x h false = tt
@@ -161,7 +162,7 @@ module _ (w : World) (root : List ℕ) (I : ℕ → ReadingState → Type 0) (ke
     form_keeps at ts (named_choice name) s g = by_test (is_in_list name s.choices)
       where
         by_test : (b : Bool) → After k (cond b (progress (line_bytes ts) s)
-            (progress (line_bytes (with_nth_token 1 (written_as a_word [] []) ts)) (with_choice name s)))
+            (progress (line_bytes (with_nth_token 1 (written_as Word [] []) ts)) (with_choice name s)))
         by_test true = g
         by_test false = keep.chooses k name s g
     form_keeps at ts (sources sort v) s g = followed_keeps at ts sort v s g
@@ -180,7 +181,7 @@ module _ (w : World) (root : List ℕ) (I : ℕ → ReadingState → Type 0) (ke
         ])
         by_test true = tt
         by_test false = along_then w AnyEvent (After k) (AfterLine k) (form_written sub at ts (form_of real) s) (short_line at (is_help_line real))
-            (form_keeps at ts (form_of real) s g) (λ p h. short p h (nat_lt max_text_bytes (length p.text)))
+            (form_keeps at ts (form_of real) s g) (λ p h. short p h (nat_lt MAX_TEXT_BYTES (length p.text)))
 
     content_keeps : (at : Place) (continued : Bool) (x : LineContent) (s : ReadingState) → I k s → Along w AnyEvent (AfterLine k)
         (content_written sub at continued s x)
@@ -194,7 +195,7 @@ module _ (w : World) (root : List ℕ) (I : ℕ → ReadingState → Type 0) (ke
 
     line_keeps : (at : Place) (continued : Bool) (text : List ℕ) (s : ReadingState) → I k s → Along w AnyEvent (AfterLine k)
         (line_written sub at continued text s)
-    line_keeps at continued text s g = by_test (nat_lt max_text_bytes (length text) || not (is_utf8 text))
+    line_keeps at continued text s g = by_test (nat_lt MAX_TEXT_BYTES (length text) || not (is_utf8 text))
       where
         by_test : (b : Bool) → Along w AnyEvent (AfterLine k) (elim b as (λ z. Program WrittenLine) [
           | true ↦ returns (written_line text (begins_help text) s)
@@ -238,12 +239,12 @@ module _ (w : World) (root : List ℕ) (I : ℕ → ReadingState → Type 0) (ke
         (λ rest. returns (progress (codes "source " ++ (in_quotes_of 34 p.text ++ 10 ∷ rest.text)) rest.state)) (list_keeps at paths p.state x)
         (λ rest y. y))
 
-    contents_keep : (at : Place) (what : Sourced) (bytes : List ℕ) (s : ReadingState) → (s.files < max_files) × (s.bytes + length bytes ≤ max_bytes)
+    contents_keep : (at : Place) (what : SourceTarget) (bytes : List ℕ) (s : ReadingState) → (s.files < MAX_FILES) × (s.bytes + length bytes ≤ MAX_TREE_BYTES)
         → ((n : ℕ) → n ≤ length bytes → I k (counted n s)) → Along w AnyEvent (After k) (contents_read sub at what (Some bytes) s)
     contents_keep at (one_file path) bytes s h g = lines_keep path 0 1 (split_at_newlines bytes) (counted (length bytes) s) (g (length bytes) (omega arith))
     contents_keep at (file_list name paths) bytes s h g = list_keeps at paths (counted 0 s) (g 0 (omega arith))
 
-  sourced_keeps : (k : ℕ) (sub : SourceReader) → ReadsKeeping (suc k) sub → (open_files : List (List ℕ)) (at : Place) (what : Sourced) (s : ReadingState)
+  sourced_keeps : (k : ℕ) (sub : SourceReader) → ReadsKeeping (suc k) sub → (open_files : List (List ℕ)) (at : Place) (what : SourceTarget) (s : ReadingState)
       → I k s → (bytes : List ℕ) → Along w AnyEvent (After k) (sourced_read sub root open_files at what s (Some bytes))
   sourced_keeps k sub reads open_files at what s g bytes = by_fault (source_fault open_files s (sourced_path what) (Some bytes)) refl
     where

@@ -16,7 +16,7 @@ use Rattle.kc_macros_model.specs.Expansion.{text_value}
 use Rattle.kc_macros_model.specs.ReadingStates.{ExpandedFile}
 use Rattle.kc_macros_model.specs.TreeExpansion.{place, tree_read}
 use Rattle.kc_macros_model.specs.Worlds.{World, Ending, returned, failed, stopped, outcome, expansion}
-use Rattle.kc_macros_model.specs.AnswerFiles.{Recorded, cut_by, answers_read}
+use Rattle.kc_macros_model.specs.AnswerFiles.{RecordedAnswers, cut_by, answers_read}
 
 -- the names in a folder, by the paths of files
 abbrev names_in : List (List ℕ × List ℕ) → List ℕ → List (List ℕ)
@@ -24,21 +24,21 @@ names_in files folder = without_repeats (map (λ (f : List ℕ × List ℕ). tak
     (filter (λ (f : List ℕ × List ℕ). starts_with (λ a b. a == b) f.0 folder) files))
 
 -- a world of these files and answers
-abbrev world : List (List ℕ × List ℕ) → Recorded → World
+abbrev world : List (List ℕ × List ℕ) → RecordedAnswers → World
 world files answers = record { answer = keyword_in_table answers; bytes = λ path. lookup (bytes_eq path) files; names = names_in files }
 
 -- a tree of one file
-abbrev one_file : List ℕ → Recorded → World
+abbrev one_file : List ℕ → RecordedAnswers → World
 one_file bytes answers = world ((codes "Kconfig", bytes) ∷ []) answers
 
 -- the expanded files, by key
-abbrev texts_of : Ending (List ExpandedFile) → Result (List (List ℕ × List ℕ)) Fault
-texts_of (returned files) = Ok (map (λ (f : ExpandedFile). (f.key, f.text)) files)
-texts_of (failed f) = Err f
-texts_of stopped = Ok []
+abbrev texts_by_key : Ending (List ExpandedFile) → Result (List (List ℕ × List ℕ)) Fault
+texts_by_key (returned files) = Ok (map (λ (f : ExpandedFile). (f.key, f.text)) files)
+texts_by_key (failed f) = Err f
+texts_by_key stopped = Ok []
 
 abbrev expanded_texts : World → Result (List (List ℕ × List ℕ)) Fault
-expanded_texts w = texts_of (expansion w (codes "Kconfig")).ending
+expanded_texts w = texts_by_key (expansion w (codes "Kconfig")).ending
 
 -- the result of an expansion to a tree of one file
 abbrev one_text : List ℕ → Result (List (List ℕ × List ℕ)) Fault
@@ -80,13 +80,13 @@ unfolding tree_read text_value expansion next_token is_utf8 chars digits lib.Utf
 older_forms = refl
 
 -- work: the four bytes of the token and one, the byte of the name and one, and the one and the three bytes that they become
-enough_work : texts_of (outcome true (one_file (codes "if $(A)\n") ((codes "A", Some (codes "abc")) ∷ [])) 11 (tree_read (codes "Kconfig"))).ending
+enough_work : texts_by_key (outcome true (one_file (codes "if $(A)\n") ((codes "A", Some (codes "abc")) ∷ [])) 11 (tree_read (codes "Kconfig"))).ending
     ≡ one_text (codes "if abc\n")
 unfolding tree_read text_value next_token is_utf8 chars digits lib.Utf8.encode
 enough_work = refl
 
 -- with one step of work less the expansion fails
-too_much_work : texts_of (outcome true (one_file (codes "if $(A)\n") ((codes "A", Some (codes "abc")) ∷ [])) 10 (tree_read (codes "Kconfig"))).ending
+too_much_work : texts_by_key (outcome true (one_file (codes "if $(A)\n") ((codes "A", Some (codes "abc")) ∷ [])) 10 (tree_read (codes "Kconfig"))).ending
     ≡ Err (fault_of 1 TooMany [])
 unfolding tree_read text_value next_token is_utf8 chars digits lib.Utf8.encode
 too_much_work = refl

@@ -3,7 +3,7 @@ use Rattle.std.proofs.Common.{◌≡◌, ℕ, zero, suc, ◌+◌, ◌≤◌, Boo
 use Rattle.std.specs.Prelude.{nat_le}
 use Rattle.std.proofs.lemmas.Bool.{le-leb}
 use Rattle.kc_macros_model.specs.declared.fault.MacroKind.TheVariants.{Arguments, Recursion, LineTooLong}
-use Rattle.kc_macros_model.specs.Limits.{max_text_bytes, max_pieces}
+use Rattle.kc_value.specs.declared.limits.TheConstants.{MAX_TEXT_BYTES, MAX_PIECES}
 use Rattle.kc_macros_model.specs.Programs.{Place, Program, returns, ◌>>=◌}
 use Rattle.kc_macros_model.specs.References.{pieces, Item, byte, reference, items}
 use Rattle.kc_macros_model.specs.Variables.{Value, value_length, joined_values, Bindings, argument_of}
@@ -29,7 +29,7 @@ module _ (w : World) (at : Place) (b : Bindings) where
   Comes v p = IsValueOrBound v (ending_in w p)
 
   unless_long_comes : {A : Type 0} (n : ℕ) (p : Program A) (v : A) → Comes v p → Comes v (unless_too_long at n p)
-  unless_long_comes {A = A} n p v h = by_test (nat_le n max_text_bytes)
+  unless_long_comes {A = A} n p v h = by_test (nat_le n MAX_TEXT_BYTES)
     where
       by_test : (c : Bool) → Comes v (elim c as (λ z. Program A) [ true ↦ p | false ↦ fault at LineTooLong [] ])
       by_test true = h
@@ -56,7 +56,7 @@ module _ (w : World) (at : Place) (b : Bindings) where
 
   module _ (more : ℕ) (open_names : List (List ℕ)) where
     reference_comes : (args : List Value) (inside : List ℕ) (vs : List Value) (u : Value) → argument_of args inside ≡ None
-        → length (pieces 0 inside) ≤ max_pieces
+        → length (pieces 0 inside) ≤ MAX_PIECES
         → Comes vs (piece_values (expanded more at b open_names args) (pieces 0 inside)) → Comes u (call_value (expanded more at b) at b open_names vs)
         → Comes u (reference_value (expanded more at b) at b open_names args inside (argument_of args inside))
     reference_comes args inside vs u a few h k =
@@ -65,7 +65,7 @@ module _ (w : World) (at : Place) (b : Bindings) where
           | true ↦ piece_values (expanded more at b open_names args) (pieces 0 inside) >>= call_value
               (expanded more at b) at b open_names
           | false ↦ fault at Arguments []
-        ])) (sym (le-leb (length (pieces 0 inside)) max_pieces few))
+        ])) (sym (le-leb (length (pieces 0 inside)) MAX_PIECES few))
         (both_come w (piece_values (expanded more at b open_names args) (pieces 0 inside)) (call_value (expanded more at b) at b open_names) vs u h k))
 
     recursive_comes : (name s : List ℕ) (given : List Value) (u : Value) → Comes u (expanded more at b (name ∷ open_names) given s)
@@ -126,23 +126,23 @@ neither_second true q e = absurd (let z : ⊥ = cc in z)
 neither_second false q e = e
 
 module _ (at : Place) (b : Bindings) (more : ℕ) (open_names : List (List ℕ)) (args : List Value) where
-  plain_items : (s : List ℕ) (n : ℕ) → has_reference s ≡ false → n + length s ≤ max_text_bytes → item_values at
+  plain_items : (s : List ℕ) (n : ℕ) → has_reference s ≡ false → n + length s ≤ MAX_TEXT_BYTES → item_values at
       (item_value (expanded more at b) at b open_names args) n (items false 0 s) ≡ returns (Some s)
   plain_items [] n e h = refl
   plain_items (c ∷ s) n e h =
-      let short : n + 1 ≤ max_text_bytes = omega (arith, h) in
-      let rest_short : n + 1 + length s ≤ max_text_bytes = omega (arith, h) in
+      let short : n + 1 ≤ MAX_TEXT_BYTES = omega (arith, h) in
+      let rest_short : n + 1 + length s ≤ MAX_TEXT_BYTES = omega (arith, h) in
       let f = item_value (expanded more at b) at b open_names args in
       ap (λ is. item_values at f n is) (items_of_byte c s (neither_first (begins_reference (c ∷ s)) (has_reference s) e))
       ∙ ap (λ t. elim t as (λ z. Program Value) [
         | true ↦ item_values at f (n + 1) (items false 0 s) >>= λ rest. returns (joined_values (Some (c ∷ [])) rest)
         | false ↦ fault at LineTooLong []
-      ]) (le-leb (n + 1) max_text_bytes short)
+      ]) (le-leb (n + 1) MAX_TEXT_BYTES short)
       ∙ ap (λ (p : Program Value). p >>= λ rest. returns (joined_values (Some (c ∷ [])) rest))
       (plain_items s (n + 1) (neither_second (begins_reference (c ∷ s)) (has_reference s) e) rest_short)
 
 pub plain_texts_stay : PlainTextsStay
 plain_texts_stay at b more open_names args text e h =
-    let short : 0 + length text ≤ max_text_bytes = omega (arith, h) in
+    let short : 0 + length text ≤ MAX_TEXT_BYTES = omega (arith, h) in
     ap (λ (p : Program Value). spends at (length text + 1) (p >>= λ v. spends at (value_length v) (returns v)))
     (plain_items at b more open_names args text 0 e short)

@@ -12,8 +12,9 @@ use Rattle.kc_macros_model.specs.References.{Item, item_bytes, first_item, items
 use Rattle.kc_macros_model.specs.Variables.{Value, Bindings}
 use Rattle.kc_macros_model.specs.Expansion.{text_value}
 use Rattle.kc_macros_model.specs.LineTokens.{LineToken, gap, run, quoted, other, broken, token_bytes, extent, is_run_byte, run_token, quoted_token, first_token, line_tokens}
-use Rattle.kc_macros_model.specs.WrittenTokens.{is_bare_byte, is_keyword, escaped_text, in_quotes_of, a_gap, a_word, a_quoted, an_other, WrittenToken, written_as, token_of_text, token_of_value, written_items, token_of_body, run_value, written_token}
-use Rattle.kc_macros_model.specs.Assignments.{Assigned, assignment_at, LineContent, assigns, tokens, with_token, is_gap, is_unknown, is_open_front, assignment_or, line_content}
+use Rattle.kc_macros_model.specs.declared.token_sort.TokenSort.TheVariants.{Gap, Word, Quoted, Other}
+use Rattle.kc_macros_model.specs.WrittenTokens.{is_bare_byte, is_keyword, escaped_text, in_quotes_of, WrittenToken, written_as, token_of_text, token_of_value, written_items, token_of_body, run_value, written_token}
+use Rattle.kc_macros_model.specs.Assignments.{AssignedText, assignment_at, LineContent, assigns, tokens, with_token, is_gap, is_unknown, is_open_front, assignment_or, line_content}
 use Rattle.kc_macros_model.specs.LineForms.{form_of, line_bytes}
 use Rattle.kc_macros_model.specs.Worlds.{World, returned}
 use Rattle.kc_macros_model.specs.ExpansionRules.{ending_in}
@@ -154,11 +155,11 @@ text_written : (c : ℕ) (text y : List ℕ) → is_run_byte c ≡ true → IsKe
 text_written c [] y r k n = gap_written c y k
 text_written c (d ∷ s) y r k n = by_tests (list_all is_bare_byte (d ∷ s)) (is_keyword (d ∷ s)) refl
   where
-    in_quotes : IsWrittenFront c (written_as a_quoted (in_quotes_of 34 (d ∷ s)) (d ∷ s)) y
+    in_quotes : IsWrittenFront c (written_as Quoted (in_quotes_of 34 (d ∷ s)) (d ∷ s)) y
     in_quotes = record { kept = quoted_kept double_quote (escaped_text 34 (d ∷ s)) y (escaped_is_body 34 (d ∷ s)) k; front = λ m. run_front c r m }
 
     by_tests : (a b : Bool) → list_all is_bare_byte (d ∷ s) ≡ a → IsWrittenFront c
-        (cond (a && not b) (written_as a_word (d ∷ s) (d ∷ s)) (written_as a_quoted (in_quotes_of 34 (d ∷ s)) (d ∷ s))) y
+        (cond (a && not b) (written_as Word (d ∷ s) (d ∷ s)) (written_as Quoted (in_quotes_of 34 (d ∷ s)) (d ∷ s))) y
     by_tests true false e = record { kept = word_kept d s y (bare_words (d ∷ s) e) n k; front = λ m. run_front c r m }
     by_tests true true e = in_quotes
     by_tests false b e = in_quotes
@@ -187,14 +188,14 @@ module _ (w : World) (at : Place) (b : Bindings) where
 
       by_tests : (p q : Bool) → list_any is_plain_dollar (items false 0 s) ≡ p → list_any is_reference (items false 0 s) ≡ q
           → ending_in w (elim p as (λ z. Program WrittenToken) [
-            | true ↦ returns (written_as an_other s [])
-            | false ↦ elim q [ true ↦ text_value at b s >>= λ v. returns (token_of_value v) | false ↦ returns (written_as a_word s s) ]
+            | true ↦ returns (written_as Other s [])
+            | false ↦ elim q [ true ↦ text_value at b s >>= λ v. returns (token_of_value v) | false ↦ returns (written_as Word s s) ]
           ]) ≡ returned x
           → IsWrittenFront c x y
       by_tests true q hp hq e =
-          absurd (left (subst (λ (z : WrittenToken). is_left_with_dollar z ≡ false) (sym (same_return (written_as an_other s []) x e)) l) hp)
+          absurd (left (subst (λ (z : WrittenToken). is_left_with_dollar z ≡ false) (sym (same_return (written_as Other s []) x e)) l) hp)
       by_tests false false hp hq e =
-          subst (λ z. IsWrittenFront c z y) (same_return (written_as a_word s s) x e)
+          subst (λ z. IsWrittenFront c z y) (same_return (written_as Word s s) x e)
           (record { kept = word_kept c r y (words (row_without_dollars (is_row s) hp hq unterminated)) n k; front = λ m. run_front c h m })
       by_tests false true hp hq e =
           let (v, ev, e2) = split_return w (text_value at b s) (λ v. returns (token_of_value v)) x e in
@@ -205,7 +206,7 @@ module _ (w : World) (at : Place) (b : Bindings) where
   token_written : (c : ℕ) (s : List ℕ) (t : LineToken) (rest y : List ℕ) (x : WrittenToken) → IsCut c s t rest → Writes t x → is_unknown x ≡ false
       → is_left_with_dollar x ≡ false → IsAfter rest y → IsWrittenFront c x y
   token_written c s (gap z) rest y x (cut_white h) e u l a =
-      subst (λ z. IsWrittenFront c z y) (same_return (written_as a_gap (c ∷ []) []) x e)
+      subst (λ z. IsWrittenFront c z y) (same_return (written_as Gap (c ∷ []) []) x e)
       (record {
         kept = kept_front c y [] y (gap (c ∷ []))
             (ap (λ b. cond b (gap (c ∷ [])) (cond (c == 35) (gap (c ∷ y))
@@ -215,7 +216,7 @@ module _ (w : World) (at : Place) (b : Bindings) where
       })
   token_written c s (gap z) rest y x (cut_comment h) e u l a =
       let none : y ≡ [] = a.none refl in
-      subst (λ z. IsWrittenFront c z y) (same_return (written_as a_gap (c ∷ s) []) x e)
+      subst (λ z. IsWrittenFront c z y) (same_return (written_as Gap (c ∷ s) []) x e)
       (record {
         kept = subst (λ z. IsKept (c ∷ (s ++ z))) (sym none) (kept_front c (s ++ []) s [] (gap (c ∷ s))
             (ap (λ z. first_token c z) (append-nil s) ∙ h) refl refl refl refl);
@@ -229,7 +230,7 @@ module _ (w : World) (at : Place) (b : Bindings) where
       (record { kept = quoted_kept quote body.bytes y (inside_written w at b c h body eb) a.kept; front = λ m. m })
   token_written c s (other z) rest y x (cut_open h) e u l a =
       let none : y ≡ [] = a.none refl in
-      subst (λ z. IsWrittenFront c z y) (same_return (written_as an_other (c ∷ s) []) x e)
+      subst (λ z. IsWrittenFront c z y) (same_return (written_as Other (c ∷ s) []) x e)
       (record {
         kept = subst (λ z. IsKept (c ∷ (s ++ z))) (sym none) (kept_front c (s ++ []) s [] (other (c ∷ s))
             (ap (λ z. first_token c z) (append-nil s) ∙ h) refl refl refl refl);
@@ -238,7 +239,7 @@ module _ (w : World) (at : Place) (b : Bindings) where
   token_written c s (other z) rest y x (cut_other white comment in_run quote) e u l a =
       let as_run = run_token (take (extent false ends_run 0 (c ∷ y)) (c ∷ y)) in
       let as_quoted = quoted_token (extent true (λ d. d == c) 0 y) c y in
-      subst (λ z. IsWrittenFront c z y) (same_return (written_as an_other (c ∷ []) []) x e)
+      subst (λ z. IsWrittenFront c z y) (same_return (written_as Other (c ∷ []) []) x e)
       (record {
         kept = kept_front c y [] y (other (c ∷ []))
             (ap (λ b. cond b (gap (c ∷ [])) (cond (c == 35) (gap (c ∷ y))
@@ -283,7 +284,7 @@ module _ (w : World) (at : Place) (b : Bindings) where
       (after_token c s (line_bytes us) x (f (line_bytes us) (neither_first (is_unknown x) (list_any is_unknown us) again.known)
       (neither_first (is_left_with_dollar x) (list_any is_left_with_dollar us) again.left) (ih us (subst (λ z. ending_in w p ≡ returned z) eu ec) others)))
 
-  or_gap : (c : ℕ) (s rest : List ℕ) (p : Program LineContent) (a : Assigned) (v : Value) (ts : List WrittenToken)
+  or_gap : (c : ℕ) (s rest : List ℕ) (p : Program LineContent) (a : AssignedText) (v : Value) (ts : List WrittenToken)
       → ((us : List WrittenToken) → Content p us → AreSettled us → IsAfter rest (line_bytes us))
       → Content (assignment_or (p >>= λ more. returns (with_token (token_of_text []) more)) a v) ts → AreSettled ts → IsAfter (c ∷ s) (line_bytes ts)
   or_gap c s rest p a None ts ih e settled = let z : ⊥ = cc in absurd z
@@ -305,7 +306,7 @@ module _ (w : World) (at : Place) (b : Bindings) where
       goes_on x ex m ih false e = next_written c s rest x (line_content at b m row) ts ih (λ y u l k. token_written c s t rest y x cut ex u l k) e settled
 
       by_name : ((m : Bool) (us : List WrittenToken) → Content (line_content at b m row) us → AreSettled us → IsAfter rest (line_bytes us))
-          → (a : Option Assigned)
+          → (a : Option AssignedText)
           → Content (elim a as (λ z. Program LineContent) [
             | Some a ↦ run_value at b (token_bytes t) >>= assignment_or (line_content at b true row >>= λ rest. returns (with_token (token_of_text []) rest)) a
             | None ↦ written_token at b t >>= λ x. elim (is_open_front may_assign x row) as (λ z. Program LineContent)

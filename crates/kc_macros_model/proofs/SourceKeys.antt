@@ -8,7 +8,7 @@ use Rattle.kc_macros_model.specs.Programs.{Place, Program, returns, ◌>>=◌}
 use Rattle.kc_macros_model.specs.Expansion.{fault}
 use Rattle.kc_macros_model.specs.ReadingStates.{ExpandedFile, ReadingState, Progress, has_key, key_of, stored_file}
 use Rattle.kc_macros_model.specs.ReadingLaws.{SourceKeysHaveFiles}
-use Rattle.kc_macros_model.specs.TreeExpansion.{Sourced, one_file, file_list, sourced_path, SourceReader, source_fault, contents_read, sourced_read, source_read}
+use Rattle.kc_macros_model.specs.TreeExpansion.{SourceTarget, one_file, file_list, sourced_path, SourceReader, source_fault, contents_read, sourced_read, source_read}
 use Rattle.kc_macros_model.specs.Worlds.{World}
 use Rattle.kc_macros_model.proofs.RunInvariants.{Along, along_then}
 use Rattle.kc_macros_model.proofs.BoundedReadings.{fact_of_ending}
@@ -39,7 +39,7 @@ stored_has_file root path p = by_test (has_key files key) refl
     by_test false e = list_any-append (λ (f : ExpandedFile). bytes_eq f.key key) files (new ∷ []) ∙ ap (λ b. has_key files key || (b || false))
         (nat_list_eq_equiv.refl key) ∙ or_true (has_key files key)
 
-sourced_has_file : (w : World) (sub : SourceReader) (root : List ℕ) (open_files : List (List ℕ)) (at : Place) (what : Sourced) (s : ReadingState)
+sourced_has_file : (w : World) (sub : SourceReader) (root : List ℕ) (open_files : List (List ℕ)) (at : Place) (what : SourceTarget) (s : ReadingState)
     (bytes : Option (List ℕ)) → Along w AnyEvent HasItsFile (sourced_read sub root open_files at what s bytes)
 sourced_has_file w sub root open_files at what s bytes = by_fault (source_fault open_files s (sourced_path what) bytes)
   where
@@ -49,7 +49,7 @@ sourced_has_file w sub root open_files at what s bytes = by_fault (source_fault 
     by_fault None = along_then w AnyEvent (λ p. Unit {0}) HasItsFile (contents_read sub at what bytes s) (λ p. returns (stored_file root (sourced_path what) p))
         (anything w (contents_read sub at what bytes s)) (λ p h. stored_has_file root (sourced_path what) p)
 
-source_has_file : (w : World) (more : ℕ) (root : List ℕ) (open_files : List (List ℕ)) (at : Place) (what : Sourced) (s : ReadingState)
+source_has_file : (w : World) (more : ℕ) (root : List ℕ) (open_files : List (List ℕ)) (at : Place) (what : SourceTarget) (s : ReadingState)
     → Along w AnyEvent HasItsFile (source_read (suc more) root open_files at what s)
 source_has_file w more root open_files at (one_file path) s = (
   tt,

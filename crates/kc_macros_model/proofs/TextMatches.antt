@@ -7,10 +7,12 @@ use Rattle.kc_macros_model.specs.declared.fault.MacroKind.{MacroKind}
 use Rattle.kc_macros_model.specs.declared.fault.MacroKind.TheVariants.{Unterminated, Undefined, Recursion, Arguments, Error, TooDeep}
 use Rattle.kc_macros_model.specs.declared.fault.MacroNoticeKind.{MacroNoticeKind}
 use Rattle.kc_macros_model.specs.declared.fault.MacroNoticeKind.TheVariants.{Info, Warning}
-use Rattle.kc_macros_model.specs.Limits.{max_pieces, max_open_expansions}
+use Rattle.kc_value.specs.declared.limits.TheConstants.{MAX_PIECES, MAX_OPEN_EXPANSIONS}
 use Rattle.kc_macros_model.specs.Programs.{Place, Answer, Program, returns, ◌>>=◌}
 use Rattle.kc_macros_model.specs.References.{pieces, Item, byte, escaped, reference, unterminated, items}
-use Rattle.kc_macros_model.specs.Variables.{Value, value_length, joined_values, Variable, simple, recursive, Bindings, is_number, is_environment_name, command_question, argument_of, BuiltIn, filename, lineno, shell, info, warning_if, error_if, built_ins, value_of_answer}
+use Rattle.kc_macros_model.specs.declared.built_in.BuiltIn.{BuiltIn}
+use Rattle.kc_macros_model.specs.declared.built_in.BuiltIn.TheVariants as functions
+use Rattle.kc_macros_model.specs.Variables.{Value, value_length, joined_values, Variable, simple, recursive, Bindings, is_number, is_environment_name, command_question, argument_of, built_ins, value_of_answer}
 use Rattle.kc_macros_model.specs.Expansion.{fault, spends, asked_value, reported, message_if, shell_value, built_in_value, other_value, unbound_value, is_recursion, Expander, named_value, piece_values, call_value, reference_value, item_value, unless_too_long, item_values, expanded, text_value}
 use Rattle.kc_macros_model.specs.Worlds.{World}
 use Rattle.kc_macros_model.specs.ProgramLaws.{Extends}
@@ -129,26 +131,26 @@ module _ (w more : World) (ext : Extends w more) (question : List ℕ) (unanswer
 
     built_in_matches : (name : List ℕ) (f : BuiltIn) {vs us : List Value} → EachNoLess vs us → M NoLess (built_in_value at name f vs)
         (built_in_value at name f us)
-    built_in_matches name filename none = text at.file
-    built_in_matches name filename (next {v = v} {vs = vs} r rs) = refused at Arguments name (built_in_value at name filename (v ∷ vs))
-    built_in_matches name lineno none = text (decimal at.line)
-    built_in_matches name lineno (next {v = v} {vs = vs} r rs) = refused at Arguments name (built_in_value at name lineno (v ∷ vs))
-    built_in_matches name shell none = refused at Arguments name (built_in_value at name shell [])
-    built_in_matches name shell (next r none) = shell_matches r
-    built_in_matches name shell (next {v = v} r (next {v = u} {vs = vs} s rs)) = refused at Arguments name (built_in_value at name shell (v ∷ u ∷ vs))
-    built_in_matches name info none = refused at Arguments name (built_in_value at name info [])
-    built_in_matches name info (next r none) = message_matches (reported at Info) (reported_empty Info) (report_matches Info) (same {s = codes "y"}) r
-    built_in_matches name info (next {v = v} r (next {v = u} {vs = vs} s rs)) = refused at Arguments name (built_in_value at name info (v ∷ u ∷ vs))
-    built_in_matches name warning_if none = refused at Arguments name (built_in_value at name warning_if [])
-    built_in_matches name warning_if (next {v = v} r none) = refused at Arguments name (built_in_value at name warning_if (v ∷ []))
-    built_in_matches name warning_if (next r (next s none)) = message_matches (reported at Warning) (reported_empty Warning) (report_matches Warning) r s
-    built_in_matches name warning_if (next {v = v} r (next {v = u} s (next {v = t} {vs = vs} q rs))) =
-        refused at Arguments name (built_in_value at name warning_if (v ∷ u ∷ t ∷ vs))
-    built_in_matches name error_if none = refused at Arguments name (built_in_value at name error_if [])
-    built_in_matches name error_if (next {v = v} r none) = refused at Arguments name (built_in_value at name error_if (v ∷ []))
-    built_in_matches name error_if (next r (next s none)) = message_matches (fault at Error) error_empty fault_matches r s
-    built_in_matches name error_if (next {v = v} r (next {v = u} s (next {v = t} {vs = vs} q rs))) =
-        refused at Arguments name (built_in_value at name error_if (v ∷ u ∷ t ∷ vs))
+    built_in_matches name functions.Filename none = text at.file
+    built_in_matches name functions.Filename (next {v = v} {vs = vs} r rs) = refused at Arguments name (built_in_value at name functions.Filename (v ∷ vs))
+    built_in_matches name functions.Lineno none = text (decimal at.line)
+    built_in_matches name functions.Lineno (next {v = v} {vs = vs} r rs) = refused at Arguments name (built_in_value at name functions.Lineno (v ∷ vs))
+    built_in_matches name functions.Shell none = refused at Arguments name (built_in_value at name functions.Shell [])
+    built_in_matches name functions.Shell (next r none) = shell_matches r
+    built_in_matches name functions.Shell (next {v = v} r (next {v = u} {vs = vs} s rs)) = refused at Arguments name (built_in_value at name functions.Shell (v ∷ u ∷ vs))
+    built_in_matches name functions.Info none = refused at Arguments name (built_in_value at name functions.Info [])
+    built_in_matches name functions.Info (next r none) = message_matches (reported at Info) (reported_empty Info) (report_matches Info) (same {s = codes "y"}) r
+    built_in_matches name functions.Info (next {v = v} r (next {v = u} {vs = vs} s rs)) = refused at Arguments name (built_in_value at name functions.Info (v ∷ u ∷ vs))
+    built_in_matches name functions.WarningIf none = refused at Arguments name (built_in_value at name functions.WarningIf [])
+    built_in_matches name functions.WarningIf (next {v = v} r none) = refused at Arguments name (built_in_value at name functions.WarningIf (v ∷ []))
+    built_in_matches name functions.WarningIf (next r (next s none)) = message_matches (reported at Warning) (reported_empty Warning) (report_matches Warning) r s
+    built_in_matches name functions.WarningIf (next {v = v} r (next {v = u} s (next {v = t} {vs = vs} q rs))) =
+        refused at Arguments name (built_in_value at name functions.WarningIf (v ∷ u ∷ t ∷ vs))
+    built_in_matches name functions.ErrorIf none = refused at Arguments name (built_in_value at name functions.ErrorIf [])
+    built_in_matches name functions.ErrorIf (next {v = v} r none) = refused at Arguments name (built_in_value at name functions.ErrorIf (v ∷ []))
+    built_in_matches name functions.ErrorIf (next r (next s none)) = message_matches (fault at Error) error_empty fault_matches r s
+    built_in_matches name functions.ErrorIf (next {v = v} r (next {v = u} s (next {v = t} {vs = vs} q rs))) =
+        refused at Arguments name (built_in_value at name functions.ErrorIf (v ∷ u ∷ t ∷ vs))
 
     other_matches : (name : List ℕ) {vs us : List Value} → EachNoLess vs us → M NoLess (other_value at name vs) (other_value at name us)
     other_matches name (next {v = v} {vs = vs} r rs) = refused at Undefined name (other_value at name (v ∷ vs))
@@ -228,7 +230,7 @@ module _ (w more : World) (ext : Extends w more) (question : List ℕ) (unanswer
 
       reference_matches : (open_names : List (List ℕ)) (inside : List ℕ) {vs us : List Value} → EachNoLess vs us → {x y : Option Value} → ArgumentNoLess x y
           → M NoLess (reference_value sub at b open_names vs inside x) (reference_value sup at c open_names us inside y)
-      reference_matches open_names inside r neither = few_match open_names inside r (nat_le (length (pieces 0 inside)) max_pieces)
+      reference_matches open_names inside r neither = few_match open_names inside r (nat_le (length (pieces 0 inside)) MAX_PIECES)
       reference_matches open_names inside r (either {v = v} {u = u} n) = match_return w more ext question unanswered NoLess v u n
 
       item_matches : (open_names : List (List ℕ)) {vs us : List Value} → EachNoLess vs us → (i : Item)
@@ -270,4 +272,4 @@ module _ (w more : World) (ext : Extends w more) (question : List ℕ) (unanswer
       -- the value of a text where a question is open is no less known where more is answered
       pub text_matches : (s : List ℕ) → M NoLess (text_value at b s) (text_value at c s)
       unfolding text_value
-      text_matches s = expanded_matches max_open_expansions [] s [] [] none
+      text_matches s = expanded_matches MAX_OPEN_EXPANSIONS [] s [] [] none

@@ -2,7 +2,7 @@
 use Rattle.std.proofs.Common.{◌≡◌, ℕ, Bool, true, false, cond, List, [], ◌∷◌, ◌++◌, Ok, Err, refl, sym, ap, ◌∙◌}
 use Rattle.std.specs.Prelude.{reverse}
 use Rattle.kc_tree_model.specs.Limits.{is_in_list, without_repeats}
-use Rattle.kc_macros_model.specs.Limits.{max_work}
+use Rattle.kc_value.specs.declared.limits.TheConstants.{MAX_WORK}
 use Rattle.kc_macros_model.specs.Programs.{Fault}
 use Rattle.kc_macros_model.specs.ReadingStates.{ExpandedFile}
 use Rattle.kc_macros_model.specs.TreeExpansion.{tree_read}
@@ -14,7 +14,7 @@ use Rattle.std.proofs.lemmas.List.{reverse-reverse}
 
 pub answers_not_asked : AnswersNotAskedChangeNothing
 unfolding expansion
-answers_not_asked w more root ext h = same_if_answered w more ext max_work (tree_read root) h
+answers_not_asked w more root ext h = same_if_answered w more ext MAX_WORK (tree_read root) h
 
 end_of_none : {A : Type 0} (qs : List (List ℕ)) (x : List ℕ) → qs ++ x ∷ [] ≡ [] → A
 end_of_none [] x e = absurd (let z : ⊥ = cc in z)
@@ -44,10 +44,10 @@ not_failed end f e h = let z : Err f ≡ Ok [] = sym (ap (questions_or_fault [])
 pub nothing_wanted : NothingWantedIsExpanded
 unfolding wanted expansion
 nothing_wanted w root f e h =
-    let o : Outcome (List ExpandedFile) = outcome false w max_work (tree_read root) in
+    let o : Outcome (List ExpandedFile) = outcome false w MAX_WORK (tree_read root) in
     let n = nothing_open (without_repeats (reverse o.questions)) o.ending e in
     let none : o.questions ≡ [] = sym (reverse-reverse o.questions) ∙ ap reverse (none_of_none (reverse o.questions) n) in
-    let same = same_if_none_open w max_work (tree_read root) none in
+    let same = same_if_none_open w MAX_WORK (tree_read root) none in
     not_failed o.ending f (ap (λ qs. questions_or_fault qs o.ending) (sym n) ∙ e) (ap (λ (x : Outcome (List ExpandedFile)). x.ending) (sym same) ∙ h)
 
 returned_files : {A : Type 0} (end : Ending A) → (end ≡ stopped → ⊥) → ((f : Fault) → end ≡ failed f → ⊥) → (x : A) × (end ≡ returned x)

@@ -7,17 +7,18 @@ use Rattle.kc_tree_model.specs.Limits.{is_in_list}
 use Rattle.kc_tree_model.specs.LogicalLines.{PhysicalLine, split_at_newlines, without_return, is_continued, joined_bytes, continuation_count, begins_help}
 use Rattle.kc_macros_model.specs.declared.fault.MacroKind.{MacroKind}
 use Rattle.kc_macros_model.specs.declared.fault.MacroKind.TheVariants.{JoinedAssignment, MissingFile, TooMany, LineTooLong}
-use Rattle.kc_macros_model.specs.Limits.{max_text_bytes, max_bytes, max_open_files, max_listed_names}
+use Rattle.kc_value.specs.declared.limits.TheConstants.{MAX_TEXT_BYTES, MAX_TREE_BYTES, MAX_OPEN_FILES, MAX_LISTED_NAMES}
 use Rattle.kc_macros_model.specs.Programs.{Place, Program, returns, stops, list_folder, does, ◌>>=◌}
 use Rattle.kc_macros_model.specs.Variables.{Value}
 use Rattle.kc_macros_model.specs.Expansion.{fault}
 use Rattle.kc_macros_model.specs.LineTokens.{line_tokens}
-use Rattle.kc_macros_model.specs.WrittenTokens.{WrittenToken, in_quotes_of, written_as, a_word}
-use Rattle.kc_macros_model.specs.Assignments.{Assigned, LineContent, assigns, line_content, variable_assigned}
+use Rattle.kc_macros_model.specs.declared.token_sort.TokenSort.TheVariants.{Word}
+use Rattle.kc_macros_model.specs.WrittenTokens.{WrittenToken, in_quotes_of, written_as}
+use Rattle.kc_macros_model.specs.Assignments.{AssignedText, LineContent, assigns, line_content, variable_assigned}
 use Rattle.kc_macros_model.specs.LineForms.{SourceSort, LineForm, plain, bare_prompt, replaced_by, named_choice, sources, form_of, without_gaps, with_nth_token, line_bytes, is_help_line, is_undecided, with_replacement}
 use Rattle.kc_macros_model.specs.PathPatterns.{is_pattern, matches_name, path_pieces, sorted, FoundPaths, found, matching_names, paths_in_folder, paths_in_folders, paths_below, readable_paths, files_of_pattern}
 use Rattle.kc_macros_model.specs.ReadingStates.{ExpandedFile, ReadingState, initial_state, Progress, progress, WrittenLine, written_line, bound, with_choice, with_listed, counted, stored_file}
-use Rattle.kc_macros_model.specs.TreeExpansion.{place, Sourced, one_file, file_list, sourced_path, SourceReader, path_meant, list_name, source_line, pattern_read, path_read, source_followed, choice_written, form_written, short_line, tokens_written, content_written, line_written, bytes_of_lines, lines_written, help_after, lines_read, list_read, source_fault, contents_read, sourced_read, source_read, root_read, tree_read}
+use Rattle.kc_macros_model.specs.TreeExpansion.{place, SourceTarget, one_file, file_list, sourced_path, SourceReader, path_meant, list_name, source_line, pattern_read, path_read, source_followed, choice_written, form_written, short_line, tokens_written, content_written, line_written, bytes_of_lines, lines_written, help_after, lines_read, list_read, source_fault, contents_read, sourced_read, source_read, root_read, tree_read}
 use Rattle.kc_macros_model.specs.Worlds.{World}
 use Rattle.kc_macros_model.specs.ProgramLaws.{Extends}
 use Rattle.kc_macros_model.proofs.ProgramMatches.{Matches, match_return, match_fault, match_failed, match_stop, match_then, match_file, match_folder}
@@ -60,7 +61,7 @@ module _ (w more : World) (ext : Extends w more) (question : List ℕ) (unanswer
   names_match at piece folder n l names =
       by_fault_tests SamePaths at TooMany (returns (found (map (λ name. folder ++ name) (filter (matches_name piece) names)) (n + length names)))
       (returns (found (map (λ name. folder ++ name) (filter (matches_name piece) names)) (l + length names)))
-      (nat_lt max_listed_names (n + length names)) (nat_lt max_listed_names (l + length names))
+      (nat_lt MAX_LISTED_NAMES (n + length names)) (nat_lt MAX_LISTED_NAMES (l + length names))
       (match_return w more ext question unanswered SamePaths (found (map (λ name. folder ++ name) (filter (matches_name piece) names)) (n + length names))
       (found (map (λ name. folder ++ name) (filter (matches_name piece) names)) (l + length names)) refl)
 
@@ -126,7 +127,7 @@ module _ (w more : World) (ext : Extends w more) (question : List ℕ) (unanswer
 
   -- ways to read files that relate states
   abbrev Follow : SourceReader → SourceReader → Type 0
-  Follow sub sup = (at : Place) (what : Sourced) (s t : ReadingState) → StateNoLess s t → M ProgressNoLess (sub at what s) (sup at what t)
+  Follow sub sup = (at : Place) (what : SourceTarget) (s t : ReadingState) → StateNoLess s t → M ProgressNoLess (sub at what s) (sup at what t)
 
   module _ (sub sup : SourceReader) (follow : Follow sub sup) where
     pattern_read_matches : (at : Place) (sort : SourceSort) (s t : ReadingState) → StateNoLess s t → (f g : FoundPaths) → SamePaths f g
@@ -197,7 +198,7 @@ module _ (w more : World) (ext : Extends w more) (question : List ℕ) (unanswer
     leaves reader at ts plain s e = record { result = progress (line_bytes ts) s; returned = refl; same_variables = refl }
     leaves reader at ts (bare_prompt text) s e =
         record {
-          result = progress (line_bytes (with_nth_token 1 (written_as a_word (34 ∷ (text ++ 34 ∷ [])) []) ts)) s;
+          result = progress (line_bytes (with_nth_token 1 (written_as Word (34 ∷ (text ++ 34 ∷ [])) []) ts)) s;
           returned = refl;
           same_variables = refl;
         }
@@ -208,7 +209,7 @@ module _ (w more : World) (ext : Extends w more) (question : List ℕ) (unanswer
       same_variables = by_test (is_in_list name s.choices);
     }
       where
-        by_test : (c : Bool) → (cond c (progress (line_bytes ts) s) (progress (line_bytes (with_nth_token 1 (written_as a_word [] []) ts))
+        by_test : (c : Bool) → (cond c (progress (line_bytes ts) s) (progress (line_bytes (with_nth_token 1 (written_as Word [] []) ts))
             (with_choice name s))).state.bindings ≡ s.bindings
         by_test true = refl
         by_test false = refl
@@ -226,7 +227,7 @@ module _ (w more : World) (ext : Extends w more) (question : List ℕ) (unanswer
 
     short_matches : (at : Place) (h k : Bool) → k ≡ h → (p q : Progress) → ProgressNoLess p q → M WrittenNoLess (short_line at h p) (short_line at k q)
     short_matches at h k e p q r =
-        by_tests (nat_lt max_text_bytes (length p.text)) (nat_lt max_text_bytes (length q.text))
+        by_tests (nat_lt MAX_TEXT_BYTES (length p.text)) (nat_lt MAX_TEXT_BYTES (length q.text))
       where
         line : Bool → Bool → Progress → Program WrittenLine
         line c help x = elim c [ true ↦ fault at LineTooLong [] | false ↦ returns (written_line x.text help x.state) ]
@@ -261,7 +262,7 @@ module _ (w more : World) (ext : Extends w more) (question : List ℕ) (unanswer
         by_test true e = match_stop w more ext question unanswered WrittenNoLess (way sup t us (is_undecided (without_gaps us)))
         by_test false e = other_way (is_undecided (without_gaps us)) (same_effect l e)
 
-    assignment_matches : (at : Place) (continued : Bool) (s t : ReadingState) → StateNoLess s t → (name : List ℕ) (a : Assigned)
+    assignment_matches : (at : Place) (continued : Bool) (s t : ReadingState) → StateNoLess s t → (name : List ℕ) (a : AssignedText)
         → M WrittenNoLess (content_written sub at continued s (assigns name a)) (content_written sup at continued t (assigns name a))
     assignment_matches at true s t r name a = match_fault w more ext question unanswered WrittenNoLess (fault at JoinedAssignment [])
         (record { at = at; kind = JoinedAssignment; text = [] })
@@ -281,7 +282,7 @@ module _ (w more : World) (ext : Extends w more) (question : List ℕ) (unanswer
 
     line_matches : (at : Place) (continued : Bool) (text : List ℕ) (s t : ReadingState) → StateNoLess s t
         → M WrittenNoLess (line_written sub at continued text s) (line_written sup at continued text t)
-    line_matches at continued text s t r = by_test (nat_lt max_text_bytes (length text) || not (is_utf8 text))
+    line_matches at continued text s t r = by_test (nat_lt MAX_TEXT_BYTES (length text) || not (is_utf8 text))
       where
         way : SourceReader → ReadingState → Bool → Program WrittenLine
         way reader u c = elim c [
@@ -347,7 +348,7 @@ module _ (w more : World) (ext : Extends w more) (question : List ℕ) (unanswer
         (λ x y m. progressed (progress (codes "source " ++ (in_quotes_of 34 p.text ++ 10 ∷ x.text)) x.state)
         (progress (codes "source " ++ (in_quotes_of 34 q.text ++ 10 ∷ y.text)) y.state) m))
 
-    contents_match : (at : Place) (what : Sourced) (bytes : Option (List ℕ)) (s t : ReadingState) → StateNoLess s t
+    contents_match : (at : Place) (what : SourceTarget) (bytes : Option (List ℕ)) (s t : ReadingState) → StateNoLess s t
         → M ProgressNoLess (contents_read sub at what bytes s) (contents_read sup at what bytes t)
     contents_match at (one_file path) None s t r = progressed (progress [] s) (progress [] t) r
     contents_match at (one_file path) (Some bytes) s t r = lines_match path 0 1 (split_at_newlines bytes) (counted (length bytes) s)
@@ -355,7 +356,7 @@ module _ (w more : World) (ext : Extends w more) (question : List ℕ) (unanswer
     contents_match at (file_list name paths) None s t r = list_matches at paths (counted 0 s) (counted 0 t) r
     contents_match at (file_list name paths) (Some bytes) s t r = list_matches at paths (counted 0 s) (counted 0 t) r
 
-    sourced_matches : (root : List ℕ) (open_files : List (List ℕ)) (at : Place) (what : Sourced) (s t : ReadingState) → StateNoLess s t
+    sourced_matches : (root : List ℕ) (open_files : List (List ℕ)) (at : Place) (what : SourceTarget) (s t : ReadingState) → StateNoLess s t
         → (bytes : Option (List ℕ))
         → M ProgressNoLess (sourced_read sub root open_files at what s bytes) (sourced_read sup root open_files at what t bytes)
     sourced_matches root open_files at what s t r bytes = by_faults (source_fault open_files s (sourced_path what) bytes)
@@ -394,10 +395,10 @@ module _ (w more : World) (ext : Extends w more) (question : List ℕ) (unanswer
   root_matches : (root : List ℕ) (s : ReadingState) → StateNoLess s s → (bytes : Option (List ℕ)) → M Any (root_read root s bytes) (root_read root s bytes)
   root_matches root s r None = match_fault w more ext question unanswered Any (root_read root s None)
       (record { at = place root 0; kind = MissingFile; text = [] })
-  root_matches root s r (Some bytes) = by_test (nat_lt max_bytes (length bytes))
+  root_matches root s r (Some bytes) = by_test (nat_lt MAX_TREE_BYTES (length bytes))
     where
       lines : Program Progress
-      lines = lines_read (source_read max_open_files root (root ∷ [])) root 0 1 (split_at_newlines bytes) (counted (length bytes) s)
+      lines = lines_read (source_read MAX_OPEN_FILES root (root ∷ [])) root 0 1 (split_at_newlines bytes) (counted (length bytes) s)
 
       way : Bool → Program (List ExpandedFile)
       way c = elim c [
@@ -412,8 +413,8 @@ module _ (w more : World) (ext : Extends w more) (question : List ℕ) (unanswer
           match_then w more ext question unanswered ProgressNoLess Any lines lines
           (λ p. returns (p.state.expanded ++ record { key = root; path = root; text = p.text } ∷ []))
           (λ p. returns (p.state.expanded ++ record { key = root; path = root; text = p.text } ∷ []))
-          (lines_match (source_read max_open_files root (root ∷ [])) (source_read max_open_files root (root ∷ []))
-          (source_matches max_open_files root (root ∷ [])) root 0 1 (split_at_newlines bytes) (counted (length bytes) s) (counted (length bytes) s) r)
+          (lines_match (source_read MAX_OPEN_FILES root (root ∷ [])) (source_read MAX_OPEN_FILES root (root ∷ []))
+          (source_matches MAX_OPEN_FILES root (root ∷ [])) root 0 1 (split_at_newlines bytes) (counted (length bytes) s) (counted (length bytes) s) r)
           (λ p q n. match_return w more ext question unanswered Any (p.state.expanded ++ record { key = root; path = root; text = p.text } ∷ [])
           (q.state.expanded ++ record { key = root; path = root; text = q.text } ∷ []) tt)
 

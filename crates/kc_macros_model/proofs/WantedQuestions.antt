@@ -6,7 +6,7 @@ use Rattle.std.proofs.lemmas.List.Folds.{list_any-append}
 use Rattle.std.proofs.lemmas.Slice.Eq.{bytes_eq-Decides}
 use Rattle.kc_tree_model.specs.Limits.{is_in_list, without_repeats}
 use Rattle.kc_macros_model.specs.declared.fault.MacroKind.TheVariants.{TooMany}
-use Rattle.kc_macros_model.specs.Limits.{max_work}
+use Rattle.kc_value.specs.declared.limits.TheConstants.{MAX_WORK}
 use Rattle.kc_macros_model.specs.Programs.{Place, Answer, spend, report, ask, read_file, list_folder, Program, returns, fails, stops, does}
 use Rattle.kc_macros_model.specs.ReadingStates.{ExpandedFile}
 use Rattle.kc_macros_model.specs.TreeExpansion.{tree_read}
@@ -126,9 +126,9 @@ questions_are (q ∷ qs) end rs e = let z : q ∷ qs ≡ rs = cc in z
 pub wanted_is_needed : WantedIsNeeded
 unfolding wanted expansion
 wanted_is_needed w more root question questions files asked has ext unanswered h =
-    let o : Outcome (List ExpandedFile) = outcome false w max_work (tree_read root) in
-    let spared = tree_matches w more ext question unanswered root files (job_succeeds more files max_work (tree_read root) h) in
-    let none = spared_questions w more ext question unanswered (λ x. Any w more ext question unanswered x files) max_work (tree_read root) spared in
+    let o : Outcome (List ExpandedFile) = outcome false w MAX_WORK (tree_read root) in
+    let spared = tree_matches w more ext question unanswered root files (job_succeeds more files MAX_WORK (tree_read root) h) in
+    let none = spared_questions w more ext question unanswered (λ x. Any w more ext question unanswered x files) MAX_WORK (tree_read root) spared in
     let absent = not_without_repeats question (reverse o.questions) (not_in_reverse question o.questions none) in
     let e : true ≡ false = sym has ∙ ap (is_in_list question) (sym (questions_are (without_repeats (reverse o.questions)) o.ending questions asked)) ∙ absent in
     cc

@@ -1,18 +1,19 @@
 -- Files of answers to macro questions: the meaning of their lines, and the first fault of a file.
 use Rattle.std.specs.Prelude.{ℕ, ◌+◌, Bool, true, false, ◌&&◌, ◌||◌, ◌==◌, nat_lt, List, [], ◌∷◌, ◌++◌, length, take, drop, slice_index, position, Option, Some, None, Result, Ok, Err, bytes_eq, if◌then◌else◌}
 use Rattle.std.specs.Str.{is_utf8}
+use Rattle.std.specs.Option.{option_or}
 use Rattle.kc_tree_model.specs.Keywords.{keyword_in_table}
 use Rattle.kc_tree_model.specs.LogicalLines.{PhysicalLine, split_at_newlines}
 use Rattle.kc_macros_model.specs.declared.fault.AnswersKind.{AnswersKind}
 use Rattle.kc_macros_model.specs.declared.fault.AnswersKind.TheVariants.{Malformed, TwoAnswers, NotUtf8, LineTooLong, TooManyLines, TooLarge}
 use Rattle.kc_macros_model.specs.declared.fault.AnswersFault.{AnswersFault}
-use Rattle.kc_macros_model.specs.Limits.{max_text_bytes, max_answer_lines, max_answer_bytes}
+use Rattle.kc_value.specs.declared.limits.TheConstants.{MAX_ANSWER_BYTES, MAX_ANSWER_LINES, MAX_ANSWER_LINE_BYTES}
 use Rattle.kc_macros_model.specs.Programs.{Answer}
 use Rattle.kc_macros_model.specs.Variables.{is_environment_name, without_white_end}
 
 -- recorded answers to macro questions: the questions with their answers, in order of their first lines
-abbrev pub Recorded : Type 0
-Recorded = List (List ℕ × Answer)
+abbrev pub RecordedAnswers : Type 0
+RecordedAnswers = List (List ℕ × Answer)
 
 -- the meaning of a line of an answer file: none, an answer to a question, a command that the next line answers, or malformed
 pub data AnswerLine : Type 0 where
@@ -61,14 +62,14 @@ is_same_answer (Some s) (Some t) = bytes_eq s t
 pub record LinesSoFar : Type 0 where
   pub count : ℕ
   pub waiting : Option (List ℕ)
-  pub recorded : Recorded
+  pub recorded : RecordedAnswers
 
 -- a fault of an answer file at this line, counted from 1
 abbrev pub fault_at : ℕ → AnswersKind → AnswersFault
 fault_at line kind = record { line = line; kind = kind }
 
 -- the state after one more line of an answer file, with the command that then waits for its answer and the recorded answers
-abbrev pub one_line_more : LinesSoFar → Option (List ℕ) → Recorded → LinesSoFar
+abbrev pub one_line_more : LinesSoFar → Option (List ℕ) → RecordedAnswers → LinesSoFar
 one_line_more lines waiting recorded = record { count = lines.count + 1; waiting = waiting; recorded = recorded }
 
 -- the state after a line that answers a question, given the question's earlier answer, if any, from which it may not differ
@@ -90,11 +91,11 @@ with_meaning lines malformed = Err (malformed_line lines.count lines.waiting)
 
 -- the fault of a line, or of its front, in an answer file after this many lines: a line too many, or too many bytes in it
 abbrev pub fault_of_size : ℕ → List ℕ → Option AnswersKind
-fault_of_size count line = if nat_lt count max_answer_lines then (if nat_lt max_text_bytes (length line) then Some LineTooLong else None) else Some TooManyLines
+fault_of_size count line = if nat_lt count MAX_ANSWER_LINES then (if nat_lt MAX_ANSWER_LINE_BYTES (length line) then Some LineTooLong else None) else Some TooManyLines
 
 -- the fault of the bytes of a line in an answer file after this many lines: its size, or bytes that aren't UTF-8
 abbrev pub fault_of_line : ℕ → List ℕ → Option AnswersKind
-fault_of_line count line = elim (fault_of_size count line) [ Some kind ↦ Some kind | None ↦ if is_utf8 line then None else Some NotUtf8 ]
+fault_of_line count line = option_or (fault_of_size count line) (if is_utf8 line then None else Some NotUtf8)
 
 -- the state after one more line of an answer file, given without its newline, or the line's fault
 abbrev pub with_line : LinesSoFar → List ℕ → Result LinesSoFar AnswersFault
@@ -106,12 +107,12 @@ pub data FileEnd : Type 0 where
   cut_by : AnswersKind → FileEnd
 
 -- the recorded answers at the end of an answer file, or the fault of a command that still waits for its answer
-abbrev pub unless_waiting : LinesSoFar → Option (List ℕ) → Result Recorded AnswersFault
+abbrev pub unless_waiting : LinesSoFar → Option (List ℕ) → Result RecordedAnswers AnswersFault
 unless_waiting lines None = Ok lines.recorded
 unless_waiting lines (Some question) = Err (malformed_line lines.count (Some question))
 
 -- the recorded answers at the end of an answer file, or the fault that cut it off, or that of a command without its answer
-abbrev pub recorded_at_end : FileEnd → LinesSoFar → Result Recorded AnswersFault
+abbrev pub recorded_at_end : FileEnd → LinesSoFar → Result RecordedAnswers AnswersFault
 recorded_at_end complete lines = unless_waiting lines lines.waiting
 recorded_at_end (cut_by kind) lines = Err (fault_at (lines.count + 1) kind)
 
@@ -125,18 +126,18 @@ and_then (Ok x) f = f x
 and_then (Err e) f = Err e
 
 -- the recorded answers after the remaining lines of an answer file, or the first fault
-abbrev pub recorded_from : FileEnd → LinesSoFar → List PhysicalLine → Result Recorded AnswersFault
+abbrev pub recorded_from : FileEnd → LinesSoFar → List PhysicalLine → Result RecordedAnswers AnswersFault
 recorded_from end lines [] = recorded_at_end end lines
 recorded_from complete lines (l ∷ ls) = and_then (with_line lines l.text) (λ more. recorded_from complete more ls)
 recorded_from (cut_by kind) lines (l ∷ ls) = elim l.ended [ true ↦ and_then (with_line lines l.text) (λ more. recorded_from (cut_by kind) more ls) | false ↦ Err (cut_line kind lines l.text) ]
 
 -- the state before the first line of an answer file, with the answers recorded from earlier files
-abbrev pub first_line : Recorded → LinesSoFar
+abbrev pub first_line : RecordedAnswers → LinesSoFar
 first_line recorded = record { count = 0; waiting = None; recorded = recorded }
 
 -- the answers recorded from earlier files and from an answer file of these bytes, or that file's first fault; a file of more than
--- `max_answer_bytes` bytes is cut off by the fault `TooLarge`
-unfoldable pub answers_read : FileEnd → List ℕ → Recorded → Result Recorded AnswersFault
+-- `MAX_ANSWER_BYTES` bytes is cut off by the fault `TooLarge`
+unfoldable pub answers_read : FileEnd → List ℕ → RecordedAnswers → Result RecordedAnswers AnswersFault
 answers_read end bytes recorded =
-    if nat_lt max_answer_bytes (length bytes) then recorded_from (cut_by TooLarge) (first_line recorded) (split_at_newlines (take max_answer_bytes bytes))
+    if nat_lt MAX_ANSWER_BYTES (length bytes) then recorded_from (cut_by TooLarge) (first_line recorded) (split_at_newlines (take MAX_ANSWER_BYTES bytes))
     else recorded_from end (first_line recorded) (split_at_newlines bytes)

@@ -2,25 +2,21 @@
 use Rattle.std.specs.Prelude.{ℕ, Bool, true, false, not, ◌&&◌, ◌||◌, ◌==◌, List, [], ◌∷◌, ◌++◌, drop, Option, Some, None, option_map, if◌then◌else◌}
 use Rattle.std.specs.List.{list_any, prefix_len}
 use Rattle.kc_expr.specs.Token.{is_white_byte}
+use Rattle.kc_macros_model.specs.declared.operator.Operator.{Operator}
+use Rattle.kc_macros_model.specs.declared.operator.Operator.TheVariants.{SetsNow, Appends, Sets}
 use Rattle.kc_macros_model.specs.Programs.{Place, Program, returns, stops, ◌>>=◌}
 use Rattle.kc_macros_model.specs.Variables.{Value, value_length, joined_values, Variable, simple, recursive, Bindings}
 use Rattle.kc_macros_model.specs.Expansion.{spends, unless_too_long, text_value}
 use Rattle.kc_macros_model.specs.LineTokens.{LineToken, gap, run, token_bytes, bytes_of_tokens}
-use Rattle.kc_macros_model.specs.WrittenTokens.{is_keyword, WrittenToken, a_gap, an_unknown, token_of_text, run_value, written_token}
-
--- the operators of macro assignments: `:=`, `+=` and `=`
-pub data Operator : Type 0 where
-  sets_now : Operator
-  appends : Operator
-  sets : Operator
+use Rattle.kc_macros_model.specs.WrittenTokens.{is_gap_sort, is_unknown_sort, is_keyword, WrittenToken, token_of_text, run_value, written_token}
 
 -- the operator of a macro assignment and the text after it
-pub record Assigned : Type 0 where
+pub record AssignedText : Type 0 where
   pub operator : Operator
   pub text : List ℕ
 
 -- a macro assignment's operator with the text after it
-abbrev pub assigned : Operator → List ℕ → Assigned
+abbrev pub assigned : Operator → List ℕ → AssignedText
 assigned operator text = record { operator = operator; text = text }
 
 -- a text without the bytes at its front that pass a test
@@ -32,29 +28,29 @@ abbrev pub is_blank_byte : ℕ → Bool
 is_blank_byte c = c == 32 || (c == 9)
 
 -- the assignment operator at the front of a text, and the bytes after it; `None` if the text begins with no operator
-abbrev pub operator_at : List ℕ → Option Assigned
+abbrev pub operator_at : List ℕ → Option AssignedText
 operator_at [] = None
-operator_at (c ∷ []) = if c == 61 then Some (assigned sets []) else None
+operator_at (c ∷ []) = if c == 61 then Some (assigned Sets []) else None
 operator_at (c ∷ d ∷ s) =
-    if c == 61 then Some (assigned sets (d ∷ s))
-    else if c == 58 && (d == 61) then Some (assigned sets_now s)
-    else if c == 43 && (d == 61) then Some (assigned appends s)
+    if c == 61 then Some (assigned Sets (d ∷ s))
+    else if c == 58 && (d == 61) then Some (assigned SetsNow s)
+    else if c == 43 && (d == 61) then Some (assigned Appends s)
     else None
 
 -- the assignment that has this token as its name, if any: the token is a run but no keyword, and the tokens after it begin with
 -- an operator; blanks after the operator are dropped
-abbrev pub assignment_to : LineToken → List LineToken → Option Assigned
-assignment_to (run s) ts = if is_keyword s then None else option_map (λ (a : Assigned). assigned a.operator (without_front is_blank_byte a.text)) (operator_at (without_front is_white_byte (bytes_of_tokens ts)))
+abbrev pub assignment_to : LineToken → List LineToken → Option AssignedText
+assignment_to (run s) ts = if is_keyword s then None else option_map (λ (a : AssignedText). assigned a.operator (without_front is_blank_byte a.text)) (operator_at (without_front is_white_byte (bytes_of_tokens ts)))
 assignment_to t ts = None
 
 -- the assignment that has this token as its name, if any; `may_assign` if only white, comments and empty tokens precede it
-abbrev pub assignment_at : (may_assign : Bool) → LineToken → List LineToken → Option Assigned
+abbrev pub assignment_at : (may_assign : Bool) → LineToken → List LineToken → Option AssignedText
 assignment_at true t ts = assignment_to t ts
 assignment_at false t ts = None
 
 -- the content of a logical line: an assignment of a text to a name, or written tokens
 pub data LineContent : Type 0 where
-  assigns : (name : List ℕ) → Assigned → LineContent
+  assigns : (name : List ℕ) → AssignedText → LineContent
   tokens : List WrittenToken → LineContent
 
 -- the content of a line with one more token before its written tokens; an assignment stays as it is
@@ -64,11 +60,11 @@ with_token t (assigns name a) = assigns name a
 
 -- whether a written token is a gap: white, a comment, or a token whose value is empty
 abbrev pub is_gap : WrittenToken → Bool
-is_gap t = elim t.sort [ a_gap ↦ true | _ ↦ false ]
+is_gap t = is_gap_sort t.sort
 
 -- whether a written token depends on a question without an answer
 abbrev pub is_unknown : WrittenToken → Bool
-is_unknown t = elim t.sort [ an_unknown ↦ true | _ ↦ false ]
+is_unknown t = is_unknown_sort t.sort
 
 -- whether a token of a logical line is white or a comment
 abbrev pub is_gap_token : LineToken → Bool
@@ -80,7 +76,7 @@ abbrev pub is_open_front : (may_assign : Bool) → WrittenToken → List LineTok
 is_open_front may_assign w ts = may_assign && is_unknown w && list_any (λ t. not (is_gap_token t)) ts
 
 -- a line's content by the value of an assignment's name: for an empty name the given content; an unknown name stops the reading
-abbrev pub assignment_or : Program LineContent → Assigned → Value → Program LineContent
+abbrev pub assignment_or : Program LineContent → AssignedText → Value → Program LineContent
 assignment_or rest a None = stops
 assignment_or rest a (Some []) = rest
 assignment_or rest a (Some (c ∷ name)) = returns (assigns (c ∷ name) a)
@@ -109,8 +105,8 @@ stored_recursive at text = stored at (Some text) (recursive text)
 
 -- the variable of a name after an assignment, given its earlier variable, if any; `+=` keeps a variable simple or recursive
 abbrev pub variable_assigned : Place → Bindings → Operator → List ℕ → Option Variable → Program Variable
-variable_assigned at b sets_now text before = text_value at b text >>= stored_simple at
-variable_assigned at b appends text (Some (simple value)) = text_value at b text >>= λ more. stored_simple at (joined_values value (joined_values (Some (32 ∷ [])) more))
-variable_assigned at b appends text (Some (recursive before)) = stored_recursive at (before ++ 32 ∷ text)
-variable_assigned at b appends text None = stored_recursive at text
-variable_assigned at b sets text before = stored_recursive at text
+variable_assigned at b SetsNow text before = text_value at b text >>= stored_simple at
+variable_assigned at b Appends text (Some (simple value)) = text_value at b text >>= λ more. stored_simple at (joined_values value (joined_values (Some (32 ∷ [])) more))
+variable_assigned at b Appends text (Some (recursive before)) = stored_recursive at (before ++ 32 ∷ text)
+variable_assigned at b Appends text None = stored_recursive at text
+variable_assigned at b Sets text before = stored_recursive at text

@@ -6,10 +6,12 @@ use Rattle.kc_macros_model.specs.declared.fault.MacroKind.{MacroKind}
 use Rattle.kc_macros_model.specs.declared.fault.MacroKind.TheVariants.{Unterminated, Undefined, Recursion, Arguments, Error, TooDeep, LineTooLong}
 use Rattle.kc_macros_model.specs.declared.fault.MacroNoticeKind.{MacroNoticeKind}
 use Rattle.kc_macros_model.specs.declared.fault.MacroNoticeKind.TheVariants.{Info, Warning}
-use Rattle.kc_macros_model.specs.Limits.{max_text_bytes, max_open_expansions, max_pieces}
+use Rattle.kc_value.specs.declared.limits.TheConstants.{MAX_TEXT_BYTES, MAX_OPEN_EXPANSIONS, MAX_PIECES}
 use Rattle.kc_macros_model.specs.Programs.{Place, spend, report, ask, Program, returns, fails, does, ◌>>=◌}
 use Rattle.kc_macros_model.specs.References.{Item, byte, escaped, reference, unterminated, items, pieces}
-use Rattle.kc_macros_model.specs.Variables.{Value, value_length, joined_values, Variable, simple, recursive, Bindings, is_number, is_environment_name, command_question, argument_of, BuiltIn, filename, lineno, shell, info, warning_if, error_if, built_ins, value_of_answer}
+use Rattle.kc_macros_model.specs.declared.built_in.BuiltIn.{BuiltIn}
+use Rattle.kc_macros_model.specs.declared.built_in.BuiltIn.TheVariants as functions
+use Rattle.kc_macros_model.specs.Variables.{Value, value_length, joined_values, Variable, simple, recursive, Bindings, is_number, is_environment_name, command_question, argument_of, built_ins, value_of_answer}
 
 -- a program that fails at a place, with a kind of fault and the text that it is about
 abbrev pub fault : {A : Type 0} → Place → MacroKind → List ℕ → Program A
@@ -41,12 +43,12 @@ shell_value at (Some command) = asked_value at (command_question command)
 
 -- the value of a built-in function, called with these arguments; a wrong number of arguments is a fault
 abbrev pub built_in_value : Place → List ℕ → BuiltIn → List Value → Program Value
-built_in_value at name filename [] = returns (Some at.file)
-built_in_value at name lineno [] = returns (Some (decimal at.line))
-built_in_value at name shell (command ∷ []) = shell_value at command
-built_in_value at name info (text ∷ []) = message_if (reported at Info) (Some (codes "y")) text
-built_in_value at name warning_if (condition ∷ text ∷ []) = message_if (reported at Warning) condition text
-built_in_value at name error_if (condition ∷ text ∷ []) = message_if (fault at Error) condition text
+built_in_value at name functions.Filename [] = returns (Some at.file)
+built_in_value at name functions.Lineno [] = returns (Some (decimal at.line))
+built_in_value at name functions.Shell (command ∷ []) = shell_value at command
+built_in_value at name functions.Info (text ∷ []) = message_if (reported at Info) (Some (codes "y")) text
+built_in_value at name functions.WarningIf (condition ∷ text ∷ []) = message_if (reported at Warning) condition text
+built_in_value at name functions.ErrorIf (condition ∷ text ∷ []) = message_if (fault at Error) condition text
 built_in_value at name f args = fault at Arguments name
 
 -- the value of an undefined name: empty for a parameter that wasn't given, the answer for an environment variable, or a fault
@@ -90,7 +92,7 @@ call_value sub at b open_names (Some name ∷ args) = named_value sub at open_na
 abbrev pub reference_value : Expander → Place → Bindings → List (List ℕ) → List Value → List ℕ → Option Value → Program Value
 reference_value sub at b open_names args inside (Some value) = returns value
 reference_value sub at b open_names args inside None =
-    elim (nat_le (length (pieces 0 inside)) max_pieces) [ true ↦ piece_values (sub open_names args) (pieces 0 inside) >>= call_value sub at b open_names | false ↦ fault at Arguments [] ]
+    elim (nat_le (length (pieces 0 inside)) MAX_PIECES) [ true ↦ piece_values (sub open_names args) (pieces 0 inside) >>= call_value sub at b open_names | false ↦ fault at Arguments [] ]
 
 -- the value of an item of a text: a byte is its own value, a macro reference has its value, an unterminated `$(` is a fault
 abbrev pub item_value : Expander → Place → Bindings → List (List ℕ) → List Value → Item → Program Value
@@ -99,9 +101,9 @@ item_value sub at b open_names args (escaped c) = returns (Some (92 ∷ c ∷ []
 item_value sub at b open_names args (reference inside) = reference_value sub at b open_names args inside (argument_of args inside)
 item_value sub at b open_names args (unterminated rest) = fault at Unterminated []
 
--- a program that goes on unless a text has more than `max_text_bytes` bytes, which is a fault
+-- a program that goes on unless a text has more than `MAX_TEXT_BYTES` bytes, which is a fault
 abbrev pub unless_too_long : {A : Type 0} → Place → ℕ → Program A → Program A
-unless_too_long at n p = elim (nat_le n max_text_bytes) [ true ↦ p | false ↦ fault at LineTooLong [] ]
+unless_too_long at n p = elim (nat_le n MAX_TEXT_BYTES) [ true ↦ p | false ↦ fault at LineTooLong [] ]
 
 -- the joined values of the items of a text, given how many bytes of the text's value come before them
 abbrev pub item_values : Place → (Item → Program Value) → ℕ → List Item → Program Value
@@ -116,4 +118,4 @@ expanded (suc more) at b open_names args text =
 
 -- the value of a text of a logical line, with each macro reference replaced by its value
 unfoldable pub text_value : Place → Bindings → List ℕ → Program Value
-text_value at b text = expanded max_open_expansions at b [] [] text
+text_value at b text = expanded MAX_OPEN_EXPANSIONS at b [] [] text

@@ -1,7 +1,7 @@
 -- Expansion by rules: the value that a text expands to, whatever the order of the steps.
 use Rattle.std.specs.Prelude.{◌≡◌, ℕ, Bool, false, ◌&&◌, ◌==◌, ◌≤◌, List, [], ◌∷◌, ◌++◌, length, Some, None}
 use Rattle.kc_tree_model.specs.Keywords.{keyword_in_table}
-use Rattle.kc_macros_model.specs.Limits.{max_pieces}
+use Rattle.kc_value.specs.declared.limits.TheConstants.{MAX_PIECES}
 use Rattle.kc_macros_model.specs.Programs.{Place, Program, returns, fails, stops, does}
 use Rattle.kc_macros_model.specs.References.{inside_length, pieces}
 use Rattle.kc_macros_model.specs.Variables.{Value, joined_values, simple, recursive, Bindings, argument_of, built_ins}
@@ -33,9 +33,9 @@ mutual
   -- under the arguments of a call, a macro reference with these bytes between its parentheses has this value
   pub data Refers (w : World) (at : Place) (b : Bindings) : List Value → List ℕ → Value → Type 0 where
     parameter : {args : List Value} {inside : List ℕ} {u : Value} → argument_of args inside ≡ Some u → Refers w at b args inside u
-    call : {args given : List Value} {inside name : List ℕ} {u : Value} → argument_of args inside ≡ None → length (pieces 0 inside) ≤ max_pieces
+    call : {args given : List Value} {inside name : List ℕ} {u : Value} → argument_of args inside ≡ None → length (pieces 0 inside) ≤ MAX_PIECES
         → ExpandEach w at b args (pieces 0 inside) (Some name ∷ given) → Means w at b given name u → Refers w at b args inside u
-    unknown_name : {args given : List Value} {inside : List ℕ} → argument_of args inside ≡ None → length (pieces 0 inside) ≤ max_pieces
+    unknown_name : {args given : List Value} {inside : List ℕ} → argument_of args inside ≡ None → length (pieces 0 inside) ≤ MAX_PIECES
         → ExpandEach w at b args (pieces 0 inside) (None ∷ given) → Refers w at b args inside None
 
   -- under the arguments of a call, each of these pieces of a macro reference expands to its value in the list

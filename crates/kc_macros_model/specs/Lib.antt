@@ -1,5 +1,4 @@
 pub mod FaultNames
-pub mod Limits
 pub mod Programs
 pub mod References
 pub mod Variables

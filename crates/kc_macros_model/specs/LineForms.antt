@@ -1,9 +1,10 @@
 -- Forms of lines that plain Kconfig lacks, by the tokens of the line.
-use Rattle.std.specs.Prelude.{ℕ, zero, suc, Bool, true, false, not, ◌&&◌, ◌||◌, List, [], ◌∷◌, ◌++◌, filter, flat_map, codes, bytes_eq, if◌then◌else◌}
+use Rattle.std.specs.Prelude.{ℕ, zero, suc, Bool, false, not, ◌&&◌, ◌||◌, List, [], ◌∷◌, ◌++◌, filter, flat_map, codes, bytes_eq, if◌then◌else◌}
 use Rattle.std.specs.List.{list_any}
 use Rattle.kc_tree_model.specs.Limits.{is_in_list}
 use Rattle.kc_macros_model.specs.Variables.{Value}
-use Rattle.kc_macros_model.specs.WrittenTokens.{WrittenToken, a_word, a_quoted, an_unknown, written_as, in_quotes_of}
+use Rattle.kc_macros_model.specs.declared.token_sort.TokenSort.TheVariants.{Quoted}
+use Rattle.kc_macros_model.specs.WrittenTokens.{is_word_sort, is_path_sort, WrittenToken, written_as, in_quotes_of}
 use Rattle.kc_macros_model.specs.Assignments.{is_gap, is_unknown}
 
 -- the sort of a `source` line: whether its path begins in the folder of its file, and whether its files may be missing
@@ -37,11 +38,11 @@ sort_of_source word = record { relative = is_in_list word (codes "rsource" ∷ c
 
 -- whether a written token is a word
 abbrev pub is_word : WrittenToken → Bool
-is_word t = elim t.sort [ a_word ↦ true | _ ↦ false ]
+is_word t = is_word_sort t.sort
 
 -- whether a written token may be a path: a word, a quoted token, or an unknown one, which may become either
 abbrev pub is_path : WrittenToken → Bool
-is_path t = elim t.sort [ a_word ↦ true | a_quoted ↦ true | an_unknown ↦ true | _ ↦ false ]
+is_path t = is_path_sort t.sort
 
 -- whether a written token may be a prompt without quotes: a word other than `if` and `on`
 abbrev pub is_bare_prompt : WrittenToken → Bool
@@ -101,4 +102,4 @@ with_replacement new (t ∷ ts) = if is_gap t then t.bytes ++ with_replacement n
 
 -- a text as a written token in double quotes
 abbrev pub quoted_text_token : List ℕ → WrittenToken
-quoted_text_token s = written_as a_quoted (in_quotes_of 34 s) s
+quoted_text_token s = written_as Quoted (in_quotes_of 34 s) s

@@ -4,7 +4,7 @@ use Rattle.std.specs.List.{list_any, onto_first}
 use Rattle.std.specs.Str.{is_utf8}
 use Rattle.kc_tree_model.specs.TreeLookup.{has_newline}
 use Rattle.kc_macros_model.specs.declared.fault.MacroKind.TheVariants.{TooMany}
-use Rattle.kc_macros_model.specs.Limits.{max_listed_names}
+use Rattle.kc_value.specs.declared.limits.TheConstants.{MAX_LISTED_NAMES}
 use Rattle.kc_macros_model.specs.Programs.{Place, read_file, list_folder, Program, returns, does, ◌>>=◌}
 use Rattle.kc_macros_model.specs.Expansion.{fault}
 
@@ -72,7 +72,7 @@ found paths listed = record { paths = paths; listed = listed }
 -- the names of a folder that match a piece of a path pattern, as paths; a fault if too many names are listed for the tree
 abbrev pub matching_names : Place → (piece folder : List ℕ) → ℕ → List (List ℕ) → Program FoundPaths
 matching_names at piece folder listed names =
-    if nat_lt max_listed_names (listed + length names) then fault at TooMany []
+    if nat_lt MAX_LISTED_NAMES (listed + length names) then fault at TooMany []
     else returns (found (map (λ name. folder ++ name) (filter (matches_name piece) names)) (listed + length names))
 
 -- the paths that a pattern's piece matches in a folder (empty, or ending in `/`); a piece without wildcards matches itself

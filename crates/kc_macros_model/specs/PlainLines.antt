@@ -5,11 +5,12 @@ use Rattle.std.specs.Str.{is_utf8}
 use Rattle.kc_tree_model.specs.LogicalLines.{PhysicalLine, split_at_newlines, without_return, joined_bytes, continuation_count, begins_help}
 use Rattle.kc_macros_model.specs.declared.fault.MacroKind.{MacroKind}
 use Rattle.kc_macros_model.specs.declared.fault.MacroKind.TheVariants.{MissingFile, SourceLoop, TooDeep, TooMany}
-use Rattle.kc_macros_model.specs.Limits.{max_text_bytes}
+use Rattle.kc_value.specs.declared.limits.TheConstants.{MAX_TEXT_BYTES}
 use Rattle.kc_macros_model.specs.Programs.{Fault, Answer}
 use Rattle.kc_macros_model.specs.References.{Item, byte, escaped, reference, unterminated, items, is_reference, is_plain_dollar}
 use Rattle.kc_macros_model.specs.LineTokens.{LineToken, gap, run, quoted, other, broken, line_tokens}
-use Rattle.kc_macros_model.specs.WrittenTokens.{WrittenToken, a_gap, a_word, a_quoted, an_other, written_as}
+use Rattle.kc_macros_model.specs.declared.token_sort.TokenSort.TheVariants.{Gap, Word, Quoted, Other}
+use Rattle.kc_macros_model.specs.WrittenTokens.{WrittenToken, written_as}
 use Rattle.kc_macros_model.specs.Assignments.{assignment_to}
 use Rattle.kc_macros_model.specs.LineForms.{LineForm, plain, bare_prompt, replaced_by, named_choice, sources, form_of, without_gaps, is_word, is_path, is_help_line}
 use Rattle.kc_macros_model.specs.PathPatterns.{is_pattern}
@@ -52,11 +53,11 @@ text_of_items (unterminated rest ∷ is) = text_of_items is
 
 -- the written token, with its own bytes, of a token that has nothing to expand
 abbrev pub token_as_it_is : LineToken → WrittenToken
-token_as_it_is (gap s) = written_as a_gap s []
-token_as_it_is (run s) = if list_any is_plain_dollar (items false 0 s) then written_as an_other s [] else written_as a_word s s
-token_as_it_is (quoted quote s) = written_as a_quoted (quote ∷ (s ++ quote ∷ [])) (text_of_items (items true 0 s))
-token_as_it_is (other s) = written_as an_other s []
-token_as_it_is (broken s) = written_as an_other s []
+token_as_it_is (gap s) = written_as Gap s []
+token_as_it_is (run s) = if list_any is_plain_dollar (items false 0 s) then written_as Other s [] else written_as Word s s
+token_as_it_is (quoted quote s) = written_as Quoted (quote ∷ (s ++ quote ∷ [])) (text_of_items (items true 0 s))
+token_as_it_is (other s) = written_as Other s []
+token_as_it_is (broken s) = written_as Other s []
 
 -- whether a line's first token that is neither white nor a comment is the name of an assignment
 abbrev pub is_assignment : List LineToken → Bool
@@ -86,7 +87,7 @@ is_one_of paths (Some path) = not (is_pattern path) && (not (list_any (λ c. c =
 
 -- whether a logical line is copied, since the reader refuses it: it is too long or isn't UTF-8
 abbrev pub is_copied : List ℕ → Bool
-is_copied text = nat_lt max_text_bytes (length text) || not (is_utf8 text)
+is_copied text = nat_lt MAX_TEXT_BYTES (length text) || not (is_utf8 text)
 
 -- whether a logical line is plain: it is copied since the reader refuses it, or it has nothing to expand, assigns nothing, and
 -- isn't rewritten, unless it is a `source` of a file in the set `paths`

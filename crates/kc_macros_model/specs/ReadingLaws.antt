@@ -2,34 +2,34 @@
 use Rattle.std.specs.Prelude.{◌≡◌, ℕ, suc, ◌+◌, ◌≤◌, true, List, [], ◌∷◌, ◌++◌, length, map, decimal, bytes_eq}
 use Rattle.std.specs.List.{All, IsDistinct}
 use Rattle.kc_tree_model.specs.LogicalLines.{split_at_newlines}
-use Rattle.kc_macros_model.specs.Limits.{max_files, max_bytes, max_listed_names, max_open_files, max_work}
+use Rattle.kc_value.specs.declared.limits.TheConstants.{MAX_FILES, MAX_TREE_BYTES, MAX_LISTED_NAMES, MAX_OPEN_FILES, MAX_WORK}
 use Rattle.kc_macros_model.specs.Programs.{Place, spend, Program, returns, fails, stops, does}
 use Rattle.kc_macros_model.specs.ReadingStates.{ExpandedFile, ReadingState, initial_state, Progress, counted, has_key}
-use Rattle.kc_macros_model.specs.TreeExpansion.{Sourced, source_read, lines_read, tree_read}
+use Rattle.kc_macros_model.specs.TreeExpansion.{SourceTarget, source_read, lines_read, tree_read}
 use Rattle.kc_macros_model.specs.Worlds.{World, reply, returned, expansion}
 use Rattle.kc_macros_model.specs.ExpansionRules.{ending_in}
 
 -- the counts of files, bytes and listed names of a state of a reading are within the limits
 pub record IsWithinLimits (s : ReadingState) : Type 0 where
-  pub files : s.files ≤ max_files
-  pub bytes : s.bytes ≤ max_bytes
-  pub listed : s.listed ≤ max_listed_names
+  pub files : s.files ≤ MAX_FILES
+  pub bytes : s.bytes ≤ MAX_TREE_BYTES
+  pub listed : s.listed ≤ MAX_LISTED_NAMES
 
 -- reading a sourced file or list of files leads from a state within the limits to a state within the limits
 abbrev pub CountsAreBounded : Type 0
-CountsAreBounded = (w : World) (more : ℕ) (root : List ℕ) (open_files : List (List ℕ)) (at : Place) (what : Sourced) (s : ReadingState) (p : Progress)
+CountsAreBounded = (w : World) (more : ℕ) (root : List ℕ) (open_files : List (List ℕ)) (at : Place) (what : SourceTarget) (s : ReadingState) (p : Progress)
     → IsWithinLimits s → ending_in w (source_read more root open_files at what s) ≡ returned p → IsWithinLimits p.state
 
 -- reading the first file of a tree, with all that its lines source, ends in a state within the limits
 abbrev pub TreeCountsAreBounded : Type 0
-TreeCountsAreBounded = (w : World) (root bytes : List ℕ) (p : Progress) → length bytes ≤ max_bytes
-    → ending_in w (lines_read (source_read max_open_files root (root ∷ [])) root 0 1 (split_at_newlines bytes) (counted (length bytes) initial_state))
+TreeCountsAreBounded = (w : World) (root bytes : List ℕ) (p : Progress) → length bytes ≤ MAX_TREE_BYTES
+    → ending_in w (lines_read (source_read MAX_OPEN_FILES root (root ∷ [])) root 0 1 (split_at_newlines bytes) (counted (length bytes) initial_state))
     ≡ returned p → IsWithinLimits p.state
 
 -- a key is possible for an expanded file of this path: it is the path, or the path with `#` and a number from 2 on
 pub data IsKeyOf (path : List ℕ) : List ℕ → Type 0 where
   the_path : IsKeyOf path path
-  numbered : {n : ℕ} → 2 ≤ n → n ≤ max_files → IsKeyOf path (path ++ 35 ∷ decimal n)
+  numbered : {n : ℕ} → 2 ≤ n → n ≤ MAX_FILES → IsKeyOf path (path ++ 35 ∷ decimal n)
 
 -- the key of each expanded file of a tree is its path, or its path with `#` and a number
 abbrev pub KeysAreBounded : Type 0
@@ -43,12 +43,12 @@ KeysDiffer = (w : World) (root : List ℕ) (files : List ExpandedFile) → (expa
 
 -- the key that reading a sourced file or list of files returns is that of an expanded file
 abbrev pub SourceKeysHaveFiles : Type 0
-SourceKeysHaveFiles = (w : World) (more : ℕ) (root : List ℕ) (open_files : List (List ℕ)) (at : Place) (what : Sourced) (s : ReadingState) (p : Progress)
+SourceKeysHaveFiles = (w : World) (more : ℕ) (root : List ℕ) (open_files : List (List ℕ)) (at : Place) (what : SourceTarget) (s : ReadingState) (p : Progress)
     → ending_in w (source_read (suc more) root open_files at what s) ≡ returned p → has_key p.state.expanded p.text ≡ true
 
--- no tree has more expanded files than `max_files`, the most files that may be read
+-- no tree has more expanded files than `MAX_FILES`, the most files that may be read
 abbrev pub FilesAreBounded : Type 0
-FilesAreBounded = (w : World) (root : List ℕ) (files : List ExpandedFile) → (expansion w root).ending ≡ returned files → length files ≤ max_files
+FilesAreBounded = (w : World) (root : List ℕ) (files : List ExpandedFile) → (expansion w root).ending ≡ returned files → length files ≤ MAX_FILES
 
 -- the work that a program does in a world, from its first event to its end
 abbrev pub work_in : {A : Type 0} → World → Program A → ℕ
@@ -58,7 +58,7 @@ work_in w stops = 0
 work_in w (does (spend at work) k) = work + work_in w (k (tt {0}))
 work_in w (does e k) = work_in w (k (reply w e))
 
--- where an expansion returns files, its work and the work that is left add up to `max_work`
+-- where an expansion returns files, its work and the work that is left add up to `MAX_WORK`
 abbrev pub WorkIsBounded : Type 0
 WorkIsBounded = (w : World) (root : List ℕ) (files : List ExpandedFile) → (expansion w root).ending ≡ returned files
-    → work_in w (tree_read root) + (expansion w root).left ≡ max_work
+    → work_in w (tree_read root) + (expansion w root).left ≡ MAX_WORK

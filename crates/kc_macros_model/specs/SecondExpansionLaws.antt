@@ -4,7 +4,8 @@ use Rattle.std.specs.List.{list_all, list_any}
 use Rattle.kc_macros_model.specs.Programs.{Place, returns}
 use Rattle.kc_macros_model.specs.Variables.{Bindings}
 use Rattle.kc_macros_model.specs.LineTokens.{line_tokens}
-use Rattle.kc_macros_model.specs.WrittenTokens.{WrittenToken, an_other}
+use Rattle.kc_macros_model.specs.declared.token_sort.TokenSort.TheVariants.{Other}
+use Rattle.kc_macros_model.specs.WrittenTokens.{WrittenToken}
 use Rattle.kc_macros_model.specs.Assignments.{tokens, is_unknown, line_content}
 use Rattle.kc_macros_model.specs.LineForms.{form_of, line_bytes}
 use Rattle.kc_macros_model.specs.ReadingStates.{ReadingState, written_line}
@@ -15,7 +16,7 @@ use Rattle.kc_macros_model.specs.PlainLines.{has_dollar, is_kept_token, is_assig
 
 -- whether a written token has a `$` that is neither in quotes nor in a comment, which the reader refuses
 abbrev pub is_left_with_dollar : WrittenToken → Bool
-is_left_with_dollar t = elim t.sort [ an_other ↦ has_dollar t.bytes | _ ↦ false ]
+is_left_with_dollar t = elim t.sort [ Other ↦ has_dollar t.bytes | _ ↦ false ]
 
 -- the written tokens of an expanded line, read again, have nothing to expand, unless one is unknown or has a `$` outside quotes
 abbrev pub NothingIsLeftToExpand : Type 0

@@ -6,12 +6,13 @@ use Rattle.kc_tree_model.specs.LogicalLines.{PhysicalLine, split_at_newlines, wi
 use Rattle.kc_tree_model.specs.Limits.{is_in_list}
 use Rattle.kc_macros_model.specs.declared.fault.MacroKind.{MacroKind}
 use Rattle.kc_macros_model.specs.declared.fault.MacroKind.TheVariants.{JoinedAssignment, MissingFile, SourceLoop, TooDeep, TooMany, LineTooLong}
-use Rattle.kc_macros_model.specs.Limits.{max_text_bytes, max_files, max_bytes, max_open_files}
+use Rattle.kc_value.specs.declared.limits.TheConstants.{MAX_TEXT_BYTES, MAX_FILES, MAX_TREE_BYTES, MAX_OPEN_FILES}
 use Rattle.kc_macros_model.specs.Programs.{Place, read_file, Program, returns, stops, does, ◌>>=◌}
 use Rattle.kc_macros_model.specs.Variables.{Value}
 use Rattle.kc_macros_model.specs.Expansion.{fault}
 use Rattle.kc_macros_model.specs.LineTokens.{line_tokens}
-use Rattle.kc_macros_model.specs.WrittenTokens.{WrittenToken, a_word, written_as, in_quotes_of}
+use Rattle.kc_macros_model.specs.declared.token_sort.TokenSort.TheVariants.{Word}
+use Rattle.kc_macros_model.specs.WrittenTokens.{WrittenToken, written_as, in_quotes_of}
 use Rattle.kc_macros_model.specs.Assignments.{without_front, LineContent, assigns, tokens, line_content, variable_assigned}
 use Rattle.kc_macros_model.specs.LineForms.{SourceSort, LineForm, plain, bare_prompt, replaced_by, named_choice, sources, form_of, without_gaps, with_nth_token, with_replacement, line_bytes, quoted_text_token, is_help_line, is_undecided}
 use Rattle.kc_macros_model.specs.PathPatterns.{is_pattern, FoundPaths, files_of_pattern, readable_paths}
@@ -22,18 +23,18 @@ abbrev pub place : List ℕ → ℕ → Place
 place file line = record { file = file; line = line }
 
 -- what a `source` line sources: a file, or a list of files under a name of its own
-pub data Sourced : Type 0 where
-  one_file : List ℕ → Sourced
-  file_list : (name : List ℕ) → List (List ℕ) → Sourced
+pub data SourceTarget : Type 0 where
+  one_file : List ℕ → SourceTarget
+  file_list : (name : List ℕ) → List (List ℕ) → SourceTarget
 
 -- the path of what a `source` line sources; for a list of files it is the list's name
-abbrev pub sourced_path : Sourced → List ℕ
+abbrev pub sourced_path : SourceTarget → List ℕ
 sourced_path (one_file path) = path
 sourced_path (file_list name paths) = name
 
 -- a function that reads what a `source` line sources and returns the key of the expanded file, with the state after it
 abbrev pub SourceReader : Type 0
-SourceReader = Place → Sourced → ReadingState → Program Progress
+SourceReader = Place → SourceTarget → ReadingState → Program Progress
 
 -- the folder of a path, with its last slash; empty if the path has no slash
 abbrev pub folder_of : List ℕ → List ℕ
@@ -55,7 +56,7 @@ list_name at = at.file ++ 58 ∷ decimal at.line
 -- the bytes of an expanded `source` line: its keyword is `source`, and its path the key of the expanded file
 abbrev pub source_line : List WrittenToken → (given key : List ℕ) → List ℕ
 source_line ts given key =
-    let first = with_nth_token 0 (written_as a_word (codes "source") []) ts in
+    let first = with_nth_token 0 (written_as Word (codes "source") []) ts in
     line_bytes (if bytes_eq key given then first else with_nth_token 1 (quoted_text_token key) first)
 
 -- reads the list of the files that match a path pattern; no file is a fault, unless the `source` is optional
@@ -83,19 +84,19 @@ source_followed sub at ts sort (Some given) s =
 abbrev pub choice_written : List WrittenToken → List ℕ → ReadingState → Progress
 choice_written ts name s =
     if is_in_list name s.choices then progress (line_bytes ts) s
-    else progress (line_bytes (with_nth_token 1 (written_as a_word [] []) ts)) (with_choice name s)
+    else progress (line_bytes (with_nth_token 1 (written_as Word [] []) ts)) (with_choice name s)
 
 -- the expanded text of a line by its form, and the state after it; a `source` line has its files read
 abbrev pub form_written : SourceReader → Place → List WrittenToken → LineForm → ReadingState → Program Progress
 form_written sub at ts plain s = returns (progress (line_bytes ts) s)
-form_written sub at ts (bare_prompt text) s = returns (progress (line_bytes (with_nth_token 1 (written_as a_word (34 ∷ (text ++ 34 ∷ [])) []) ts)) s)
+form_written sub at ts (bare_prompt text) s = returns (progress (line_bytes (with_nth_token 1 (written_as Word (34 ∷ (text ++ 34 ∷ [])) []) ts)) s)
 form_written sub at ts (replaced_by text) s = returns (progress (with_replacement text ts) s)
 form_written sub at ts (named_choice name) s = returns (choice_written ts name s)
 form_written sub at ts (sources sort path) s = source_followed sub at ts sort path s
 
--- an expanded line, or a fault where it has more than `max_text_bytes` bytes
+-- an expanded line, or a fault where it has more than `MAX_TEXT_BYTES` bytes
 abbrev pub short_line : Place → (begins_help : Bool) → Progress → Program WrittenLine
-short_line at begins_help p = elim (nat_lt max_text_bytes (length p.text)) [ true ↦ fault at LineTooLong [] | false ↦ returns (written_line p.text begins_help p.state) ]
+short_line at begins_help p = elim (nat_lt MAX_TEXT_BYTES (length p.text)) [ true ↦ fault at LineTooLong [] | false ↦ returns (written_line p.text begins_help p.state) ]
 
 -- the expanded line of these written tokens, which are given twice: all, and without white, comments and empty ones; the reading
 -- stops where the line's form isn't known
@@ -112,7 +113,7 @@ content_written sub at false s (assigns name a) = variable_assigned at s.binding
 -- the expanded line of a logical line; a line that is too long or isn't UTF-8 stays, for the reader to refuse
 abbrev pub line_written : SourceReader → Place → (continued : Bool) → List ℕ → ReadingState → Program WrittenLine
 line_written sub at continued text s =
-    elim (nat_lt max_text_bytes (length text) || not (is_utf8 text)) [ true ↦ returns (written_line text (begins_help text) s) | false ↦ line_content at s.bindings true (line_tokens 0 text) >>= content_written sub at continued s ]
+    elim (nat_lt MAX_TEXT_BYTES (length text) || not (is_utf8 text)) [ true ↦ returns (written_line text (begins_help text) s) | false ↦ line_content at s.bindings true (line_tokens 0 text) >>= content_written sub at continued s ]
 
 -- the bytes of physical lines, one after the other, with their newlines
 abbrev pub bytes_of_lines : List PhysicalLine → List ℕ
@@ -153,20 +154,20 @@ abbrev pub source_fault : List (List ℕ) → ReadingState → List ℕ → Opti
 source_fault open_files s path None = if is_in_list path open_files then Some SourceLoop else Some MissingFile
 source_fault open_files s path (Some bytes) =
     if is_in_list path open_files then Some SourceLoop
-    else if nat_le max_open_files (length open_files) then Some TooDeep
-    else if nat_le max_files s.files || nat_lt max_bytes (s.bytes + length bytes) then Some TooMany
+    else if nat_le MAX_OPEN_FILES (length open_files) then Some TooDeep
+    else if nat_le MAX_FILES s.files || nat_lt MAX_TREE_BYTES (s.bytes + length bytes) then Some TooMany
     else None
 
 -- reads the lines of a sourced file with these bytes, or each file of a list of files, and counts the file or the list as one
 -- file
-abbrev pub contents_read : SourceReader → Place → Sourced → Option (List ℕ) → ReadingState → Program Progress
+abbrev pub contents_read : SourceReader → Place → SourceTarget → Option (List ℕ) → ReadingState → Program Progress
 contents_read sub at (one_file path) None s = returns (progress [] s)
 contents_read sub at (one_file path) (Some bytes) s = lines_read sub path 0 1 (split_at_newlines bytes) (counted (length bytes) s)
 contents_read sub at (file_list name paths) bytes s = list_read sub at paths (counted 0 s)
 
 -- reads a sourced file with these bytes, or a list of files, adds it to the expanded files and returns its key; fails if sourcing
 -- it is a fault
-abbrev pub sourced_read : SourceReader → (root : List ℕ) → List (List ℕ) → Place → Sourced → ReadingState → Option (List ℕ) → Program Progress
+abbrev pub sourced_read : SourceReader → (root : List ℕ) → List (List ℕ) → Place → SourceTarget → ReadingState → Option (List ℕ) → Program Progress
 sourced_read sub root open_files at what s bytes =
     elim (source_fault open_files s (sourced_path what) bytes) [ Some kind ↦ fault at kind [] | None ↦ contents_read sub at what bytes s >>= λ p. returns (stored_file root (sourced_path what) p) ]
 
@@ -181,9 +182,9 @@ source_read (suc more) root open_files at (file_list name paths) s = sourced_rea
 abbrev pub root_read : (root : List ℕ) → ReadingState → Option (List ℕ) → Program (List ExpandedFile)
 root_read root s None = fault (place root 0) MissingFile []
 root_read root s (Some bytes) =
-    elim (nat_lt max_bytes (length bytes)) [
+    elim (nat_lt MAX_TREE_BYTES (length bytes)) [
       | true ↦ fault (place root 0) TooMany []
-      | false ↦ lines_read (source_read max_open_files root (root ∷ [])) root 0 1 (split_at_newlines bytes) (counted (length bytes) s) >>= λ p. returns (p.state.expanded ++ record { key = root; path = root; text = p.text } ∷ [])
+      | false ↦ lines_read (source_read MAX_OPEN_FILES root (root ∷ [])) root 0 1 (split_at_newlines bytes) (counted (length bytes) s) >>= λ p. returns (p.state.expanded ++ record { key = root; path = root; text = p.text } ∷ [])
     ]
 
 -- reads a tree by the path of its first file, and returns the expanded files, with the first file at the end

@@ -5,6 +5,8 @@ use Rattle.std.specs.Char.{is_digit}
 use Rattle.std.specs.Str.Parse.{digits_value}
 use Rattle.kc_expr.specs.Token.{is_white_byte}
 use Rattle.kc_tree_model.specs.TreeLookup.{is_name_byte}
+use Rattle.kc_macros_model.specs.declared.built_in.BuiltIn.{BuiltIn}
+use Rattle.kc_macros_model.specs.declared.built_in.BuiltIn.TheVariants.{Filename, Lineno, Shell, Info, WarningIf, ErrorIf}
 use Rattle.kc_macros_model.specs.Programs.{Answer}
 
 -- the value of an expanded text: its bytes, or `None` where it depends on a question without an answer
@@ -60,18 +62,9 @@ command_question command = 36 ∷ 32 ∷ without_white_end command
 abbrev pub argument_of : List Value → List ℕ → Option Value
 argument_of args inside = if is_number inside && nat_lt 0 (digits_value 10 inside) then slice_get args (digits_value 10 inside - 1) else None
 
--- the built-in macro functions, which every tree may call without defining them
-pub data BuiltIn : Type 0 where
-  filename : BuiltIn
-  lineno : BuiltIn
-  shell : BuiltIn
-  info : BuiltIn
-  warning_if : BuiltIn
-  error_if : BuiltIn
-
 -- the built-in macro functions with their names
 abbrev pub built_ins : List (List ℕ × BuiltIn)
-built_ins = (codes "filename", filename) ∷ (codes "lineno", lineno) ∷ (codes "shell", shell) ∷ (codes "info", info) ∷ (codes "warning-if", warning_if) ∷ (codes "error-if", error_if) ∷ []
+built_ins = (codes "filename", Filename) ∷ (codes "lineno", Lineno) ∷ (codes "shell", Shell) ∷ (codes "info", Info) ∷ (codes "warning-if", WarningIf) ∷ (codes "error-if", ErrorIf) ∷ []
 
 -- the value of an answer to a question: empty for an environment variable that isn't set, unknown without an answer
 abbrev pub value_of_answer : Option Answer → Value

@@ -2,7 +2,7 @@
 use Rattle.std.specs.Prelude.{ℕ, ◌-◌, Bool, true, false, nat_lt, List, [], ◌∷◌, ◌++◌, reverse, Option, Some, None, Result, Ok, Err, if◌then◌else◌}
 use Rattle.kc_tree_model.specs.Limits.{without_repeats}
 use Rattle.kc_macros_model.specs.declared.fault.MacroKind.TheVariants.{Unanswered, TooMany}
-use Rattle.kc_macros_model.specs.Limits.{max_work}
+use Rattle.kc_value.specs.declared.limits.TheConstants.{MAX_WORK}
 use Rattle.kc_macros_model.specs.Programs.{Place, Fault, Notice, Answer, Event, spend, report, ask, read_file, list_folder, Reply, Program, returns, fails, stops, does}
 use Rattle.kc_macros_model.specs.ReadingStates.{ExpandedFile}
 use Rattle.kc_macros_model.specs.TreeExpansion.{tree_read}
@@ -83,7 +83,7 @@ outcome all w left (does e k) = unless_fault left (left_after all w left e) (λ 
 
 -- the outcome of the expansion of a tree by the path of its first file, where each question must be answered
 unfoldable pub expansion : World → List ℕ → Outcome (List ExpandedFile)
-expansion w root = outcome true w max_work (tree_read root)
+expansion w root = outcome true w MAX_WORK (tree_read root)
 
 -- the open questions of a reading; if there are none, the fault of the reading, or no questions if it has no fault
 abbrev pub questions_or_fault : {A : Type 0} → List (List ℕ) → Ending A → Result (List (List ℕ)) Fault
@@ -94,4 +94,4 @@ questions_or_fault (q ∷ qs) e = Ok (q ∷ qs)
 
 -- the open questions of the reading of a tree, each once, in the order first asked; if there are none, the fault of the reading
 unfoldable pub wanted : World → List ℕ → Result (List (List ℕ)) Fault
-wanted w root = let o = outcome false w max_work (tree_read root) in questions_or_fault (without_repeats (reverse o.questions)) o.ending
+wanted w root = let o = outcome false w MAX_WORK (tree_read root) in questions_or_fault (without_repeats (reverse o.questions)) o.ending

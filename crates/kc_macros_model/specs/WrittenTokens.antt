@@ -4,12 +4,36 @@ use Rattle.std.specs.List.{list_all, list_any}
 use Rattle.kc_expr.specs.Token.{is_word_byte}
 use Rattle.kc_tree_model.specs.Keywords.{keywords}
 use Rattle.kc_tree_model.specs.declared.keyword.Keyword.{Keyword}
+use Rattle.kc_macros_model.specs.declared.token_sort.TokenSort.{TokenSort}
+use Rattle.kc_macros_model.specs.declared.token_sort.TokenSort.TheVariants.{Gap, Word, Quoted, Other, Unknown}
 use Rattle.kc_macros_model.specs.declared.fault.MacroKind.TheVariants.{Unterminated}
 use Rattle.kc_macros_model.specs.Programs.{Place, Program, returns, ◌>>=◌}
 use Rattle.kc_macros_model.specs.References.{Item, byte, escaped, reference, unterminated, item_bytes, items, is_reference, is_plain_dollar}
 use Rattle.kc_macros_model.specs.Variables.{Value, joined_values, Bindings}
 use Rattle.kc_macros_model.specs.Expansion.{fault, text_value}
 use Rattle.kc_macros_model.specs.LineTokens.{LineToken, gap, run, quoted, other, broken}
+
+-- whether tokens of a sort are gaps: white, comments and tokens whose value is empty
+abbrev pub is_gap_sort : TokenSort → Bool
+is_gap_sort Gap = true
+is_gap_sort _ = false
+
+-- whether tokens of a sort depend on a question without an answer
+abbrev pub is_unknown_sort : TokenSort → Bool
+is_unknown_sort Unknown = true
+is_unknown_sort _ = false
+
+-- whether tokens of a sort are words
+abbrev pub is_word_sort : TokenSort → Bool
+is_word_sort Word = true
+is_word_sort _ = false
+
+-- whether tokens of a sort may be paths: words, quoted tokens, and unknown ones, which may become either
+abbrev pub is_path_sort : TokenSort → Bool
+is_path_sort Word = true
+is_path_sort Quoted = true
+is_path_sort Unknown = true
+is_path_sort _ = false
 
 -- words with a meaning inside a Kconfig statement that aren't in the table of keywords
 abbrev pub inner_keywords : List (List ℕ)
@@ -31,14 +55,6 @@ escaped_text quote s = flat_map (λ c. if c == 92 || (c == 36) || (c == quote) t
 abbrev pub in_quotes_of : (quote : ℕ) → List ℕ → List ℕ
 in_quotes_of quote s = quote ∷ (escaped_text quote s ++ quote ∷ [])
 
--- the sort of a written token, which is unknown where the token depends on a question without an answer
-pub data TokenSort : Type 0 where
-  a_gap : TokenSort
-  a_word : TokenSort
-  a_quoted : TokenSort
-  an_other : TokenSort
-  an_unknown : TokenSort
-
 -- a token of an expanded line: its sort, its bytes, and the text that it means to the reader of the line
 pub record WrittenToken : Type 0 where
   pub sort : TokenSort
@@ -51,14 +67,14 @@ written_as sort bytes meaning = record { sort = sort; bytes = bytes; meaning = S
 
 -- the written token of a text to which a run expands: a space if empty, a word if it needs no quotes, else in quotes
 abbrev pub token_of_text : List ℕ → WrittenToken
-token_of_text [] = written_as a_gap (32 ∷ []) []
+token_of_text [] = written_as Gap (32 ∷ []) []
 token_of_text (c ∷ s) =
-    if list_all is_bare_byte (c ∷ s) && not (is_keyword (c ∷ s)) then written_as a_word (c ∷ s) (c ∷ s)
-    else written_as a_quoted (in_quotes_of 34 (c ∷ s)) (c ∷ s)
+    if list_all is_bare_byte (c ∷ s) && not (is_keyword (c ∷ s)) then written_as Word (c ∷ s) (c ∷ s)
+    else written_as Quoted (in_quotes_of 34 (c ∷ s)) (c ∷ s)
 
 -- the written token of the value to which a run of word bytes and macro references expands, which may be unknown
 abbrev pub token_of_value : Value → WrittenToken
-token_of_value None = record { sort = an_unknown; bytes = []; meaning = None }
+token_of_value None = record { sort = Unknown; bytes = []; meaning = None }
 token_of_value (Some text) = token_of_text text
 
 -- written bytes between the quotes of a token, and the text that they mean
@@ -93,7 +109,7 @@ written_items at b quote (i ∷ is) = written_item at b quote i >>= λ first. wr
 
 -- written bytes between quotes as a token, with its quotes
 abbrev pub token_of_body : (quote : ℕ) → WrittenBody → WrittenToken
-token_of_body quote body = record { sort = a_quoted; bytes = quote ∷ (body.bytes ++ quote ∷ []); meaning = body.meaning }
+token_of_body quote body = record { sort = Quoted; bytes = quote ∷ (body.bytes ++ quote ∷ []); meaning = body.meaning }
 
 -- the value of a run of word bytes, macro references and `$`; a run without `$` is its own value
 abbrev pub run_value : Place → Bindings → List ℕ → Program Value
@@ -103,14 +119,14 @@ run_value at b s = elim (list_any (λ c. c == 36) s) [ true ↦ text_value at b 
 abbrev pub written_run : Place → Bindings → List ℕ → Program WrittenToken
 written_run at b s =
     elim (list_any is_plain_dollar (items false 0 s)) [
-      | true ↦ returns (written_as an_other s [])
-      | false ↦ elim (list_any is_reference (items false 0 s)) [ true ↦ text_value at b s >>= λ v. returns (token_of_value v) | false ↦ returns (written_as a_word s s) ]
+      | true ↦ returns (written_as Other s [])
+      | false ↦ elim (list_any is_reference (items false 0 s)) [ true ↦ text_value at b s >>= λ v. returns (token_of_value v) | false ↦ returns (written_as Word s s) ]
     ]
 
 -- a token of a logical line as it is written once its macro references have values
 abbrev pub written_token : Place → Bindings → LineToken → Program WrittenToken
-written_token at b (gap s) = returns (written_as a_gap s [])
+written_token at b (gap s) = returns (written_as Gap s [])
 written_token at b (run s) = written_run at b s
 written_token at b (quoted quote s) = written_items at b quote (items true 0 s) >>= λ body. returns (token_of_body quote body)
-written_token at b (other s) = returns (written_as an_other s [])
+written_token at b (other s) = returns (written_as Other s [])
 written_token at b (broken s) = fault at Unterminated []

@@ -2,7 +2,6 @@
 ghost use Rattle.std.specs.Prelude.{◌≡◌, ◌<◌, ◌++◌, ◌∷◌, ◌&&◌, [], length, OnOk};
 ghost use Rattle.kc_expr.specs.Lookup.{symbol_value_of};
 ghost use Rattle.kc_rules_model.specs.Kinds.{is_n};
-ghost use Rattle.kc_value.specs.Kinds.{is_tri_kind};
 ghost use Rattle.kc_rules.specs.between.SettledViews.{tree_of_settled};
 ghost use Rattle.kc_dotconfig_model.specs.Formats.{between_quotes, string_spelling};
 ghost use Rattle.kc_dotconfig_model.specs.between.Formats.{file_format};
@@ -12,7 +11,7 @@ ghost use Rattle.kc_minimal_model.specs.SymbolLine.{spelled, value_line, unset_l
 use kc_dotconfig_model::{Format, Prefix, Strings};
 use kc_expr::Looked;
 use kc_rules::{Settled, UnitValue};
-use kc_tree::Sym;
+use kc_tree::{Sym, is_tri_kind};
 use kc_value::{Kind, Tri, push_escaped};
 use std::alloc::AllocError;
 
@@ -23,16 +22,6 @@ pub(crate) fn is_n(value: Tri) -> bool
     match value {
         Tri::N => true,
         Tri::M | Tri::Y => false,
-    }
-}
-
-/// Whether values of a type are tristates: those of bool and tristate.
-fn is_tri_kind(kind: Kind) -> bool
-    ensures { result ≡ is_tri_kind kind }
-{
-    match kind {
-        Kind::Bool | Kind::Tristate => true,
-        Kind::Text | Kind::Int | Kind::Hex => false,
     }
 }
 
@@ -126,14 +115,14 @@ fn push_line(
     out: &mut Vec<u8>,
     format: &Format,
     name: &str,
-    seen: &Looked<'_>,
+    value: &Looked<'_>,
 ) -> Result<(), AllocError>
-    ensures { OnOk result (out.new.items ≡ out.old.items ++ (line_with (file_format format.now) name.now (symbol_value_of seen.now) ++ 10 ∷ [])) }
+    ensures { OnOk result (out.new.items ≡ out.old.items ++ (line_with (file_format format.now) name.now (symbol_value_of value.now) ++ 10 ∷ [])) }
 {
-    if is_tri_kind(seen.kind) && is_n(seen.tri) {
+    if is_tri_kind(value.kind) && is_n(value.tri) {
         push_unset(out, &format.prefix, name)
     } else {
-        push_set(out, format, name, seen.kind, seen.text)
+        push_set(out, format, name, value.kind, value.text)
     }
 }
 
@@ -149,6 +138,6 @@ pub(crate) fn push_symbol(
     requires there { s < length (tree_of_settled settled.now).symbols }
     ensures ok { OnOk result (out.new.items ≡ out.old.items ++ ended_line (file_format format.now) (tree_of_settled settled.now) values.now s) }
 {
-    let seen = settled.value_of_symbol(s, values);
-    push_line(out, format, settled.tree().name(s), &seen)
+    let value = settled.value_of_symbol(s, values);
+    push_line(out, format, settled.tree().name(s), &value)
 }

@@ -12,18 +12,14 @@ use kc_rules_model::UserValue;
 use kc_tree::{Sym, Unit};
 use kc_value::{Kind, Text, Tri};
 
-/// A bool isn't `m`.
+/// Whether a tristate fits a type: any fits a tristate, all but `m` a bool, none another type.
 fn is_tri_fit(kind: Kind, value: Tri) -> bool
     ensures { result ≡ tri_fits kind value }
 {
-    match (kind, value) {
-        (Kind::Bool, Tri::N) => true,
-        (Kind::Bool, Tri::M) => false,
-        (Kind::Bool, Tri::Y) => true,
-        (Kind::Tristate, _) => true,
-        (Kind::Text, _) => false,
-        (Kind::Int, _) => false,
-        (Kind::Hex, _) => false,
+    match kind {
+        Kind::Bool => !matches!(value, Tri::M),
+        Kind::Tristate => true,
+        _ => false,
     }
 }
 

@@ -5,7 +5,7 @@ use Rattle.std.proofs.lemmas.Option.{none-some, slice_get-get_or}
 use Rattle.std.proofs.lemmas.List.{length-replicate, get_or-replicate}
 use Rattle.std.specs.List.{Contains}
 use Rattle.kc_system.specs.Dependencies.{IsGraph, IsOrder, HasNoCycle, IsLeft, IsLeast, IsNamedCycle}
-use Rattle.kc_system.specs.checker.Elimination.{Eliminating, FlagsLeft}
+use Rattle.kc_system.specs.checker.Elimination.{IsElimination, FlagsLeft}
 use Rattle.kc_system.proofs.Lists.{get_from_Contains, Contains_from_get}
 use Rattle.kc_system.proofs.Cycles.{named_is_cycle}
 use Rattle.kc_system.proofs.Eliminations.{eliminates_more, all_eliminated, length-once, nothing_eliminated, flags_left}
@@ -127,7 +127,7 @@ module _ (size : ℕ) (dependencies : ℕ → List ℕ) (graph : IsGraph size de
       }) (suc size) [] (replicate size size) u (at_first u here) (omega arith)
 
   -- with n units still to be eliminated at most, an order is found
-  take_more : (n : ℕ) (eliminated : List ℕ) (flags : List Bool) → Eliminating size dependencies eliminated flags → size < length eliminated + n
+  take_more : (n : ℕ) (eliminated : List ℕ) (flags : List Bool) → IsElimination size dependencies eliminated flags → size < length eliminated + n
       → HasNoCycle size dependencies → (order : List ℕ) × IsOrder size dependencies order
   take_more zero eliminated flags t h acyclic = absurd (omega (arith, h, length-once size eliminated t.units t.once))
   take_more (suc n) eliminated flags t h acyclic = elim (next_ready flags size (omega arith)) [

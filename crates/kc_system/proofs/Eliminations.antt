@@ -8,7 +8,7 @@ use Rattle.std.proofs.lemmas.Map.Views.{Contains-from_any}
 use Rattle.std.specs.List.{Contains}
 use Rattle.kc_system.specs.checker.Rows.{AreDependents}
 use Rattle.kc_system.specs.Dependencies.{IsGraph, IsOrder}
-use Rattle.kc_system.specs.checker.Elimination.{IsEliminated, Eliminating, Passed, IsEliminatedOrWaits, Grows, WaitsBeyond, FlagsLeft}
+use Rattle.kc_system.specs.checker.Elimination.{IsEliminated, IsElimination, ArePassed, IsEliminatedOrWaits, Grows, WaitsBeyond, FlagsLeft}
 use Rattle.kc_system.proofs.Lists.{get-some, get_from_Contains, distinct_from_once}
 use Rattle.kc_system.proofs.Cycles.{get-append_left, eliminated_not_left}
 
@@ -25,8 +25,8 @@ push_cases (x ∷ xs) u (suc k) w e = elim (push_cases xs u k w e) [ inl earlier
 -- an elimination goes on with a unit whose flag is unset and whose dependencies are all eliminated
 pub eliminates_more : (size : ℕ) (dependencies : ℕ → List ℕ) (eliminated new : List ℕ) (flags : List Bool) (u : ℕ) → u < size → new ≡ eliminated ++ u ∷ []
     → get_or flags u false ≡ false
-    → ((d : ℕ) → Contains (dependencies u) d → (d < size) × (get_or flags d false ≡ true)) → Eliminating size dependencies eliminated flags
-    → Eliminating size dependencies new (set flags u true)
+    → ((d : ℕ) → Contains (dependencies u) d → (d < size) × (get_or flags d false ≡ true)) → IsElimination size dependencies eliminated flags
+    → IsElimination size dependencies new (set flags u true)
 eliminates_more size dependencies eliminated new flags u inside new_is fresh ready t =
     let at : (k w : ℕ) → slice_get new k ≡ Some w → (slice_get eliminated k ≡ Some w) ⊎ ((k ≡ length eliminated) × (w ≡ u)) = λ k w e. push_cases eliminated u k
     w (ap (λ xs. slice_get xs k) (sym new_is) ∙ e) in
@@ -69,7 +69,7 @@ eliminated_grows eliminated new u new_is = (
 )
 
 -- the list of eliminated units is an order of dependency if it has all units
-pub all_eliminated : (size : ℕ) (dependencies : ℕ → List ℕ) (eliminated : List ℕ) (flags : List Bool) → Eliminating size dependencies eliminated flags
+pub all_eliminated : (size : ℕ) (dependencies : ℕ → List ℕ) (eliminated : List ℕ) (flags : List Bool) → IsElimination size dependencies eliminated flags
     → ((u : ℕ) → u < size → get_or flags u false ≡ true) → IsOrder size dependencies eliminated
 all_eliminated size dependencies eliminated flags t all = record { units = t.units; each = λ u h. (t.flagged u h).0 (all u h); once = t.once; after = t.after }
 
@@ -89,7 +89,7 @@ still_beyond dependencies old new i u h grows w = elim w [
   )
 ]
 
-pub waits_beyond : (size : ℕ) (dependencies : ℕ → List ℕ) (flags : List Bool) (eliminated : List ℕ) (i u : ℕ) → Eliminating size dependencies eliminated flags
+pub waits_beyond : (size : ℕ) (dependencies : ℕ → List ℕ) (flags : List Bool) (eliminated : List ℕ) (i u : ℕ) → IsElimination size dependencies eliminated flags
     → IsEliminatedOrWaits dependencies flags eliminated u → WaitsBeyond dependencies eliminated i u
 waits_beyond size dependencies flags eliminated i u t s = elim s [
   | inl yet ↦ inl yet
@@ -139,7 +139,7 @@ length-once n xs below once = length-le_from_distinct_below xs n (distinct_from_
 
 -- an elimination begins with no eliminated unit and all flags unset
 pub nothing_eliminated : (size : ℕ) (dependencies : ℕ → List ℕ) (eliminated : List ℕ) (flags : List Bool) → eliminated ≡ [] → flags ≡ replicate size false
-    → Eliminating size dependencies eliminated flags
+    → IsElimination size dependencies eliminated flags
 nothing_eliminated size dependencies eliminated flags none unset =
     let empty : (k u : ℕ) → slice_get eliminated k ≡ Some u → ⊥ = λ k u e. none-some u (sym (ap (λ xs. slice_get xs k) none) ∙ e) in
     record {
@@ -154,7 +154,7 @@ nothing_eliminated size dependencies eliminated flags none unset =
     }
 
 -- if `next` is 0 for each unit, no dependency need have its flag set
-pub nothing_passed : (size : ℕ) (dependencies : ℕ → List ℕ) (flags : List Bool) (next : List ℕ) → next ≡ replicate size 0 → Passed size dependencies flags next
+pub nothing_passed : (size : ℕ) (dependencies : ℕ → List ℕ) (flags : List Bool) (next : List ℕ) → next ≡ replicate size 0 → ArePassed size dependencies flags next
 nothing_passed size dependencies flags next is =
     let at : (u : ℕ) → u < size → get_or next u 0 ≡ 0 = λ u h. ap (λ xs. get_or xs u 0) is ∙ get_or-replicate size u 0 0 h in
     record {
@@ -165,7 +165,7 @@ nothing_passed size dependencies flags next is =
 
 -- if each unit is eliminated or has a dependency whose flag is unset, just the units that are left have unset flags
 pub flags_left : (size : ℕ) (dependencies : ℕ → List ℕ) (eliminated : List ℕ) (flags : List Bool) → IsGraph size dependencies
-    → Eliminating size dependencies eliminated flags
+    → IsElimination size dependencies eliminated flags
     → ((u : ℕ) → u < size → IsEliminated eliminated u ⊎ ((d : ℕ) × Contains (dependencies u) d × (get_or flags d false ≡ false)))
     → FlagsLeft size dependencies flags
 flags_left size dependencies eliminated flags graph t each u h = (
@@ -196,7 +196,7 @@ flags_left size dependencies eliminated flags graph t each u h = (
 
 -- if each unit is eliminated or waits for a unit that isn't, just the units that are left have unset flags
 pub flags_left_at_end : (size : ℕ) (dependencies : ℕ → List ℕ) (eliminated : List ℕ) (flags : List Bool) → IsGraph size dependencies
-    → Eliminating size dependencies eliminated flags
+    → IsElimination size dependencies eliminated flags
     → ((u : ℕ) → u < size → WaitsBeyond dependencies eliminated (length eliminated) u) → FlagsLeft size dependencies flags
 flags_left_at_end size dependencies eliminated flags graph t beyond = flags_left size dependencies eliminated flags graph t (λ u h. elim (beyond u h) [
   | inl yet ↦ inl yet

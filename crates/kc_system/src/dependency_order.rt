@@ -2,7 +2,7 @@
 ghost use Rattle.std.specs.Prelude.{◌≡◌, ℕ, ◌<◌, ◌^◌, true, false, length, slice_index_or, IfOk, IfErr, IfSome, IfNone};
 ghost use Rattle.kc_system.specs.Dependencies.{IsOrder, HasNoCycle};
 ghost use Rattle.kc_system.specs.Faults.{ReportsCycle};
-ghost use Rattle.kc_system.specs.checker.Elimination.{Eliminating, FlagsLeft};
+ghost use Rattle.kc_system.specs.checker.Elimination.{IsElimination, FlagsLeft};
 
 use crate::cycle_search::named_cycle;
 use crate::elimination::eliminate_all;
@@ -30,7 +30,7 @@ fn order_or_cycle<G: Graph>(
     eliminated: Vec<u32>,
     flags: &[bool],
 ) -> Result<Order, OrderFault>
-    requires eliminating { Eliminating (G.size graph.now) (G.dependencies graph.now) eliminated.items flags.now }
+    requires eliminating { IsElimination (G.size graph.now) (G.dependencies graph.now) eliminated.items flags.now }
     requires left { FlagsLeft (G.size graph.now) (G.dependencies graph.now) flags.now }
     requires few { G.size graph.now < 2 ^ 32 }
     ensures order { IfOk result (λ order. IsOrder (G.size graph.now) (G.dependencies graph.now) order) }

@@ -1,7 +1,7 @@
 //! Elimination of units whose dependencies are all eliminated.
 ghost use Rattle.std.specs.Prelude.{◌≡◌, ℕ, ◌<◌, ◌≤◌, true, false, [], length, replicate, All, OnOk, Contains, slice_get, slice_index_or, Some};
 ghost use Rattle.kc_system.specs.checker.Rows.{ListsDependents};
-ghost use Rattle.kc_system.specs.checker.Elimination.{IsEliminatedOrWaits, Eliminating, Passed, Grows, WaitsBeyond, FlagsLeft};
+ghost use Rattle.kc_system.specs.checker.Elimination.{IsEliminatedOrWaits, IsElimination, ArePassed, Grows, WaitsBeyond, FlagsLeft};
 
 use crate::rows::{Rows, list_dependents};
 use crate::system::Graph;
@@ -34,10 +34,10 @@ fn eliminate_if_ready<G: Graph>(
     next: &mut [usize],
 ) -> Result<(), AllocError>
     requires unit { u < G.size graph.now }
-    requires eliminating { Eliminating (G.size graph.now) (G.dependencies graph.now) eliminated.old.items flags.old }
-    requires passed { Passed (G.size graph.now) (G.dependencies graph.now) flags.old next.old }
-    ensures eliminating { OnOk result (Eliminating (G.size graph.now) (G.dependencies graph.now) eliminated.new.items flags.new) }
-    ensures passed { OnOk result (Passed (G.size graph.now) (G.dependencies graph.now) flags.new next.new) }
+    requires eliminating { IsElimination (G.size graph.now) (G.dependencies graph.now) eliminated.old.items flags.old }
+    requires passed { ArePassed (G.size graph.now) (G.dependencies graph.now) flags.old next.old }
+    ensures eliminating { OnOk result (IsElimination (G.size graph.now) (G.dependencies graph.now) eliminated.new.items flags.new) }
+    ensures passed { OnOk result (ArePassed (G.size graph.now) (G.dependencies graph.now) flags.new next.new) }
     ensures grows { OnOk result (Grows eliminated.old.items eliminated.new.items) }
     ensures waits { OnOk result (IsEliminatedOrWaits (G.dependencies graph.now) flags.new eliminated.new.items u) }
 {
@@ -63,10 +63,10 @@ fn eliminate_ready<G: Graph>(
     next: &mut [usize],
 ) -> Result<(), AllocError>
     requires units { All (λ u. u < G.size graph.now) units.now }
-    requires eliminating { Eliminating (G.size graph.now) (G.dependencies graph.now) eliminated.old.items flags.old }
-    requires passed { Passed (G.size graph.now) (G.dependencies graph.now) flags.old next.old }
-    ensures eliminating { OnOk result (Eliminating (G.size graph.now) (G.dependencies graph.now) eliminated.new.items flags.new) }
-    ensures passed { OnOk result (Passed (G.size graph.now) (G.dependencies graph.now) flags.new next.new) }
+    requires eliminating { IsElimination (G.size graph.now) (G.dependencies graph.now) eliminated.old.items flags.old }
+    requires passed { ArePassed (G.size graph.now) (G.dependencies graph.now) flags.old next.old }
+    ensures eliminating { OnOk result (IsElimination (G.size graph.now) (G.dependencies graph.now) eliminated.new.items flags.new) }
+    ensures passed { OnOk result (ArePassed (G.size graph.now) (G.dependencies graph.now) flags.new next.new) }
     ensures grows { OnOk result (Grows eliminated.old.items eliminated.new.items) }
     ensures beyond { OnOk result ((u : ℕ) → Contains units.now u → WaitsBeyond (G.dependencies graph.now) eliminated.new.items (length eliminated.old.items) u) }
 {
@@ -85,10 +85,10 @@ fn eliminate_reachable<G: Graph>(
     next: &mut [usize],
 ) -> Result<(), AllocError>
     requires dependents { ListsDependents (G.size graph.now) (G.dependencies graph.now) dependents.now.starts.items dependents.now.units.items }
-    requires eliminating { Eliminating (G.size graph.now) (G.dependencies graph.now) eliminated.old.items flags.old }
-    requires passed { Passed (G.size graph.now) (G.dependencies graph.now) flags.old next.old }
+    requires eliminating { IsElimination (G.size graph.now) (G.dependencies graph.now) eliminated.old.items flags.old }
+    requires passed { ArePassed (G.size graph.now) (G.dependencies graph.now) flags.old next.old }
     requires beyond { (u : ℕ) → u < G.size graph.now → WaitsBeyond (G.dependencies graph.now) eliminated.old.items 0 u }
-    ensures eliminating { OnOk result (Eliminating (G.size graph.now) (G.dependencies graph.now) eliminated.new.items flags.new) }
+    ensures eliminating { OnOk result (IsElimination (G.size graph.now) (G.dependencies graph.now) eliminated.new.items flags.new) }
     ensures beyond { OnOk result ((u : ℕ) → u < G.size graph.now → WaitsBeyond (G.dependencies graph.now) eliminated.new.items (length eliminated.new.items) u) }
 {
     let mut i = 0;
@@ -107,10 +107,10 @@ fn eliminate_each_once<G: Graph>(
     flags: &mut [bool],
     next: &mut [usize],
 ) -> Result<(), AllocError>
-    requires eliminating { Eliminating (G.size graph.now) (G.dependencies graph.now) eliminated.old.items flags.old }
-    requires passed { Passed (G.size graph.now) (G.dependencies graph.now) flags.old next.old }
-    ensures eliminating { OnOk result (Eliminating (G.size graph.now) (G.dependencies graph.now) eliminated.new.items flags.new) }
-    ensures passed { OnOk result (Passed (G.size graph.now) (G.dependencies graph.now) flags.new next.new) }
+    requires eliminating { IsElimination (G.size graph.now) (G.dependencies graph.now) eliminated.old.items flags.old }
+    requires passed { ArePassed (G.size graph.now) (G.dependencies graph.now) flags.old next.old }
+    ensures eliminating { OnOk result (IsElimination (G.size graph.now) (G.dependencies graph.now) eliminated.new.items flags.new) }
+    ensures passed { OnOk result (ArePassed (G.size graph.now) (G.dependencies graph.now) flags.new next.new) }
     ensures beyond { OnOk result ((u : ℕ) → u < G.size graph.now → WaitsBeyond (G.dependencies graph.now) eliminated.new.items 0 u) }
 {
     for u in 0..graph.len() {
@@ -129,7 +129,7 @@ pub(crate) fn eliminate_all<G: Graph>(
 ) -> Result<(), AllocError>
     requires none { eliminated.old.items ≡ [] }
     requires flags { flags.old ≡ replicate (G.size graph.now) false }
-    ensures eliminating { OnOk result (Eliminating (G.size graph.now) (G.dependencies graph.now) eliminated.new.items flags.new) }
+    ensures eliminating { OnOk result (IsElimination (G.size graph.now) (G.dependencies graph.now) eliminated.new.items flags.new) }
     ensures left { OnOk result (FlagsLeft (G.size graph.now) (G.dependencies graph.now) flags.new) }
 {
     let mut next = vec![in alloc; 0; graph.len() as usize]?;

@@ -81,33 +81,33 @@ fn a_folder_is_not_synced(rt: HostRuntime) -> Result<(), Fail> {
     Ok(())
 }
 
-/// The path of the new file that a replacing left.
-fn left_path(fault: Result<(), ReplaceFault>) -> Option<String> {
+/// The path of the new file that a failed replacement couldn't remove.
+fn remaining_path(fault: Result<(), ReplaceFault>) -> Option<String> {
     match fault {
         Err(ReplaceFault::Left(new_path)) => Some(new_path),
         _ => None,
     }
 }
 
-/// Whether a new file is left where a call after these fails and the removal too, and the next one has another name.
-fn is_left_after(rt: &HostRuntime, calls: u64) -> Result<bool, Fail> {
+/// Whether a new file remains where the call after these fails and its removal too, and the next new file has another name.
+fn remains_after(rt: &HostRuntime, calls: u64) -> Result<bool, Fail> {
     let mut disk = disk_with_old_file(rt)?;
     disk.fail_after(calls, 2);
-    let Some(left) = left_path(replace(rt.alloc(), &mut disk, "a/config", NEW)) else {
+    let Some(new_path) = remaining_path(replace(rt.alloc(), &mut disk, "a/config", NEW)) else {
         return Ok(false);
     };
-    let mut holds = left.as_str().starts_with("a/.kmin-") && left.len() == 24;
-    holds &= disk.kind(&left) == FileKind::Regular && disk.bytes_at("a/config") == Some(OLD);
+    let mut holds = new_path.as_str().starts_with("a/.kmin-") && new_path.len() == 24;
+    holds &= disk.kind(&new_path) == FileKind::Regular && disk.bytes_at("a/config") == Some(OLD);
     holds &= disk.failures() == 2;
     holds &= replace(rt.alloc(), &mut disk, "a/config", NEW).is_ok();
-    holds &= disk.bytes_at("a/config") == Some(NEW) && disk.kind(&left) == FileKind::Regular;
+    holds &= disk.bytes_at("a/config") == Some(NEW) && disk.kind(&new_path) == FileKind::Regular;
     Ok(holds)
 }
 
 #[test]
-fn a_new_file_is_left(rt: HostRuntime) -> Result<(), Fail> {
+fn a_new_file_remains_where_its_removal_fails(rt: HostRuntime) -> Result<(), Fail> {
     for calls in 1..6 {
-        let holds = is_left_after(&rt, calls)? || is_left_after(&rt, calls)?;
+        let holds = remains_after(&rt, calls)? || remains_after(&rt, calls)?;
         assert!(rt; holds);
     }
     Ok(())
@@ -119,7 +119,7 @@ fn is_kept_where_names_are_taken(rt: &HostRuntime) -> Result<bool, Fail> {
     let mut holds = true;
     for taken in 0..8 {
         disk.fail_after(taken + 1, 2);
-        holds &= left_path(replace(rt.alloc(), &mut disk, "a/config", NEW)).is_some();
+        holds &= remaining_path(replace(rt.alloc(), &mut disk, "a/config", NEW)).is_some();
     }
     let changes = disk.changes();
     let fault = replace(rt.alloc(), &mut disk, "a/config", NEW);

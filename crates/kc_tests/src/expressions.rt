@@ -95,9 +95,9 @@ fn returns_names(rt: HostRuntime) -> Result<(), std::test::Fail> {
     Ok(())
 }
 
-/// Appends the names in an expression that weren't met. A refusal leaves the others alone; then a new walk has
-/// met none.
-fn push_met(
+/// Appends the names in an expression that this walk hasn't visited. Where memory runs out, the list has to stay as it was, and
+/// a new walk, which has visited nothing, tries once more.
+fn push_unvisited(
     arena: &Arena,
     id: ExprId,
     walk: &mut VisitedSet,
@@ -120,23 +120,23 @@ fn push_met(
     }
 }
 
-/// Whether a walk passes over what it has met in its turn, and no longer in the next one.
-fn is_met_once(alloc: Global) -> Result<bool, ExprFault> {
+/// Whether a walk passes over the names that it has visited, and visits them again once it is begun anew.
+fn is_visited_once(alloc: Global) -> Result<bool, ExprFault> {
     let mut arena = Arena::new(alloc);
-    let is_met_once = is_met_once_in(alloc, &mut arena);
+    let is_visited_once = is_visited_once_in(alloc, &mut arena);
     drop(arena);
-    is_met_once
+    is_visited_once
 }
 
-/// Whether a walk through this arena, which is empty, does.
-fn is_met_once_in(alloc: Global, arena: &mut Arena) -> Result<bool, ExprFault> {
+/// Whether a walk through an expression of this arena, which is empty at first, visits each name once.
+fn is_visited_once_in(alloc: Global, arena: &mut Arena) -> Result<bool, ExprFault> {
     let (id, _, _) = read(alloc, arena, "A && B || !C")?;
     let both = doubled(arena, id)?;
-    Ok(is_met_once_by(alloc, arena, both, &mut twice!(arena.walk()))?)
+    Ok(is_visited_once_by(alloc, arena, both, &mut twice!(arena.walk()))?)
 }
 
-/// Whether this walk, which has met none, does.
-fn is_met_once_by(
+/// Whether this walk, which has visited nothing yet, visits each of three names once, and again once it is begun anew.
+fn is_visited_once_by(
     alloc: Global,
     arena: &Arena,
     id: ExprId,
@@ -146,18 +146,18 @@ fn is_met_once_by(
     requires found { HasFound arena.now walk.old [] }
 {
     let mut found = Vec::new(alloc);
-    push_met(arena, id, walk, &mut found)?;
+    push_unvisited(arena, id, walk, &mut found)?;
     let first = found.len();
-    push_met(arena, id, walk, &mut found)?;
+    push_unvisited(arena, id, walk, &mut found)?;
     let again = found.len();
     walk.begin();
-    push_met(arena, id, walk, &mut found)?;
+    push_unvisited(arena, id, walk, &mut found)?;
     Ok(first == 3 && again == 3 && found.len() == 6)
 }
 
 #[test]
-fn meets_once(rt: HostRuntime) -> Result<(), std::test::Fail> {
-    assert!(rt; is_met_once(rt.alloc())?);
+fn a_walk_visits_each_name_once(rt: HostRuntime) -> Result<(), std::test::Fail> {
+    assert!(rt; is_visited_once(rt.alloc())?);
     Ok(())
 }
 
@@ -177,7 +177,7 @@ fn are_pushed(alloc: Global) -> Result<bool, ExprFault> {
     are_pushed
 }
 
-/// Whether those of an expression of this arena, which is empty, are.
+/// Whether the names of an expression of this arena, which is empty at first, are appended as often as they occur.
 fn are_pushed_in(alloc: Global, arena: &mut Arena) -> Result<bool, ExprFault> {
     let (id, _, _) = read(alloc, arena, "A && B || !A")?;
     let mut found = Vec::new(alloc);

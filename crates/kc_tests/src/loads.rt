@@ -1,4 +1,4 @@
-//! Configurations that hold what files assign.
+//! Configurations that are changed by files: what changes, and how many rules are evaluated.
 use super::test_trees::{fragment_twice, merged, replaced, settled};
 use kc_dotconfig::{Config, Fragment};
 use kc_rules::{Profile, Settled};
@@ -95,7 +95,7 @@ fn is_made(alloc: Global, config: &mut Config<'_>, change: &Change) -> Result<bo
     Ok(report.changed.as_slice() == change.changed && report.evaluated == change.evaluated)
 }
 
-/// Whether each of these files does.
+/// Whether each of these files changes what it should.
 fn are_made(
     alloc: Global,
     config: &mut Config<'_>,
@@ -109,7 +109,7 @@ fn are_made(
     Ok(true)
 }
 
-/// Whether a copy holds the same as its original, as replacing its assignment shows.
+/// Whether a copy is equal to its original: replacing its assignment changes what it should.
 fn is_copied(alloc: Global, config: &Config<'_>) -> Result<bool, AllocError> {
     let mut copy = config.copy()?;
     let is_made = is_made(alloc, &mut copy, &OF_A_COPY);
@@ -123,8 +123,9 @@ fn is_missed(config: &Config<'_>, number: u32) -> Result<bool, AllocError> {
     Ok(missed.len() == 1 && missed[0].number() == number)
 }
 
-/// Whether a configuration of the tree holds what files assign, and reports the changes.
-fn holds(alloc: Global, config: &mut Config<'_>) -> Result<bool, AllocError> {
+/// Whether each file changes this configuration of the large tree as it should; also whether a copy of the configuration and the
+/// list of its missed symbols are right.
+fn is_changed(alloc: Global, config: &mut Config<'_>) -> Result<bool, AllocError> {
     let first = are_made(alloc, config, &FIRST)?;
     let is_copied = twice!(is_copied(alloc, config));
     let third = are_made(alloc, config, &MISSED)?;
@@ -133,20 +134,20 @@ fn holds(alloc: Global, config: &mut Config<'_>) -> Result<bool, AllocError> {
     Ok(first && is_copied && third && is_missed && last)
 }
 
-/// Whether a configuration does so from its making on.
-fn holds_from_the_start(alloc: Global) -> Result<bool, AllocError> {
+/// Whether each file changes a new configuration of the large tree as it should.
+fn is_large_tree_changed(alloc: Global) -> Result<bool, AllocError> {
     let tree = large_tree(alloc)?;
-    let holds = holds_in(alloc, &tree);
+    let is_changed = is_large_tree_changed_in(alloc, &tree);
     drop(tree);
-    holds
+    is_changed
 }
 
-/// Whether it does so over this tree.
-fn holds_in(alloc: Global, tree: &Settled) -> Result<bool, AllocError> {
+/// Whether each file changes a new configuration of this tree as it should.
+fn is_large_tree_changed_in(alloc: Global, tree: &Settled) -> Result<bool, AllocError> {
     let mut config = twice!(Config::new(alloc, tree));
-    let holds = holds(alloc, &mut config);
+    let is_changed = is_changed(alloc, &mut config);
     drop(config);
-    holds
+    is_changed
 }
 
 /// A bool, two with its value, and one below both.
@@ -168,7 +169,7 @@ const OF_THE_DIAMOND: [Change; 2] = [
     },
 ];
 
-/// Whether the files change the diamond as they should, and a refused file leaves it.
+/// Whether the files change the diamond as they should, and a refused file changes nothing.
 fn is_diamond_changed(alloc: Global) -> Result<bool, AllocError> {
     let tree = settled(alloc, DIAMOND, Profile::Present)?;
     let is_changed = is_diamond_changed_in(alloc, &tree);
@@ -176,7 +177,7 @@ fn is_diamond_changed(alloc: Global) -> Result<bool, AllocError> {
     is_changed
 }
 
-/// Whether they do so over this tree.
+/// Whether the files change a configuration of this diamond as they should, and a refused file changes nothing.
 fn is_diamond_changed_in(alloc: Global, tree: &Settled) -> Result<bool, AllocError> {
     let mut config = twice!(Config::new(alloc, tree));
     let are_made = are_made(alloc, &mut config, &OF_THE_DIAMOND);
@@ -198,8 +199,8 @@ fn each_unit_of_a_diamond_is_evaluated_once(rt: HostRuntime) -> Result<(), Fail>
 }
 
 #[test]
-fn a_configuration_holds_what_files_assign(rt: HostRuntime) -> Result<(), Fail> {
-    assert!(rt; holds_from_the_start(rt.alloc())?);
+fn a_configuration_has_what_files_assign(rt: HostRuntime) -> Result<(), Fail> {
+    assert!(rt; is_large_tree_changed(rt.alloc())?);
     Ok(())
 }
 

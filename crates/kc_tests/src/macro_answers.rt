@@ -34,7 +34,7 @@ fn a_file_of_answers_is_read(rt: HostRuntime) -> Result<(), std::test::Fail> {
 }
 
 #[test]
-fn a_refused_file_leaves_the_answers(rt: HostRuntime) -> Result<(), std::test::Fail> {
+fn a_refused_file_changes_no_answer(rt: HostRuntime) -> Result<(), std::test::Fail> {
     let mut answers = Answers::new(rt.alloc(), Seed::fixed());
     assert_eq!(rt;
         read(rt.alloc(), &mut answers, b"Z=1\n", Then::End)?,

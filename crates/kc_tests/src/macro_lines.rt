@@ -23,8 +23,8 @@ fn answers(alloc: Global) -> Result<Answers, AllocError> {
     Ok(answers)
 }
 
-/// What a stop says: the text of its fault, or that a question is open. Want of memory stays an error.
-fn said(alloc: Global, stop: Stop) -> Result<Vec<u8>, AllocError> {
+/// The text of the fault that stopped a run, or `?` for an open question. Lack of memory stays an error.
+fn stop_text(alloc: Global, stop: Stop) -> Result<Vec<u8>, AllocError> {
     match stop {
         Stop::Fault(fault) => Ok(fault.text.into_vec()),
         Stop::Unanswered => Vec::from_slice(alloc, b"?"),
@@ -32,8 +32,8 @@ fn said(alloc: Global, stop: Stop) -> Result<Vec<u8>, AllocError> {
     }
 }
 
-/// Assigns what lines say, in order. Each has to be an assignment without a fault, so that it is lack of memory where one
-/// is refused.
+/// The variables after these lines, in order. Each has to be an assignment without a fault, so that one that is refused means
+/// lack of memory.
 fn assigned(alloc: Global, lines: &[&[u8]]) -> Result<Bindings, AllocError> {
     let answers = answers(alloc)?;
     let mut bindings = Bindings::new(alloc, Seed::fixed());
@@ -60,7 +60,7 @@ fn value(alloc: Global, bindings: &Bindings, text: &[u8]) -> Result<Vec<u8>, All
     match text_value(&mut run, AT, bindings, text) {
         Ok(Some(value)) => Ok(value.into_vec()),
         Ok(None) => Vec::from_slice(alloc, b"unknown"),
-        Err(stop) => said(alloc, stop),
+        Err(stop) => stop_text(alloc, stop),
     }
 }
 
@@ -83,7 +83,7 @@ fn written(alloc: Global, bindings: &Bindings, text: &[u8]) -> Result<Vec<u8>, A
     match read_line(&mut run, AT, bindings, text) {
         Ok(LineContent::Tokens(tokens)) => line_bytes(alloc, tokens.as_slice()),
         Ok(LineContent::Assigns(assignment)) => Ok(assignment.text.into_vec()),
-        Err(stop) => said(alloc, stop),
+        Err(stop) => stop_text(alloc, stop),
     }
 }
 
@@ -215,7 +215,7 @@ fn lines_are_written_with_values(rt: HostRuntime) -> Result<(), std::test::Fail>
     Ok(())
 }
 
-/// What the form of a line is, and what it says.
+/// The word for the form of a line, and the text that the form has.
 fn form_word<'t>(form: LineForm<'t>) -> (&'static [u8], &'t [u8]) {
     match form {
         LineForm::Plain => (b"plain", b""),
@@ -236,13 +236,13 @@ fn source_word(sort: SourceSort) -> &'static [u8] {
     }
 }
 
-/// The form of a line with what it says, after a comma; then whether it begins a help text, and whether it is undecided.
+/// The form of a line and its text, after a comma; then whether the line begins a help text, and whether it is undecided.
 fn formed(alloc: Global, text: &[u8]) -> Result<Vec<u8>, AllocError> {
     let tokens = tokens(alloc, text)?;
-    let (word, said) = form_word(line_form(tokens.as_slice()));
+    let (word, part) = form_word(line_form(tokens.as_slice()));
     let mut out = Vec::from_slice(alloc, word)?;
     out.push(b',')?;
-    out.extend_from_slice(said)?;
+    out.extend_from_slice(part)?;
     if is_help_line(tokens.as_slice()) {
         out.extend_from_slice(b",help")?;
     }

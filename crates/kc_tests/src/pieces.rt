@@ -33,7 +33,7 @@ const BOOL: &[u8] = b"config A\n\tbool \"a\"\n";
 
 const NUMBER: &[u8] = b"config N\n\tint \"n\"\n\trange 10 20\n\tdefault 5\n";
 
-/// Files over the bool.
+/// Files over the tree `BOOL`, each with its answer.
 fn cases() -> [Case<'static>; 7] {
     [
         Case {
@@ -83,7 +83,7 @@ fn answer(
     }
 }
 
-/// Whether memory was refused; no line of the file has part in that.
+/// Whether a fault means that memory ran out; such a fault of a configuration file has the line 0.
 fn is_memory(fault: RunFault) -> bool {
     let line_0 = LoadFault {
         line: 0,
@@ -110,7 +110,7 @@ fn is_answered(
     Ok(answer == case.answer && sink.bytes() == case.written)
 }
 
-/// Whether each of the cases is, in pieces of each size.
+/// Whether each file of `cases` is answered as it should be, in pieces of each size.
 fn are_answered(alloc: Global) -> Result<bool, AllocError> {
     let tree = settled(alloc, BOOL, Profile::Present)?;
     let are_answered = are_answered_over(alloc, &tree);
@@ -118,7 +118,7 @@ fn are_answered(alloc: Global) -> Result<bool, AllocError> {
     are_answered
 }
 
-/// Whether they are over this tree.
+/// Whether each file of `cases` is answered as it should be over this tree, in pieces of each size.
 fn are_answered_over(alloc: Global, tree: &Settled) -> Result<bool, AllocError> {
     let mut are_answered = true;
     for case in &cases() {
@@ -155,7 +155,7 @@ fn longest_line(alloc: Global) -> Result<Vec<u8>, AllocError> {
     Ok(file)
 }
 
-/// Whether the longest line that is read is accepted, and one of a byte more is refused.
+/// Whether the longest line that is read is accepted, and a line of one byte more refused.
 fn are_long_lines_answered(alloc: Global) -> Result<bool, AllocError> {
     let tree = settled(alloc, BOOL, Profile::Present)?;
     let are_answered = are_long_lines_answered_over(alloc, &tree);
@@ -163,7 +163,7 @@ fn are_long_lines_answered(alloc: Global) -> Result<bool, AllocError> {
     are_answered
 }
 
-/// Whether they are over this tree.
+/// Whether the longest line that is read is accepted over this tree, and a line of one byte more refused.
 fn are_long_lines_answered_over(alloc: Global, tree: &Settled) -> Result<bool, AllocError> {
     let mut file = twice!(longest_line(alloc));
     let accepted = Case {
@@ -185,7 +185,7 @@ fn a_line_in_pieces_may_have_65536_bytes(rt: HostRuntime) -> Result<(), Fail> {
     Ok(())
 }
 
-/// Whether a file over a tree is answered as it should be.
+/// Whether a file over the tree of this text is answered as it should be, in pieces of up to 4,096 bytes.
 fn is_answered_once(
     alloc: Global,
     tree: &[u8],

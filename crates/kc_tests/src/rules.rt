@@ -1,4 +1,4 @@
-//! Values of a tree: those that a session holds after many changes, and those that solving anew gives.
+//! Values of a tree: those of a configuration after many changes, and those that solving anew gives.
 use super::test_trees::{are_same, merged_twice, settled};
 use kc_dotconfig::Config;
 use kc_rules::{Profile, Settled, Steps};
@@ -62,14 +62,14 @@ const LINES: [&str; 16] = [
     "# CONFIG_MODULES is not set\n",
 ];
 
-/// Whether solving anew what is held gives the values held.
+/// Whether solving anew with a configuration's user values gives the configuration's values.
 fn is_solved(alloc: Global, config: &Config<'_>) -> Result<bool, AllocError> {
     let tree = config.settled();
     let values = solve(alloc, tree, tree.order(), config.users(), &mut Steps::new())?;
     Ok(are_same(&values, config.values()))
 }
 
-/// Whether the values held stay those that solving anew gives, in this profile.
+/// Whether, in this profile, the values of a configuration are those that solving anew gives, after each of many changes.
 fn is_kept_solved(alloc: Global, profile: Profile) -> Result<bool, AllocError> {
     let tree = settled(alloc, TREE, profile)?;
     let has_profile = tree.profile() == profile;
@@ -78,7 +78,7 @@ fn is_kept_solved(alloc: Global, profile: Profile) -> Result<bool, AllocError> {
     Ok(has_profile && stays_solved?)
 }
 
-/// Whether they do so in this tree, through many changes.
+/// Whether the values of a configuration of this tree are those that solving anew gives, after each of many changes.
 fn stays_solved(alloc: Global, tree: &Settled) -> Result<bool, AllocError> {
     let mut config = twice!(Config::new(alloc, tree));
     let stays_solved = is_solved_throughout(alloc, &mut config);
@@ -86,7 +86,7 @@ fn stays_solved(alloc: Global, tree: &Settled) -> Result<bool, AllocError> {
     stays_solved
 }
 
-/// Whether those of this configuration do, which holds none at first.
+/// Whether a configuration, which has no user value at first, has the values that solving anew gives, after each of 40 changes.
 fn is_solved_throughout(alloc: Global, config: &mut Config<'_>) -> Result<bool, AllocError> {
     let mut seed: u32 = 1;
     for _ in 0..40 {

@@ -88,7 +88,7 @@ pub(crate) fn fragment_twice(
     Ok(twice!(fragment_of(alloc, settled, file)))
 }
 
-/// Lays a fragment over what is held; where that is refused once, it has to leave what is held as it was.
+/// Lays a fragment over a configuration. Where memory runs out at the first try, the configuration has to stay as it was.
 fn laid_over_itself(config: &mut Config<'_>, fragment: &Fragment) -> Result<Report, AllocError>
     requires { FitsTree (tree_in config.old) fragment.now.assigns.items }
 {
@@ -98,7 +98,7 @@ fn laid_over_itself(config: &mut Config<'_>, fragment: &Fragment) -> Result<Repo
     report
 }
 
-/// Lays a fragment over what is held, which is what this copy holds.
+/// Lays a fragment over a configuration that is equal to the copy `before`, with which it is compared after a failed try.
 fn laid_over(
     config: &mut Config<'_>,
     before: &Config<'_>,
@@ -106,11 +106,11 @@ fn laid_over(
 ) -> Result<Report, AllocError>
     requires { FitsTree (tree_in config.old) fragment.now.assigns.items }
 {
-    Ok(twice_on!(hold_the_same(config, before), config.merge(fragment)))
+    Ok(twice_on!(are_equal(config, before), config.merge(fragment)))
 }
 
-/// Whether two configurations of a tree hold the same, and have the same values.
-fn hold_the_same(config: &Config<'_>, other: &Config<'_>) -> bool {
+/// Whether two configurations of a tree have the same user values and the same values.
+fn are_equal(config: &Config<'_>, other: &Config<'_>) -> bool {
     let has_same_users = config
         .users()
         .iter()
@@ -128,13 +128,13 @@ fn is_same_user(user: &Option<UserValue>, other: &Option<UserValue>) -> bool {
     }
 }
 
-/// Whether each value in `held` is the one at the same place in `values`.
-pub(crate) fn are_same(values: &[UnitValue], held: &[UnitValue]) -> bool {
-    values.len() >= held.len()
+/// Whether each value of `others` is the one at the same place in `values`.
+pub(crate) fn are_same(values: &[UnitValue], others: &[UnitValue]) -> bool {
+    values.len() >= others.len()
         && values
             .iter()
-            .zip(held)
-            .all(|(value, held)| Settled::same(value, held))
+            .zip(others)
+            .all(|(value, other)| Settled::same(value, other))
 }
 
 /// Replaces a configuration with that of a configuration file. An `Err` means out of memory, or that the file isn't accepted.

@@ -150,7 +150,7 @@ fn lines_with_notices_are_lost_if_asked(rt: HostRuntime) -> Result<(), Fail> {
     Ok(())
 }
 
-/// Whether refused files are left, the run goes on, and the first of them decides the status.
+/// Whether refused files stay as they are, the run goes on, and the first of them decides the status.
 fn passes_refused_files(rt: &HostRuntime) -> Result<bool, Fail> {
     let mut disk = disk_with_files(rt)?;
     let text = "longer: 1 out, 0 in\n";
@@ -207,7 +207,7 @@ fn each_call_of_the_disk_fails_in_turn(rt: HostRuntime) -> Result<(), Fail> {
 }
 
 /// Whether a run ends where the new file can't be removed: nothing is listed, and the next file isn't replaced.
-fn ends_at_a_left_file(rt: &HostRuntime) -> Result<bool, Fail> {
+fn ends_at_a_remaining_file(rt: &HostRuntime) -> Result<bool, Fail> {
     let mut disk = disk_with_files(rt)?;
     disk.fail_after(2, 2);
     let tree = twice!(settled(rt.alloc(), TREE.as_bytes(), Profile::Present));
@@ -230,8 +230,8 @@ fn ends_at_a_left_file(rt: &HostRuntime) -> Result<bool, Fail> {
 }
 
 #[test]
-fn a_new_file_that_is_left_ends_the_run(rt: HostRuntime) -> Result<(), Fail> {
-    let holds = ends_at_a_left_file(&rt)? || ends_at_a_left_file(&rt)?;
+fn a_new_file_that_remains_ends_the_run(rt: HostRuntime) -> Result<(), Fail> {
+    let holds = ends_at_a_remaining_file(&rt)? || ends_at_a_remaining_file(&rt)?;
     assert!(rt; holds);
     Ok(())
 }

@@ -1,4 +1,4 @@
-//! Files that are given bytes over a disk in memory: each call fails in turn.
+//! `update` gives files their bytes, over a disk in memory where each call fails in turn.
 use kmin_disk::{FileKind, MemoryDisk, ReadDisk, ReplaceFault, UpdateFault, update};
 use std::test::Fail;
 
@@ -21,8 +21,8 @@ fn disk_with_files(rt: &HostRuntime) -> Result<MemoryDisk<'static>, Fail> {
     Ok(disk)
 }
 
-/// Whether a file of other bytes is replaced, and one that isn't there made: four files were added, a new one was made and
-/// renamed. The first texts are the front of the old one, and nothing.
+/// Whether a file of other bytes is replaced, and a missing one made. Each takes two changes of the disk, after four for the
+/// files that were added. The first two new texts are the beginning of the old one, and an empty one.
 fn is_replaced_or_made(rt: &HostRuntime) -> Result<bool, Fail> {
     let mut holds = true;
     for (path, new) in [
@@ -49,8 +49,8 @@ fn a_file_is_given_other_bytes(rt: HostRuntime) -> Result<(), Fail> {
     Ok(())
 }
 
-/// Whether files that have their bytes are left alone, where every call would fail.
-fn are_left_alone(rt: &HostRuntime) -> Result<bool, Fail> {
+/// Whether files that have the wanted bytes already are left as they are, on a disk where every change would fail.
+fn are_unchanged(rt: &HostRuntime) -> Result<bool, Fail> {
     let mut disk = disk_with_files(rt)?;
     disk.fail_after(0, 100);
     let mut holds = true;
@@ -61,8 +61,8 @@ fn are_left_alone(rt: &HostRuntime) -> Result<bool, Fail> {
 }
 
 #[test]
-fn equal_bytes_are_left_alone(rt: HostRuntime) -> Result<(), Fail> {
-    let holds = are_left_alone(&rt)?;
+fn files_with_equal_bytes_are_unchanged(rt: HostRuntime) -> Result<(), Fail> {
+    let holds = are_unchanged(&rt)?;
     assert!(rt; holds);
     Ok(())
 }
@@ -98,9 +98,9 @@ fn each_call_fails_in_turn(rt: HostRuntime) -> Result<(), Fail> {
     Ok(())
 }
 
-/// Whether a new file whose removal fails is reported, and a folder that isn't synced too. The first name is taken then, which
-/// is a call more.
-fn is_told_of(rt: &HostRuntime) -> Result<bool, Fail> {
+/// Whether the faults report a new file that can't be removed, and then a folder that isn't synced. In the second run the name
+/// of that file is taken, which costs one call more.
+fn are_reported(rt: &HostRuntime) -> Result<bool, Fail> {
     let mut disk = disk_with_files(rt)?;
     disk.fail_after(5, 2);
     let mut holds = match update(rt.alloc(), &mut disk, "a/none", NEW) {
@@ -117,14 +117,14 @@ fn is_told_of(rt: &HostRuntime) -> Result<bool, Fail> {
 }
 
 #[test]
-fn what_is_left_is_told(rt: HostRuntime) -> Result<(), Fail> {
-    let holds = is_told_of(&rt)? || is_told_of(&rt)?;
+fn a_remaining_new_file_and_an_unsynced_folder_are_reported(rt: HostRuntime) -> Result<(), Fail> {
+    let holds = are_reported(&rt)? || are_reported(&rt)?;
     assert!(rt; holds);
     Ok(())
 }
 
-/// Whether files are left alone where a read of them fails, also one that has just these bytes, and one that isn't there is
-/// made. After one read it is known of the third file that it has other bytes.
+/// Whether a file stays as it is where a read of it fails, even if it has the wanted bytes. Then, with reads still failing, a
+/// long file is replaced whose first read shows a difference, and a missing one is made.
 fn are_unread(rt: &HostRuntime) -> Result<bool, Fail> {
     let mut disk = disk_with_files(rt)?;
     let mut holds = true;

@@ -1,6 +1,7 @@
 -- The collected lists represent the tree.
 use Rattle.std.proofs.Common.{◌≡◌, ℕ, zero, suc, ◌+◌, ◌<◌, ◌≤◌, ◌^◌, Bool, true, false, cond, List, [], ◌∷◌, length, map, Option, Some, None, refl, ap, sym, subst, ◌∙◌, arith}
 use Rattle.std.specs.Prelude.{All, filter, filter_map, flat_map, slice_get, option_to_list, option_and_then}
+use Rattle.std.specs.Option.{option_or}
 use Rattle.std.specs.List.{cons_option}
 use Rattle.std.proofs.lemmas.List.{length-map}
 use Rattle.std.proofs.lemmas.List.Elements.{All-append, All-cons, All-nil}
@@ -42,7 +43,7 @@ use Rattle.kc_tree.specs.checker.Summaries.{IsSummary, enclosing_choice, member_
 use Rattle.kc_tree.specs.checker.UnitList.{unit_read, units_read}
 use Rattle.kc_tree.specs.declared.builder.ChoiceParts.{ChoiceParts}
 use Rattle.kc_tree.specs.declared.builder.SymbolParts.{SymbolParts}
-use Rattle.kc_tree.specs.declared.tree_lists.Gathered.{Gathered}
+use Rattle.kc_tree.specs.declared.tree_lists.TreeLists.{TreeLists}
 use Rattle.kc_tree.specs.declared.summary.Summary.{Summary}
 use Rattle.kc_tree.specs.declared.parts.ChoiceRow.{ChoiceRow}
 use Rattle.kc_tree.specs.declared.parts.SymbolRow.{SymbolRow}
@@ -50,7 +51,7 @@ use Rattle.kc_tree.proofs.GroupPlaces.{placed_count, count_is}
 use Rattle.kc_tree.proofs.MemberLaw.{members_are}
 
 -- symbols
-module _ (g : Gathered) (c : Contents) (a : AreAttributes g.arena c g.attributes) where
+module _ (g : TreeLists) (c : Contents) (a : AreAttributes g.arena c g.attributes) where
   symbol_same : (s : ℕ) (name : List ℕ) (r : SymbolRow) → slice_get c.names s ≡ Some name → IsRowOf g.arena c name r → symbol_gathered g s r ≡ symbol_of c name
   symbol_same s name r e h =
       rw (
@@ -96,7 +97,7 @@ rows_held e c (x ∷ names) [] h = absurd h
 rows_held e c (x ∷ names) (r ∷ rows) h = All-cons (λ (r : SymbolRow). r.name < length e.names) r rows h.0.held (rows_held e c names rows h.1)
 
 -- choices
-module _ (g : Gathered) (c : Contents) (sound : IsSound c) (keys : g.members.keys.items ≡ flat_map (member_keys_at c) c.places)
+module _ (g : TreeLists) (c : Contents) (sound : IsSound c) (keys : g.members.keys.items ≡ flat_map (member_keys_at c) c.places)
     (items : g.members.items.items ≡ flat_map (members_at c) c.places)
     (d : (k : ℕ) → map (member_default_view g.arena) (items_of k g.member_defaults.keys.items g.member_defaults.items.items)
     ≡ elim (slice_get (filter opens c.places) k) as (λ _. List tree.MemberDefault) [ None ↦ [] | Some p ↦ (choice_of c p).defaults ]) where
@@ -210,7 +211,7 @@ few_mapped {A = A} {B = B} f (x ∷ xs) = by (f x) (few_mapped f xs)
     by (Some y) h = omega (arith, h)
 
 -- no fault is left
-after_by : (f : Option TreeFault) (x : Option TreeFault) → elim f as (λ _. Option TreeFault) [ None ↦ x | Some g ↦ Some g ] ≡ None → x ≡ None
+after_by : (f : Option TreeFault) (x : Option TreeFault) → option_or f x ≡ None → x ≡ None
 after_by None x e = e
 after_by (Some g) x e = cc
 
@@ -223,7 +224,7 @@ faultless_of files root h = (
 )
 
 -- the whole, part by part
-module _ (files : Files) (root : List ℕ) (l : Listing) (symbols : SymbolParts) (choices : ChoiceParts) (summary : Summary) (g : Gathered)
+module _ (files : Files) (root : List ℕ) (l : Listing) (symbols : SymbolParts) (choices : ChoiceParts) (summary : Summary) (g : TreeLists)
     (arena_is : g.arena ≡ l.names.arena) (symbols_is : g.symbols ≡ symbols.rows) (attributes_is : g.attributes ≡ symbols.attributes)
     (choices_is : g.choices ≡ choices.rows) (members_is : g.members ≡ summary.members)
     (defaults_is : g.member_defaults ≡ choices.defaults) (entries_is : g.entries ≡ choices.entries) (titles_is : g.titles ≡ l.texts)
@@ -334,13 +335,13 @@ module _ (files : Files) (root : List ℕ) (l : Listing) (symbols : SymbolParts)
   is_gathering = record { whole = whole; fits = fits }
 
 -- the tree of the collected lists is consistent if the files have no fault
-pub consistent_of : (files : Files) (root : List ℕ) (g : Gathered) → first_tree_fault files root ≡ None → IsGathering (reading files root).read g
+pub consistent_of : (files : Files) (root : List ℕ) (g : TreeLists) → first_tree_fault files root ≡ None → IsGathering (reading files root).read g
     → IsConsistent (gathered_tree g)
 unfolding tree_of_files
 consistent_of files root g h k = subst IsConsistent (sym k.whole) (tree_is_consistent files root h)
 
 -- a tree with the value of the collected lists is the tree of the files
-pub whole_is : (files : Files) (root : List ℕ) (g : Gathered) (t : TreeModel) → IsGathering (reading files root).read g
+pub whole_is : (files : Files) (root : List ℕ) (g : TreeLists) (t : TreeModel) → IsGathering (reading files root).read g
     → t ≡ record { exprs = g.arena; tree = gathered_tree g } → t.tree ≡ tree_of_files files root
 unfolding tree_of_files
 whole_is files root g t k e = ap (λ (h : TreeModel). h.tree) e ∙ k.whole

@@ -40,7 +40,7 @@ use Rattle.kc_tree.specs.checker.ChoiceRows.{opens}
 use Rattle.kc_tree.specs.checker.GroupConditions.{own_conditions}
 use Rattle.kc_tree.specs.checker.Entries.{choices_after}
 use Rattle.kc_tree.specs.checker.Summaries.{read_before, group_at, own_lines, is_choice_code}
-use Rattle.kc_tree.specs.declared.items_with_keys.Keyed.{Keyed}
+use Rattle.kc_tree.specs.declared.items_with_keys.ItemsWithKeys.{ItemsWithKeys}
 use Rattle.kc_tree.specs.declared.group_walk.GroupConditions.{GroupConditions}
 use Rattle.kc_tree.proofs.GroupPlaces.{none_before, all_before, count_is, place_numbered}
 use Rattle.kc_tree.proofs.ChoiceRowSteps.{as_many_conditions, as_long, both_at, places_more}
@@ -344,7 +344,7 @@ choice_group_faults language c p e = rw e refl
 
 -- the defaults of the choices among the groups that were visited
 module _ (l : Listing) (groups : List GroupConditions) (conditions : List ℕ) (read : List Group) (w : IsWalkOf l groups conditions read) where
-  abbrev pub AreTo : ℕ → ℕ → Keyed MemberDefault → Type 0
+  abbrev pub AreTo : ℕ → ℕ → ItemsWithKeys MemberDefault → Type 0
   AreTo i n found = AreDefaultsOf l (contents_of read) (groups_in_context (read_before i read)) n found
 
   pub as_many : length groups ≡ length l.groups.items
@@ -353,14 +353,14 @@ module _ (l : Listing) (groups : List GroupConditions) (conditions : List ℕ) (
   pub as_long_own : (i : ℕ) → i < length l.groups.items → length (own_conditions groups conditions i) ≡ length (own_lines l i)
   as_long_own i h = as_long l l.names.arena groups conditions read w.shows w.shown i h
 
-  pub no_defaults : (found : Keyed MemberDefault) → found.keys.items ≡ [] → found.items.items ≡ [] → AreTo 0 0 found
+  pub no_defaults : (found : ItemsWithKeys MemberDefault) → found.keys.items ≡ [] → found.items.items ≡ [] → AreTo 0 0 found
   no_defaults found e f = record {
     keys = rw e (λ i h. absurd (omega arith));
     fits = rw f (All-nil (MemberDefaultFits (length l.names.arena.nodes) (length l.names.symbols.items)));
     are = λ k. rw e (ap (λ r. choice_defaults_of (contents_of read) (slice_get (filter opens (groups_in_context r)) k)) (sym (none_before read)));
   }
 
-  same_defaults : (i n : ℕ) (old new : Keyed MemberDefault) → i < length l.groups.items → is_choice_code (group_at l.groups.items i).head ≡ false
+  same_defaults : (i n : ℕ) (old new : ItemsWithKeys MemberDefault) → i < length l.groups.items → is_choice_code (group_at l.groups.items i).head ≡ false
       → new.keys.items ≡ old.keys.items → new.items.items ≡ old.items.items → AreTo i n old → AreTo (i + 1) n new
   same_defaults i n old new h b e f d =
       let same = places_more l l.names.arena groups conditions read w.shows w.shown i h false b
@@ -416,7 +416,7 @@ module _ (l : Listing) (groups : List GroupConditions) (conditions : List ℕ) (
   by_key m k false F p old xs e n o x =
       append-nil old ∙ o ∙ ap (choice_defaults_of (contents_of read)) (sym (get_other F p k (λ same. false≢true (sym e ∙ eq-eqb m k (n ∙ sym same)))))
 
-  more_defaults : (i n : ℕ) (old new : Keyed MemberDefault) → i < length l.groups.items → is_choice_code (group_at l.groups.items i).head ≡ true
+  more_defaults : (i n : ℕ) (old new : ItemsWithKeys MemberDefault) → i < length l.groups.items → is_choice_code (group_at l.groups.items i).head ≡ true
       → n ≡ length (filter opens (groups_in_context (read_before i read))) → HasNoFaults read
       → new.keys.items ≡ old.keys.items ++ map (λ (_ : MemberDefault). n) (member_default_rows l.names (own_lines l i) (own_conditions groups conditions i))
       → new.items.items ≡ old.items.items ++ member_default_rows l.names (own_lines l i) (own_conditions groups conditions i) → AreTo i n old
@@ -440,7 +440,7 @@ module _ (l : Listing) (groups : List GroupConditions) (conditions : List ℕ) (
       }
 
   -- the defaults collected from the first `i` groups, with those of the next group, are those of the first `i + 1`
-  pub one_more : (i n n2 : ℕ) (what : CodeHead) (old new : Keyed MemberDefault) → i < length l.groups.items → what ≡ (group_at l.groups.items i).head
+  pub one_more : (i n n2 : ℕ) (what : CodeHead) (old new : ItemsWithKeys MemberDefault) → i < length l.groups.items → what ≡ (group_at l.groups.items i).head
       → n ≡ length (numbers_of_choices (read_before i read)) → n2 ≡ choices_after what n → HasNoFaults read
       → new.keys.items ≡ old.keys.items ++ map (λ (_ : MemberDefault). n) (group_default_rows what l.names (own_lines l i) (own_conditions groups conditions i))
       → new.items.items ≡ old.items.items ++ group_default_rows what l.names (own_lines l i) (own_conditions groups conditions i) → AreTo i n old
@@ -465,7 +465,7 @@ module _ (l : Listing) (groups : List GroupConditions) (conditions : List ℕ) (
           subst (λ k. AreTo (i + 1) k new) (sym (m ∙ choices_after_by what false t))
           (same_defaults i n old new h (ap is_choice_code (sym v) ∙ t) ((rw t at e) ∙ append-nil old.keys.items) ((rw t at f) ∙ append-nil old.items.items) d)
 
-  pub all_gathered : (i n : ℕ) (found : Keyed MemberDefault) → i ≡ length l.groups.items → n ≡ length (numbers_of_choices (read_before i read))
+  pub all_gathered : (i n : ℕ) (found : ItemsWithKeys MemberDefault) → i ≡ length l.groups.items → n ≡ length (numbers_of_choices (read_before i read))
       → AreTo i n found
       → AreDefaultsOf l (contents_of read) (groups_in_context read) (length (contents_of read).choices) found
   unfolding RepresentsListing

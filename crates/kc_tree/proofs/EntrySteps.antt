@@ -8,7 +8,6 @@ use Rattle.std.proofs.lemmas.Option.{get_or_from_slice_get}
 use Rattle.std.proofs.Math.Seq.{drop-length}
 use Rattle.kc_expr.specs.between.Arena.{Exprs, Represents, node_expr}
 use Rattle.kc_expr.specs.Expr.{Expr}
-use Rattle.kc_expr.specs.Lookup.{index_of_name}
 use Rattle.kc_tree_model.specs.declared.keyword.Block.TheVariants as blocks
 use Rattle.kc_tree_model.specs.Trees as tree
 use Rattle.kc_tree_model.specs.Statements.{block_of_head, title_of_head, visible_of}
@@ -16,7 +15,7 @@ use Rattle.kc_tree_model.specs.Blocks.{Group, GroupHead, opening, closing, side_
 use Rattle.kc_tree_model.specs.Conditions.{GroupInContext, group_in_context, groups_in_context, dependency_of, conjunction_of, attribute_values}
 use Rattle.kc_tree_model.specs.Contents.{Contents, contents_of, choice_number, index_of_number, entry_of_head, menu_end_of, tree_of_groups}
 use Rattle.kc_tree_model.specs.Limits.{names_defined}
-use Rattle.kc_tree_model.proofs.Consistency.Lists.{Differ, Differ-once, at_most_once, get_below, has-at, has-place, number_of_more, place-get}
+use Rattle.kc_tree_model.proofs.Consistency.Lists.{Differ, Differ-once, get_below, number_of_more}
 use Rattle.kc_tree_model.specs.Blocks.{defined_name}
 use Rattle.kc_listing.specs.declared.listing.Group.{Group as CodeGroup}
 use Rattle.kc_listing.specs.declared.listing.Line.{Line as CodeLine}
@@ -32,6 +31,7 @@ use Rattle.kc_tree.specs.checker.Walks.{RepresentsConditions, RepresentsAllCondi
 use Rattle.kc_tree.specs.declared.parts.EntryRow.{EntryRow}
 use Rattle.kc_tree.specs.declared.parts.EntryRow.TheVariants.{Definition, ChoiceBegins, MenuBegins, MenuEnds, Comment}
 use Rattle.kc_tree.specs.declared.group_walk.GroupConditions.{GroupConditions}
+use Rattle.kc_tree.proofs.Symbols.{place_is}
 
 -- the entries of groups, the newest first
 abbrev count_back : List CodeGroup → ℕ
@@ -133,12 +133,6 @@ place_there k [] rest h = number_of_more k k rest ∙ place_first k rest (k == k
 place_there k (j ∷ ks) rest h =
     number_of_more k j ((ks ++ k ∷ []) ++ rest)
     ∙ place_by j k (length ks) (j == k) (index_of_number k ((ks ++ k ∷ []) ++ rest)) refl h.0 (place_there k ks rest h.1)
-
--- the place of a name that is defined
-place_is : (names : List (List ℕ)) (name : List ℕ) (s : ℕ) → Differ names → slice_get names s ≡ Some name → index_of_name name names ≡ Some s
-place_is names name s d e =
-    let p = has-place name names (has-at name names s e) in
-    p.1 ∙ ap Some (at_most_once name names p.0 s d (place-get name names p.0 p.1) e)
 
 filter_map-one : {A B : Type 0} (f : A → Option B) (x : A) (o : Option B) → f x ≡ o → cons_option (f x) [] ≡ option_to_list o
 filter_map-one f x None e = rw e refl

@@ -27,10 +27,10 @@ use Rattle.kc_tree.specs.declared.parts.SymbolRow.{SymbolRow}
 use Rattle.kc_tree.specs.declared.parts.ChoiceRow.{ChoiceRow}
 use Rattle.kc_tree.specs.declared.parts.Parts.{Parts}
 use Rattle.kc_tree.specs.declared.symbol.MemberDefault.{MemberDefault}
-use Rattle.kc_tree.specs.declared.items_with_keys.Keyed.{Keyed}
+use Rattle.kc_tree.specs.declared.items_with_keys.ItemsWithKeys.{ItemsWithKeys}
 use Rattle.kc_tree.specs.declared.tree_lists.Attributes.{Attributes}
 use Rattle.kc_tree.specs.declared.tree_lists.GroupedAttributes.{GroupedAttributes}
-use Rattle.kc_tree.specs.declared.tree_lists.Gathered.{Gathered}
+use Rattle.kc_tree.specs.declared.tree_lists.TreeLists.{TreeLists}
 use Rattle.kc_tree.proofs.UnitLists.{got, all_got, symbol_at, symbols_count, choices_count, symbols_there, choices_there}
 use Rattle.kc_tree_model.proofs.Lookups.{found_by_name}
 use Rattle.kc_tree.proofs.SymbolNames.{named_there}
@@ -59,7 +59,7 @@ named_by W x s a named at =
     ∙ get_or_from_slice_get W.symbols s a a at in
     (bytes_eq-Decides x a.name).0 (rw here at passes)
 
-module _ (g : Gathered) (sound : IsConsistent (gathered_tree g)) (distinct : AreDistinct g.arena.names) (fits : GatheredFit g) where
+module _ (g : TreeLists) (sound : IsConsistent (gathered_tree g)) (distinct : AreDistinct g.arena.names) (fits : GatheredFit g) where
   pub name_at : (s : ℕ) (r : SymbolRow) → slice_get g.symbols.items s ≡ Some r → r.name < length g.arena.names
   name_at s r e = all_got (λ (q : SymbolRow). q.name < length g.arena.names) g.symbols.items s r fits.names e
 
@@ -78,16 +78,16 @@ module _ (g : Gathered) (sound : IsConsistent (gathered_tree g)) (distinct : Are
       let k = got g.symbols.items s (omega (arith, symbols_count g sound)) in
       (k.0, k.1, named_by (gathered_tree g) x s (symbol_gathered g s k.0) e (symbol_at g sound s k.0 k.1))
 
-  held_by : (x : List ℕ) (o : Option ℕ) → symbol_named (gathered_tree g) x ≡ o → index_of_name x g.arena.names ≡ None → o ≡ None
-  held_by x None e f = refl
-  held_by x (Some s) e f =
+  absent_by : (x : List ℕ) (o : Option ℕ) → symbol_named (gathered_tree g) x ≡ o → index_of_name x g.arena.names ≡ None → o ≡ None
+  absent_by x None e f = refl
+  absent_by x (Some s) e f =
       let k = row_named x s e in
       let p = place_at g.arena.names k.0.name distinct (name_at s k.0 k.1) in
       let q : index_of_name x g.arena.names ≡ Some k.0.name = ap (λ y. index_of_name y g.arena.names) k.2 ∙ p in
       cc
 
-  pub held : (x : List ℕ) → index_of_name x g.arena.names ≡ None → symbol_named (gathered_tree g) x ≡ None
-  held x f = held_by x (symbol_named (gathered_tree g) x) refl f
+  pub absent : (x : List ℕ) → index_of_name x g.arena.names ≡ None → symbol_named (gathered_tree g) x ≡ None
+  absent x f = absent_by x (symbol_named (gathered_tree g) x) refl f
 
   module _ (table : List (Option ℕ)) (t : IsTable (length g.arena.names) g.symbols.items (length g.symbols.items) table) where
     reported_some : (j s : ℕ) → get_or table j None ≡ Some s → symbol_named (gathered_tree g) (get_or g.arena.names j []) ≡ Some s
@@ -116,7 +116,7 @@ module _ (g : Gathered) (sound : IsConsistent (gathered_tree g)) (distinct : Are
         ∙ sym (get_or-map (symbol_named (gathered_tree g)) g.arena.names j [] None l)))
 
 -- collected lists with the rows, entries, titles and units of a stored tree, and with these attributes, members and defaults
-abbrev pub gathered_in : Parts → Attributes → Keyed ℕ → Keyed MemberDefault → Gathered
+abbrev pub gathered_in : Parts → Attributes → ItemsWithKeys ℕ → ItemsWithKeys MemberDefault → TreeLists
 gathered_in p A M D =
     record {
       arena = p.arena;
@@ -134,7 +134,7 @@ gathered_in p A M D =
 abbrev pub grouped_in : Parts → GroupedAttributes
 grouped_in p = record { prompts = p.prompts; defaults = p.defaults; ranges = p.ranges; selectors = p.selectors; impliers = p.impliers; direct = p.direct }
 
-module _ (p : Parts) (A : Attributes) (M : Keyed ℕ) (D : Keyed MemberDefault) (a : AreGrouped (length p.symbols.items) A (grouped_in p))
+module _ (p : Parts) (A : Attributes) (M : ItemsWithKeys ℕ) (D : ItemsWithKeys MemberDefault) (a : AreGrouped (length p.symbols.items) A (grouped_in p))
     (m : IsGrouped (length p.choices.items) M.keys.items M.items.items p.members.starts.items p.members.items.items)
     (d : IsGrouped (length p.choices.items) D.keys.items D.items.items p.member_defaults.starts.items p.member_defaults.items.items) where
   same_symbol : (s : ℕ) (r : SymbolRow) → s < 0 + length p.symbols.items → symbol_from_row p s r ≡ symbol_gathered (gathered_in p A M D) s r
@@ -224,7 +224,7 @@ module _ (p : Parts) (A : Attributes) (M : Keyed ℕ) (D : Keyed MemberDefault) 
             (λ c h. (let k = u.choice_units c (omega (arith, choices_many)) in (k.0, omega (arith, k.1, units_many))));
         table = subst (λ (W : Tree). p.symbol_of_name.items ≡ map (symbol_named W) p.arena.names) (sym whole_same)
             (table_is (gathered_in p A M D) sound distinct f p.symbol_of_name.items t);
-        held = subst (λ (W : Tree). (x : List ℕ) → index_of_name x p.arena.names ≡ None → symbol_named W x ≡ None) (sym whole_same)
-            (held (gathered_in p A M D) sound distinct f);
+        absent = subst (λ (W : Tree). (x : List ℕ) → index_of_name x p.arena.names ≡ None → symbol_named W x ≡ None) (sym whole_same)
+            (absent (gathered_in p A M D) sound distinct f);
         consistent = subst IsConsistent (sym whole_same) sound;
       }

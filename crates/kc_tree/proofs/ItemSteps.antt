@@ -4,17 +4,17 @@ use Rattle.std.specs.Prelude.{option_to_list}
 use Rattle.std.specs.List.{cons_option}
 use Rattle.std.proofs.Math.Seq.{drop-cons, drop-length}
 use Rattle.kc_listing.specs.declared.listing.Line.{Line as CodeLine}
-use Rattle.kc_tree.specs.declared.items_with_keys.Keyed.{Keyed}
+use Rattle.kc_tree.specs.declared.items_with_keys.ItemsWithKeys.{ItemsWithKeys}
 use Rattle.kc_tree.specs.checker.GatheredItems.{gathered_items, HasAppended}
 
 -- `now` with the items of the lines from `i` on appended is `old` with the items of all lines appended
-pub record IsRest {T : Type 0} (key : CodeLine → ℕ → Option ℕ) (item : CodeLine → ℕ → Option T) (old now : Keyed T) (lines : List CodeLine)
+pub record IsRest {T : Type 0} (key : CodeLine → ℕ → Option ℕ) (item : CodeLine → ℕ → Option T) (old now : ItemsWithKeys T) (lines : List CodeLine)
     (conditions : List ℕ) (i : ℕ) : Type 0 where
   pub keys : now.keys.items ++ gathered_items key (drop i lines) (drop i conditions) ≡ old.keys.items ++ gathered_items key lines conditions
   pub items : now.items.items ++ gathered_items item (drop i lines) (drop i conditions) ≡ old.items.items ++ gathered_items item lines conditions
 
-pub all_rest : {T : Type 0} (key : CodeLine → ℕ → Option ℕ) (item : CodeLine → ℕ → Option T) (old : Keyed T) (lines : List CodeLine) (conditions : List ℕ)
-    → IsRest key item old old lines conditions 0
+pub all_rest : {T : Type 0} (key : CodeLine → ℕ → Option ℕ) (item : CodeLine → ℕ → Option T) (old : ItemsWithKeys T)
+    (lines : List CodeLine) (conditions : List ℕ) → IsRest key item old old lines conditions 0
 all_rest key item old lines conditions = record { keys = refl; items = refl }
 
 consed : {T : Type 0} (o : Option T) (xs ys : List T) → xs ++ cons_option o ys ≡ (xs ++ option_to_list o) ++ ys
@@ -31,7 +31,7 @@ pair_more item lines conditions i c d h k =
     ∙ ap (gathered_items item (get_or lines i d ∷ drop (suc i) lines)) (drop-cons conditions i c k)
     ∙ ap (λ m. cons_option (item (get_or lines i d) (get_or conditions i c)) (gathered_items item (drop m lines) (drop m conditions))) n
 
-pub rest_more : {T : Type 0} (key : CodeLine → ℕ → Option ℕ) (item : CodeLine → ℕ → Option T) (old now next : Keyed T) (lines : List CodeLine)
+pub rest_more : {T : Type 0} (key : CodeLine → ℕ → Option ℕ) (item : CodeLine → ℕ → Option T) (old now next : ItemsWithKeys T) (lines : List CodeLine)
     (conditions : List ℕ) (i c : ℕ) (d : CodeLine)
     → i < length lines → length conditions ≡ length lines → IsRest key item old now lines conditions i
     → next.keys.items ≡ now.keys.items ++ option_to_list (key (get_or lines i d) (get_or conditions i c))
@@ -48,7 +48,7 @@ rest_more key item old now next lines conditions i c d h e r k m =
           ∙ ap (λ xs. now.items.items ++ xs) (sym (pair_more item lines conditions i c d h l)) ∙ r.items;
     }
 
-pub rest_done : {T : Type 0} (key : CodeLine → ℕ → Option ℕ) (item : CodeLine → ℕ → Option T) (old now : Keyed T) (lines : List CodeLine)
+pub rest_done : {T : Type 0} (key : CodeLine → ℕ → Option ℕ) (item : CodeLine → ℕ → Option T) (old now : ItemsWithKeys T) (lines : List CodeLine)
     (conditions : List ℕ) (i : ℕ)
     → i ≡ length lines → IsRest key item old now lines conditions i
     → HasAppended key item old now lines conditions

@@ -30,7 +30,7 @@ use Rattle.kc_tree.specs.checker.Walks.{condition_at, RepresentsConditions, Repr
 use Rattle.kc_tree.specs.declared.definition_attributes.ReverseKind.{ReverseKind}
 use Rattle.kc_tree.specs.declared.definition_attributes.ReverseKind.TheVariants.{Select, Imply}
 use Rattle.kc_tree.specs.declared.tree_lists.Attributes.{Attributes}
-use Rattle.kc_tree.specs.declared.items_with_keys.Keyed.{Keyed}
+use Rattle.kc_tree.specs.declared.items_with_keys.ItemsWithKeys.{ItemsWithKeys}
 use Rattle.kc_tree.specs.declared.symbol.ReverseDependency.{ReverseDependency as CodeForce}
 use Rattle.kc_tree.specs.declared.group_walk.GroupConditions.{GroupConditions}
 use Rattle.kc_tree.proofs.GroupPlaces.{all_before, count_is, none_before, placed_more, shown_at}
@@ -74,7 +74,7 @@ module _ (n : SymbolTable) (names : List (List ℕ)) (h : HasNames n.arena n.sym
     (attributes : p.group.attributes ≡ map (line_in n.arena) ls) (conditions : map (node_expr n.arena) cs
     ≡ map (condition_at p) (map (line_in n.arena) ls)) where
   own_step : {T B M : Type 0} (view : T → M) (G : Attribute → Option B) (m : GroupInContext → B → M) (P : T → Type 0) (item : CodeLine → ℕ → Option T)
-      (old new : Keyed T)
+      (old new : ItemsWithKeys T)
       → AreListed view (own_keys G names) (own_items G m) P (length names) prior old.keys.items old.items.items
       → HasAppended (own_key s item) item old new ls cs
       → ((l : CodeLine) (i : ℕ) → own_key s item l i ≡ own_key_of G names x (line_in n.arena l))
@@ -92,7 +92,7 @@ module _ (n : SymbolTable) (names : List (List ℕ)) (h : HasNames n.arena n.sym
       (pairs_fit P item n.arena ls cs held there fit)
       (pairs_fit (λ k. k < length names) (own_key s item) n.arena ls cs held there (λ y i w v. own_below item s (length names) below y i))
 
-  reverse_dependency_step : (f : ReverseKind) (old new : Keyed CodeForce)
+  reverse_dependency_step : (f : ReverseKind) (old new : ItemsWithKeys CodeForce)
       → AreListed (views.reverse_dependency_view n.arena) (force_keys (aim_of f) names) (force_items (aim_of f) names)
       (ReverseDependencyFits (length n.arena.nodes) (length names)) (length names) prior old.keys.items old.items.items
       → HasAppended (target_key n f) (gathered_reverse_dependency n f s) old new ls cs
@@ -113,7 +113,7 @@ module _ (n : SymbolTable) (names : List (List ℕ)) (h : HasNames n.arena n.sym
       (reverse_dependency_fit n names h f s (length names) below))
       (pairs_fit (λ k. k < length names) (target_key n f) n.arena ls cs held there (λ y i w v. target_below n names h f y i))
 
-  direct_step : (d : ℕ) (old new : Keyed ℕ)
+  direct_step : (d : ℕ) (old new : ItemsWithKeys ℕ)
       → AreListed (node_expr n.arena) (direct_keys names) (direct_items dependency_meant) (λ k. k < length n.arena.nodes)
       (length names) prior old.keys.items old.items.items
       → new.keys.items ≡ old.keys.items ++ s ∷ [] → new.items.items ≡ old.items.items ++ d ∷ [] → Represents n.arena d (dependency_meant p)

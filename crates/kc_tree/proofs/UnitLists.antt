@@ -9,7 +9,7 @@ use Rattle.kc_tree.specs.checker.GatheredView.{gathered_tree, symbol_gathered, c
 use Rattle.kc_tree.specs.checker.UnitNumbers.{AreNumbered, own_or_choice}
 use Rattle.kc_tree.specs.checker.Units.{HasUnits}
 use Rattle.kc_tree.specs.declared.parts.SymbolRow.{SymbolRow}
-use Rattle.kc_tree.specs.declared.tree_lists.Gathered.{Gathered}
+use Rattle.kc_tree.specs.declared.tree_lists.TreeLists.{TreeLists}
 use Rattle.kc_tree_model.proofs.Lookups.{place_is, unit_is}
 use Rattle.kc_tree.proofs.RowViews.{seen_get, seen_length}
 
@@ -22,7 +22,7 @@ got (x ∷ xs) (suc i) h = got xs i (omega arith)
 pub all_got : {X : Type 0} (P : X → Type 0) (xs : List X) (i : ℕ) (x : X) → All P xs → slice_get xs i ≡ Some x → P x
 all_got P xs i x h e = subst P (get_or_from_slice_get xs i x x e) (h i x (slice_get_within xs i x e))
 
-module _ (g : Gathered) (sound : IsConsistent (gathered_tree g)) where
+module _ (g : TreeLists) (sound : IsConsistent (gathered_tree g)) where
   pub symbol_at : (s : ℕ) (r : SymbolRow) → slice_get g.symbols.items s ≡ Some r → slice_get (gathered_tree g).symbols s ≡ Some (symbol_gathered g s r)
   symbol_at s r e = seen_get (symbol_gathered g) 0 g.symbols.items s s r (omega arith) e
 

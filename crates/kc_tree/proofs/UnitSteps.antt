@@ -11,28 +11,22 @@ use Rattle.kc_tree_model.specs.Blocks.{Group, from_head, open_blocks, defined_na
 use Rattle.kc_tree_model.specs.Conditions.{GroupInContext, group_in_context, groups_in_context}
 use Rattle.kc_tree_model.specs.Contents.{Contents, contents_of, definitions_of, is_first_definition, choice_of_symbol, choice_number, unit_of_head}
 use Rattle.kc_tree_model.specs.Limits.{names_defined}
-use Rattle.kc_tree_model.proofs.Consistency.Lists.{has-at, has-place, place-get, map-get, Differ, Differ-once, at_most_once}
+use Rattle.kc_tree_model.proofs.Consistency.Lists.{map-get, Differ-once}
 use Rattle.kc_listing.specs.declared.listing.Group.{Group as CodeGroup}
 use Rattle.kc_listing.specs.declared.listing.Line.{Line as CodeLine}
 use Rattle.kc_listing.specs.declared.listing.GroupHead.{GroupHead as CodeHead}
 use Rattle.kc_listing.specs.declared.listing.GroupHead.TheVariants as codes
 use Rattle.kc_listing.specs.between.ListingView.{RepresentsHead, RepresentsGroups}
-use Rattle.kc_tree.specs.checker.Summaries.{read_before, group_at, is_choice_code, summary_in, symbol_summaries, number_at}
-use Rattle.kc_tree.specs.checker.UnitList.{is_number, is_unit_at, first_unit, unit_of_group, unit_read, units_read}
+use Rattle.kc_tree.specs.checker.Summaries.{read_before, first_is, group_at, is_choice_code, summary_in, symbol_summaries, number_at}
+use Rattle.kc_tree.specs.checker.UnitList.{is_unit_at, first_unit, unit_of_group, unit_read, units_read}
 use Rattle.kc_tree.specs.declared.summary.SymbolSummary.{SymbolSummary}
 use Rattle.kc_tree.proofs.GroupPlaces.{all_before, are_numbers, none_before, numbers_before, placed_more, shown_at}
 use Rattle.kc_tree.proofs.Rounds.{numbers_of_choices, begins_is, number_counts, choices_same, count_more}
-use Rattle.kc_tree.proofs.Symbols.{choice_is}
-
--- in a list of distinct names, the index found for the name at index `s` is `s`
-pub place_is : (names : List (List ℕ)) (name : List ℕ) (s : ℕ) → Differ names → slice_get names s ≡ Some name → index_of_name name names ≡ Some s
-place_is names name s d e =
-    let p = has-place name names (has-at name names s e) in
-    p.1 ∙ ap Some (at_most_once name names p.0 s d (place-get name names p.0 p.1) e)
+use Rattle.kc_tree.proofs.Symbols.{choice_is, place_is}
 
 -- whether a group is the first definition of a name
 first_by : (ds : List GroupInContext) (n : ℕ)
-    → is_number n (slice_get (flat_map number_at ds) 0) ≡ elim (option_map (λ (p : GroupInContext). p.group) (slice_get ds 0)) as (λ _. Bool)
+    → first_is (slice_get (flat_map number_at ds) 0) n ≡ elim (option_map (λ (p : GroupInContext). p.group) (slice_get ds 0)) as (λ _. Bool)
     [ None ↦ false | Some g ↦ g.number == n ]
 first_by [] n = refl
 first_by (p ∷ ds) n = refl

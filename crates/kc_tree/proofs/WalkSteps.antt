@@ -61,6 +61,20 @@ if_inside old new texts y id d m a opened g e h f = record {
   ends = rw e refl;
 }
 
+-- a group whose stored head begins no block opens none
+pub opens_none : (e : Exprs) (names texts : List (List ℕ)) (code : CodeHead) (w : GroupHead) → RepresentsHead e names texts code w
+    → (code ≡ codes.Choice → ⊥) → ((t : ℕ) → code ≡ codes.Menu t → ⊥) → ((i : ℕ) → code ≡ codes.Condition i → ⊥)
+    → ((t : ℕ) → code ≡ codes.Source t → ⊥) → side_of w ≡ opening → ⊥
+opens_none e names texts (codes.Config s) w h a b i d o = (let z : inside ≡ opening = rw h.2 at o in cc)
+opens_none e names texts codes.Choice w h a b i d o = absurd (a refl)
+opens_none e names texts (codes.Menu t) w h a b i d o = absurd (b t refl)
+opens_none e names texts (codes.Condition id) w h a b i d o = absurd (i id refl)
+opens_none e names texts (codes.Comment t) w h a b i d o = (let z : inside ≡ opening = rw h.2 at o in cc)
+opens_none e names texts (codes.Source t) w h a b i d o = absurd (d t refl)
+opens_none e names texts codes.Mainmenu w h a b i d o = (let z : inside ≡ opening = rw h at o in cc)
+opens_none e names texts (codes.Ends k) w h a b i d o = (let z : closing ≡ opening = rw h at o in cc)
+opens_none e names texts codes.FileEnd w h a b i d o = (let z : closing ≡ opening = rw h at o in cc)
+
 pub menu_inside : (exprs : Exprs) (texts : List (List ℕ)) (y t : ℕ) (title : List ℕ) (m : Group) (c : EntryConditions) (opened : List Group)
     → m.head ≡ of_head (menu title) → slice_get texts t ≡ Some title
     → AreJoined exprs c (dependencies_of (context opened) m) (context opened).visibles (attribute_values visible_of m) → Represents exprs y (conjunction_of [])

@@ -5,6 +5,7 @@ ghost use Rattle.kc_tree_model.specs.Statements.{type_of, prompt_of, default_of,
 ghost use Rattle.kc_statements.specs.between.StatementViews.{attribute_in, AttributeNodesExist, default_in, DefaultNodesExist};
 ghost use Rattle.kc_tree.specs.checker.Attributes.{aim_of};
 ghost use Rattle.kc_tree.specs.checker.ChoiceRows.{is_optional_code};
+ghost use Rattle.kc_tree.specs.checker.Conjuncts.{is_prompt};
 ghost use Rattle.kc_tree.specs.checker.Kinds.{is_added_code};
 ghost use Rattle.kc_listing.specs.between.SymbolTable.{text_of_name};
 
@@ -24,9 +25,10 @@ pub(crate) fn type_given(attribute: &Attribute) -> Option<Kind>
     }
 }
 
-/// Whether an attribute is a prompt.
+/// Whether an attribute is a prompt, with or without a type.
 pub(crate) fn is_prompt(attribute: &Attribute) -> bool
-    ensures { (e : Exprs) → result ≡ is_some (prompt_of (attribute_in e attribute.now)) }
+    ensures value { result ≡ is_prompt attribute.now }
+    ensures prompt { (e : Exprs) → result ≡ is_some (prompt_of (attribute_in e attribute.now)) }
 {
     matches!(
         *attribute,

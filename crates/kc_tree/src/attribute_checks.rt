@@ -1,7 +1,7 @@
 //! Checks on attributes of files that were read without a fault.
 ghost use Rattle.std.specs.Prelude.{◌≡◌, ℕ, All, List, Some, false, bytes_eq, length, map, slice_get};
 ghost use Rattle.kc_expr.specs.Expr.{modules as modules_name};
-ghost use Rattle.kc_tree_model.specs.Blocks.{Group as CodeGroup};
+ghost use Rattle.kc_tree_model.specs.Blocks.{Group as ModelGroup};
 ghost use Rattle.kc_tree_model.specs.Contents.{contents_of};
 ghost use Rattle.kc_tree_model.specs.Limits.{names_defined};
 ghost use Rattle.kc_tree_model.specs.TreeFaults.{attribute_faults, choice_faults, faults_of_lines};
@@ -42,7 +42,7 @@ fn symbol_attribute_fault(
     requires shown { IsRepresented listing.now }
     requires symbols { AreSymbolSummaries listing.now symbols.now }
     requires held { AttributeNodesExist listing.now.names.arena attribute.now }
-    ensures fault { (read : List CodeGroup) (name : List ℕ) → RepresentsListing listing.now read → is_modules ≡ bytes_eq name modules_name
+    ensures fault { (read : List ModelGroup) (name : List ℕ) → RepresentsListing listing.now read → is_modules ≡ bytes_eq name modules_name
         → result ≡ slice_get (attribute_faults (contents_of read) name kind prompted (attribute_in listing.now.names.arena attribute.now)) 0 }
 {
     match kind {
@@ -67,7 +67,7 @@ pub(crate) fn first_symbol_fault(
     requires shown { IsRepresented listing.now }
     requires symbols { AreSymbolSummaries listing.now symbols.now }
     requires held { All (LineNodesExist listing.now.names.arena) lines.now }
-    ensures fault { (read : List CodeGroup) (g : CodeGroup) (name : List ℕ) → RepresentsListing listing.now read → is_modules ≡ bytes_eq name modules_name → g.at.file ≡ file
+    ensures fault { (read : List ModelGroup) (g : ModelGroup) (name : List ℕ) → RepresentsListing listing.now read → is_modules ≡ bytes_eq name modules_name → g.at.file ≡ file
         → result ≡ slice_get (faults_of_lines g (attribute_faults (contents_of read) name kind) false (map (line_in listing.now.names.arena) lines.now)) 0 }
 {
     let mut prompted = false;
@@ -100,7 +100,7 @@ fn choice_attribute_fault(
     requires shown { IsRepresented listing.now }
     requires many { length marks.now ≡ length listing.now.names.symbols.items }
     requires held { AttributeNodesExist listing.now.names.arena attribute.now }
-    ensures fault { (read : List CodeGroup) (members : List (List ℕ)) → RepresentsListing listing.now read → AreMarked (names_defined read) members marks.now mark
+    ensures fault { (read : List ModelGroup) (members : List (List ℕ)) → RepresentsListing listing.now read → AreMarked (names_defined read) members marks.now mark
         → result ≡ slice_get (choice_faults members prompted (attribute_in listing.now.names.arena attribute.now)) 0 }
 {
     let is_no_member = match default_given(attribute) {
@@ -121,7 +121,7 @@ pub(crate) fn first_choice_fault(
     requires shown { IsRepresented listing.now }
     requires many { length marks.now ≡ length listing.now.names.symbols.items }
     requires held { All (LineNodesExist listing.now.names.arena) lines.now }
-    ensures fault { (read : List CodeGroup) (g : CodeGroup) (members : List (List ℕ)) → RepresentsListing listing.now read → AreMarked (names_defined read) members marks.now mark → g.at.file ≡ file
+    ensures fault { (read : List ModelGroup) (g : ModelGroup) (members : List (List ℕ)) → RepresentsListing listing.now read → AreMarked (names_defined read) members marks.now mark → g.at.file ≡ file
         → result ≡ slice_get (faults_of_lines g (choice_faults members) false (map (line_in listing.now.names.arena) lines.now)) 0 }
 {
     let mut prompted = false;

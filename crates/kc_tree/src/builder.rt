@@ -1,7 +1,7 @@
 //! Builds the tree of a listing.
 ghost use Rattle.std.specs.Prelude.{◌≡◌, ◌<◌, ℕ, List, None, IfOk};
 ghost use Rattle.kc_tree_model.specs.TreeFiles.{Files};
-ghost use Rattle.kc_tree_model.specs.Blocks.{Group as CodeGroup};
+ghost use Rattle.kc_tree_model.specs.Blocks.{Group as ModelGroup};
 ghost use Rattle.kc_tree_model.specs.Contents.{tree_of_files};
 ghost use Rattle.kc_tree_model.specs.TreeReading.{reading};
 ghost use Rattle.kc_tree_model.specs.TreeFaults.{first_tree_fault};
@@ -14,14 +14,14 @@ use super::choice_defaults::member_defaults;
 use super::choice_rows::choice_rows;
 use super::definitions::gather_attributes;
 use super::entries::entries_of;
-use super::items_with_keys::Keyed;
+use super::items_with_keys::ItemsWithKeys;
 use super::listing_walk::{WalkedListing, walk_all};
 use super::parts::{ChoiceRow, EntryRow, SymbolRow};
 use super::rows::symbol_rows;
 use super::summary::Summary;
 use super::symbol::MemberDefault;
 use super::tree::Tree;
-use super::tree_lists::{Attributes, Gathered};
+use super::tree_lists::{Attributes, TreeLists};
 use super::unit_list::units_of;
 use kc_expr::Arena;
 use kc_listing::{Listing, SymbolTable};
@@ -41,7 +41,7 @@ struct SymbolParts {
 #[derive(Drop)]
 struct ChoiceParts {
     rows: Vec<ChoiceRow>,
-    defaults: Keyed<MemberDefault>,
+    defaults: ItemsWithKeys<MemberDefault>,
     entries: Vec<EntryRow>,
 }
 
@@ -53,7 +53,7 @@ fn symbol_parts(
 ) -> Result<SymbolParts, AllocError>
     requires few { AreFew walked.now }
     requires walk { (files : Files) × (root : List ℕ) × IsWalk walked.now files root }
-    requires summary { (read : List CodeGroup) → RepresentsListing walked.now.listing read → IsSummary read summary.now }
+    requires summary { (read : List ModelGroup) → RepresentsListing walked.now.listing read → IsSummary read summary.now }
     ensures ok { (files : Files) (root : List ℕ) → IsWalk walked.now files root → IfOk result (AreSymbolParts walked.now.listing.names.arena (reading files root).read) }
 {
     let listing = &walked.listing;
@@ -127,7 +127,7 @@ fn arena_and_titles(walked: WalkedListing) -> (Arena, Vec<Text>)
 }
 
 /// The collected lists of a tree, from a walked listing and its parts.
-fn gathered(walked: WalkedListing, parts: AllParts) -> Gathered
+fn gathered(walked: WalkedListing, parts: AllParts) -> TreeLists
     ensures arena { result.arena ≡ walked.listing.names.arena }
     ensures symbols { result.symbols ≡ parts.symbols.rows }
     ensures attributes { result.attributes ≡ parts.symbols.attributes }
@@ -150,7 +150,7 @@ fn gathered(walked: WalkedListing, parts: AllParts) -> Gathered
         choices: _choice_count,
         members,
     } = summary;
-    Gathered {
+    TreeLists {
         arena,
         symbols: symbols.rows,
         attributes: symbols.attributes,
@@ -164,7 +164,7 @@ fn gathered(walked: WalkedListing, parts: AllParts) -> Gathered
 }
 
 /// Collects the lists of a tree from a walked listing. An `Err` means out of memory.
-fn gathered_of(alloc: Global, walked: WalkedListing) -> Result<Gathered, AllocError>
+fn gathered_of(alloc: Global, walked: WalkedListing) -> Result<TreeLists, AllocError>
     requires walk { (files : Files) × (root : List ℕ) × IsWalk walked files root }
     ensures ok { (files : Files) (root : List ℕ) → IsWalk walked files root → IfOk result (IsGathering (reading files root).read) }
 {

@@ -1,7 +1,7 @@
 //! The defaults of choices.
 ghost use Rattle.std.specs.Prelude.{◌≡◌, ◌<◌, ◌++◌, ◌^◌, All, IfOk, List, OnOk, length, map, option_to_list};
 ghost use Rattle.kc_listing.specs.between.ListingView.{LineNodesExist};
-ghost use Rattle.kc_tree_model.specs.Blocks.{Group as CodeGroup};
+ghost use Rattle.kc_tree_model.specs.Blocks.{Group as ModelGroup};
 ghost use Rattle.kc_tree_model.specs.Conditions.{groups_in_context};
 ghost use Rattle.kc_tree_model.specs.Contents.{contents_of};
 ghost use Rattle.kc_tree.specs.checker.FaultSearch.{HasNoFaults};
@@ -12,7 +12,7 @@ use super::entries::count_choices;
 use super::group_conditions::conditions_of;
 use super::group_lines::lines_of;
 use super::group_walk::GroupConditions;
-use super::items_with_keys::Keyed;
+use super::items_with_keys::ItemsWithKeys;
 use super::symbol::MemberDefault;
 use kc_expr::ExprId;
 use kc_listing::{GroupHead, Line, Listing, SymbolTable};
@@ -47,7 +47,7 @@ fn member_default(names: &SymbolTable, line: &Line, condition: ExprId) -> Option
 
 /// Appends a default of a choice, if there is one.
 fn push_default(
-    found: &mut Keyed<MemberDefault>,
+    found: &mut ItemsWithKeys<MemberDefault>,
     choice: u32,
     item: Option<MemberDefault>,
 ) -> Result<(), AllocError>
@@ -62,7 +62,7 @@ fn push_default(
 
 /// Appends the defaults of a choice.
 fn push_defaults(
-    found: &mut Keyed<MemberDefault>,
+    found: &mut ItemsWithKeys<MemberDefault>,
     names: &SymbolTable,
     choice: u32,
     lines: &[Line],
@@ -85,7 +85,7 @@ fn push_defaults(
 
 /// Appends the defaults of a group, if it is a choice.
 fn push_group_defaults(
-    found: &mut Keyed<MemberDefault>,
+    found: &mut ItemsWithKeys<MemberDefault>,
     names: &SymbolTable,
     head: &GroupHead,
     choice: u32,
@@ -109,13 +109,13 @@ pub(crate) fn member_defaults(
     listing: &Listing,
     groups: &[GroupConditions],
     conditions: &[ExprId],
-) -> Result<Keyed<MemberDefault>, AllocError>
-    requires walked { (read : List CodeGroup) × IsWalkOf listing.now groups.now conditions.now read }
+) -> Result<ItemsWithKeys<MemberDefault>, AllocError>
+    requires walked { (read : List ModelGroup) × IsWalkOf listing.now groups.now conditions.now read }
     requires few { length listing.now.groups.items < 2 ^ 32 }
-    ensures ok { (read : List CodeGroup) → IsWalkOf listing.now groups.now conditions.now read → HasNoFaults read
+    ensures ok { (read : List ModelGroup) → IsWalkOf listing.now groups.now conditions.now read → HasNoFaults read
         → IfOk result (AreDefaultsOf listing.now (contents_of read) (groups_in_context read) (length (contents_of read).choices)) }
 {
-    let mut found = Keyed::new(alloc);
+    let mut found = ItemsWithKeys::new(alloc);
     let mut choices = 0;
     for i in 0..listing.groups.len() {
         let head = &listing.groups[i].head;

@@ -2,7 +2,7 @@
 ghost use Rattle.std.specs.Prelude.{◌≡◌, ◌<◌, List, IfOk, filter, length, reverse};
 ghost use Rattle.std.specs.List.{list_any};
 ghost use Rattle.kc_expr.specs.between.Arena.{Exprs};
-ghost use Rattle.kc_tree_model.specs.Blocks.{Group as CodeGroup};
+ghost use Rattle.kc_tree_model.specs.Blocks.{Group as ModelGroup};
 ghost use Rattle.kc_tree_model.specs.Conditions.{groups_in_context};
 ghost use Rattle.kc_listing.specs.between.ListingView.{RepresentsListing};
 ghost use Rattle.kc_tree.specs.checker.ChoiceRows.{opens, is_optional_line, choice_row, AreChoiceRows, IsGoneThrough};
@@ -64,7 +64,7 @@ pub(crate) fn choice_rows(
     conditions: &[ExprId],
 ) -> Result<Vec<ChoiceRow>, AllocError>
     requires visited { IsGoneThrough listing.now groups.now conditions.now }
-    ensures ok { (exprs : Exprs) (read : List CodeGroup) → RepresentsListing listing.now read
+    ensures ok { (exprs : Exprs) (read : List ModelGroup) → RepresentsListing listing.now read
         → RepresentsAllConditions exprs listing.now.texts.items conditions.now (length conditions.now) (reverse groups.now) read
         → IfOk result (λ rows. AreChoiceRows exprs (filter opens (groups_in_context read)) rows.items) }
 {

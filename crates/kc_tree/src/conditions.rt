@@ -7,9 +7,10 @@ ghost use Rattle.kc_statements.specs.between.StatementViews.{AttributeNodesExist
 ghost use Rattle.kc_listing.specs.between.ListingView.{LineNodesExist};
 ghost use Rattle.kc_tree_model.specs.Conditions.{conjunction_of};
 ghost use Rattle.kc_tree.specs.checker.Conjunctions.{Conjoins, conjunct};
-ghost use Rattle.kc_tree.specs.checker.Conjuncts.{if_view, is_prompt, conjunct_view, conjunct_views, condition_view, AreJoined, AreAppended};
+ghost use Rattle.kc_tree.specs.checker.Conjuncts.{if_view, conjunct_view, conjunct_views, condition_view, AreJoined, AreAppended};
 ghost use Rattle.kc_tree.specs.declared.conditions.Conjuncts.TheVariants.{Dependencies, Visibles};
 
+use super::attribute::is_prompt;
 use kc_expr::{Arena, ExprFault, ExprId};
 use kc_listing::Line;
 use kc_statements::Attribute;
@@ -70,23 +71,8 @@ fn if_of(attribute: &Attribute) -> Option<ExprId>
         Attribute::Select(a) => a.condition,
         Attribute::Imply(a) => a.condition,
         Attribute::Range(r) => r.condition,
-        Attribute::Typed(_) => None,
-        Attribute::Depends(_) => None,
-        Attribute::Visible(_) => None,
-        Attribute::Help => None,
-        Attribute::Modules => None,
-        Attribute::Optional => None,
+        _ => None,
     }
-}
-
-/// Whether an attribute is a prompt.
-pub(crate) fn is_prompt_attribute(attribute: &Attribute) -> bool
-    ensures { result ≡ is_prompt attribute.now }
-{
-    matches!(
-        *attribute,
-        Attribute::Prompt(_) | Attribute::TypedPrompt(_, _)
-    )
 }
 
 /// The conjunct that an attribute gives an entry's dependency, or its `visible if`.
@@ -168,7 +154,7 @@ fn condition_of(
     ensures represents { IfOk result (λ c. (ds vs own : List Expr) → AreJoined arena.old entry.now ds vs own → Represents arena.old yes (conjunction_of [])
         → Represents arena.new c (condition_view arena.old ds vs attribute.now)) }
 {
-    let all = if is_prompt_attribute(attribute) {
+    let all = if is_prompt(attribute) {
         entry.shown
     } else {
         entry.dependencies

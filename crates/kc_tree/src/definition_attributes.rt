@@ -3,8 +3,8 @@ ghost use Rattle.std.specs.Prelude.{◌≡◌, ◌<◌, All, OnOk, length};
 ghost use Rattle.kc_listing.specs.between.ListingView.{LineNodesExist};
 ghost use Rattle.kc_tree.specs.checker.GatheredItems.{gathered_target_name, target_key, gathered_prompt, gathered_default, gathered_range, own_key, gathered_target, gathered_reverse_dependency, HasAppended};
 
-use super::conditions::is_prompt_attribute;
-use super::items_with_keys::Keyed;
+use super::attribute::is_prompt;
+use super::items_with_keys::ItemsWithKeys;
 use super::symbol::{Default, Range, ReverseDependency};
 use kc_expr::{ExprId, NameId};
 use kc_listing::{Line, SymbolTable};
@@ -23,7 +23,7 @@ pub(crate) enum ReverseKind {
 fn prompt_of(line: &Line, condition: ExprId) -> Option<ExprId>
     ensures { result ≡ gathered_prompt line.now condition }
 {
-    if is_prompt_attribute(&line.attribute) {
+    if is_prompt(&line.attribute) {
         return Some(condition);
     }
     None
@@ -87,7 +87,7 @@ fn target_symbol_of(names: &SymbolTable, line: &Line, forcing: ReverseKind) -> O
 
 /// Appends the conditions of the prompts among a definition's attribute lines, under the number of its symbol.
 pub(crate) fn push_prompts(
-    found: &mut Keyed<ExprId>,
+    found: &mut ItemsWithKeys<ExprId>,
     symbol: u32,
     lines: &[Line],
     conditions: &[ExprId],
@@ -105,7 +105,7 @@ pub(crate) fn push_prompts(
 
 /// Appends the defaults among a definition's attribute lines, with their conditions, under the number of its symbol.
 pub(crate) fn push_defaults(
-    found: &mut Keyed<Default>,
+    found: &mut ItemsWithKeys<Default>,
     symbol: u32,
     lines: &[Line],
     conditions: &[ExprId],
@@ -123,7 +123,7 @@ pub(crate) fn push_defaults(
 
 /// Appends the ranges among a definition's attribute lines, with their conditions, under the number of its symbol.
 pub(crate) fn push_ranges(
-    found: &mut Keyed<Range>,
+    found: &mut ItemsWithKeys<Range>,
     symbol: u32,
     lines: &[Line],
     conditions: &[ExprId],
@@ -141,7 +141,7 @@ pub(crate) fn push_ranges(
 
 /// Appends the selects or the implies among a definition's attribute lines, each under the number of its target symbol.
 pub(crate) fn push_reverse_dependencies(
-    found: &mut Keyed<ReverseDependency>,
+    found: &mut ItemsWithKeys<ReverseDependency>,
     names: &SymbolTable,
     forcing: ReverseKind,
     symbol: u32,

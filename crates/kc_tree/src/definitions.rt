@@ -1,6 +1,6 @@
 //! The attributes of symbols, from all their definitions.
 ghost use Rattle.std.specs.Prelude.{◌≡◌, ◌<◌, [], List, All, IfOk, OnOk, length};
-ghost use Rattle.kc_tree_model.specs.Blocks.{Group as CodeGroup};
+ghost use Rattle.kc_tree_model.specs.Blocks.{Group as ModelGroup};
 ghost use Rattle.kc_tree_model.specs.Contents.{contents_of};
 ghost use Rattle.kc_listing.specs.between.ListingView.{LineNodesExist};
 ghost use Rattle.kc_tree.specs.checker.ChoiceDefaults.{IsWalkOf};
@@ -13,7 +13,7 @@ use super::definition_attributes::{
 use super::group_conditions::conditions_of;
 use super::group_lines::lines_of;
 use super::group_walk::GroupConditions;
-use super::items_with_keys::Keyed;
+use super::items_with_keys::ItemsWithKeys;
 use super::tree_lists::Attributes;
 use kc_expr::ExprId;
 use kc_listing::{GroupHead, Line, Listing, SymbolTable};
@@ -37,12 +37,12 @@ fn no_attributes(alloc: Global) -> Attributes
     ensures direct { (result.direct.keys.items ≡ []) × (result.direct.items.items ≡ []) }
 {
     Attributes {
-        prompts: Keyed::new(alloc),
-        defaults: Keyed::new(alloc),
-        ranges: Keyed::new(alloc),
-        selectors: Keyed::new(alloc),
-        impliers: Keyed::new(alloc),
-        direct: Keyed::new(alloc),
+        prompts: ItemsWithKeys::new(alloc),
+        defaults: ItemsWithKeys::new(alloc),
+        ranges: ItemsWithKeys::new(alloc),
+        selectors: ItemsWithKeys::new(alloc),
+        impliers: ItemsWithKeys::new(alloc),
+        direct: ItemsWithKeys::new(alloc),
     }
 }
 
@@ -89,8 +89,8 @@ pub(crate) fn gather_attributes(
     groups: &[GroupConditions],
     conditions: &[ExprId],
 ) -> Result<Attributes, AllocError>
-    requires walked { (read : List CodeGroup) × IsWalkOf listing.now groups.now conditions.now read }
-    ensures ok { (read : List CodeGroup) → IsWalkOf listing.now groups.now conditions.now read → IfOk result (AreAttributes listing.now.names.arena (contents_of read)) }
+    requires walked { (read : List ModelGroup) × IsWalkOf listing.now groups.now conditions.now read }
+    ensures ok { (read : List ModelGroup) → IsWalkOf listing.now groups.now conditions.now read → IfOk result (AreAttributes listing.now.names.arena (contents_of read)) }
 {
     let mut found = no_attributes(alloc);
     for i in 0..listing.groups.len() {

@@ -1,6 +1,6 @@
 //! The enclosing choice of each statement.
 ghost use Rattle.std.specs.Prelude.{◌≡◌, ◌<◌, ◌^◌, ◌∷◌, ◌++◌, [], List, IfOk, OnOk, length, map, reverse};
-ghost use Rattle.kc_tree_model.specs.Blocks.{Group as CodeGroup};
+ghost use Rattle.kc_tree_model.specs.Blocks.{Group as ModelGroup};
 ghost use Rattle.kc_tree_model.specs.Conditions.{groups_in_context};
 ghost use Rattle.kc_tree_model.specs.Contents.{contents_of};
 ghost use Rattle.kc_listing.specs.between.ListingView.{RepresentsListing};
@@ -68,7 +68,7 @@ pub(crate) fn choices_enclosing(
     listing: &Listing,
 ) -> Result<Vec<Option<u32>>, AllocError>
     requires few { length listing.now.groups.items < 2 ^ 32 }
-    ensures ok { (read : List CodeGroup) → RepresentsListing listing.now read → IfOk result (λ a. a.items ≡ map (enclosing_choice (contents_of read)) (groups_in_context read)) }
+    ensures ok { (read : List ModelGroup) → RepresentsListing listing.now read → IfOk result (λ a. a.items ≡ map (enclosing_choice (contents_of read)) (groups_in_context read)) }
 {
     let mut enclosing = Vec::with_capacity(alloc, listing.groups.len())?;
     let mut inside = Vec::new(alloc);
@@ -84,7 +84,7 @@ pub(crate) fn choices_enclosing(
 
 /// The number of choices in a listing.
 pub(crate) fn choice_count(listing: &Listing) -> usize
-    ensures { (read : List CodeGroup) → RepresentsListing listing.now read → result ≡ length (contents_of read).choices }
+    ensures { (read : List ModelGroup) → RepresentsListing listing.now read → result ≡ length (contents_of read).choices }
 {
     let mut choices = 0;
     for group in &listing.groups {

@@ -2,13 +2,13 @@
 ghost use Rattle.std.specs.Prelude.{◌≡◌, ◌&&◌, is_some, not};
 ghost use Rattle.kc_expr.specs.between.Arena.{Exprs};
 ghost use Rattle.kc_tree_model.specs.TreeFaults.{is_shapeless as shapeless};
-ghost use Rattle.kc_value.specs.Kinds.{is_number as number};
+ghost use Rattle.kc_value.specs.Kinds.{is_number};
 ghost use Rattle.kc_tree_model.specs.Statements.{default_of, is_modules as modules, prompt_of, range_of};
 ghost use Rattle.kc_statements.specs.between.StatementViews.{attribute_in};
 ghost use Rattle.kc_tree.specs.checker.Kinds.{definition_kind, typed_kind, choice_kind};
 
 use super::attribute::{default_given, is_modules, is_prompt, is_range, type_given};
-use super::kinds::{is_logical, is_number, is_other_kind};
+use super::kinds::{is_number, is_other_kind, is_tri_kind};
 use super::summary::SymbolSummary;
 use kc_statements::Attribute;
 use kc_tree_model::TreeKind;
@@ -42,7 +42,7 @@ fn is_shapeless(kind: Kind, attribute: &Attribute) -> bool
     ensures { (e : Exprs) → result ≡ shapeless kind (default_of (attribute_in e attribute.now)) }
 {
     match default_given(attribute) {
-        Some(valued) => !is_logical(kind) && !valued.single,
+        Some(valued) => !is_tri_kind(kind) && !valued.single,
         None => false,
     }
 }
@@ -56,7 +56,7 @@ fn is_second_prompt(prompted: bool, attribute: &Attribute) -> bool
 
 /// Whether an attribute is a range in a symbol whose type has none.
 fn is_stray_range(kind: Kind, attribute: &Attribute) -> bool
-    ensures { (e : Exprs) → result ≡ (is_some (range_of (attribute_in e attribute.now)) && not (number kind)) }
+    ensures { (e : Exprs) → result ≡ (is_some (range_of (attribute_in e attribute.now)) && not (is_number kind)) }
 {
     is_range(attribute) && !is_number(kind)
 }

@@ -4,16 +4,16 @@ ghost use Rattle.kc_value.specs.declared.tri.Tri.TheVariants.{N};
 ghost use Rattle.kc_expr.specs.between.Arena.{Grows, Represents, node_expr};
 ghost use Rattle.kc_expr.specs.Expr.{Expr, alone, constant, shown};
 ghost use Rattle.kc_listing.specs.between.ListingView.{LineNodesExist, RepresentsHead, line_in};
-ghost use Rattle.kc_tree_model.specs.Blocks.{Group as CodeGroup, of_head};
+ghost use Rattle.kc_tree_model.specs.Blocks.{Group as ModelGroup, of_head};
 ghost use Rattle.kc_tree_model.specs.Conditions.{conjunction_of, context, attribute_values, dependencies_of, prompts_of};
 ghost use Rattle.kc_tree_model.specs.Statements.{choice, condition as condition_head, visible_of};
 ghost use Rattle.kc_tree.specs.checker.Conjuncts.{AreJoined};
 ghost use Rattle.kc_tree.specs.checker.Firsts.{first_prompt, RepresentsPrompt, RepresentsInside, is_end, GroupHeadNodesExist};
 ghost use Rattle.kc_tree.specs.checker.Walks.{RepresentsEnclosing, HasWalked, innermost_enclosing, or_yes};
 
+use super::attribute::is_prompt;
 use super::conditions::{
-    EnclosingConditions, EntryConditions, entry_conditions, is_prompt_attribute, join_optional,
-    push_conditions,
+    EnclosingConditions, EntryConditions, entry_conditions, join_optional, push_conditions,
 };
 use kc_expr::{Arena, ExprFault, ExprId};
 use kc_listing::{GroupHead, Line};
@@ -49,7 +49,7 @@ pub(crate) fn first_condition(lines: &[Line], conditions: &[ExprId]) -> Option<E
     ensures value { result ≡ first_prompt lines.now conditions.now }
 {
     for i in 0..lines.len() {
-        if is_prompt_attribute(&lines[i].attribute) {
+        if is_prompt(&lines[i].attribute) {
             return Some(conditions[i]);
         }
     }
@@ -88,7 +88,7 @@ fn inside_choice(
 ) -> Result<EnclosingConditions, ExprFault>
     requires there { IfSome prompt (λ i. i < length arena.old.nodes) }
     ensures grows { Grows arena.old arena.new }
-    ensures shown { (texts : List (List ℕ)) (yes : ℕ) (m : CodeGroup) (opened : List CodeGroup)
+    ensures represents { (texts : List (List ℕ)) (yes : ℕ) (m : ModelGroup) (opened : List ModelGroup)
         → m.head ≡ of_head choice → RepresentsPrompt arena.old prompt (slice_get (prompts_of (context opened) m) 0) → Represents arena.old no (alone (constant N))
         → IfOk result (λ a. RepresentsEnclosing arena.new texts yes a (m ∷ opened)) }
 {
@@ -109,7 +109,7 @@ fn inside_if(
     requires enclosing { IfSome enclosing.now.dependencies (λ i. i < length arena.old.nodes) }
     requires condition { condition < length arena.old.nodes }
     ensures grows { Grows arena.old arena.new }
-    ensures shown { (texts : List (List ℕ)) (yes : ℕ) (m : CodeGroup) (opened : List CodeGroup)
+    ensures represents { (texts : List (List ℕ)) (yes : ℕ) (m : ModelGroup) (opened : List ModelGroup)
         → m.head ≡ of_head (condition_head (node_expr arena.old condition)) → RepresentsEnclosing arena.old texts yes enclosing.now opened
         → IfOk result (λ a. RepresentsEnclosing arena.new texts yes a (m ∷ opened)) }
 {
@@ -134,7 +134,7 @@ fn inside(
     requires enclosing { IfSome enclosing.now.dependencies (λ i. i < length arena.old.nodes) }
     requires held { GroupHeadNodesExist (length arena.old.nodes) head.now }
     ensures grows { Grows arena.old arena.new }
-    ensures shown { (names texts : List (List ℕ)) (yes : ℕ) (m : CodeGroup) (opened : List CodeGroup)
+    ensures represents { (names texts : List (List ℕ)) (yes : ℕ) (m : ModelGroup) (opened : List ModelGroup)
         → RepresentsHead arena.old names texts head.now m.head
         → RepresentsEnclosing arena.old texts yes enclosing.now opened
         → AreJoined arena.old entry.now (dependencies_of (context opened) m) (context opened).visibles (attribute_values visible_of m)
@@ -155,11 +155,7 @@ fn inside(
             visibles: enclosing.visibles,
             title: None,
         })),
-        GroupHead::Config(_) => Ok(None),
-        GroupHead::Comment(_) => Ok(None),
-        GroupHead::Mainmenu => Ok(None),
-        GroupHead::Ends(_) => Ok(None),
-        GroupHead::FileEnd => Ok(None),
+        _ => Ok(None),
     }
 }
 
@@ -279,11 +275,11 @@ impl GroupWalk {
     /// Walks the next group, given by its statement and its attribute lines: adds its joined conditions, and opens or ends a
     /// block.
     pub(crate) fn visit(&mut self, head: &GroupHead, lines: &[Line]) -> Result<(), ExprFault>
-        requires walked { (texts : List (List ℕ)) × (before : List CodeGroup) × HasWalked texts self.old before }
+        requires walked { (texts : List (List ℕ)) × (before : List ModelGroup) × HasWalked texts self.old before }
         requires head { GroupHeadNodesExist (length self.old.arena.nodes) head.now }
         requires lines { All (LineNodesExist self.old.arena) lines.now }
         ensures grows { Grows self.old.arena self.new.arena }
-        ensures walked { (names texts : List (List ℕ)) (before : List CodeGroup) (m : CodeGroup) → HasWalked texts self.old before
+        ensures walked { (names texts : List (List ℕ)) (before : List ModelGroup) (m : ModelGroup) → HasWalked texts self.old before
             → RepresentsHead self.old.arena names texts head.now m.head → m.attributes ≡ map (line_in self.old.arena) lines.now
             → OnOk result (HasWalked texts self.new (m ∷ before)) }
         ensures more { OnOk result (length self.new.groups.items ≡ length self.old.groups.items + 1) }

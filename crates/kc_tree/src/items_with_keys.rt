@@ -2,24 +2,24 @@
 ghost use Rattle.std.specs.Prelude.{◌≡◌, ◌<◌, ◌^◌, ℕ, [], ◌∷◌, ◌++◌, IfOk, OnOk, OnErr, length, slice_index};
 ghost use Rattle.kc_tree.specs.checker.GroupedItems.{IsGrouped};
 
-use super::items_by_number::Grouped;
+use super::items_by_number::ItemsByNumber;
 use std::alloc::{AllocError, Global};
 
 /// A list of items, each with a key, in the order in which they were appended.
 #[derive(Drop)]
-pub(crate) struct Keyed<T> {
+pub(crate) struct ItemsWithKeys<T> {
     pub keys: Vec<u32>,
     pub items: Vec<T>,
     ghost even: { length items.items ≡ length keys.items },
 }
 
-impl<T: Copy> Keyed<T> {
+impl<T: Copy> ItemsWithKeys<T> {
     /// An empty list of items with keys. Takes no memory.
-    pub(crate) fn new(alloc: Global) -> Keyed<T>
+    pub(crate) fn new(alloc: Global) -> ItemsWithKeys<T>
         ensures keys { result.keys.items ≡ [] }
         ensures items { result.items.items ≡ [] }
     {
-        Keyed {
+        ItemsWithKeys {
             keys: Vec::new(alloc),
             items: Vec::new(alloc),
         }
@@ -41,11 +41,15 @@ impl<T: Copy> Keyed<T> {
     }
 
     /// Groups the items by their keys, which are below `count`. An `Err` means out of memory, or 2^32 items or more.
-    pub(crate) fn grouped(&self, alloc: Global, count: usize) -> Result<Grouped<T>, AllocError>
+    pub(crate) fn grouped(
+        &self,
+        alloc: Global,
+        count: usize,
+    ) -> Result<ItemsByNumber<T>, AllocError>
         requires keys { (i : ℕ) → i < length self.now.keys.items → slice_index self.now.keys.items i < count }
         requires few { count < 2 ^ 32 }
         ensures ok { IfOk result (λ g. IsGrouped count self.now.keys.items self.now.items.items g.starts.items g.items.items) }
     {
-        Grouped::new(alloc, count, &self.keys, &self.items)
+        ItemsByNumber::new(alloc, count, &self.keys, &self.items)
     }
 }

@@ -1,27 +1,27 @@
 //! Tests of types.
 ghost use Rattle.std.specs.Prelude.{◌≡◌};
-ghost use Rattle.kc_tree_model.specs.TreeFaults.{is_other_kind as other_kind};
-ghost use Rattle.kc_value.specs.Kinds.{is_tri_kind as logical, is_number as number, same_kind as same};
+ghost use Rattle.kc_tree_model.specs.TreeFaults.{is_other_kind};
+ghost use Rattle.kc_value.specs.Kinds.{is_tri_kind, is_number, same_kind};
 
 use kc_value::Kind;
 
-/// Whether a type is bool or tristate.
-pub(crate) fn is_logical(kind: Kind) -> bool
-    ensures { result ≡ logical kind }
+/// Whether a type is bool or tristate, so that its values are tristates.
+pub fn is_tri_kind(kind: Kind) -> bool
+    ensures { result ≡ is_tri_kind kind }
 {
     matches!(kind, Kind::Bool | Kind::Tristate)
 }
 
 /// Whether a type is int or hex.
 pub(crate) fn is_number(kind: Kind) -> bool
-    ensures { result ≡ number kind }
+    ensures { result ≡ is_number kind }
 {
     matches!(kind, Kind::Int | Kind::Hex)
 }
 
 /// Whether two types are the same.
 fn is_same(a: Kind, b: Kind) -> bool
-    ensures { result ≡ same a b }
+    ensures { result ≡ same_kind a b }
 {
     match a {
         Kind::Bool => matches!(b, Kind::Bool),
@@ -34,7 +34,7 @@ fn is_same(a: Kind, b: Kind) -> bool
 
 /// Whether an optional type `given` is present and differs from `kind`.
 pub(crate) fn is_other_kind(kind: Kind, given: Option<Kind>) -> bool
-    ensures { result ≡ other_kind kind given }
+    ensures { result ≡ is_other_kind kind given }
 {
     match given {
         Some(other) => !is_same(kind, other),

@@ -38,6 +38,7 @@ mod unit_numbers;
 
 pub use entry::Entry;
 pub use kc_tree_model::{Sym, Texts, TreeFault, TreeKind, Unit};
+pub use kinds::is_tri_kind;
 pub use missing_files::wanted;
 pub use symbol::{Choice, Default, MemberDefault, Range, ReverseDependency, Symbol};
 pub use tree::Tree;

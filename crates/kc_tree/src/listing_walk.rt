@@ -2,7 +2,7 @@
 ghost use Rattle.std.specs.Prelude.{◌≡◌, ◌≤◌, ◌<◌, ℕ, All, IfOk, List, length, reverse, slice_range};
 ghost use Rattle.kc_expr.specs.between.Arena.{Grows};
 ghost use Rattle.kc_listing.specs.between.ListingView.{RepresentsGroups, LineNodesExist, RepresentsListing};
-ghost use Rattle.kc_tree_model.specs.Blocks.{Group as CodeGroup};
+ghost use Rattle.kc_tree_model.specs.Blocks.{Group as ModelGroup};
 ghost use Rattle.kc_tree.specs.checker.Summaries.{attributes_end, group_at, IsRepresented};
 ghost use Rattle.kc_tree.specs.checker.Walks.{RepresentsAllConditions, HasWalked};
 
@@ -38,10 +38,10 @@ fn walk_through(
     groups: &[Group],
     lines: &[Line],
 ) -> Result<GroupWalk, ExprFault>
-    requires shown { (names texts : List (List ℕ)) × (read : List CodeGroup) × RepresentsGroups arena names texts lines.now (length lines.now) (reverse groups.now) read }
+    requires shown { (names texts : List (List ℕ)) × (read : List ModelGroup) × RepresentsGroups arena names texts lines.now (length lines.now) (reverse groups.now) read }
     requires held { All (LineNodesExist arena) lines.now }
     ensures grows { IfOk result (λ w. Grows arena w.arena) }
-    ensures walked { (names texts : List (List ℕ)) (read : List CodeGroup) → RepresentsGroups arena names texts lines.now (length lines.now) (reverse groups.now) read
+    ensures walked { (names texts : List (List ℕ)) (read : List ModelGroup) → RepresentsGroups arena names texts lines.now (length lines.now) (reverse groups.now) read
         → IfOk result (λ w. HasWalked texts w read) }
 {
     let mut walk = GroupWalk::new(alloc, arena)?;
@@ -54,8 +54,8 @@ fn walk_through(
 /// Walks all groups of a listing and joins their conditions with the enclosing ones. An `Err` means out of memory.
 pub(crate) fn walk_all(alloc: Global, listing: Listing) -> Result<WalkedListing, ExprFault>
     requires shown { IsRepresented listing }
-    ensures shows { (read : List CodeGroup) → RepresentsListing listing read → IfOk result (λ w. RepresentsListing w.listing read) }
-    ensures walked { (read : List CodeGroup) → RepresentsListing listing read
+    ensures shows { (read : List ModelGroup) → RepresentsListing listing read → IfOk result (λ w. RepresentsListing w.listing read) }
+    ensures walked { (read : List ModelGroup) → RepresentsListing listing read
         → IfOk result (λ w. RepresentsAllConditions w.listing.names.arena w.listing.texts.items w.conditions.items (length w.conditions.items) (reverse w.groups.items) read) }
 {
     let Listing {

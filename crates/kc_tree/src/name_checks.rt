@@ -1,6 +1,6 @@
 //! Names in `select`, `imply` and the defaults of choices.
 ghost use Rattle.std.specs.Prelude.{◌≡◌, ◌<◌, ℕ, List, is_some, length};
-ghost use Rattle.kc_tree_model.specs.Blocks.{Group as CodeGroup};
+ghost use Rattle.kc_tree_model.specs.Blocks.{Group as ModelGroup};
 ghost use Rattle.kc_tree_model.specs.Contents.{contents_of, member_named};
 ghost use Rattle.kc_tree_model.specs.Limits.{names_defined};
 ghost use Rattle.kc_tree_model.specs.TreeFaults.{is_selectable as selectable, is_wrong_reverse_dependency as wrong};
@@ -11,7 +11,7 @@ ghost use Rattle.kc_tree.specs.checker.Summaries.{AreSymbolSummaries, IsRepresen
 ghost use Rattle.kc_tree.specs.checker.Marks.{AreMarked};
 
 use super::attribute::target_name;
-use super::kinds::is_logical;
+use super::kinds::is_tri_kind;
 use super::summary::SymbolSummary;
 use kc_listing::Listing;
 use kc_statements::{Attribute, DefaultAttribute};
@@ -19,7 +19,7 @@ use kc_value::Kind;
 
 /// The number of the symbol of a name, if an entry defines it.
 fn symbol_number_of_name(listing: &Listing, name: &str) -> Option<u32>
-    ensures { (read : List CodeGroup) → RepresentsListing listing.now read → result ≡ index_of_name name.now (names_defined read) }
+    ensures { (read : List ModelGroup) → RepresentsListing listing.now read → result ≡ index_of_name name.now (names_defined read) }
 {
     listing.names.number_of(name)
 }
@@ -28,11 +28,11 @@ fn symbol_number_of_name(listing: &Listing, name: &str) -> Option<u32>
 fn is_selectable(listing: &Listing, symbols: &[SymbolSummary], name: &str) -> bool
     requires shown { IsRepresented listing.now }
     requires symbols { AreSymbolSummaries listing.now symbols.now }
-    ensures value { (read : List CodeGroup) → RepresentsListing listing.now read → result ≡ selectable (contents_of read) name.now }
+    ensures value { (read : List ModelGroup) → RepresentsListing listing.now read → result ≡ selectable (contents_of read) name.now }
 {
     match symbol_number_of_name(listing, name) {
         Some(s) => match symbols[s as usize].kind() {
-            Some(kind) => is_logical(kind),
+            Some(kind) => is_tri_kind(kind),
             None => true,
         },
         None => true,
@@ -50,11 +50,11 @@ pub(crate) fn is_wrong_reverse_dependency(
     requires shown { IsRepresented listing.now }
     requires symbols { AreSymbolSummaries listing.now symbols.now }
     requires held { AttributeNodesExist listing.now.names.arena attribute.now }
-    ensures value { (read : List CodeGroup) → RepresentsListing listing.now read → result ≡ wrong (contents_of read) kind (attribute_in listing.now.names.arena attribute.now) }
+    ensures value { (read : List ModelGroup) → RepresentsListing listing.now read → result ≡ wrong (contents_of read) kind (attribute_in listing.now.names.arena attribute.now) }
 {
     match target_name(attribute) {
         Some(name) => {
-            !is_logical(kind) || !is_selectable(listing, symbols, listing.names.arena.name(name))
+            !is_tri_kind(kind) || !is_selectable(listing, symbols, listing.names.arena.name(name))
         }
         None => false,
     }
@@ -70,7 +70,7 @@ pub(crate) fn names_member(
     requires shown { IsRepresented listing.now }
     requires many { length marks.now ≡ length listing.now.names.symbols.items }
     requires held { DefaultNodesExist listing.now.names.arena valued.now }
-    ensures value { (read : List CodeGroup) (members : List (List ℕ)) → RepresentsListing listing.now read → AreMarked (names_defined read) members marks.now mark
+    ensures value { (read : List ModelGroup) (members : List (List ℕ)) → RepresentsListing listing.now read → AreMarked (names_defined read) members marks.now mark
         → result ≡ is_some (member_named members (default_in listing.now.names.arena valued.now)) }
 {
     if !valued.single {

@@ -6,7 +6,7 @@ ghost use Rattle.kc_tree_model.specs.declared.ids.Unit.TheVariants.{Choice as of
 ghost use Rattle.kc_tree_model.specs.declared.ids.Unit.TheVariants.{Symbol as SymbolUnit, Choice as ChoiceUnit};
 
 use super::entry::Entry;
-use super::items_by_number::Grouped;
+use super::items_by_number::ItemsByNumber;
 use super::symbol::{Choice, Default, MemberDefault, Range, ReverseDependency, Symbol};
 use kc_expr::{Arena, ExprId, NameId};
 use kc_tree_model::{Sym, Unit};
@@ -60,15 +60,15 @@ pub(crate) enum EntryRow {
 pub(crate) struct Parts {
     pub arena: Arena,
     pub symbols: Vec<SymbolRow>,
-    pub prompts: Grouped<ExprId>,
-    pub defaults: Grouped<Default>,
-    pub ranges: Grouped<Range>,
-    pub selectors: Grouped<ReverseDependency>,
-    pub impliers: Grouped<ReverseDependency>,
-    pub direct: Grouped<ExprId>,
+    pub prompts: ItemsByNumber<ExprId>,
+    pub defaults: ItemsByNumber<Default>,
+    pub ranges: ItemsByNumber<Range>,
+    pub selectors: ItemsByNumber<ReverseDependency>,
+    pub impliers: ItemsByNumber<ReverseDependency>,
+    pub direct: ItemsByNumber<ExprId>,
     pub choices: Vec<ChoiceRow>,
-    pub members: Grouped<Sym>,
-    pub member_defaults: Grouped<MemberDefault>,
+    pub members: ItemsByNumber<Sym>,
+    pub member_defaults: ItemsByNumber<MemberDefault>,
     pub entries: Vec<EntryRow>,
     pub titles: Vec<Text>,
     pub units: Vec<Unit>,

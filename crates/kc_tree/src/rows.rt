@@ -1,6 +1,6 @@
 //! The rows of symbols.
 ghost use Rattle.std.specs.Prelude.{◌≡◌, List, IfOk};
-ghost use Rattle.kc_tree_model.specs.Blocks.{Group as CodeGroup};
+ghost use Rattle.kc_tree_model.specs.Blocks.{Group as ModelGroup};
 ghost use Rattle.kc_tree_model.specs.Contents.{contents_of};
 ghost use Rattle.kc_tree_model.specs.Limits.{names_defined};
 ghost use Rattle.kc_listing.specs.between.ListingView.{RepresentsListing};
@@ -49,7 +49,7 @@ pub(crate) fn symbol_rows(
 ) -> Result<Vec<SymbolRow>, AllocError>
     requires shown { IsRepresented listing.now }
     requires symbols { AreSymbolSummaries listing.now symbols.now }
-    ensures ok { (read : List CodeGroup) → RepresentsListing listing.now read → IfOk result (λ rows. AreRowsOf listing.now.names.arena (contents_of read) (names_defined read) rows.items) }
+    ensures ok { (read : List ModelGroup) → RepresentsListing listing.now read → IfOk result (λ rows. AreRowsOf listing.now.names.arena (contents_of read) (names_defined read) rows.items) }
 {
     let names = listing.names.symbols.as_slice();
     let groups = listing.groups.as_slice();

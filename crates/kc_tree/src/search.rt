@@ -1,9 +1,9 @@
 //! The first fault of the checks on a listing that was read without a fault.
-ghost use Rattle.std.specs.Prelude.{◌≡◌, ◌<◌, ◌+◌, ℕ, List, IfOk, Some, bytes_eq, length, slice_get, if◌then◌else◌};
+ghost use Rattle.std.specs.Prelude.{◌≡◌, ◌<◌, ◌+◌, ◌^◌, ℕ, List, IfOk, Some, bytes_eq, length, slice_get, if◌then◌else◌};
 ghost use Rattle.kc_expr.specs.Expr.{modules as modules_name};
 ghost use Rattle.kc_expr.specs.declared.language.Language.{Language as AnyLanguage};
 ghost use Rattle.std.specs.List.{list_all};
-ghost use Rattle.kc_tree_model.specs.Blocks.{Group as CodeGroup};
+ghost use Rattle.kc_tree_model.specs.Blocks.{Group as ModelGroup};
 ghost use Rattle.kc_tree_model.specs.Conditions.{GroupInContext, groups_in_context};
 ghost use Rattle.kc_tree_model.specs.Contents.{contents_of, member_names};
 ghost use Rattle.kc_tree_model.specs.Limits.{names_defined};
@@ -20,7 +20,7 @@ use super::attribute_checks::{fault_at, first_choice_fault, first_symbol_fault};
 use super::enclosing_choices::begins_choice;
 use super::fault_kinds::definition_fault;
 use super::group_lines::lines_of;
-use super::items_by_number::Grouped;
+use super::items_by_number::ItemsByNumber;
 use super::marks::mark_members;
 use super::summary::Summary;
 use kc_expr::Language;
@@ -32,7 +32,7 @@ use std::alloc::{AllocError, Global};
 fn is_modules(listing: &Listing, s: u32) -> bool
     requires shown { IsRepresented listing.now }
     requires here { s < length listing.now.names.symbols.items }
-    ensures value { (read : List CodeGroup) (name : List ℕ) → RepresentsListing listing.now read → slice_get (names_defined read) s ≡ Some name → result ≡ bytes_eq name modules_name }
+    ensures value { (read : List ModelGroup) (name : List ℕ) → RepresentsListing listing.now read → slice_get (names_defined read) s ≡ Some name → result ≡ bytes_eq name modules_name }
 {
     let id = listing.names.symbols[s as usize];
     listing.names.arena.name(id) == "MODULES"
@@ -77,7 +77,7 @@ fn config_fault(
     requires summary { IsSummed listing.now summary.now }
     requires here { i < length listing.now.groups.items }
     requires head { (group_at listing.now.groups.items i).head ≡ codes.Config s }
-    ensures fault { (read : List CodeGroup) (p : GroupInContext) → RepresentsListing listing.now read → slice_get (groups_in_context read) i ≡ Some p → result ≡ slice_get (faults_of_group language (contents_of read) p) 0 }
+    ensures fault { (read : List ModelGroup) (p : GroupInContext) → RepresentsListing listing.now read → slice_get (groups_in_context read) i ≡ Some p → result ≡ slice_get (faults_of_group language (contents_of read) p) 0 }
 {
     let about = summary.symbols[s as usize];
     let is_member = summary.enclosing[i].is_some();
@@ -106,7 +106,7 @@ fn choice_fault(listing: &Listing, marks: &[u32], mark: u32, i: usize) -> Option
     requires many { length marks.now ≡ length listing.now.names.symbols.items }
     requires here { i < length listing.now.groups.items }
     requires head { (group_at listing.now.groups.items i).head ≡ codes.Choice }
-    ensures fault { (read : List CodeGroup) (p : GroupInContext) → RepresentsListing listing.now read → slice_get (groups_in_context read) i ≡ Some p
+    ensures fault { (read : List ModelGroup) (p : GroupInContext) → RepresentsListing listing.now read → slice_get (groups_in_context read) i ≡ Some p
         → AreMarked (names_defined read) (member_names (contents_of read) p.group.number) marks.now mark → (language : AnyLanguage) → result ≡ slice_get (faults_of_group language (contents_of read) p) 0 }
 {
     let file = listing.groups[i].file;
@@ -118,7 +118,7 @@ fn group_fault(
     listing: &Listing,
     language: Language,
     summary: &Summary,
-    members: &Grouped<Sym>,
+    members: &ItemsByNumber<Sym>,
     marks: &mut Vec<u32>,
     choices: u32,
     i: usize,
@@ -130,8 +130,8 @@ fn group_fault(
     requires many { length marks.old.items ≡ length listing.now.names.symbols.items }
     requires small { AreSmall marks.old.items choices }
     requires counted { CountsChoices listing.now i choices }
-    requires few { choices < 4294967295 }
-    ensures fault { (read : List CodeGroup) (p : GroupInContext) → RepresentsListing listing.now read → slice_get (groups_in_context read) i ≡ Some p → result ≡ slice_get (faults_of_group language (contents_of read) p) 0 }
+    requires few { choices + 1 < 2 ^ 32 }
+    ensures fault { (read : List ModelGroup) (p : GroupInContext) → RepresentsListing listing.now read → slice_get (groups_in_context read) i ≡ Some p → result ≡ slice_get (faults_of_group language (contents_of read) p) 0 }
     ensures many { length marks.new.items ≡ length listing.now.names.symbols.items }
     ensures marks { AreSmall marks.new.items (if is_choice_code (group_at listing.now.groups.items i).head then choices + 1 else choices) }
 {
@@ -152,7 +152,7 @@ pub(crate) fn first_fault(
     listing: &Listing,
 ) -> Result<Option<TreeFault>, AllocError>
     requires shown { IsRepresented listing.now }
-    ensures fault { (read : List CodeGroup) → RepresentsListing listing.now read → IfOk result (λ f. f ≡ slice_get (tree_faults language read) 0) }
+    ensures fault { (read : List ModelGroup) → RepresentsListing listing.now read → IfOk result (λ f. f ≡ slice_get (tree_faults language read) 0) }
 {
     let summary = Summary::new(alloc, listing)?;
     let members = summary.members.grouped(alloc, summary.choices)?;

@@ -1,7 +1,7 @@
 //! Summaries of symbols and choices, before conditions are joined.
 ghost use Rattle.std.specs.Prelude.{◌≡◌, ◌<◌, ◌^◌, List, IfOk, is_some, length, map, filter_map, flat_map, slice_get};
 ghost use Rattle.kc_expr.specs.between.Arena.{Exprs};
-ghost use Rattle.kc_tree_model.specs.Blocks.{Group as CodeGroup};
+ghost use Rattle.kc_tree_model.specs.Blocks.{Group as ModelGroup};
 ghost use Rattle.kc_tree_model.specs.Conditions.{groups_in_context};
 ghost use Rattle.kc_tree_model.specs.Contents.{contents_of};
 ghost use Rattle.kc_tree_model.specs.TreeFaults.{kind_or_bool};
@@ -11,7 +11,7 @@ ghost use Rattle.kc_tree.specs.checker.Summaries.{first_summary, symbol_summarie
 use super::attribute::type_given;
 use super::enclosing_choices::{choice_count, choices_enclosing};
 use super::group_lines::lines_of;
-use super::items_with_keys::Keyed;
+use super::items_with_keys::ItemsWithKeys;
 use kc_listing::{GroupHead, Line, Listing};
 use kc_tree_model::Sym;
 use kc_value::Kind;
@@ -59,7 +59,7 @@ pub(crate) struct Summary {
     pub symbols: Vec<SymbolSummary>,
     pub enclosing: Vec<Option<u32>>,
     pub choices: usize,
-    pub members: Keyed<Sym>,
+    pub members: ItemsWithKeys<Sym>,
 }
 
 /// The first type that attribute lines give, or `None`.
@@ -81,9 +81,9 @@ fn symbols_of(
     enclosing: &[Option<u32>],
 ) -> Result<Vec<SymbolSummary>, AllocError>
     requires few { length listing.now.groups.items < 2 ^ 32 }
-    requires enclosing { (read : List CodeGroup) → RepresentsListing listing.now read → enclosing.now ≡ map (enclosing_choice (contents_of read)) (groups_in_context read) }
+    requires enclosing { (read : List ModelGroup) → RepresentsListing listing.now read → enclosing.now ≡ map (enclosing_choice (contents_of read)) (groups_in_context read) }
     requires shown { IsRepresented listing.now }
-    ensures ok { (read : List CodeGroup) → RepresentsListing listing.now read → IfOk result (λ s. s.items ≡ symbol_summaries (contents_of read) (groups_in_context read)) }
+    ensures ok { (read : List ModelGroup) → RepresentsListing listing.now read → IfOk result (λ s. s.items ≡ symbol_summaries (contents_of read) (groups_in_context read)) }
 {
     let nothing = SymbolSummary {
         first: None,
@@ -111,14 +111,14 @@ fn members_of(
     alloc: Global,
     listing: &Listing,
     enclosing: &[Option<u32>],
-) -> Result<Keyed<Sym>, AllocError>
+) -> Result<ItemsWithKeys<Sym>, AllocError>
     requires few { length listing.now.groups.items < 2 ^ 32 }
-    requires enclosing { (read : List CodeGroup) → RepresentsListing listing.now read → enclosing.now ≡ map (enclosing_choice (contents_of read)) (groups_in_context read) }
+    requires enclosing { (read : List ModelGroup) → RepresentsListing listing.now read → enclosing.now ≡ map (enclosing_choice (contents_of read)) (groups_in_context read) }
     requires shown { IsRepresented listing.now }
-    ensures keys { (read : List CodeGroup) → RepresentsListing listing.now read → IfOk result (λ m. m.keys.items ≡ flat_map (member_keys_at (contents_of read)) (groups_in_context read)) }
-    ensures members { (read : List CodeGroup) → RepresentsListing listing.now read → IfOk result (λ m. m.items.items ≡ flat_map (members_at (contents_of read)) (groups_in_context read)) }
+    ensures keys { (read : List ModelGroup) → RepresentsListing listing.now read → IfOk result (λ m. m.keys.items ≡ flat_map (member_keys_at (contents_of read)) (groups_in_context read)) }
+    ensures members { (read : List ModelGroup) → RepresentsListing listing.now read → IfOk result (λ m. m.items.items ≡ flat_map (members_at (contents_of read)) (groups_in_context read)) }
 {
-    let mut members = Keyed::new(alloc);
+    let mut members = ItemsWithKeys::new(alloc);
     for i in 0..listing.groups.len() {
         if let GroupHead::Config(s) = listing.groups[i].head {
             let choice = enclosing[i];
@@ -134,7 +134,7 @@ impl Summary {
     /// The summary of a listing. An `Err` means out of memory, or 2^32 statements or more.
     pub(crate) fn new(alloc: Global, listing: &Listing) -> Result<Summary, AllocError>
         requires shown { IsRepresented listing.now }
-        ensures summary { (read : List CodeGroup) → RepresentsListing listing.now read → IfOk result (IsSummary read) }
+        ensures summary { (read : List ModelGroup) → RepresentsListing listing.now read → IfOk result (IsSummary read) }
         ensures few { IfOk result (λ s. length listing.now.groups.items < 2 ^ 32) }
     {
         if listing.groups.len() > u32::MAX as usize {

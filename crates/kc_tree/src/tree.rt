@@ -51,7 +51,7 @@ impl Tree {
     /// The arena of all names and expressions of the tree. A name that isn't in the arena is no symbol's.
     pub fn arena(&self) -> &Arena
         ensures arena { result.now ≡ self.now.exprs }
-        ensures held { (x : List ℕ) → index_of_name x self.now.exprs.names ≡ None → symbol_named self.now.tree x ≡ None }
+        ensures absent { (x : List ℕ) → index_of_name x self.now.exprs.names ≡ None → symbol_named self.now.tree x ≡ None }
         ensures consistent { IsConsistent self.now.tree }
     {
         &self.parts.arena

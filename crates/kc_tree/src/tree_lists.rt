@@ -3,8 +3,8 @@ ghost use Rattle.std.specs.Prelude.{◌≡◌, ◌<◌, ◌^◌, IfOk, length};
 ghost use Rattle.kc_expr.specs.Lookup.{AreDistinct};
 ghost use Rattle.kc_tree_model.specs.TreeLookup.{IsConsistent};
 
-use super::items_by_number::Grouped;
-use super::items_with_keys::Keyed;
+use super::items_by_number::ItemsByNumber;
+use super::items_with_keys::ItemsWithKeys;
 use super::names::symbols_of_names;
 use super::parts::{ChoiceRow, EntryRow, Parts, SymbolRow};
 use super::symbol::{Default, MemberDefault, Range, ReverseDependency};
@@ -19,23 +19,23 @@ use std::alloc::{AllocError, Global};
 /// number of its target.
 #[derive(Drop)]
 pub(crate) struct Attributes {
-    pub prompts: Keyed<ExprId>,
-    pub defaults: Keyed<Default>,
-    pub ranges: Keyed<Range>,
-    pub selectors: Keyed<ReverseDependency>,
-    pub impliers: Keyed<ReverseDependency>,
-    pub direct: Keyed<ExprId>,
+    pub prompts: ItemsWithKeys<ExprId>,
+    pub defaults: ItemsWithKeys<Default>,
+    pub ranges: ItemsWithKeys<Range>,
+    pub selectors: ItemsWithKeys<ReverseDependency>,
+    pub impliers: ItemsWithKeys<ReverseDependency>,
+    pub direct: ItemsWithKeys<ExprId>,
 }
 
 /// The attributes of all symbols, grouped by symbol; a `select` or `imply` belongs to its target.
 #[derive(Drop)]
 pub(crate) struct GroupedAttributes {
-    pub prompts: Grouped<ExprId>,
-    pub defaults: Grouped<Default>,
-    pub ranges: Grouped<Range>,
-    pub selectors: Grouped<ReverseDependency>,
-    pub impliers: Grouped<ReverseDependency>,
-    pub direct: Grouped<ExprId>,
+    pub prompts: ItemsByNumber<ExprId>,
+    pub defaults: ItemsByNumber<Default>,
+    pub ranges: ItemsByNumber<Range>,
+    pub selectors: ItemsByNumber<ReverseDependency>,
+    pub impliers: ItemsByNumber<ReverseDependency>,
+    pub direct: ItemsByNumber<ExprId>,
 }
 
 impl Attributes {
@@ -62,8 +62,8 @@ impl Attributes {
 #[derive(Drop)]
 pub(crate) struct Lists {
     pub attributes: GroupedAttributes,
-    pub members: Grouped<Sym>,
-    pub member_defaults: Grouped<MemberDefault>,
+    pub members: ItemsByNumber<Sym>,
+    pub member_defaults: ItemsByNumber<MemberDefault>,
 }
 
 /// The unit number of each symbol and of each choice, and for each name of the arena the symbol of that name.
@@ -82,19 +82,19 @@ pub(crate) struct FinishedTables {
 
 /// The lists collected from all groups of a listing, from which a tree is built.
 #[derive(Drop)]
-pub(crate) struct Gathered {
+pub(crate) struct TreeLists {
     pub arena: Arena,
     pub symbols: Vec<SymbolRow>,
     pub attributes: Attributes,
     pub choices: Vec<ChoiceRow>,
-    pub members: Keyed<Sym>,
-    pub member_defaults: Keyed<MemberDefault>,
+    pub members: ItemsWithKeys<Sym>,
+    pub member_defaults: ItemsWithKeys<MemberDefault>,
     pub entries: Vec<EntryRow>,
     pub titles: Vec<Text>,
     pub units: Vec<Unit>,
 }
 
-impl Gathered {
+impl TreeLists {
     ghost use Rattle.kc_tree.specs.TreeModel.{TreeModel};
     ghost use Rattle.kc_tree.specs.checker.GatheredView.{gathered_tree};
     ghost use Rattle.kc_tree.specs.checker.GatheredFits.{GatheredFit};

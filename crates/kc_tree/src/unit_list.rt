@@ -1,6 +1,6 @@
 //! The units of a tree, in the order of their numbers.
 ghost use Rattle.std.specs.Prelude.{◌≡◌, ◌<◌, ◌^◌, List, IfOk, length};
-ghost use Rattle.kc_tree_model.specs.Blocks.{Group as CodeGroup};
+ghost use Rattle.kc_tree_model.specs.Blocks.{Group as ModelGroup};
 ghost use Rattle.kc_tree_model.specs.Contents.{contents_of};
 ghost use Rattle.kc_listing.specs.between.ListingView.{RepresentsListing};
 ghost use Rattle.kc_tree.specs.checker.UnitList.{is_unit_at, unit_of_group, units_read};
@@ -44,7 +44,7 @@ pub(crate) fn units_of(
 ) -> Result<Vec<Unit>, AllocError>
     requires few { length listing.now.groups.items < 2 ^ 32 }
     requires symbols { AreSymbolSummaries listing.now symbols.now }
-    ensures ok { (read : List CodeGroup) → RepresentsListing listing.now read → IfOk result (λ units. units.items ≡ units_read (contents_of read)) }
+    ensures ok { (read : List ModelGroup) → RepresentsListing listing.now read → IfOk result (λ units. units.items ≡ units_read (contents_of read)) }
 {
     let mut units = Vec::new(alloc);
     let mut choices = 0;

@@ -15,21 +15,21 @@ use Rattle.kc_tree_model.proofs.Consistency.Lists.{Has, filter-has, once-has, ap
 use Rattle.kc_tree_model.proofs.Consistency.KeptProperties.{IsKept, Keeps, lines_kept, whole_file_kept}
 use Rattle.kc_tree_model.proofs.Consistency.OneLine.{AreOneLine, lines_are_one}
 
--- the paths that were sourced stay
-abbrev Sourced : List ℕ → List Group → Type 0
-Sourced path read = Has path (filter_map sourced_path read)
+-- a path is that of one of the `source`s read
+abbrev IsSourced : List ℕ → List Group → Type 0
+IsSourced path read = Has path (filter_map sourced_path read)
 
 more_sourced : (path : List ℕ) (o : Option (List ℕ)) (paths : List (List ℕ)) → Has path paths → Has path (cons_option o paths)
 more_sourced path None paths h = h
 more_sourced path (Some x) paths h = inr h
 
-sourced_by_line : (path : List ℕ) (read : List Group) (at : Position) (s : Option Statement) → Sourced path read → Sourced path (with_statement at s read)
+sourced_by_line : (path : List ℕ) (read : List Group) (at : Position) (s : Option Statement) → IsSourced path read → IsSourced path (with_statement at s read)
 sourced_by_line path read at None h = h
 sourced_by_line path read at (Some (head x)) h = more_sourced path (path_of_head x) (filter_map sourced_path read) h
 sourced_by_line path [] at (Some (attribute a)) h = h
 sourced_by_line path (g ∷ before) at (Some (attribute a)) h = h
 
-stays : (path : List ℕ) → IsKept (Sourced path)
+stays : (path : List ℕ) → IsKept (IsSourced path)
 stays path = record { by_line = λ language read at l s h one e. sourced_by_line path read at s h; by_end = λ read at h. h }
 
 -- where files come from, in the two readings
@@ -46,26 +46,27 @@ source_same files root read path h = rw h refl
 
 -- each path that a reading sources is there
 abbrev AllThere : Files → Outcome → Type 0
-AllThere files o = (path : List ℕ) → Sourced path o.read → is_some (file_at files path) ≡ true
+AllThere files o = (path : List ℕ) → IsSourced path o.read → is_some (file_at files path) ≡ true
 
 -- two readings agree where it is so
 abbrev Agree : Files → (f g : List Group → Outcome) → Type 0
 Agree files f g = (read : List Group) → AllThere files (g read) → f read ≡ g read
 
 abbrev Stays : (List Group → Outcome) → Type 0
-Stays f = (path : List ℕ) (read : List Group) → Sourced path read → Sourced path (f read).read
+Stays f = (path : List ℕ) (read : List Group) → IsSourced path read → IsSourced path (f read).read
 
-after_stays : (rest : List Group → Outcome) (at : Position) (o : Outcome) (k : Option TreeFault) → Stays rest → (path : List ℕ) → Sourced path o.read
-    → Sourced path (continue_after_file rest at o k).read
+after_stays : (rest : List Group → Outcome) (at : Position) (o : Outcome) (k : Option TreeFault) → Stays rest → (path : List ℕ) → IsSourced path o.read
+    → IsSourced path (continue_after_file rest at o k).read
 after_stays rest at o (Some k) stay path h = h
 after_stays rest at o None stay path h = stay path (with_group at file_end o.read) h
 
 source_stays : (sub : List ℕ → List Group → Outcome) (rest : List Group → Outcome) (at : Position) (path : List ℕ) (read : List Group) (k : Option TreeKind)
-    → ((p : List ℕ) → Stays (sub p)) → Stays rest → (p : List ℕ) → Sourced p read → Sourced p (continue_after_source sub rest at path read k).read
+    → ((p : List ℕ) → Stays (sub p)) → Stays rest → (p : List ℕ) → IsSourced p read → IsSourced p (continue_after_source sub rest at path read k).read
 source_stays sub rest at path read (Some k) subs stay p h = h
 source_stays sub rest at path read None subs stay p h = after_stays rest at (sub path read) (sub path read).fault stay p (subs path p read h)
 
-path_pushed : (path : List ℕ) (read : List Group) (at : Position) (s : Option Statement) → path_to_read s ≡ Some path → Sourced path (with_statement at s read)
+path_pushed : (path : List ℕ) (read : List Group) (at : Position) (s : Option Statement) → path_to_read s ≡ Some path
+    → IsSourced path (with_statement at s read)
 path_pushed path read at None e = cc
 path_pushed path read at (Some (attribute a)) e = cc
 path_pushed path read at (Some (head x)) e = subst (λ o. Has path (cons_option o (filter_map sourced_path read))) (sym e) (inl refl)
@@ -103,7 +104,7 @@ module _ (files : Files) (root : List ℕ) (f g : List ℕ → List Group → Ou
 
   stays_after : (file : ℕ) (ls : List LogicalLine) → AreOneLine ls → Stays (read_lines g (empty files root) file ls)
   unfolding Keeps
-  stays_after file ls one path = lines_kept (Sourced path) (stays path) g (empty files root) file ls one (λ p. subs p path)
+  stays_after file ls one path = lines_kept (IsSourced path) (stays path) g (empty files root) file ls one (λ p. subs p path)
 
   same_lines : (file : ℕ) (ls : List LogicalLine) → AreOneLine ls
       → Agree files (read_lines f (found files root) file ls) (read_lines g (empty files root) file ls)
@@ -113,7 +114,7 @@ module _ (files : Files) (root : List ℕ) (f g : List ℕ → List Group → Ou
 
 file_stays : (n : ℕ) (files : Files) (root path : List ℕ) → Stays (read_file n (empty files root) path)
 unfolding Keeps
-file_stays n files root path p = whole_file_kept (Sourced p) (stays p) n (empty files root) path
+file_stays n files root path p = whole_file_kept (IsSourced p) (stays p) n (empty files root) path
 
 same_file : (n : ℕ) (files : Files) (root path : List ℕ) → Agree files (read_file n (found files root) path) (read_file n (empty files root) path)
 same_file zero files root path = λ read all. refl

@@ -1,6 +1,7 @@
 -- What the strict language reads without a fault, the language of Linux reads the same.
 use Rattle.std.proofs.Common.{◌≡◌, ℕ, zero, suc, Bool, true, false, not, ◌&&◌, ◌||◌, cond, List, [], ◌∷◌, ◌++◌, length, Option, Some, None, Result, Ok, Err, refl, ap, sym, ◌∙◌}
 use Rattle.std.specs.Prelude.{nat_lt, slice_get, flat_map, is_some, is_none, bytes_eq}
+use Rattle.std.specs.Option.{option_or}
 use Rattle.std.specs.Str.{is_utf8}
 use Rattle.kc_expr.specs.Token.{Lexeme, lexemes_from}
 use Rattle.kc_expr.specs.declared.fault.ExprFault.{ExprFault}
@@ -220,7 +221,7 @@ groups_same c (p ∷ ps) h =
     ap (λ fs. fs ++ flat_map (faults_of_group Linux c) ps) (head_same c p p.group.head parts.0) ∙ groups_same c ps parts.1
 
 -- the parts of a tree without a fault
-both_none : (o : Outcome) (k : Option TreeFault) (t : Option TreeFault) → o.fault ≡ k → elim k as (λ _. Option TreeFault) [ None ↦ t | Some f ↦ Some f ] ≡ None
+both_none : (o : Outcome) (k : Option TreeFault) (t : Option TreeFault) → o.fault ≡ k → option_or k t ≡ None
     → (o.fault ≡ None) × (t ≡ None)
 both_none o None t e h = (e, h)
 both_none o (Some f) t e h = cc
@@ -234,8 +235,8 @@ strict_tree_in_linux list root h =
     let same = reading_same list root none.0 in
     let c = contents_of o.read in
     let faultless = groups_same c c.places (no_first (flat_map (faults_of_group Strict c) c.places) none.1) in (
-      ap (λ (x : Outcome). elim x.fault as (λ _. Option TreeFault) [ None ↦ slice_get (tree_faults Linux x.read) 0 | Some f ↦ Some f ]) same
-          ∙ ap (λ k. elim k as (λ _. Option TreeFault) [ None ↦ slice_get (tree_faults Linux o.read) 0 | Some f ↦ Some f ]) none.0
+      ap (λ (x : Outcome). option_or x.fault (slice_get (tree_faults Linux x.read) 0)) same
+          ∙ ap (λ k. option_or k (slice_get (tree_faults Linux o.read) 0)) none.0
           ∙ ap (λ (fs : List TreeFault). slice_get fs 0) faultless,
       ap (λ (x : Outcome). tree_of_groups x.read) same,
     )

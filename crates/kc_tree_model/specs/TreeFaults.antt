@@ -1,6 +1,7 @@
 -- The checks on the whole tree, for a reading without a fault, and the fault that is reported.
 use Rattle.std.specs.Prelude.{ℕ, Bool, true, false, not, ◌&&◌, ◌||◌, List, [], ◌∷◌, ◌++◌, map, flat_map, slice_get, Option, Some, None, is_some, is_none, bytes_eq, if◌then◌else◌}
 use Rattle.std.specs.List.{list_all}
+use Rattle.std.specs.Option.{option_or}
 use Rattle.kc_value.specs.declared.value.Kind.{Kind}
 use Rattle.kc_value.specs.declared.value.Kind.TheVariants.{Bool as Boolean}
 use Rattle.kc_value.specs.Kinds.{is_tri_kind, is_number, same_kind}
@@ -29,8 +30,7 @@ is_other_kind k (Some j) = not (same_kind j k)
 
 -- the type of a symbol by the type given to it and whether it is a member of a choice: a member without a given type is a bool
 abbrev pub kind_or_bool : Option Kind → Bool → Option Kind
-kind_or_bool (Some k) is_member = Some k
-kind_or_bool None is_member = if is_member then Some Boolean else None
+kind_or_bool given is_member = option_or given (if is_member then Some Boolean else None)
 
 -- the type of the symbol with this name: the first given one, or if none is given, bool for a choice's member, else None
 abbrev pub kind_of : Contents → List ℕ → Option Kind
@@ -128,7 +128,7 @@ tree_faults language read = let c = contents_of read in flat_map (faults_of_grou
 
 -- the fault that is reported after a reading: the reading's own, or if it has none, the first of the checks on the whole tree
 abbrev pub first_fault_after : Language → Outcome → Option TreeFault
-first_fault_after language o = elim o.fault [ None ↦ slice_get (tree_faults language o.read) 0 | Some f ↦ Some f ]
+first_fault_after language o = option_or o.fault (slice_get (tree_faults language o.read) 0)
 
 -- the fault that is reported for these files from this first path on, unless memory runs out; `IsReportedFault` describes it, by
 -- the law `trees_are_of_the_relation`

@@ -3,11 +3,9 @@ ghost use Rattle.std.specs.Prelude.{◌≡◌, ◌≢◌, ◌<◌, ◌≤◌, le
 ghost use Rattle.std.specs.Io.KnownBytes.{Consumes, IsAtEnd};
 ghost use Rattle.kc_value.specs.ReaderFailures.{failures_after_reading};
 
+use super::limits::MAX_BLOCK_BYTES;
 use super::streams::Source;
 use std::alloc::{AllocError, Global};
-
-/// The most bytes that are read at once.
-const BLOCK: usize = 8192;
 
 /// Why reading into memory (`read_up_to`) ended.
 #[derive(Clone, Copy, Debug, PartialEq, Eq)]
@@ -46,9 +44,9 @@ pub fn read_up_to<S: Source>(
     ensures unfailed { OnErr result (S.failures source.new ≡ S.failures source.old) }
 {
     let mut bytes = Vec::with_capacity(alloc, room)?;
-    let mut block = [0; BLOCK];
+    let mut block = [0; MAX_BLOCK_BYTES];
     while bytes.len() < limit {
-        let most = (limit - bytes.len()).min(BLOCK);
+        let most = (limit - bytes.len()).min(MAX_BLOCK_BYTES);
         let Ok(count) = source.read_some(&mut block[..most]) else {
             let end = ReadEnd::AtFailure;
             return Ok(ReadBytes { bytes, end });

@@ -89,7 +89,7 @@ fn copy_front(bytes: &[u8], most: usize, buf: &mut [u8]) -> usize
 
 /// What a writer of bounded room (`Bounded`) does at a write when it is full.
 #[derive(Clone, Copy, Debug, PartialEq, Eq)]
-pub(crate) enum WhenFull {
+pub(crate) enum Overflow {
     TakesNone,
     Fails,
     FailsOnce,
@@ -101,7 +101,7 @@ pub struct Bounded {
     bytes: Vec<u8>,
     limit: usize,
     room: usize,
-    full: WhenFull,
+    full: Overflow,
     failed: u64,
     ghost reserved: { vec_len bytes ≤ limit },
     ghost within: { limit ≤ room },
@@ -116,9 +116,9 @@ impl Bounded {
         ensures failures { IfOk result (λ s. ⟦<Bounded as Sink>⟧.failures s ≡ 0) }
     {
         let full = if fails {
-            WhenFull::Fails
+            Overflow::Fails
         } else {
-            WhenFull::TakesNone
+            Overflow::TakesNone
         };
         Bounded::of(alloc, room, room, full)
     }
@@ -130,10 +130,10 @@ impl Bounded {
         ensures taken { IfOk result (λ s. ⟦<Bounded as Sink>⟧.taken s ≡ Some []) }
         ensures failures { IfOk result (λ s. ⟦<Bounded as Sink>⟧.failures s ≡ 0) }
     {
-        Bounded::of(alloc, first, room, WhenFull::FailsOnce)
+        Bounded::of(alloc, first, room, Overflow::FailsOnce)
     }
 
-    fn of(alloc: Global, limit: usize, room: usize, full: WhenFull) -> Result<Bounded, AllocError>
+    fn of(alloc: Global, limit: usize, room: usize, full: Overflow) -> Result<Bounded, AllocError>
         requires within { limit ≤ room }
         ensures taken { IfOk result (λ s. ⟦<Bounded as Sink>⟧.taken s ≡ Some []) }
         ensures failures { IfOk result (λ s. ⟦<Bounded as Sink>⟧.failures s ≡ 0) }
@@ -165,10 +165,10 @@ impl Sink for Bounded {
         if n == 0 && !bytes.is_empty() {
             self.failed = self.failed.saturating_add(1);
             match self.full {
-                WhenFull::TakesNone => return Ok(0),
-                WhenFull::Fails => return Err(Failed),
-                WhenFull::FailsOnce => {
-                    self.full = WhenFull::Fails;
+                Overflow::TakesNone => return Ok(0),
+                Overflow::Fails => return Err(Failed),
+                Overflow::FailsOnce => {
+                    self.full = Overflow::Fails;
                     self.limit = self.room;
                     return Err(Failed);
                 }

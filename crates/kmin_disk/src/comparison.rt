@@ -7,10 +7,7 @@ ghost use Rattle.kmin_disk.specs.Disks.{content_at};
 
 use crate::disk::ReadDisk;
 use crate::kind::FileKind;
-use kc_value::{Failed, Source};
-
-/// How many bytes are read at once.
-const BLOCK: usize = 8192;
+use kc_value::{Failed, MAX_BLOCK_BYTES, Source};
 
 /// Whether the file at a path is a regular one of exactly these bytes. It is read up to the first block that differs. A
 /// file that can't be opened counts as different.
@@ -44,7 +41,7 @@ fn reads_as<S: Source>(source: &mut S, bytes: &[u8]) -> Result<bool, Failed>
     ensures different { IfOk result (λ is. (left : List ℕ) → S.left source.old ≡ Some left → is ≡ false → left ≢ bytes.now) }
     ensures failures { S.failures source.new ≡ failures_after_read (S.failures source.old) result }
 {
-    let mut block = [0; BLOCK];
+    let mut block = [0; MAX_BLOCK_BYTES];
     let mut agreed = 0;
     while agreed < bytes.len() {
         match read_expected(source, &mut block, &bytes[agreed..])? {

@@ -11,7 +11,7 @@ use crate::disk::WriteDisk;
 use crate::fault::{CreateFault, ReplaceFault};
 use crate::kind::FileKind;
 use crate::new_path::new_path;
-use kc_value::Failed;
+use kc_value::{Failed, MAX_NEW_NAMES};
 use std::alloc::Global;
 
 /// Replaces the file at a path by a new file of these bytes, whole or not at all. Where no file is, one is made.
@@ -67,9 +67,6 @@ fn replace_regular<D: WriteDisk>(
     }
 }
 
-/// How many names are tried for a new file.
-const ATTEMPTS: u8 = 8;
-
 /// Makes a new file in the folder of a path, and returns it with its own path.
 fn create_beside<D: WriteDisk>(
     alloc: Global,
@@ -83,7 +80,7 @@ fn create_beside<D: WriteDisk>(
     ensures failures { D.failures disk.new ≡ failures_after_replace (D.failures disk.old) result }
     ensures names_taken { IsErrOf result ReplaceFault.NamesTaken → HasTakenName (D.state disk.old) path.now }
 {
-    for attempt in 0..ATTEMPTS {
+    for attempt in 0..MAX_NEW_NAMES {
         let Ok(new_path) = new_path(alloc, disk.seed(), path, attempt) else {
             return Err(ReplaceFault::OutOfMemory);
         };

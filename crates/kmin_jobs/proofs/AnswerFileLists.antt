@@ -4,9 +4,9 @@ use Rattle.std.specs.Io.KnownBytes.{Consumes}
 use Rattle.kc_macros_model.specs.declared.fault.AnswersKind.{AnswersKind}
 use Rattle.kc_macros_model.specs.declared.fault.AnswersKind.TheVariants.{Malformed, TwoAnswers, NotUtf8, LineTooLong, TooManyLines, TooLarge, Read, OutOfMemory}
 use Rattle.kc_macros_model.specs.declared.fault.AnswersFault.{AnswersFault}
-use Rattle.kc_macros_model.specs.AnswerFiles.{Recorded, complete, cut_by, answers_read}
+use Rattle.kc_macros_model.specs.AnswerFiles.{RecordedAnswers, complete, cut_by, answers_read}
 use Rattle.kc_macros.specs.ReadAnswers.{AreRecorded, IsRefused, ReadsToEnd, end_of_file}
-use Rattle.kmin_jobs.specs.FileContents.{FileContent}
+use Rattle.kc_expansion.specs.TreeContents.{FileContent}
 use Rattle.kmin_tidy.specs.KnownBytes.{AreKnownBytes}
 use Rattle.kmin_disk.specs.Contents.{OpensAs}
 use Rattle.kmin_tidy.specs.StandardError.{TakesLines}
@@ -17,22 +17,22 @@ use Rattle.kmin_jobs.specs.AnswerStops as stops
 use Rattle.kmin_jobs.specs.between.AnswerSteps.{StopsReading, StopsAtAnswersPath, ReportsAnswersFault, answers_lines}
 use Rattle.kmin_jobs.specs.between.AnswerSteps as steps
 use Rattle.kmin_tidy.proofs.WriterLemmas.{lines_append}
-use Rattle.kmin_jobs.proofs.Sequences.{rest_of, whole_content}
+use Rattle.kmin_tidy.proofs.ReadingLemmas.{rest_of, whole_content}
 
 -- answer files that add to earlier answers, and then more of them, do so as one list of files
-pub record_append : (content_of : List ℕ → FileContent) (xs ys : List (List ℕ)) (a b c : Recorded) → FilesRecord content_of xs a b
+pub record_append : (content_of : List ℕ → FileContent) (xs ys : List (List ℕ)) (a b c : RecordedAnswers) → FilesRecord content_of xs a b
     → FilesRecord content_of ys b c → FilesRecord content_of (xs ++ ys) a c
 record_append content_of xs ys a b c (none recorded) k = k
 record_append content_of xs ys a b c (file path bytes paths earlier middle recorded m r h) k =
     file path bytes (paths ++ ys) earlier middle c m r (record_append content_of paths ys middle b c h k)
 
 -- an answer file that was opened, read and accepted adds to earlier answers as a list of one file
-pub recorded_from : (content_of : List ℕ → FileContent) (path : List ℕ) (before after : Option (List ℕ)) (earlier recorded : Recorded)
+pub recorded_from : (content_of : List ℕ → FileContent) (path : List ℕ) (before after : Option (List ℕ)) (earlier recorded : RecordedAnswers)
     → OpensAs (content_of path) (Some before) → AreRecorded before after earlier recorded → FilesRecord content_of (path ∷ []) earlier recorded
 recorded_from content_of path before after earlier recorded o r =
     file path r.bytes [] earlier recorded recorded (whole_content (content_of path) before after r.bytes o r.consumed r.ended) r.read (none recorded)
 
-module _ (content : FileContent) (path : List ℕ) (before after : Option (List ℕ)) (opens : OpensAs content (Some before)) (earlier : Recorded) where
+module _ (content : FileContent) (path : List ℕ) (before after : Option (List ℕ)) (opens : OpensAs content (Some before)) (earlier : RecordedAnswers) where
   -- an answer file that is refused ends a job, by what ended the reading
   refused_by : (failed failed_after : ℕ) (bytes : List ℕ) (fault : AnswersFault) (cut : Option AnswersKind) → Consumes before after bytes
       → ReadsToEnd after failed failed_after bytes cut → answers_read (end_of_file cut) bytes earlier ≡ Err fault
@@ -88,7 +88,7 @@ module _ (content : FileContent) (path : List ℕ) (before after : Option (List 
   )
 
 -- a job that ends at an answer file, after others that were accepted, ends among its answer files
-path_stops : (content_of : List ℕ → FileContent) (front back all : List (List ℕ)) (path : List ℕ) (earlier : Recorded) (status : ℕ) (lines : List (List ℕ))
+path_stops : (content_of : List ℕ → FileContent) (front back all : List (List ℕ)) (path : List ℕ) (earlier : RecordedAnswers) (status : ℕ) (lines : List (List ℕ))
     → all ≡ front ++ (path ∷ back) → FilesRecord content_of front [] earlier → StopsAtAnswersPath (content_of path) earlier path status lines
     → StopsAmongAnswers content_of all status lines
 path_stops content_of front back all path earlier status lines e r (steps.at_file line s l) = stops.at_file front back path line earlier e r s l
@@ -99,14 +99,14 @@ pub on_ok_map : {T E : Type 0} (r : Result T E) (P Q : Type 0) → (P → Q) →
 on_ok_map (Ok x) P Q f h = f h
 on_ok_map (Err e) P Q f h = tt
 
-pub reports_fault : (left left_after : Option (List ℕ)) (failed failed_after : ℕ) (earlier : Recorded) (fault : AnswersFault)
+pub reports_fault : (left left_after : Option (List ℕ)) (failed failed_after : ℕ) (earlier : RecordedAnswers) (fault : AnswersFault)
     → (fault.kind ≡ OutOfMemory) ⊎ IsRefused left left_after failed failed_after earlier fault
     → ReportsAnswersFault left left_after failed failed_after earlier fault
 reports_fault left left_after failed failed_after earlier fault (inl e) = steps.for_memory e
 reports_fault left left_after failed failed_after earlier fault (inr r) = steps.refused r
 
 -- a job that ends at an answer file, after others that were accepted without a report, ends among its answer files
-pub stopped_later : (content_of others : List ℕ → FileContent) → others ≡ content_of → (front back all : List (List ℕ)) (path : List ℕ) (earlier : Recorded)
+pub stopped_later : (content_of others : List ℕ → FileContent) → others ≡ content_of → (front back all : List (List ℕ)) (path : List ℕ) (earlier : RecordedAnswers)
     (status : ℕ) (taken middle taken_after : Option (List ℕ)) (failed failed_middle failed_after : ℕ)
     → all ≡ front ++ (path ∷ back) → FilesRecord content_of front [] earlier → TakesLines taken failed [] middle failed_middle
     → (lines : List (List ℕ)) × StopsAtAnswersPath (others path) earlier path status lines × TakesLines middle failed_middle lines taken_after failed_after

@@ -1,12 +1,25 @@
 -- A bundle cut at its marker.
-use Rattle.std.proofs.Common.{◌≡◌, ℕ, Bool, true, false, ◌&&◌, ◌-◌, ◌<◌, ◌==◌, ◌⊎◌, inl, inr, List, [], ◌∷◌, ◌++◌, IsTrue, refl, sym, ◌∙◌, append_assoc, append-nil, cond, length, length-append, take, arith, bytes_eq}
+use Rattle.std.proofs.Common.{◌≡◌, ℕ, Bool, true, false, ◌&&◌, ◌-◌, ◌<◌, ◌==◌, ◌⊎◌, inl, inr, List, [], ◌∷◌, ◌++◌, IsTrue, refl, sym, ap, ◌∙◌, append_assoc, append-nil, cond, length, length-append, take, arith, bytes_eq}
 use Rattle.std.specs.List.{list_all, onto_first}
 use Rattle.std.proofs.Math.Seq.{take-append_seam}
 use Rattle.std.proofs.lemmas.Slice.Eq.{bytes_eq-Decides}
 use Rattle.kc_dotconfig_model.specs.ConfigFiles.{file_lines}
-use Rattle.kmin_jobs.specs.Bundles.{marker, BeginsWithLine, HasWholeLines, has_no_marker, IsBundle, parted}
-use Rattle.kmin_jobs.specs.between.LineEnds.{is_inline}
-use Rattle.kmin_jobs.proofs.LineLaws.{lines_of_run}
+use Rattle.kmin_lines.specs.Lines.{pieces, has_no_byte, BeginsWithPiece}
+use Rattle.kmin_lines.proofs.PieceLemmas.{pieces_parted}
+use Rattle.kmin_jobs.specs.Bundles.{marker, HasWholeLines, has_no_marker, IsBundle, parted}
+
+-- the lines of a configuration file are its pieces that newlines end
+lines_are_pieces : (text : List ℕ) → file_lines text ≡ pieces 10 text
+lines_are_pieces [] = refl
+lines_are_pieces (c ∷ cs) = ap (λ ls. cond (c == 10) ([] ∷ ls) (onto_first c ls)) (lines_are_pieces cs)
+
+-- a line and the lines after it
+pub line_and_rest : (text line rest : List ℕ) → pieces 10 text ≡ line ∷ pieces 10 rest → file_lines text ≡ line ∷ file_lines rest
+line_and_rest text line rest parts = lines_are_pieces text ∙ parts ∙ ap (λ ls. line ∷ ls) (sym (lines_are_pieces rest))
+
+-- a line with its newline is one line
+line_alone : (line : List ℕ) → has_no_byte 10 line ≡ true → file_lines (line ++ 10 ∷ []) ≡ line ∷ []
+line_alone line alone = lines_are_pieces (line ++ 10 ∷ []) ∙ pieces_parted 10 line [] alone
 
 -- lines after a newline are lines of their own
 append_cases : (c : ℕ) (b : Bool) (ls ms ns : List (List ℕ)) → ls ≡ ms ++ ns → 0 < length ms
@@ -45,13 +58,13 @@ one_more : (front line : List ℕ) (text : List ℕ) → HasWholeLines front →
 one_more front line text w h e n = rw (lines_whole front text w, e) (all_both _ (file_lines front) (line ∷ []) h (rw n refl))
 
 pub passed : (bundle front rest line after : List ℕ) → IsTrue (has_no_marker front) → HasWholeLines front ⊎ (rest ≡ []) → bundle ≡ front ++ rest
-    → BeginsWithLine rest line after → length after < length rest → list_all is_inline line ≡ true → file_lines rest ≡ line ∷ file_lines after
+    → BeginsWithPiece 10 rest line after → length after < length rest → has_no_byte 10 line ≡ true → file_lines rest ≡ line ∷ file_lines after
     → bytes_eq line marker ≡ false
     → (x : List ℕ) × IsTrue (has_no_marker x) × (HasWholeLines x ⊎ (after ≡ [])) × (bundle ≡ x ++ after)
 passed bundle front rest line after h (inr r) b parts s i ls n = absurd (let z : length rest ≡ 0 = rw r refl in omega arith)
 passed bundle front rest line after h (inl w) b (inl p) s i ls n = (
   front ++ (line ++ 10 ∷ []),
-  one_more front line (line ++ 10 ∷ []) w h (lines_of_run line [] i) n,
+  one_more front line (line ++ 10 ∷ []) w h (line_alone line i) n,
   inl
       (inr (front ++ line, sym (append_assoc front line (10 ∷ [])))),
   rw (b, p, append_assoc, append_assoc) refl,
@@ -64,7 +77,7 @@ front_is bundle front rest b =
     rw b (let n : length (front ++ rest) - length rest ≡ length front = omega (arith, length-append front rest) in rw n (take-append_seam front rest))
 
 pub found : (bundle front rest line after tree : List ℕ) → IsTrue (has_no_marker front) → HasWholeLines front ⊎ (rest ≡ []) → bundle ≡ front ++ rest
-    → BeginsWithLine rest line after → length after < length rest → bytes_eq line marker ≡ true → tree ≡ take (length bundle - length rest) bundle
+    → BeginsWithPiece 10 rest line after → length after < length rest → bytes_eq line marker ≡ true → tree ≡ take (length bundle - length rest) bundle
     → IsBundle bundle tree after
 found bundle front rest line after tree h (inr r) b parts s n t = absurd (let z : length rest ≡ 0 = rw r refl in omega arith)
 found bundle front rest line after tree h (inl w) b parts s n t =

@@ -104,7 +104,7 @@ module _ (bundle tree configuration : List ℕ) (parts : IsBundle bundle tree co
             tree = tree;
             configuration = configuration;
             parts = parts;
-            answers = of_files (tree_of_settled rules) Full (codes "config" ∷ []) false h.0 h.1 refl accepted resolve h.3 refl refl;
+            answers = of_files (tree_of_settled rules) Full (codes "config" ∷ []) h.0 h.1 refl accepted resolve h.3 refl refl;
           },
           lines_append taken middle failed failed_middle [] _ taken_after failed_after before h.4,
         )

@@ -6,29 +6,32 @@ use Rattle.std.specs.List.{flat_map}
 use Rattle.kc_expr.specs.declared.language.Language.{Language}
 use Rattle.kc_tree_model.specs.TreeFiles.{Files, file_at}
 use Rattle.kc_tree_model.specs.Trees.{Tree}
+use Rattle.kc_rules_model.specs.Reports.{unmet}
 use Rattle.kc_rules_model.specs.declared.profile.Profile.{Profile}
 use Rattle.kc_rules.specs.declared.rules.Settled.{Settled}
 use Rattle.kc_rules.specs.between.SettledViews.{tree_of_settled, profile_of}
 use Rattle.kc_dotconfig_model.specs.Formats.{FileFormat}
 use Rattle.kc_dotconfig_model.specs.ConfigLines.{LineMeaning}
 use Rattle.kc_dotconfig_model.specs.ConfigFiles.{empty_assignment}
+use Rattle.kc_dotconfig_model.specs.MissedAssignments.{missed}
 use Rattle.kc_rules_model.specs.declared.values.UnitValue.{UnitValue}
 use Rattle.kc_dotconfig.specs.ConfigStates.{Configured, IsSolved, tree_in}
 use Rattle.kc_minimal_model.specs.Differences.{differences}
+use Rattle.kc_expansion.specs.TreeContents.{FileContent}
 use Rattle.kmin_words.specs.Jobs.{Settings, Task, over, compare, paths_of}
 use Rattle.kmin_words.specs.declared.job.Verb.{Verb}
-use Rattle.kmin_words.specs.declared.job.Verb.TheVariants.{Min}
+use Rattle.kmin_words.specs.declared.job.Verb.TheVariants.{Min, Full, Missed, Check}
 use Rattle.kc_minimal_model.specs.CanonicalText.{IsCanonicalText}
 use Rattle.kc_rules_model.specs.declared.values.UserValue.{UserValue}
 use Rattle.kmin_jobs.specs.declared.run_error.RunError.{RunError}
 use Rattle.kmin_jobs.specs.declared.verb_texts.AnswerText.{AnswerText}
-use Rattle.kmin_jobs.specs.FileContents.{FileContent, Known, AreTextsBelow}
+use Rattle.kmin_jobs.specs.FileContents.{Surroundings, AreTextsBelow}
 use Rattle.kmin_jobs.specs.JobTexts.{TreeTexts, AreTextsOfJob}
 use Rattle.kmin_jobs.specs.Reports.{notice_lines, last_lines}
 use Rattle.kmin_tidy.specs.Reports.{output_line}
 use Rattle.kmin_tidy.specs.StandardError.{TakesLines}
 use Rattle.kmin_jobs.specs.Answers.{AreAccepted, Resolve, Answer, files_assignment, of_files, of_comparison, IsTextOfVerb, difference_line}
-use Rattle.kmin_jobs.specs.Statuses.{status_of_list, listed}
+use Rattle.kmin_jobs.specs.Statuses.{status_of_list, status_of_verb}
 use Rattle.kmin_jobs.specs.Stops.{Stops, StopsAmongFiles, StopsBefore, among_files}
 use Rattle.kmin_jobs.specs.Stops as stops
 use Rattle.kmin_jobs.specs.between.LoadResults.{AreLoaded}
@@ -48,25 +51,24 @@ resolved content_of settings config settled paths taken taken_after failed faile
     let gives = rw e at s.gives in
     record { mean = l.mean; gives = rw (← p, ← l.users_are) gives }
 
-pub answers_files : (content_of : List ℕ → FileContent) (settings : Settings) (verb : Verb) (exit_code : Bool) (config : Configured) (settled : Settled)
+pub answers_files : (content_of : List ℕ → FileContent) (settings : Settings) (verb : Verb) (config : Configured) (settled : Settled)
     (paths : List (List ℕ)) (text : List ℕ) (status : ℕ) (taken taken_after : Option (List ℕ)) (failed failed_after : ℕ)
     → config.system ≡ settled → profile_of settled ≡ settings.profile → IsSolved config
     → AreLoaded content_of settings.format settings.strict (tree_of_settled settled) paths (empty_assignment (tree_of_settled settled)) config.users taken
     failed taken_after
     failed_after
     → IsTextOfVerb settings (tree_in config) config.users config.values verb text
-    → status ≡ status_of_list exit_code (listed (tree_in config) config.users config.values verb)
+    → status ≡ status_of_verb (tree_in config) config.users config.values verb
     → (notices : List (List ℕ)) × ((texts : Files) → AreAccepted texts settings.tree (tree_of_settled settled)
-    → Answer content_of settings texts (over verb paths exit_code) text status notices)
+    → Answer content_of settings texts (over verb paths) text status notices)
     × TakesLines taken failed notices taken_after failed_after
-answers_files content_of settings verb exit_code config settled paths text status taken taken_after failed failed_after e p s l t n =
+answers_files content_of settings verb config settled paths text status taken taken_after failed failed_after e p s l t n =
     let same : IsTextOfVerb settings (tree_of_settled settled) (files_assignment (tree_of_settled settled) l.meanings) config.values verb text =
     rw (← l.users_are, ← e) t in
-    let number : status ≡ status_of_list exit_code (listed (tree_of_settled settled) (files_assignment (tree_of_settled settled) l.meanings)
-    config.values verb) =
+    let number : status ≡ status_of_verb (tree_of_settled settled) (files_assignment (tree_of_settled settled) l.meanings) config.values verb =
     rw (← l.users_are, ← e) n in (
       notice_lines paths l.meanings,
-      (λ texts accepted. of_files (tree_of_settled settled) verb paths exit_code l.meanings config.values refl accepted
+      (λ texts accepted. of_files (tree_of_settled settled) verb paths l.meanings config.values refl accepted
           (resolved content_of settings config settled paths taken taken_after failed failed_after e p s l) same number refl),
       l.reported,
     )
@@ -88,6 +90,14 @@ pub status_at_most_one : {A : Type 0} (says_so : Bool) (listed : List A) → sta
 status_at_most_one false listed = omega arith
 status_at_most_one true [] = omega arith
 status_at_most_one true (x ∷ xs) = omega arith
+
+-- the exit status of a verb is at most 1
+pub status_of_verb_at_most_one : (tree : Tree) (users : List (Option UserValue)) (values : List UnitValue) (verb : Verb)
+    → status_of_verb tree users values verb ≤ 1
+status_of_verb_at_most_one tree users values Min = omega arith
+status_of_verb_at_most_one tree users values Full = omega arith
+status_of_verb_at_most_one tree users values (Missed exit_code) = status_at_most_one exit_code (missed tree users values)
+status_of_verb_at_most_one tree users values (Check exit_code) = status_at_most_one exit_code (unmet tree values)
 
 resolve_again : (content_of others : List ℕ → FileContent) (settings : Settings) (tree : Tree) (paths : List (List ℕ)) (meanings : List (List LineMeaning))
     (values : List UnitValue)
@@ -146,14 +156,14 @@ answer_again : (content_of others : List ℕ → FileContent) (settings : Settin
     (notices : List (List ℕ))
     → ((path : List ℕ) → others path ≡ content_of path) → Answer others settings texts task text status notices
     → Answer content_of settings texts task text status notices
-answer_again content_of others settings texts task text status notices same (of_files tree verb paths exit_code meanings values k a r t s n) =
-    of_files tree verb paths exit_code meanings values k a (resolve_again content_of others settings tree paths meanings values same r) t s n
+answer_again content_of others settings texts task text status notices same (of_files tree verb paths meanings values k a r t s n) =
+    of_files tree verb paths meanings values k a (resolve_again content_of others settings tree paths meanings values same r) t s n
 answer_again content_of others settings texts task text status notices same (of_comparison tree left right lm rm v w k a r q t s n) =
     of_comparison tree left right lm rm v w k a (resolve_again content_of others settings tree (left ∷ []) lm v same r)
     (resolve_again content_of others settings tree (right ∷ []) rm w same q) t s n
 
 -- the output of a command, or its end, over the texts of its tree
-module _ (known : Known) (others : List ℕ → FileContent) (settings : Settings) (task : Task) (tree : Tree) (t : TreeTexts)
+module _ (known : Surroundings) (others : List ℕ → FileContent) (settings : Settings) (task : Task) (tree : Tree) (t : TreeTexts)
     (same : (path : List ℕ) → others path ≡ known.content path)
     (are : AreTextsOfJob known settings t) (accepted : AreAccepted t.texts settings.tree tree)
     (taken middle taken_after : Option (List ℕ)) (failed failed_middle failed_after : ℕ) (before : TakesLines taken failed t.lines middle failed_middle) where
@@ -203,7 +213,7 @@ pub no_other_status : (n : ℕ) → n ≤ 1 → (n ≢ 0) × (n ≢ 1) → ⊥
 no_other_status n h k = elim (small n h) [ inl e ↦ k.0 e | inr e ↦ k.1 e ]
 
 -- a command that failed to write its output, and reported that, ends as `Stops` defines, with all lines that were reported
-pub write_stops : (known : Known) (settings : Settings) (task : Task) (text : List ℕ) (made status : ℕ) (taken middle taken_after : Option (List ℕ))
+pub write_stops : (known : Surroundings) (settings : Settings) (task : Task) (text : List ℕ) (made status : ℕ) (taken middle taken_after : Option (List ℕ))
     (failed failed_middle failed_after : ℕ)
     → status ≡ 5
     → (t : TreeTexts) × (notices : List (List ℕ)) × AreTextsOfJob known settings t × Answer known.content settings t.texts task text made notices
@@ -218,7 +228,7 @@ write_stops known settings task text made status taken middle taken_after failed
 )
 
 -- a command that ended before it had an output, and then reported its last line, ends as `Stops` defines, with all these lines
-pub job_ends : (known : Known) (settings : Settings) (task : Task) (stop : RunError) (status : ℕ) (taken middle taken_after : Option (List ℕ))
+pub job_ends : (known : Surroundings) (settings : Settings) (task : Task) (stop : RunError) (status : ℕ) (taken middle taken_after : Option (List ℕ))
     (failed failed_middle failed_after : ℕ)
     → status ≡ status_of stop
     → (lines : List (List ℕ)) × StopsBefore known settings task (status_of stop) lines × TakesLines taken failed lines middle failed_middle

@@ -3,7 +3,7 @@ use Rattle.std.proofs.Common.{◌≡◌, ℕ, List, [], ◌++◌, Option, Some, 
 use Rattle.kc_expr.specs.declared.language.Language.{Language}
 use Rattle.kc_tree_model.specs.TreeFiles.{Files}
 use Rattle.kc_macros_model.specs.Programs.{Notice}
-use Rattle.kc_macros_model.specs.AnswerFiles.{Recorded}
+use Rattle.kc_macros_model.specs.AnswerFiles.{RecordedAnswers}
 use Rattle.kc_macros_model.specs.ReadingStates.{ExpandedFile}
 use Rattle.kc_rules.specs.declared.rules.Settled.{Settled}
 use Rattle.kc_rules.specs.between.SettledViews.{tree_of_settled}
@@ -11,7 +11,7 @@ use Rattle.kc_expansion.specs.Expansions.{IsExpansion}
 use Rattle.kmin_words.specs.Jobs.{Expansion, Settings}
 use Rattle.kmin_jobs.specs.declared.run_error.RunError.{RunError}
 use Rattle.kmin_jobs.specs.declared.expanded_trees.ExpandedTexts.{ExpandedTexts}
-use Rattle.kmin_jobs.specs.FileContents.{Known, AreTextsBelow}
+use Rattle.kmin_jobs.specs.FileContents.{Surroundings, AreTextsBelow}
 use Rattle.kmin_jobs.specs.JobAnswers.{AreJobAnswers}
 use Rattle.kmin_jobs.specs.JobTexts.{TreeTexts, AreExpandedTexts, AreTextsOfJob, as_they_are, expanded, expanded_texts, named_texts}
 use Rattle.kmin_jobs.specs.TreeFolders.{contents_below}
@@ -33,19 +33,19 @@ use Rattle.kmin_tidy.proofs.WriterLemmas.{lines_append}
 abbrev pub plain_texts : Files → TreeTexts
 plain_texts texts = record { texts = texts; names = texts; lines = [] }
 
-pub are_plain : (known : Known) (settings : Settings) (texts : Files) → settings.expansion ≡ None
+pub are_plain : (known : Surroundings) (settings : Settings) (texts : Files) → settings.expansion ≡ None
     → AreTextsBelow known.content settings.root settings.language texts
     → AreTextsOfJob known settings (plain_texts texts)
 are_plain known settings texts e h = as_they_are e h refl refl
 
 -- texts that end a run end the job at its tree, whether macros are expanded or not
-texts_stop : (known : Known) (settings : Settings) (t : TreeTexts) (status : ℕ) (more lines : List (List ℕ)) → AreTextsOfJob known settings t
+texts_stop : (known : Surroundings) (settings : Settings) (t : TreeTexts) (status : ℕ) (more lines : List (List ℕ)) → AreTextsOfJob known settings t
     → StopsAtTexts t.texts t.names settings.tree status more → lines ≡ t.lines ++ more → StopsAtTree known settings status lines
 texts_stop known settings t status more lines h (tree_stops.at_texts line r s l) e = stops.at_texts t line h r s (e ∙ ap (λ ls. t.lines ++ ls) l)
 texts_stop known settings t status more lines h (tree_stops.for_memory s l) e =
     stops.for_memory t h s (e ∙ ap (λ ls. t.lines ++ ls) l ∙ append-nil t.lines)
 
-module _ (known : Known) (settings : Settings) (taken taken_after : Option (List ℕ)) (failed failed_after : ℕ) where
+module _ (known : Surroundings) (settings : Settings) (taken taken_after : Option (List ℕ)) (failed failed_after : ℕ) where
   -- without the expansion of macros
   module _ (e : settings.expansion ≡ None) where
     pub plain_accepted : (r : Result Settled RunError)
@@ -88,7 +88,7 @@ module _ (known : Known) (settings : Settings) (taken taken_after : Option (List
     expanded_stopped (Err stop) h = (h.0, stops_of (status_of stop) h.0 h.1, h.2)
 
 -- expanded files, settled
-module _ (known : Known) (root first : List ℕ) (language : Language) (expansion : Expansion) (texts names : Files)
+module _ (known : Surroundings) (root first : List ℕ) (language : Language) (expansion : Expansion) (texts names : Files)
     (taken middle taken_after : Option (List ℕ)) (failed failed_middle failed_after : ℕ)
     (h : (t : TreeTexts) × AreExpandedTexts known root first language expansion t × (t.texts ≡ texts) × (t.names ≡ names)
     × TakesLines taken failed t.lines middle failed_middle) where
@@ -120,7 +120,7 @@ module _ (known : Known) (root first : List ℕ) (language : Language) (expansio
       )
 
 -- the expansion of a tree, after the answers are read
-module _ (known others : Known) (root first : List ℕ) (language : Language) (expansion : Expansion) (answers : Recorded) (same : others ≡ known)
+module _ (known others : Surroundings) (root first : List ℕ) (language : Language) (expansion : Expansion) (answers : RecordedAnswers) (same : others ≡ known)
     (answered : AreJobAnswers known.content known.variable expansion answers)
     (taken middle taken_after : Option (List ℕ)) (failed failed_middle failed_after : ℕ) (before : TakesLines taken failed [] middle failed_middle) where
   are_expanded : (files : List ExpandedFile) (texts : Files) → texts ≡ expanded_texts language files
@@ -135,7 +135,7 @@ module _ (known others : Known) (root first : List ℕ) (language : Language) (e
       answered = answered;
       notices = h.0;
       files = files;
-      expanded = subst (λ (k : Known). IsExpansion (contents_below k root) answers first h.0 (Ok files)) same h.1;
+      expanded = subst (λ (k : Surroundings). IsExpansion (contents_below k root) answers first h.0 (Ok files)) same h.1;
       texts = e;
       names = refl;
       lines = refl;
@@ -156,7 +156,8 @@ module _ (known others : Known) (root first : List ℕ) (language : Language) (e
   expanding_stops : (status : ℕ) (lines : List (List ℕ)) → StopsExpanding (contents_below others root) answers first status lines
       → StopsInExpansion known root first expansion status lines
   expanding_stops status lines (expanding.at_fault notices fault h s l) =
-      stops.at_fault answers notices fault answered (subst (λ (k : Known). IsExpansion (contents_below k root) answers first notices (Err fault)) same h) s l
+      stops.at_fault answers notices fault answered
+      (subst (λ (k : Surroundings). IsExpansion (contents_below k root) answers first notices (Err fault)) same h) s l
   expanding_stops status lines (expanding.for_memory s l) = stops.for_memory s l
 
   pub stopped_expanding : (status : ℕ)

@@ -8,7 +8,8 @@ use Rattle.kc_tree_model.specs.MoreFiles.{reading_from, LacksNoFile, AreAmong}
 use Rattle.kc_tree_model.specs.Contents.{tree_of_groups, tree_of_files}
 use Rattle.kc_tree_model.specs.TreeFaults.{first_fault_after, first_tree_fault}
 use Rattle.kc_tree_model.proofs.MoreFiles.{more_files}
-use Rattle.kmin_jobs.specs.FileContents.{FileContent, MatchContentStart, path_below}
+use Rattle.kc_expansion.specs.TreeContents.{FileContent}
+use Rattle.kmin_jobs.specs.FileContents.{MatchContentStart, path_below}
 use Rattle.kmin_jobs.specs.KnownTrees.{known_bytes, KnownFilesDetermineTheTree}
 
 -- texts that match what is known are among the known bytes

@@ -1,5 +1,3 @@
-pub mod Runs
-pub mod LineLaws
 pub mod BundleCuts
 pub mod TreeResults
 pub mod TextGrowth

@@ -4,11 +4,11 @@ use Rattle.std.specs.List.{flat_map}
 use Rattle.std.specs.declared.alloc.Global.{Global}
 use Rattle.kc_expansion.specs.TextViews.{items_of}
 use Rattle.kc_macros_model.specs.Programs.{Fault}
-use Rattle.kc_macros_model.specs.AnswerFiles.{Recorded}
+use Rattle.kc_macros_model.specs.AnswerFiles.{RecordedAnswers}
 use Rattle.kc_expansion.specs.Expansions.{AreWanted}
 use Rattle.kmin_words.specs.Jobs.{Questions}
 use Rattle.kmin_jobs.specs.declared.run_error.RunError.{RunError}
-use Rattle.kmin_jobs.specs.FileContents.{Known}
+use Rattle.kmin_jobs.specs.FileContents.{Surroundings}
 use Rattle.kmin_jobs.specs.JobAnswers.{AreJobAnswers}
 use Rattle.kmin_jobs.specs.TreeFolders.{contents_below}
 use Rattle.kmin_jobs.specs.Reports.{last_lines}
@@ -19,14 +19,18 @@ use Rattle.kmin_jobs.specs.between.RunErrors.{status_of}
 use Rattle.kmin_tidy.proofs.WriterLemmas.{lines_append}
 
 -- the result of an expansion with the answers of a job is that of the command `wants`
-pub are_asked : (known others : Known) (questions : Questions) (answers : Recorded) (asked : Result (List (List ℕ)) Fault) → others ≡ known
+pub are_asked : (known others : Surroundings) (questions : Questions) (answers : RecordedAnswers) (asked : Result (List (List ℕ)) Fault) → others ≡ known
     → AreJobAnswers known.content known.variable questions.expansion answers → AreWanted (contents_below others questions.root) answers questions.tree asked
     → AreAsked known questions asked
 are_asked known others questions answers asked same a w =
-    record { answers = answers; answered = a; wanted = subst (λ (k : Known). AreWanted (contents_below k questions.root) answers questions.tree asked) same w }
+    record {
+      answers = answers;
+      answered = a;
+      wanted = subst (λ (k : Surroundings). AreWanted (contents_below k questions.root) answers questions.tree asked) same w;
+    }
 
 -- a run of `wants` that failed to write its output, and reported that, ends as `StopsWanting` defines, with all these lines
-pub write_stops : (known : Known) (questions : Questions) (asked : List (List ℕ)) (status : ℕ) (taken middle taken_after : Option (List ℕ))
+pub write_stops : (known : Surroundings) (questions : Questions) (asked : List (List ℕ)) (status : ℕ) (taken middle taken_after : Option (List ℕ))
     (failed failed_middle failed_after : ℕ)
     → status ≡ 5 → AreAsked known questions (Ok asked) → TakesLines taken failed [] middle failed_middle
     → TakesLines middle failed_middle (output_line ∷ []) taken_after failed_after
@@ -38,7 +42,7 @@ write_stops known questions asked status taken middle taken_after failed failed_
 )
 
 -- a run of `wants` that ended early, and then reported its last line, ends as `StopsWanting` defines, with all these lines
-pub questions_end : (known : Known) (questions : Questions) (stop : RunError) (status : ℕ) (taken middle taken_after : Option (List ℕ))
+pub questions_end : (known : Surroundings) (questions : Questions) (stop : RunError) (status : ℕ) (taken middle taken_after : Option (List ℕ))
     (failed failed_middle failed_after : ℕ)
     → status ≡ status_of stop
     → (lines : List (List ℕ)) × StopsWanting known questions (status_of stop) lines × TakesLines taken failed lines middle failed_middle

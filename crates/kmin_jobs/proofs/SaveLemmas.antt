@@ -3,7 +3,7 @@ use Rattle.std.proofs.Common.{◌≡◌, ℕ, List, ◌++◌, Option, refl, sym,
 use Rattle.kmin_disk.specs.declared.fault.UpdateFault.{UpdateFault}
 use Rattle.kmin_tidy.specs.Steps.{Disk}
 use Rattle.kmin_words.specs.Jobs.{Settings, Task}
-use Rattle.kmin_jobs.specs.FileContents.{Known}
+use Rattle.kmin_jobs.specs.FileContents.{Surroundings}
 use Rattle.kmin_jobs.specs.JobTexts.{TreeTexts, AreTextsOfJob}
 use Rattle.kmin_jobs.specs.Answers.{Answer}
 use Rattle.kmin_jobs.specs.Reports.{last_lines}
@@ -14,7 +14,7 @@ use Rattle.kmin_jobs.specs.declared.run_error.RunError.{RunError}
 use Rattle.kmin_jobs.specs.between.RunErrors.{status_of}
 use Rattle.kmin_tidy.proofs.WriterLemmas.{lines_append}
 
-module _ (known : Known) (settings : Settings) (task : Task) (path : List ℕ) (old new : Disk) (stop : RunError) (status : ℕ)
+module _ (known : Surroundings) (settings : Settings) (task : Task) (path : List ℕ) (old new : Disk) (stop : RunError) (status : ℕ)
     (is : status ≡ status_of stop)
     (taken : Option (List ℕ)) (failed : ℕ) (last : Option (List ℕ)) (failed_last : ℕ) where
   -- a command with an output file that ended before it had an output, and then reported its last line, ends as `SaveEnds` defines

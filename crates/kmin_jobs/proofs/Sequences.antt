@@ -1,9 +1,8 @@
 -- Configuration files, one after another: what they mean, and where a run ends among them.
-use Rattle.std.proofs.Common.{◌≡◌, ◌≢◌, ℕ, Bool, true, List, [], ◌∷◌, ◌++◌, Option, Some, None, Result, Ok, Err, IfOk, IfErr, map, length, refl, sym, ap, ◌∙◌, subst, append-nil, append_assoc, ◌⊎◌, inl, inr, suc, ◌+◌, ◌<◌, get_or, take, drop, drop-cons, take-append-drop, arith}
+use Rattle.std.proofs.Common.{◌≡◌, ◌≢◌, ℕ, Bool, true, List, [], ◌∷◌, ◌++◌, Option, Some, None, Result, Ok, Err, IfOk, IfErr, map, length, refl, sym, ap, ◌∙◌, subst, append-nil, append_assoc, ◌⊎◌, inl, inr, suc, ◌+◌, ◌<◌, get_or, take, drop}
 use Rattle.std.specs.Borrow.{Bor}
 use Rattle.std.specs.Io.KnownBytes.{Consumes, IsAtEnd}
-use Rattle.std.proofs.lemmas.List.{nil_from_length, map-append}
-use Rattle.std.proofs.Math.Seq.{take-suc}
+use Rattle.std.proofs.lemmas.List.{nil_from_length}
 use Rattle.std.specs.Result.{IsErr, IsErrAnd}
 use Rattle.kc_tree_model.specs.Trees.{Tree}
 use Rattle.kc_rules_model.specs.declared.values.UserValue.{UserValue}
@@ -17,9 +16,9 @@ use Rattle.kc_dotconfig.specs.declared.fragment.Fragment.{Fragment}
 use Rattle.kc_dotconfig.specs.ConfigStates.{Configured}
 use Rattle.kc_dotconfig.specs.Fragments.{users_of, notice_pair}
 use Rattle.kc_dotconfig.specs.ReadResults.{IsReadAs, IsRefused, ReportsFault}
+use Rattle.kc_expansion.specs.TreeContents.{FileContent}
 use Rattle.kmin_jobs.specs.declared.run_error.RunError.{RunError}
 use Rattle.kmin_jobs.specs.declared.run_error.RunError.TheVariants.{Memory}
-use Rattle.kmin_jobs.specs.FileContents.{FileContent}
 use Rattle.kmin_tidy.specs.KnownBytes.{AreKnownBytes}
 use Rattle.kmin_disk.specs.Contents.{OpensAs}
 use Rattle.kmin_jobs.specs.Reports.{file_notices, notice_lines}
@@ -33,34 +32,10 @@ use Rattle.kmin_jobs.specs.Strictness.{AllowsNotices}
 use Rattle.kmin_jobs.specs.between.LoadResults.{IsLoaded, AreLoaded}
 use Rattle.kmin_jobs.specs.between.LoadStops.{StopsLoad, StopsAtPath, at_file, for_memory, fragment_notices, load_lines, load_status}
 use Rattle.kmin_jobs.specs.between.RunErrors.{status_of}
+use Rattle.kmin_tidy.proofs.ReadingLemmas.{rest_of, whole_content}
+use Rattle.kmin_tidy.proofs.RefusalLemmas.{map_twice}
+use Rattle.kmin_tidy.proofs.WholeRuns as runs
 use Rattle.kmin_tidy.proofs.WriterLemmas.{lines_append}
-
--- the bytes that were read of an opened file are the first bytes of its content, as far as that is known
-pub rest_of : (content : FileContent) (before after : Option (List ℕ)) (bytes : List ℕ) → OpensAs content (Some before) → Consumes before after bytes
-    → (rest : List ℕ) × AreKnownBytes content (bytes ++ rest)
-rest_of None before after bytes o h = ([], tt)
-rest_of (Some None) before after bytes o h = let f : Some before ≡ None = o in cc
-rest_of (Some (Some known)) before None bytes o h =
-    let s : before ≡ Some known = cc in let k : Consumes (Some known) None bytes = rw s at h in absurd k
-rest_of (Some (Some known)) before (Some rest) bytes o h =
-    let s : before ≡ Some known = cc in let k : Consumes (Some known) (Some rest) bytes = rw s at h in (rest, sym k)
-
-whole_memory : (text : List ℕ) (after : Option (List ℕ)) (bytes : List ℕ) → Consumes (Some text) after bytes → IsAtEnd after → text ≡ bytes
-whole_memory text None bytes h e = absurd h
-whole_memory text (Some rest) bytes h e = h ∙ ap (λ z. bytes ++ z) e ∙ append-nil bytes
-
-pub whole_content : (content : FileContent) (before after : Option (List ℕ)) (bytes : List ℕ) → OpensAs content (Some before)
-    → Consumes before after bytes → IsAtEnd after → AreKnownBytes content bytes
-whole_content None before after bytes o h e = tt
-whole_content (Some None) before after bytes o h e = let f : Some before ≡ None = o in cc
-whole_content (Some (Some known)) before after bytes o h e =
-    let s : before ≡ Some known = cc in
-    sym (whole_memory known after bytes (rw s at h) e)
-
--- the map of a composition of two functions is one map after another
-pub map_twice : {A B C : Type 0} (f : B → C) (g : A → B) (xs : List A) → map (λ x. f (g x)) xs ≡ map f (map g xs)
-map_twice f g [] = refl
-map_twice f g (x ∷ xs) = ap (λ ys. f (g x) ∷ ys) (map_twice f g xs)
 
 notices_are : (path : List ℕ) (fragment : Fragment) (meanings : List LineMeaning) → map notice_pair fragment.notices.items ≡ notices_from 1 meanings
     → fragment_notices path fragment ≡ file_notices path meanings
@@ -284,22 +259,6 @@ module _ (content_of others : List ℕ → FileContent) (format : FileFormat) (s
       → (lines : List (List ℕ)) × StopsAmongFiles content_of format strict tree all status lines × TakesLines taken failed lines taken_after failed_after
   stopped_for_memory xs more all before users e s l = (notice_lines xs l.meanings, stops.for_memory xs more l.meanings e l.mean s refl, l.reported)
 
--- the error of a result that is known to be `Err e` has every property that e has
-pub if_err : {T E : Type 0} (r : Result T E) (e : E) (P : E → Type 0) → r ≡ Err e → P e → IfErr r P
-if_err r e P same h = rw same h
-
-pub if_err_map : {T E : Type 0} (r : Result T E) (P Q : E → Type 0) → ((e : E) → P e → Q e) → IfErr r P → IfErr r Q
-if_err_map (Ok x) P Q f h = tt
-if_err_map (Err e) P Q f h = f e h
-
-pub if_ok_map : {T E : Type 0} (r : Result T E) (P Q : T → Type 0) → ((x : T) → P x → Q x) → IfOk r P → IfOk r Q
-if_ok_map (Ok x) P Q f h = f x h
-if_ok_map (Err e) P Q f h = tt
-
-pub both_ok : {T E : Type 0} (r : Result T E) (P Q R : T → Type 0) → ((x : T) → P x → Q x → R x) → IfOk r P → IfOk r Q → IfOk r R
-both_ok (Ok x) P Q R f h k = f x h k
-both_ok (Err e) P Q R f h k = tt
-
 -- the error of a result that failed for lack of memory has every property that all errors of the exit status 6 have
 pub memory_err : {T : Type 0} (r : Result T RunError) (P : RunError → Type 0) → IsErr r × IsErrAnd r (λ stop. stop ≡ Memory)
     → ((stop : RunError) → status_of stop ≡ 6 → P stop) → IfErr r P
@@ -309,17 +268,13 @@ memory_err (Err stop) P h f = f stop (ap status_of h.1)
 -- the first k + 1 paths of a list are the first k, and the path at place k
 pub paths_next : (paths : List (Bor (List ℕ))) (k : ℕ) (d : Bor (List ℕ)) → k < length paths
     → map (λ (path : Bor (List ℕ)). path.now) (take (k + 1) paths) ≡ map (λ (path : Bor (List ℕ)). path.now) (take k paths) ++ ((get_or paths k d).now ∷ [])
-paths_next paths k d h =
-    let n : k + 1 ≡ suc k = omega arith in
-    rw n (ap (map (λ (path : Bor (List ℕ)). path.now)) (take-suc paths k d h)
-    ∙ map-append (λ (path : Bor (List ℕ)). path.now) (take k paths) (get_or paths k d ∷ []))
+paths_next paths k d h = runs.paths_next paths k d h
 
+-- a list of paths is those before place k, the path at place k, and those after it
 pub paths_at : (paths : List (Bor (List ℕ))) (k : ℕ) (d : Bor (List ℕ)) → k < length paths
     → map (λ (path : Bor (List ℕ)). path.now) paths ≡ map (λ (path : Bor (List ℕ)). path.now) (take k paths)
     ++ ((get_or paths k d).now ∷ [] ++ map (λ (path : Bor (List ℕ)). path.now) (drop (suc k) paths))
-paths_at paths k d h =
-    ap (map (λ (path : Bor (List ℕ)). path.now)) (sym (take-append-drop k paths)) ∙ map-append (λ (path : Bor (List ℕ)). path.now) (take k paths) (drop k paths)
-    ∙ ap (λ ps. map (λ (path : Bor (List ℕ)). path.now) (take k paths) ++ map (λ (path : Bor (List ℕ)). path.now) ps) (drop-cons paths k d h)
+paths_at paths k d h = runs.paths_at paths k d h
 
 pub mapped : (paths : List (Bor (List ℕ))) (first : Bor (List ℕ)) (rest : List (Bor (List ℕ))) → paths ≡ first ∷ rest
     → map (λ (path : Bor (List ℕ)). path.now) paths ≡ (first.now ∷ []) ++ map (λ (path : Bor (List ℕ)). path.now) rest

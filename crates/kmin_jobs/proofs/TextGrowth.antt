@@ -1,5 +1,5 @@
 -- The texts of a tree, as they come in.
-use Rattle.std.proofs.Common.{◌≡◌, ◌≤◌, ℕ, ◌+◌, Bool, true, false, List, [], ◌∷◌, ◌++◌, Option, Some, None, Result, Ok, Err, Vec, length, take, ◌⊎◌, inl, inr, refl, sym, ap, ◌∙◌, Decides}
+use Rattle.std.proofs.Common.{◌≡◌, ◌≤◌, ℕ, Bool, true, false, List, [], ◌∷◌, ◌++◌, Option, Some, None, Result, Ok, Err, Vec, length, take, ◌⊎◌, inl, inr, refl, sym, ap, ◌∙◌, Decides}
 use Rattle.std.proofs.lemmas.Slice.Eq.{bytes_eq-Decides}
 use Rattle.std.proofs.lemmas.List.{append-nil, take_all}
 use Rattle.std.proofs.Math.Seq.{take-append_seam}
@@ -8,23 +8,24 @@ use Rattle.std.specs.Io.KnownBytes.{Consumes, IsAtEnd}
 use Rattle.std.specs.declared.alloc.Global.{Global}
 use Rattle.std.specs.declared.alloc.AllocError.{AllocError}
 use Rattle.std.specs.Map.{lookup}
-use Rattle.kc_value.specs.declared.limits.TheConstants.{MAX_TREE_BYTES}
+use Rattle.kc_value.specs.declared.limits.TheConstants.{MAX_FILE_BYTES}
 use Rattle.kc_expr.specs.declared.language.Language.{Language}
 use Rattle.kc_tree_model.specs.TreeFiles.{Files, file_at, with_path, with_file}
-use Rattle.kmin_jobs.specs.FileContents.{FileContent, MatchContentStart, AreTextsBelow, path_below}
+use Rattle.kc_expansion.specs.TreeContents.{FileContent}
+use Rattle.kmin_jobs.specs.FileContents.{MatchContentStart, AreTextsBelow, path_below}
 use Rattle.kmin_disk.specs.Contents.{OpensAs}
 
 -- bytes that were read up to the end, or up to the limit, begin a file
-front_of : (b : List ℕ) (after : Option (List ℕ)) (bytes : List ℕ) → Consumes (Some b) after bytes → length bytes ≤ (MAX_TREE_BYTES + 1)
-    → (length bytes ≡ (MAX_TREE_BYTES + 1)) ⊎ IsAtEnd after → bytes ≡ take (MAX_TREE_BYTES + 1) b
+front_of : (b : List ℕ) (after : Option (List ℕ)) (bytes : List ℕ) → Consumes (Some b) after bytes → length bytes ≤ MAX_FILE_BYTES
+    → (length bytes ≡ MAX_FILE_BYTES) ⊎ IsAtEnd after → bytes ≡ take MAX_FILE_BYTES b
 front_of b None bytes h l e = absurd h
 front_of b (Some ys) bytes h l (inl n) = sym (ap (λ k. take k b) (sym n) ∙ ap (take (length bytes)) h ∙ take-append_seam bytes ys)
 front_of b (Some ys) bytes h l (inr e) =
     let whole : b ≡ bytes = h ∙ ap (λ z. bytes ++ z) e ∙ append-nil bytes in
-    sym (ap (take (MAX_TREE_BYTES + 1)) whole ∙ take_all (MAX_TREE_BYTES + 1) bytes l)
+    sym (ap (take MAX_FILE_BYTES) whole ∙ take_all MAX_FILE_BYTES bytes l)
 
 front_matches : (content : FileContent) (before after : Option (List ℕ)) (bytes : List ℕ) → OpensAs content (Some before)
-    → Consumes before after bytes → length bytes ≤ (MAX_TREE_BYTES + 1) → (length bytes ≡ (MAX_TREE_BYTES + 1)) ⊎ IsAtEnd after
+    → Consumes before after bytes → length bytes ≤ MAX_FILE_BYTES → (length bytes ≡ MAX_FILE_BYTES) ⊎ IsAtEnd after
     → MatchContentStart content bytes
 front_matches None before after bytes o h l e = tt
 front_matches (Some None) before after bytes o h l e = let f : Some before ≡ None = o in cc
@@ -34,8 +35,8 @@ front_matches (Some (Some b)) before after bytes o h l e =
     front_of b after bytes k l e
 
 pub front_read : (content : FileContent) (before after : Option (List ℕ)) (r : Result (Option (Vec ℕ Global)) AllocError) → OpensAs content (Some before)
-    → IfOk r (λ found. IfSome found (λ bytes. Consumes before after bytes.items × (length bytes.items ≤ (MAX_TREE_BYTES + 1))
-    × ((length bytes.items ≡ (MAX_TREE_BYTES + 1)) ⊎ IsAtEnd after)))
+    → IfOk r (λ found. IfSome found (λ bytes. Consumes before after bytes.items × (length bytes.items ≤ MAX_FILE_BYTES)
+    × ((length bytes.items ≡ MAX_FILE_BYTES) ⊎ IsAtEnd after)))
     → IfOk r (λ found. IfSome found (λ bytes. MatchContentStart content bytes.items))
 front_read content before after (Err e) o h = tt
 front_read content before after (Ok None) o h = tt

@@ -1,23 +1,23 @@
 -- Ends of runs over files: their statuses, their lines, and where nothing is written.
 use Rattle.std.proofs.Common.{◌≡◌, ◌≢◌, ℕ, ◌≤◌, ◌⊎◌, inl, inr, List, [], ◌∷◌, ◌++◌, Option, Some, None, refl, sym, ap, ◌∙◌, subst, max, arith, codes, option_map}
 use Rattle.std.specs.Prelude.{bytes_eq, Bool, true, false}
+use Rattle.kc_expansion.specs.TreeContents.{FileContent}
 use Rattle.kmin_tidy.specs.Options.{Settings, settings_of}
 use Rattle.kmin_tidy.specs.Steps.{Disk}
 use Rattle.kmin_tidy.specs.Runs.{DoneFile, status_of, status_with}
 use Rattle.kmin_tidy.specs.Ends.{Ends, whole, part, stopped, Stops, before_write, at_write, at_left}
 use Rattle.kmin_tidy.specs.declared.outcome.FileOutcome.{FileOutcome}
 use Rattle.kmin_tidy.specs.declared.outcome.FileOutcome.TheVariants.{Minimal, NotMinimal, Refused, Failed}
-use Rattle.kmin_tidy.specs.Promises.{Became, AreTidy}
+use Rattle.kmin_tidy.specs.Promises.{IsKeptOrLeft, AreTidy}
 use Rattle.std.specs.Io.KnownBytes.{Appends}
 use Rattle.kmin_tidy.specs.StandardError.{TakesLine, TakesLines}
-use Rattle.kmin_jobs.specs.FileContents.{FileContent}
 use Rattle.kmin_disk.specs.Contents.{OpensAs}
-use Rattle.kmin_jobs.specs.FileContents.{Known}
+use Rattle.kmin_jobs.specs.FileContents.{Surroundings}
 use Rattle.kmin_jobs.specs.Reports.{last_lines}
 use Rattle.kmin_jobs.specs.Answers.{AreAccepted}
 use Rattle.kmin_jobs.specs.JobTexts.{TreeTexts, AreTextsOfJob}
 use Rattle.kmin_jobs.specs.Stops.{StopsAtTree}
-use Rattle.kmin_jobs.specs.TidyRuns.{AreListBytes, AreNamed, AreMalformed, StopsAtList, malformed, PathsEnd, at_tree, over_files, GoesOver, TidyEnds, at_list, over_paths, Outside, is_ended_by_nul, list_content, listed_paths, malformed_line, options_of, run_settings}
+use Rattle.kmin_jobs.specs.TidyRuns.{AreListBytes, AreNamed, AreMalformed, StopsAtList, malformed, PathsEnd, at_tree, over_files, GoesOver, TidyEnds, at_list, over_paths, Outputs, is_ended_by_nul, list_content, listed_paths, malformed_line, options_of, run_settings}
 use Rattle.kmin_jobs.specs.declared.run_error.RunError.{RunError}
 use Rattle.kmin_jobs.specs.between.RunErrors as errors
 use Rattle.kmin_tidy.proofs.WriterLemmas.{lines_append, lines_one}
@@ -109,7 +109,7 @@ settings_are settled format settings flags options p q o =
 
 module _ (taken middle taken_after : Option (List ℕ)) (failed failed_middle failed_after : ℕ) (status : ℕ) where
   -- a run of `tidy` that ended at its tree, and then reported its last line, ends as `PathsEnd` defines
-  pub tree_ends : (known : Known) (settings : jobs.Settings) (flags : TidyFlags) (paths : List (List ℕ)) (old : Outside) (stop : RunError)
+  pub tree_ends : (known : Surroundings) (settings : jobs.Settings) (flags : TidyFlags) (paths : List (List ℕ)) (old : Outputs) (stop : RunError)
       → status ≡ errors.status_of stop
       → (lines : List (List ℕ)) × StopsAtTree known settings (errors.status_of stop) lines × TakesLines taken failed lines middle failed_middle
       → TakesLines middle failed_middle (last_lines status) taken_after failed_after
@@ -121,15 +121,15 @@ module _ (taken middle taken_after : Option (List ℕ)) (failed failed_middle fa
   )
 
   -- a run of `tidy` whose tree was accepted, and whose files `tidy_files` went over, ends as `PathsEnd` defines
-  pub went_over : (known : Known) (settings : jobs.Settings) (flags : TidyFlags) (settled : Settled) (format : Format) (options : TidyOptions)
-      (paths : List (List ℕ)) (old new : Outside)
+  pub went_over : (known : Surroundings) (settings : jobs.Settings) (flags : TidyFlags) (settled : Settled) (format : Format) (options : TidyOptions)
+      (paths : List (List ℕ)) (old new : Outputs)
       → profile_of settled ≡ settings.profile → file_format format ≡ settings.format → options ≡ options_of settings.strict flags
       → (t : TreeTexts) × AreTextsOfJob known settings t × AreAccepted t.texts settings.tree (tree_of_settled settled)
       × TakesLines taken failed t.lines middle failed_middle
       → (reports : List (List ℕ)) × Ends (settings_of settled format options) old.disk new.disk paths old.taken new.taken old.failures new.failures
       reports status
       × TakesLines middle failed_middle reports taken_after failed_after
-      → ((place : List ℕ) → Became (settings_of settled format options) (old.disk.state.history place) (new.disk.state.history place))
+      → ((place : List ℕ) → IsKeptOrLeft (settings_of settled format options) (old.disk.state.history place) (new.disk.state.history place))
       → (AreTidy (settings_of settled format options) old.disk.state paths → new.disk.state ≡ old.disk.state)
       → (AreTidy (settings_of settled format options) old.disk.state paths → Appends old.taken new.taken [])
       → (lines : List (List ℕ)) × PathsEnd known settings flags paths old new lines status × TakesLines taken failed lines taken_after failed_after
@@ -144,7 +144,7 @@ module _ (taken middle taken_after : Option (List ℕ)) (failed failed_middle fa
       )
 
   -- a run of `tidy` that ended at its list, and then reported its last line, ends as `TidyEnds` defines
-  pub list_ends : (known : Known) (left : Option (List ℕ)) (t : Tidying) (old : Outside) (stop : RunError)
+  pub list_ends : (known : Surroundings) (left : Option (List ℕ)) (t : Tidying) (old : Outputs) (stop : RunError)
       → status ≡ errors.status_of stop
       → (lines : List (List ℕ)) × StopsAtList known.content left t.list (errors.status_of stop) lines × TakesLines taken failed lines middle failed_middle
       → TakesLines middle failed_middle (last_lines status) taken_after failed_after
@@ -156,21 +156,21 @@ module _ (taken middle taken_after : Option (List ℕ)) (failed failed_middle fa
   )
 
   -- a run of `tidy` that read its list without a report ends as the rest of the run does
-  pub read_before : (known others : Known) (left : Option (List ℕ)) (t : Tidying) (bytes : List ℕ) (old new : Outside) → others ≡ known
+  pub read_before : (known others : Surroundings) (left : Option (List ℕ)) (t : Tidying) (bytes : List ℕ) (old new : Outputs) → others ≡ known
       → AreListBytes known.content left t.list bytes → TakesLines taken failed [] middle failed_middle
       → (AreListBytes others.content left t.list bytes
       → (lines : List (List ℕ)) × TidyEnds others left t old new lines status × TakesLines middle failed_middle lines taken_after failed_after)
       → (lines : List (List ℕ)) × TidyEnds known left t old new lines status × TakesLines taken failed lines taken_after failed_after
   read_before known others left t bytes old new e b before h =
-      let ended = h (subst (λ (k : Known). AreListBytes k.content left t.list bytes) (sym e) b) in (
+      let ended = h (subst (λ (k : Surroundings). AreListBytes k.content left t.list bytes) (sym e) b) in (
         ended.0,
-        subst (λ (k : Known). TidyEnds k left t old new ended.0 status) e ended.1,
+        subst (λ (k : Surroundings). TidyEnds k left t old new ended.0 status) e ended.1,
         lines_append taken middle failed failed_middle [] ended.0 taken_after failed_after before ended.2,
       )
 
 -- a run of `tidy` that reported a malformed path in its list, and ended with the status 2, ends as `TidyEnds` defines
-pub malformed_ends : (taken taken_after : Option (List ℕ)) (failed failed_after status : ℕ) (known : Known) (left : Option (List ℕ)) (t : Tidying)
-    (bytes : List ℕ) (old : Outside) → AreListBytes known.content left t.list bytes → AreMalformed (listed_paths t.list bytes) → status ≡ 2
+pub malformed_ends : (taken taken_after : Option (List ℕ)) (failed failed_after status : ℕ) (known : Surroundings) (left : Option (List ℕ)) (t : Tidying)
+    (bytes : List ℕ) (old : Outputs) → AreListBytes known.content left t.list bytes → AreMalformed (listed_paths t.list bytes) → status ≡ 2
     → TakesLine taken failed malformed_line taken_after failed_after
     → (lines : List (List ℕ)) × TidyEnds known left t old old lines status × TakesLines taken failed lines taken_after failed_after
 malformed_ends taken taken_after failed failed_after status known left t bytes old b m e h = (
@@ -180,7 +180,7 @@ malformed_ends taken taken_after failed failed_after status known left t bytes o
 )
 
 -- a run of `tidy` over its files and the paths in its list, as one list of paths, ends as `TidyEnds` defines
-pub over_all : (known : Known) (left : Option (List ℕ)) (t : Tidying) (bytes : List ℕ) (old new : Outside) (lines : List (List ℕ)) (status : ℕ)
+pub over_all : (known : Surroundings) (left : Option (List ℕ)) (t : Tidying) (bytes : List ℕ) (old new : Outputs) (lines : List (List ℕ)) (status : ℕ)
     (ended_by_nul : Bool) (files paths : List (List ℕ)) → ended_by_nul ≡ is_ended_by_nul t.list → files ≡ t.files
     → AreListBytes known.content left t.list bytes → AreNamed (paths_in ended_by_nul bytes) → paths ≡ files ++ paths_in ended_by_nul bytes
     → PathsEnd known t.settings t.flags paths old new lines status → TidyEnds known left t old new lines status

@@ -7,14 +7,14 @@ use Rattle.std.proofs.lemmas.Str.{IsUtf8-from_is_utf8}
 use Rattle.std.specs.declared.alloc.Global.{Global}
 use Rattle.std.specs.declared.alloc.AllocError.{AllocError}
 use Rattle.kc_expansion.specs.TextViews.{texts_of}
-use Rattle.kc_macros_model.specs.AnswerFiles.{Recorded}
+use Rattle.kc_macros_model.specs.AnswerFiles.{RecordedAnswers}
 use Rattle.kc_macros_model.specs.Programs.{Fault, Notice}
 use Rattle.kc_macros_model.specs.ReadingStates.{ExpandedFile}
 use Rattle.kc_macros_model.specs.Worlds.{World}
 use Rattle.kc_expansion.specs.Expansions.{IsExpansion, AreWanted}
-use Rattle.kc_expansion.specs.TreeContents.{FolderContent, ListsAs, IsWorldOf}
+use Rattle.kc_expansion.specs.TreeContents.{FileContent, FolderContent, ListsAs, IsWorldOf}
 use Rattle.kc_expansion.specs.TreeContents as tree
-use Rattle.kmin_jobs.specs.FileContents.{FileContent, VariableContent, Known, known_by, path_below}
+use Rattle.kmin_jobs.specs.FileContents.{VariableContent, Surroundings, known_by, path_below}
 use Rattle.kmin_disk.specs.Contents.{OpensAs}
 use Rattle.kmin_jobs.specs.TreeFolders.{regular_below, names_below, contents_through, contents_below}
 
@@ -63,11 +63,11 @@ pub unlisted_below : (names : List ℕ → FolderContent) (root folder : List �
 unlisted_below names root folder most found u h = rw u h
 
 -- the files and folders are the same, whatever they are read through
-world_below : (reference : ℕ) (known : Known) (root : List ℕ) (w : World) → IsWorldOf (contents_through reference known root) w
+world_below : (reference : ℕ) (known : Surroundings) (root : List ℕ) (w : World) → IsWorldOf (contents_through reference known root) w
     → IsWorldOf (contents_below known root) w
 world_below reference known root w h = record { files = h.files; folders = h.folders }
 
-through_any : (reference : ℕ) (known : Known) (root first : List ℕ) (answers : Recorded) (notices : List Notice) (r : Result (List ExpandedFile) Fault)
+through_any : (reference : ℕ) (known : Surroundings) (root first : List ℕ) (answers : RecordedAnswers) (notices : List Notice) (r : Result (List ExpandedFile) Fault)
     → IsExpansion (contents_through reference known root) answers first notices r → IsExpansion (contents_below known root) answers first notices r
 through_any reference known root first answers notices r h = record {
   world = h.world;
@@ -77,14 +77,14 @@ through_any reference known root first answers notices r h = record {
   ends_so = h.ends_so;
 }
 
-pub expansion_below : (reference : ℕ) (known : Known) (root first path : List ℕ) (answers : Recorded) (notices : List Notice)
+pub expansion_below : (reference : ℕ) (known : Surroundings) (root first path : List ℕ) (answers : RecordedAnswers) (notices : List Notice)
     (r : Result (List ExpandedFile) Fault)
     → path ≡ first → IsExpansion (contents_through reference known root) answers path notices r → IsExpansion
     (contents_below known root) answers first notices r
 expansion_below reference known root first path answers notices r e h =
     subst (λ p. IsExpansion (contents_below known root) answers p notices r) e (through_any reference known root path answers notices r h)
 
-wanted_any : (reference : ℕ) (known : Known) (root first : List ℕ) (answers : Recorded) (asked : Result (List (List ℕ)) Fault)
+wanted_any : (reference : ℕ) (known : Surroundings) (root first : List ℕ) (answers : RecordedAnswers) (asked : Result (List (List ℕ)) Fault)
     → AreWanted (contents_through reference known root) answers first asked → AreWanted (contents_below known root) answers first asked
 wanted_any reference known root first answers asked h = record {
   world = h.world;
@@ -93,7 +93,7 @@ wanted_any reference known root first answers asked h = record {
   are_wanted = h.are_wanted;
 }
 
-pub wanted_below : (reference : ℕ) (known : Known) (root first path : List ℕ) (answers : Recorded) (asked : Result (List (List ℕ)) Fault) → path ≡ first
+pub wanted_below : (reference : ℕ) (known : Surroundings) (root first path : List ℕ) (answers : RecordedAnswers) (asked : Result (List (List ℕ)) Fault) → path ≡ first
     → AreWanted (contents_through reference known root) answers path asked → AreWanted (contents_below known root) answers first asked
 wanted_below reference known root first path answers asked e h =
     subst (λ p. AreWanted (contents_below known root) answers p asked) e (wanted_any reference known root path answers asked h)

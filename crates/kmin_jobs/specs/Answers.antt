@@ -21,14 +21,14 @@ use Rattle.kc_minimal_model.specs.FullFile.{full_file}
 use Rattle.kc_minimal_model.specs.Differences.{Difference, differences}
 use Rattle.kc_dotconfig_model.specs.declared.format.Strings.{Strings}
 use Rattle.kc_minimal_model.specs.SymbolLine.{spelled}
+use Rattle.kc_expansion.specs.TreeContents.{FileContent}
 use Rattle.kmin_words.specs.Jobs.{Settings, Task, over, compare}
 use Rattle.kmin_words.specs.declared.job.Verb.{Verb}
 use Rattle.kmin_words.specs.declared.job.Verb.TheVariants.{Min, Full, Missed, Check}
-use Rattle.kmin_jobs.specs.FileContents.{FileContent}
 use Rattle.kmin_tidy.specs.KnownBytes.{AreKnownBytes}
 use Rattle.kmin_jobs.specs.Reports.{name_at, notice_lines}
 use Rattle.kmin_jobs.specs.Strictness.{AllowsNotices}
-use Rattle.kmin_jobs.specs.Statuses.{status_of_list, listed}
+use Rattle.kmin_jobs.specs.Statuses.{status_of_list, status_of_verb}
 
 -- Texts are accepted as this tree: reading them has no fault, and no symbol or choice depends on itself.
 pub record AreAccepted (texts : Files) (first : List ℕ) (tree : Tree) : Type 0 where
@@ -73,16 +73,16 @@ difference_line strings tree d = name_at tree d.symbol ++ (codes ": " ++ (spelle
 abbrev pub IsTextOfVerb : Settings → Tree → List (Option UserValue) → List UnitValue → Verb → (text : List ℕ) → Type 0
 IsTextOfVerb settings tree users values Min text = IsCanonicalText settings.format settings.profile tree values text
 IsTextOfVerb settings tree users values Full text = text ≡ full_file settings.format tree values
-IsTextOfVerb settings tree users values Missed text = text ≡ flat_map (name_line [] tree) (missed tree users values)
-IsTextOfVerb settings tree users values Check text = text ≡ flat_map (name_line (codes "unmet ") tree) (unmet tree values)
+IsTextOfVerb settings tree users values (Missed exit_code) text = text ≡ flat_map (name_line [] tree) (missed tree users values)
+IsTextOfVerb settings tree users values (Check exit_code) text = text ≡ flat_map (name_line (codes "unmet ") tree) (unmet tree values)
 
 -- A command has this output, this status and these lines of notices: a verb over one configuration of all its files, or the
 -- comparison of two configurations of one file each.
 pub data Answer (content_of : List ℕ → FileContent) (settings : Settings) (texts : Files) (task : Task) (text : List ℕ) (status : ℕ) (notices : List (List ℕ)) : Type 0 where
-  of_files : (tree : Tree) (verb : Verb) (paths : List (List ℕ)) (exit_code : Bool) (meanings : List (List LineMeaning)) (values : List UnitValue)
-      → task ≡ over verb paths exit_code → AreAccepted texts settings.tree tree → Resolve content_of settings tree paths meanings values
+  of_files : (tree : Tree) (verb : Verb) (paths : List (List ℕ)) (meanings : List (List LineMeaning)) (values : List UnitValue)
+      → task ≡ over verb paths → AreAccepted texts settings.tree tree → Resolve content_of settings tree paths meanings values
       → IsTextOfVerb settings tree (files_assignment tree meanings) values verb text
-      → status ≡ status_of_list exit_code (listed tree (files_assignment tree meanings) values verb)
+      → status ≡ status_of_verb tree (files_assignment tree meanings) values verb
       → notices ≡ notice_lines paths meanings → Answer content_of settings texts task text status notices
   of_comparison : (tree : Tree) (left right : List ℕ) (left_meanings right_meanings : List (List LineMeaning)) (v w : List UnitValue)
       → task ≡ compare left right → AreAccepted texts settings.tree tree

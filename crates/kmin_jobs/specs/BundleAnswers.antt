@@ -9,9 +9,9 @@ use Rattle.kc_rules_model.specs.declared.profile.Profile.TheVariants.{Present}
 use Rattle.kc_dotconfig_model.specs.Formats.{plain_format}
 use Rattle.kc_dotconfig_model.specs.declared.fault.LoadKind.{LoadKind}
 use Rattle.kc_dotconfig_model.specs.declared.fault.LoadKind.TheVariants.{Read, TooLarge}
+use Rattle.kc_expansion.specs.TreeContents.{FileContent}
 use Rattle.kmin_words.specs.Jobs.{Settings, Task, over}
 use Rattle.kmin_words.specs.declared.job.Verb.TheVariants.{Full}
-use Rattle.kmin_jobs.specs.FileContents.{FileContent}
 use Rattle.kmin_tidy.specs.Reports.{fault_line, output_line}
 use Rattle.kmin_jobs.specs.Bundles.{IsBundle, ReadsToEnd}
 use Rattle.kmin_jobs.specs.Answers.{Answer, AreAccepted}
@@ -23,7 +23,7 @@ bundle_settings = record { root = []; tree = codes "Kconfig"; language = Strict;
 
 -- the command of a run on a bundle: the full file of the one configuration file `config`
 abbrev pub bundle_task : Task
-bundle_task = over Full (codes "config" ∷ []) false
+bundle_task = over Full (codes "config" ∷ [])
 
 -- the files of a bundle's tree: one file of this text with the path `Kconfig`
 abbrev pub bundle_files : List ℕ → Files

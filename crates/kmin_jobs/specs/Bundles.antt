@@ -3,14 +3,11 @@ use Rattle.std.specs.Prelude.{◌≡◌, ℕ, Bool, not, List, [], ◌∷◌, �
 use Rattle.std.specs.List.{list_all}
 use Rattle.std.specs.Io.KnownBytes.{Consumes, IsAtEnd}
 use Rattle.kc_dotconfig_model.specs.ConfigFiles.{file_lines}
+use Rattle.kmin_lines.specs.Lines.{BeginsWithPiece}
 
 -- the line between the tree and the configuration of a bundle: `%%`
 abbrev pub marker : List ℕ
 marker = 37 ∷ 37 ∷ []
-
--- a text consists of this line, a newline and this rest; or of this line alone, and the rest is empty
-abbrev pub BeginsWithLine : (text line rest : List ℕ) → Type 0
-BeginsWithLine text line rest = (text ≡ line ++ 10 ∷ rest) ⊎ ((text ≡ line) × (rest ≡ []))
 
 -- a text consists of whole lines: it is empty, or has a newline at its end
 abbrev pub HasWholeLines : List ℕ → Type 0
@@ -22,7 +19,7 @@ has_no_marker text = list_all (λ line. not (bytes_eq line marker)) (file_lines 
 
 -- A bundle is cut at its first line of just `%%`. Without such a line it is a tree, and the configuration is empty.
 pub data IsBundle (bundle tree configuration : List ℕ) : Type 0 where
-  parted : (rest : List ℕ) → IsTrue (has_no_marker tree) → HasWholeLines tree → bundle ≡ tree ++ rest → BeginsWithLine rest marker configuration
+  parted : (rest : List ℕ) → IsTrue (has_no_marker tree) → HasWholeLines tree → bundle ≡ tree ++ rest → BeginsWithPiece 10 rest marker configuration
       → IsBundle bundle tree configuration
   unparted : IsTrue (has_no_marker tree) → bundle ≡ tree → configuration ≡ [] → IsBundle bundle tree configuration
 

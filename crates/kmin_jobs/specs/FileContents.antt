@@ -1,19 +1,15 @@
 -- Files, folders and the environment, as far as they are known.
-use Rattle.std.specs.Prelude.{◌≡◌, ℕ, ◌+◌, List, ◌∷◌, ◌++◌, Option, Some, None, take}
-use Rattle.kc_value.specs.declared.limits.TheConstants.{MAX_TREE_BYTES}
+use Rattle.std.specs.Prelude.{◌≡◌, ℕ, List, ◌∷◌, ◌++◌, Option, Some, None, take}
+use Rattle.kc_value.specs.declared.limits.TheConstants.{MAX_FILE_BYTES}
 use Rattle.kc_expr.specs.declared.language.Language.{Language}
 use Rattle.kc_tree_model.specs.TreeFiles.{Files, file_at}
-use Rattle.kc_expansion.specs.TreeContents.{FolderContent}
+use Rattle.kc_expansion.specs.TreeContents.{FileContent, FolderContent}
 
--- what is known of the file at a path: nothing (`None`), that it can't be opened (`Some None`), or its bytes
-abbrev pub FileContent : Type 0
-FileContent = Option (Option (List ℕ))
-
--- these bytes agree with what is known of a file: they are all its bytes, but no more than the first `MAX_TREE_BYTES` + 1
+-- these bytes agree with what is known of a file: they are all its bytes, but no more than the first `MAX_FILE_BYTES`
 abbrev pub MatchContentStart : FileContent → List ℕ → Type 0
 MatchContentStart None bytes = Unit {0}
 MatchContentStart (Some None) bytes = ⊥
-MatchContentStart (Some (Some content)) bytes = bytes ≡ take (MAX_TREE_BYTES + 1) content
+MatchContentStart (Some (Some content)) bytes = bytes ≡ take MAX_FILE_BYTES content
 
 -- the path, for the system, of a file of a tree: the root, a slash, and its path in the tree
 abbrev pub path_below : List ℕ → List ℕ → List ℕ
@@ -33,13 +29,14 @@ abbrev pub MatchVariable : VariableContent → Option (List ℕ) → Type 0
 MatchVariable None value = Unit {0}
 MatchVariable (Some known) value = value ≡ known
 
--- all that is known of the surroundings of a job: files, regular files, the names in folders, and the environment
-pub record Known : Type 0 where
+-- all that is known of the surroundings of a job: files (`Some None` for one that can't be opened), regular files, the names in
+-- folders, and the environment
+pub record Surroundings : Type 0 where
   pub content : List ℕ → FileContent
   pub regular : List ℕ → FileContent
   pub names : List ℕ → FolderContent
   pub variable : List ℕ → VariableContent
 
 -- all that is known of the surroundings of a job, from what is known of files, regular files, the names in folders, and variables
-abbrev pub known_by : (List ℕ → FileContent) → (List ℕ → FileContent) → (List ℕ → FolderContent) → (List ℕ → VariableContent) → Known
+abbrev pub known_by : (List ℕ → FileContent) → (List ℕ → FileContent) → (List ℕ → FolderContent) → (List ℕ → VariableContent) → Surroundings
 known_by content regular names variable = record { content = content; regular = regular; names = names; variable = variable }

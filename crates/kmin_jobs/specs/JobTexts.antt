@@ -4,12 +4,12 @@ use Rattle.std.specs.Str.{is_utf8}
 use Rattle.kc_expr.specs.declared.language.Language.{Language}
 use Rattle.kc_tree_model.specs.TreeFiles.{Files, with_file}
 use Rattle.kc_macros_model.specs.Programs.{Notice}
-use Rattle.kc_macros_model.specs.AnswerFiles.{Recorded}
+use Rattle.kc_macros_model.specs.AnswerFiles.{RecordedAnswers}
 use Rattle.kc_macros_model.specs.ReadingStates.{ExpandedFile}
 use Rattle.kc_expansion.specs.Expansions.{IsExpansion}
 use Rattle.kc_expansion.specs.PathsOfKeys.{path_of_key}
 use Rattle.kmin_words.specs.Jobs.{Expansion, Settings}
-use Rattle.kmin_jobs.specs.FileContents.{Known, AreTextsBelow}
+use Rattle.kmin_jobs.specs.FileContents.{Surroundings, AreTextsBelow}
 use Rattle.kmin_jobs.specs.TreeFolders.{contents_below}
 use Rattle.kmin_jobs.specs.JobAnswers.{AreJobAnswers}
 use Rattle.kmin_jobs.specs.MacroReports.{macro_notice_line}
@@ -48,8 +48,8 @@ pub record TreeTexts : Type 0 where
   pub lines : List (List ℕ)
 
 -- these texts, names and lines are those of the expansion of a job's tree, in this language
-pub record AreExpandedTexts (known : Known) (root first : List ℕ) (language : Language) (expansion : Expansion) (t : TreeTexts) : Type 0 where
-  pub answers : Recorded
+pub record AreExpandedTexts (known : Surroundings) (root first : List ℕ) (language : Language) (expansion : Expansion) (t : TreeTexts) : Type 0 where
+  pub answers : RecordedAnswers
   pub answered : AreJobAnswers known.content known.variable expansion answers
   pub notices : List Notice
   pub files : List ExpandedFile
@@ -59,7 +59,7 @@ pub record AreExpandedTexts (known : Known) (root first : List ℕ) (language : 
   pub lines : t.lines ≡ map macro_notice_line notices
 
 -- these texts are those of a job's tree: its files as they are, or expanded if an option turns the expansion of macros on
-pub data AreTextsOfJob (known : Known) (settings : Settings) (t : TreeTexts) : Type 0 where
+pub data AreTextsOfJob (known : Surroundings) (settings : Settings) (t : TreeTexts) : Type 0 where
   as_they_are : settings.expansion ≡ None → AreTextsBelow known.content settings.root settings.language t.texts → t.names ≡ t.texts → t.lines ≡ []
       → AreTextsOfJob known settings t
   expanded : (expansion : Expansion) → settings.expansion ≡ Some expansion → AreExpandedTexts known settings.root settings.tree settings.language expansion t

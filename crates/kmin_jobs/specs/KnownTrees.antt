@@ -1,20 +1,21 @@
 -- The tree that known files determine.
-use Rattle.std.specs.Prelude.{◌≡◌, ◌≢◌, ℕ, ◌+◌, List, Option, Some, None, take}
-use Rattle.kc_value.specs.declared.limits.TheConstants.{MAX_TREE_BYTES}
+use Rattle.std.specs.Prelude.{◌≡◌, ◌≢◌, ℕ, List, Option, Some, None, take}
+use Rattle.kc_value.specs.declared.limits.TheConstants.{MAX_FILE_BYTES}
 use Rattle.kc_expr.specs.declared.language.Language.{Language}
 use Rattle.kc_tree_model.specs.TreeFiles.{Files, index_of_file}
 use Rattle.kc_tree_model.specs.Trees.{Tree}
 use Rattle.kc_tree_model.specs.MoreFiles.{reading_from}
 use Rattle.kc_tree_model.specs.Contents.{tree_of_groups}
-use Rattle.kmin_jobs.specs.FileContents.{FileContent, AreTextsBelow, path_below}
+use Rattle.kc_expansion.specs.TreeContents.{FileContent}
+use Rattle.kmin_jobs.specs.FileContents.{AreTextsBelow, path_below}
 use Rattle.kmin_jobs.specs.Answers.{AreAccepted}
 
--- the known bytes of a file, but no more than the first `MAX_TREE_BYTES` + 1; `None` if they aren't known, or the file can't be
+-- the known bytes of a file, but no more than the first `MAX_FILE_BYTES`; `None` if they aren't known, or the file can't be
 -- opened
 abbrev pub known_bytes : FileContent → Option (List ℕ)
 known_bytes None = None
 known_bytes (Some None) = None
-known_bytes (Some (Some content)) = Some (take (MAX_TREE_BYTES + 1) content)
+known_bytes (Some (Some content)) = Some (take MAX_FILE_BYTES content)
 
 -- the tree in this language whose first file is at the path `first`, where a file at a path has these bytes and this number
 abbrev pub tree_of_bytes : Language → (bytes : List ℕ → Option (List ℕ)) → (number : List ℕ → ℕ) → (first : List ℕ) → Tree

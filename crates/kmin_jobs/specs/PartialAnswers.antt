@@ -2,12 +2,12 @@
 use Rattle.std.specs.Prelude.{ℕ, ◌<◌, List, Option, length, take}
 use Rattle.std.specs.Io.KnownBytes.{Appends}
 use Rattle.kmin_words.specs.Jobs.{Settings, Task}
-use Rattle.kmin_jobs.specs.FileContents.{Known}
+use Rattle.kmin_jobs.specs.FileContents.{Surroundings}
 use Rattle.kmin_jobs.specs.JobTexts.{TreeTexts, AreTextsOfJob}
 use Rattle.kmin_jobs.specs.Answers.{Answer}
 
 -- standard output took the first bytes of the output of a command over the texts of its tree, but not all of them
-pub record AnswersInPart (known : Known) (settings : Settings) (task : Task) (taken taken_after : Option (List ℕ)) : Type 0 where
+pub record AnswersInPart (known : Surroundings) (settings : Settings) (task : Task) (taken taken_after : Option (List ℕ)) : Type 0 where
   pub read : TreeTexts
   pub are : AreTextsOfJob known settings read
   pub text : List ℕ

@@ -6,27 +6,25 @@ use Rattle.kmin_disk.specs.Failures.{failures_of_update}
 use Rattle.kmin_disk.specs.Updates.{Updates, UpdateLeaves}
 use Rattle.kmin_disk.specs.declared.kind.FileKind.TheVariants.{NotRegular as is_not_regular}
 use Rattle.kmin_disk.specs.declared.fault.ReplaceFault.{ReplaceFault}
-use Rattle.kmin_disk.specs.declared.fault.ReplaceFault.TheVariants.{NotRegular, Unchanged, NamesTaken, Left, FolderNotSynced, OutOfMemory}
+use Rattle.kmin_disk.specs.declared.fault.ReplaceFault.TheVariants.{NotRegular, Left, OutOfMemory}
 use Rattle.kmin_disk.specs.declared.fault.UpdateFault.{UpdateFault}
 use Rattle.kmin_disk.specs.declared.fault.UpdateFault.TheVariants.{Unread, Replace}
 use Rattle.kmin_tidy.specs.Reports.{not_regular_line, write_line, left_line}
 use Rattle.kmin_tidy.specs.Steps.{Disk}
 use Rattle.kmin_words.specs.Jobs.{Settings, Task}
-use Rattle.kmin_jobs.specs.FileContents.{Known}
+use Rattle.kmin_jobs.specs.FileContents.{Surroundings}
 use Rattle.kmin_jobs.specs.JobTexts.{TreeTexts, AreTextsOfJob}
 use Rattle.kmin_jobs.specs.Answers.{Answer}
 use Rattle.kmin_jobs.specs.Reports.{last_lines}
 use Rattle.kmin_jobs.specs.Stops.{StopsBefore}
-use Rattle.kmin_jobs.specs.TidyRuns.{Outside, EndsWriting}
+use Rattle.kmin_jobs.specs.TidyRuns.{Outputs, EndsWriting}
 
 -- the lines of standard error for an output file that wasn't replaced, or not for good; none where memory ran out
 abbrev pub replace_lines : (path : List ℕ) → ReplaceFault → List (List ℕ)
 replace_lines path NotRegular = not_regular_line path ∷ []
-replace_lines path Unchanged = write_line path ∷ []
-replace_lines path NamesTaken = write_line path ∷ []
 replace_lines path (Left new_path) = left_line (string_bytes new_path) ∷ []
-replace_lines path FolderNotSynced = write_line path ∷ []
 replace_lines path OutOfMemory = []
+replace_lines path fault = write_line path ∷ []
 
 -- the lines of standard error for an output file that wasn't updated, or not for good; none where memory ran out
 abbrev pub update_lines : (path : List ℕ) → UpdateFault → List (List ℕ)
@@ -35,12 +33,8 @@ update_lines path (Replace fault) = replace_lines path fault
 
 -- the exit status for an output file that wasn't replaced, or not for good: 6 if memory ran out, and else 5
 abbrev pub replace_status : ReplaceFault → ℕ
-replace_status NotRegular = 5
-replace_status Unchanged = 5
-replace_status NamesTaken = 5
-replace_status (Left new_path) = 5
-replace_status FolderNotSynced = 5
 replace_status OutOfMemory = 6
+replace_status fault = 5
 
 -- the exit status for an output file that wasn't updated, or not for good: 6 if memory ran out, and 5 if not
 abbrev pub update_status : UpdateFault → ℕ
@@ -60,11 +54,11 @@ pub record IsUnsaved (old new : Disk) (path text : List ℕ) (fault : UpdateFaul
   pub equal : content_at old.state path ≡ Some (file text) → new.state ≡ old.state
   pub not_regular : fault ≡ Replace NotRegular → IsOfKind (content_at old.state path) is_not_regular
   pub refused : content_at old.state path ≡ Some special → fault ≡ Replace NotRegular
-  pub failed : new.failures ≡ failures_of_update old.failures fault
+  pub failures : new.failures ≡ failures_of_update old.failures fault
 
 -- A command with an output file ends, with this status and these lines of standard error: the file has the output, or the command
 -- ended without one and the disk is unchanged, or the file couldn't be updated.
-pub data SaveEnds (known : Known) (settings : Settings) (task : Task) (path : List ℕ) (old new : Disk) (lines : List (List ℕ)) (status : ℕ) : Type 0 where
+pub data SaveEnds (known : Surroundings) (settings : Settings) (task : Task) (path : List ℕ) (old new : Disk) (lines : List (List ℕ)) (status : ℕ) : Type 0 where
   saved : (t : TreeTexts) (text : List ℕ) (notices : List (List ℕ)) → AreTextsOfJob known settings t
       → Answer known.content settings t.texts task text status notices → IsSaved old new path text → lines ≡ t.lines ++ notices
       → SaveEnds known settings task path old new lines status
@@ -76,10 +70,10 @@ pub data SaveEnds (known : Known) (settings : Settings) (task : Task) (path : Li
       → SaveEnds known settings task path old new lines status
 
 -- some command with an output file ended with this status, and standard output took nothing
-abbrev pub EndsSaving : Known → (old new : Outside) → (status : ℕ) → Type 0
+abbrev pub EndsSaving : Surroundings → (old new : Outputs) → (status : ℕ) → Type 0
 EndsSaving known old new status = (settings : Settings) × (task : Task) × (path : List ℕ) × (lines : List (List ℕ))
     × SaveEnds known settings task path old.disk new.disk lines status × (new.taken ≡ old.taken) × (new.failures ≡ old.failures)
 
 -- a command that may change files ended with this status: `tidy --write`, or one with an output file
-abbrev pub EndsChanging : Known → (left : Option (List ℕ)) → (old new : Outside) → (status : ℕ) → Type 0
+abbrev pub EndsChanging : Surroundings → (left : Option (List ℕ)) → (old new : Outputs) → (status : ℕ) → Type 0
 EndsChanging known left old new status = EndsWriting known left old new status ⊎ EndsSaving known old new status

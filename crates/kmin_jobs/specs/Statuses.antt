@@ -15,9 +15,9 @@ status_of_list false listed = 0
 status_of_list true [] = 0
 status_of_list true (x ∷ xs) = 1
 
--- the numbers of the symbols that a verb lists, for a tree, an assignment and its values; `min` and `full` list none
-abbrev pub listed : Tree → List (Option UserValue) → List UnitValue → Verb → List ℕ
-listed tree users values Min = []
-listed tree users values Full = []
-listed tree users values Missed = missed tree users values
-listed tree users values Check = unmet tree values
+-- the exit status of a verb for a tree, an assignment and its values: that of the symbols that `missed` or `check` lists
+abbrev pub status_of_verb : Tree → List (Option UserValue) → List UnitValue → Verb → ℕ
+status_of_verb tree users values Min = 0
+status_of_verb tree users values Full = 0
+status_of_verb tree users values (Missed exit_code) = status_of_list exit_code (missed tree users values)
+status_of_verb tree users values (Check exit_code) = status_of_list exit_code (unmet tree values)

@@ -14,10 +14,11 @@ use Rattle.kc_dotconfig_model.specs.ConfigLines.{LineMeaning}
 use Rattle.kc_dotconfig_model.specs.LoadFaults.{IsAccepted, IsFirstFault, complete, cut_short}
 use Rattle.kc_dotconfig_model.specs.ConfigFiles.{FileMeans, notices_from}
 use Rattle.kc_macros_model.specs.Programs.{Fault, Notice}
-use Rattle.kc_macros_model.specs.AnswerFiles.{Recorded}
+use Rattle.kc_macros_model.specs.AnswerFiles.{RecordedAnswers}
 use Rattle.kc_expansion.specs.Expansions.{IsExpansion}
+use Rattle.kc_expansion.specs.TreeContents.{FileContent}
 use Rattle.kmin_words.specs.Jobs.{Expansion, Settings, Task, paths_of}
-use Rattle.kmin_jobs.specs.FileContents.{FileContent, Known}
+use Rattle.kmin_jobs.specs.FileContents.{Surroundings}
 use Rattle.kmin_tidy.specs.KnownBytes.{AreKnownBytes}
 use Rattle.kmin_disk.specs.Contents.{OpensAs}
 use Rattle.kmin_jobs.specs.JobAnswers.{AreJobAnswers}
@@ -67,16 +68,16 @@ pub data StopsAmongFiles (content_of : List ℕ → FileContent) (format : FileF
 
 -- A command ends at the expansion of its tree's macros, with this status and these lines of standard error: among its answer
 -- files, at a fault of the expansion, after its notices, or since memory ran out.
-pub data StopsInExpansion (known : Known) (root first : List ℕ) (expansion : Expansion) (status : ℕ) (lines : List (List ℕ)) : Type 0 where
+pub data StopsInExpansion (known : Surroundings) (root first : List ℕ) (expansion : Expansion) (status : ℕ) (lines : List (List ℕ)) : Type 0 where
   among_answers : StopsAmongAnswers known.content expansion.answers status lines → StopsInExpansion known root first expansion status lines
-  at_fault : (answers : Recorded) (notices : List Notice) (fault : Fault) → AreJobAnswers known.content known.variable expansion answers
+  at_fault : (answers : RecordedAnswers) (notices : List Notice) (fault : Fault) → AreJobAnswers known.content known.variable expansion answers
       → IsExpansion (contents_below known root) answers first notices (Err fault)
       → status ≡ 3 → lines ≡ map macro_notice_line notices ++ macro_fault_line fault ∷ [] → StopsInExpansion known root first expansion status lines
   for_memory : status ≡ 6 → lines ≡ [] → StopsInExpansion known root first expansion status lines
 
 -- A command ends at its tree, with this status and these lines of standard error: in the expansion of macros, since the texts are
 -- refused as a tree, or since memory ran out while they were read.
-pub data StopsAtTree (known : Known) (settings : Settings) (status : ℕ) (lines : List (List ℕ)) : Type 0 where
+pub data StopsAtTree (known : Surroundings) (settings : Settings) (status : ℕ) (lines : List (List ℕ)) : Type 0 where
   in_expansion : (expansion : Expansion) → settings.expansion ≡ Some expansion
       → StopsInExpansion known settings.root settings.tree expansion status lines → StopsAtTree known settings status lines
   at_texts : (t : TreeTexts) (line : List ℕ) → AreTextsOfJob known settings t → RefusesTexts t.texts t.names settings.tree line
@@ -85,7 +86,7 @@ pub data StopsAtTree (known : Known) (settings : Settings) (status : ℕ) (lines
 
 -- A command ends before it has an output, with this status and these lines of standard error: at its tree, among its
 -- configuration files, or since memory ran out.
-pub data StopsBefore (known : Known) (settings : Settings) (task : Task) (status : ℕ) (lines : List (List ℕ)) : Type 0 where
+pub data StopsBefore (known : Surroundings) (settings : Settings) (task : Task) (status : ℕ) (lines : List (List ℕ)) : Type 0 where
   at_tree : StopsAtTree known settings status lines → StopsBefore known settings task status lines
   among_files : (t : TreeTexts) (tree : Tree) (more : List (List ℕ)) → AreTextsOfJob known settings t → AreAccepted t.texts settings.tree tree
       → StopsAmongFiles known.content settings.format settings.strict tree (paths_of task) status more → lines ≡ t.lines ++ more
@@ -94,7 +95,7 @@ pub data StopsBefore (known : Known) (settings : Settings) (task : Task) (status
 
 -- A command ends without its whole output, with this status and these lines of standard error: before it has an output, or at a
 -- failed write of the output.
-pub data Stops (known : Known) (settings : Settings) (task : Task) (status : ℕ) (lines : List (List ℕ)) : Type 0 where
+pub data Stops (known : Surroundings) (settings : Settings) (task : Task) (status : ℕ) (lines : List (List ℕ)) : Type 0 where
   before_answer : StopsBefore known settings task status lines → Stops known settings task status lines
   at_write : (t : TreeTexts) (text : List ℕ) (made : ℕ) (notices : List (List ℕ)) → AreTextsOfJob known settings t
       → Answer known.content settings t.texts task text made notices → status ≡ 5 → lines ≡ t.lines ++ notices ++ output_line ∷ []

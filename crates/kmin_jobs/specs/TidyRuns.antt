@@ -3,18 +3,19 @@ use Rattle.std.specs.Prelude.{◌≡◌, ℕ, ◌<◌, ◌≤◌, Bool, true, fa
 use Rattle.std.specs.List.{list_all}
 use Rattle.std.specs.Str.{is_utf8}
 use Rattle.std.specs.Io.KnownBytes.{Appends}
+use Rattle.kc_value.specs.declared.limits.TheConstants.{MAX_LIST_BYTES}
 use Rattle.kc_tree_model.specs.Trees.{Tree}
 use Rattle.kc_dotconfig_model.specs.declared.fault.LoadKind.TheVariants.{Read, TooLarge}
+use Rattle.kc_expansion.specs.TreeContents.{FileContent}
 use Rattle.kmin_lines.specs.Lists.{paths_in, is_one_line}
 use Rattle.kmin_tidy.specs.declared.options.TidyOptions.{TidyOptions}
 use Rattle.kmin_tidy.specs.Options.{Settings as RunSettings}
 use Rattle.kmin_tidy.specs.Steps.{Disk}
 use Rattle.kmin_tidy.specs.Ends.{Ends}
-use Rattle.kmin_tidy.specs.Promises.{Became, AreTidy}
+use Rattle.kmin_tidy.specs.Promises.{IsKeptOrLeft, AreTidy}
 use Rattle.kmin_words.specs.declared.job.TidyFlags.{TidyFlags}
 use Rattle.kmin_words.specs.Jobs.{Settings, PathList, Tidying}
-use Rattle.kmin_jobs.specs.declared.tidy_command.TheConstants.{MAX_LIST_BYTES}
-use Rattle.kmin_jobs.specs.FileContents.{FileContent, Known}
+use Rattle.kmin_jobs.specs.FileContents.{Surroundings}
 use Rattle.kmin_tidy.specs.KnownBytes.{AreKnownBytes}
 use Rattle.kmin_jobs.specs.JobTexts.{TreeTexts, AreTextsOfJob}
 use Rattle.kmin_jobs.specs.Answers.{AreAccepted}
@@ -85,25 +86,25 @@ abbrev pub run_settings : Settings → TidyFlags → Tree → RunSettings
 run_settings settings flags tree = record { format = settings.format; profile = settings.profile; tree = tree; options = options_of settings.strict flags }
 
 -- all that a run changes: the disk, and standard output with the bytes that it took and the count of its failed writes
-pub record Outside : Type 0 where
+pub record Outputs : Type 0 where
   pub disk : Disk
   pub taken : Option (List ℕ)
   pub failures : ℕ
 
 -- all that a run changes, from its parts: the disk, the bytes that standard output took, and the count of its failed writes
-abbrev pub outside_of : Disk → (taken : Option (List ℕ)) → (failures : ℕ) → Outside
-outside_of disk taken failures = record { disk = disk; taken = taken; failures = failures }
+abbrev pub outputs_of : Disk → (taken : Option (List ℕ)) → (failures : ℕ) → Outputs
+outputs_of disk taken failures = record { disk = disk; taken = taken; failures = failures }
 
 -- A run over files ended as `tidy_files` promises: at each path all is as it was, or a file was replaced by its minimal file, or
 -- an unfinished new file was left; and nothing changes if each file is minimal or refused.
-pub record GoesOver (s : RunSettings) (old new : Outside) (paths : List (List ℕ)) (reports : List (List ℕ)) (status : ℕ) : Type 0 where
+pub record GoesOver (s : RunSettings) (old new : Outputs) (paths : List (List ℕ)) (reports : List (List ℕ)) (status : ℕ) : Type 0 where
   pub ends : Ends s old.disk new.disk paths old.taken new.taken old.failures new.failures reports status
-  pub became : (place : List ℕ) → Became s (old.disk.state.history place) (new.disk.state.history place)
+  pub became : (place : List ℕ) → IsKeptOrLeft s (old.disk.state.history place) (new.disk.state.history place)
   pub again : AreTidy s old.disk.state paths → new.disk.state ≡ old.disk.state
   pub silent : AreTidy s old.disk.state paths → Appends old.taken new.taken []
 
 -- The command `tidy` over these paths ends: the files are tidied; or its tree is refused or memory ran out, and nothing changes.
-pub data PathsEnd (known : Known) (settings : Settings) (flags : TidyFlags) (paths : List (List ℕ)) (old new : Outside) (lines : List (List ℕ)) (status : ℕ) : Type 0 where
+pub data PathsEnd (known : Surroundings) (settings : Settings) (flags : TidyFlags) (paths : List (List ℕ)) (old new : Outputs) (lines : List (List ℕ)) (status : ℕ) : Type 0 where
   at_tree : (own : List (List ℕ)) → StopsAtTree known settings status own → lines ≡ own ++ last_lines status → new ≡ old
       → PathsEnd known settings flags paths old new lines status
   over_files : (texts : TreeTexts) (tree : Tree) (reports : List (List ℕ)) → AreTextsOfJob known settings texts
@@ -112,7 +113,7 @@ pub data PathsEnd (known : Known) (settings : Settings) (flags : TidyFlags) (pat
 
 -- The command `tidy` ends: its files are tidied, and then those that its list names; or the list or the tree is refused or memory
 -- ran out, and nothing changes.
-pub data TidyEnds (known : Known) (left : Option (List ℕ)) (t : Tidying) (old new : Outside) (lines : List (List ℕ)) (status : ℕ) : Type 0 where
+pub data TidyEnds (known : Surroundings) (left : Option (List ℕ)) (t : Tidying) (old new : Outputs) (lines : List (List ℕ)) (status : ℕ) : Type 0 where
   at_list : (own : List (List ℕ)) → StopsAtList known.content left t.list status own → lines ≡ own ++ last_lines status → new ≡ old
       → TidyEnds known left t old new lines status
   over_paths : (bytes : List ℕ) → AreListBytes known.content left t.list bytes → AreNamed (listed_paths t.list bytes)
@@ -120,9 +121,9 @@ pub data TidyEnds (known : Known) (left : Option (List ℕ)) (t : Tidying) (old 
       → TidyEnds known left t old new lines status
 
 -- some command `tidy` ended with this status
-abbrev pub EndsTidying : Known → (left : Option (List ℕ)) → (old new : Outside) → (status : ℕ) → Type 0
+abbrev pub EndsTidying : Surroundings → (left : Option (List ℕ)) → (old new : Outputs) → (status : ℕ) → Type 0
 EndsTidying known left old new status = (t : Tidying) × (lines : List (List ℕ)) × TidyEnds known left t old new lines status
 
 -- some command `tidy --write` ended with this status
-abbrev pub EndsWriting : Known → (left : Option (List ℕ)) → (old new : Outside) → (status : ℕ) → Type 0
+abbrev pub EndsWriting : Surroundings → (left : Option (List ℕ)) → (old new : Outputs) → (status : ℕ) → Type 0
 EndsWriting known left old new status = (t : Tidying) × (t.flags.write ≡ true) × (lines : List (List ℕ)) × TidyEnds known left t old new lines status

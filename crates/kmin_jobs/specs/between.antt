@@ -1,4 +1,3 @@
-pub mod LineEnds
 pub mod Lines
 pub mod LoadResults
 pub mod LoadStops

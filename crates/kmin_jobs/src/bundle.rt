@@ -2,14 +2,14 @@
 ghost use Rattle.std.specs.Prelude.{◌≡◌, ◌≤◌, [], IfOk, IfErr, OnOk, ℕ, List, length};
 ghost use Rattle.kmin_jobs.specs.Bundles.{IsBundle, ReadsToEnd};
 ghost use Rattle.kmin_jobs.specs.BundleAnswers.{StopsOnBundle, bundle_line};
-ghost use Rattle.kmin_tidy.specs.StandardError.{Rises, TakesLine, TakesLines};
+ghost use Rattle.kmin_tidy.specs.StandardError.{HasRisen, TakesLine, TakesLines};
 ghost use Rattle.kmin_jobs.specs.between.RunErrors.{status_of};
 
-use crate::lines::first_line;
 use crate::report::{Report, write_report};
 use crate::run_error::RunError;
 use kc_dotconfig::LoadKind;
 use kc_value::{MAX_BUNDLE_BYTES, ReadBytes, ReadEnd, Sink, Source, read_up_to};
+use kmin_lines::first_piece;
 use std::alloc::Global;
 
 /// The line that ends the tree.
@@ -25,7 +25,7 @@ pub(crate) fn read_whole<S: Source, E: Sink>(
     ensures within { IfOk result (λ text. length text.items ≤ MAX_BUNDLE_BYTES) }
     ensures unfailed { OnOk result (S.failures source.new ≡ S.failures source.old) }
     ensures unreported { OnOk result (TakesLines (E.taken err.old) (E.failures err.old) [] (E.taken err.new) (E.failures err.new)) }
-    ensures failed { result ≡ Err RunError.Failed → Rises (S.failures source.old) (S.failures source.new) }
+    ensures failures { result ≡ Err RunError.Failed → HasRisen (S.failures source.old) (S.failures source.new) }
     ensures stopped { IfErr result (λ stop. (lines : List (List ℕ)) × StopsOnBundle (S.left source.old) (S.left source.new) (status_of stop) lines × TakesLines (E.taken err.old) (E.failures err.old) lines (E.taken err.new) (E.failures err.new)) }
 {
     let ReadBytes { bytes, end } = read_up_to(alloc, source, MAX_BUNDLE_BYTES + 1, 0)?;
@@ -62,7 +62,7 @@ pub(crate) fn cut(bundle: &[u8]) -> (&[u8], &[u8])
     ensures { IsBundle bundle.now result.0.now result.1.now }
 {
     let mut rest = bundle;
-    while let Some((line, after)) = first_line(rest) {
+    while let Some((line, after)) = first_piece(rest, b'\n') {
         if line == MARKER {
             let (tree, _) = bundle.split_at(bundle.len() - rest.len());
             return (tree, after);

@@ -12,7 +12,7 @@ ghost use Rattle.kmin_jobs.specs.Answers.{AreAccepted, Resolve};
 ghost use Rattle.kmin_jobs.specs.Bundles.{ReadsToEnd};
 ghost use Rattle.kmin_jobs.specs.BundleAnswers.{AnswersBundle, StopsInBundle, StopsOnBundle, WritesPart, bundle_content, bundle_files, bundle_settings};
 ghost use Rattle.kmin_jobs.specs.Reports.{notice_lines};
-ghost use Rattle.kmin_tidy.specs.StandardError.{Rises, TakesLines};
+ghost use Rattle.kmin_tidy.specs.StandardError.{HasRisen, TakesLines};
 ghost use Rattle.kmin_jobs.specs.Stops.{StopsAmongFiles};
 ghost use Rattle.kmin_jobs.specs.between.RunErrors.{status_of};
 ghost use Rattle.kmin_jobs.specs.between.TreeStops.{StopsAtTexts};
@@ -42,7 +42,7 @@ pub(crate) fn run_bundle<I: Source, O: Sink, E: Sink>(
 ) -> Result<(), RunError>
     ensures ok { OnOk result ((bundle text : List ℕ) × (notices : List (List ℕ)) × ReadsToEnd (I.left input.old) (I.left input.new) bundle × (length bundle ≤ MAX_BUNDLE_BYTES) × AnswersBundle bundle text notices × Appends (O.taken out.old) (O.taken out.new) text × TakesLines (E.taken err.old) (E.failures err.old) notices (E.taken err.new) (E.failures err.new)) }
     ensures unfailed { OnOk result ((I.failures input.new ≡ I.failures input.old) × (O.failures out.new ≡ O.failures out.old)) }
-    ensures failed { result ≡ Err RunError.Failed → Rises (I.failures input.old) (I.failures input.new) ⊎ Rises (O.failures out.old) (O.failures out.new) }
+    ensures failures { result ≡ Err RunError.Failed → HasRisen (I.failures input.old) (I.failures input.new) ⊎ HasRisen (O.failures out.old) (O.failures out.new) }
     ensures part { result ≡ Err RunError.Failed → (O.taken out.new ≡ O.taken out.old) ⊎ WritesPart (I.left input.old) (I.left input.new) (O.taken out.old) (O.taken out.new) }
     ensures unwritten { IfErr result (λ stop. (stop ≡ RunError.Failed) ⊎ (O.taken out.new ≡ O.taken out.old)) }
     ensures stopped { IfErr result (λ stop. (lines : List (List ℕ)) × StopsOnBundle (I.left input.old) (I.left input.new) (status_of stop) lines × TakesLines (E.taken err.old) (E.failures err.old) lines (E.taken err.new) (E.failures err.new)) }

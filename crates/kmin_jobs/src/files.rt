@@ -1,8 +1,8 @@
 //! The files that a job names, the folders of its tree, and the environment.
 ghost use Rattle.std.specs.Prelude.{◌≡◌, List, ℕ, IfOk, option_map, string_bytes};
 ghost use Rattle.kc_expansion.specs.TextViews.{texts_of};
-ghost use Rattle.kc_expansion.specs.TreeContents.{FolderContent, ListsAs};
-ghost use Rattle.kmin_jobs.specs.FileContents.{FileContent, VariableContent, MatchVariable};
+ghost use Rattle.kc_expansion.specs.TreeContents.{FileContent, FolderContent, ListsAs};
+ghost use Rattle.kmin_jobs.specs.FileContents.{VariableContent, MatchVariable};
 ghost use Rattle.kmin_disk.specs.Contents.{OpensAs};
 
 use kc_value::{Seed, Source};

@@ -1,11 +1,12 @@
 //! The answers to the questions of a job's tree, from definitions, answer files and the environment.
 ghost use Rattle.std.specs.Prelude.{◌≡◌, ◌∷◌, [], ℕ, List, Some, None, IfOk, IfErr, OnOk, map, option_map, string_bytes};
 ghost use Rattle.std.specs.Borrow.{Bor};
+ghost use Rattle.std.specs.Option.{option_or};
 ghost use Rattle.kc_tree_model.specs.Keywords.{keyword_in_table};
 ghost use Rattle.kc_tree_model.specs.TreeLookup.{has_newline};
 ghost use Rattle.kmin_words.specs.Jobs.{definition_view, expansion_view};
 ghost use Rattle.kmin_jobs.specs.FileContents.{known_by};
-ghost use Rattle.kmin_jobs.specs.JobAnswers.{FilesRecord, AreJobAnswers, defined_answer, or_else, answer_of_variable};
+ghost use Rattle.kmin_jobs.specs.JobAnswers.{FilesRecord, AreJobAnswers, defined_answer, answer_of_variable};
 ghost use Rattle.kc_macros.specs.ReadAnswers.{AreRecorded};
 ghost use Rattle.kmin_jobs.specs.AnswerStops.{StopsAmongAnswers, answers_status};
 ghost use Rattle.kmin_tidy.specs.StandardError.{TakesLines};
@@ -16,12 +17,9 @@ use crate::files::Files;
 use crate::report::{Report, write_report};
 use crate::run_error::RunError;
 use kc_macros::{Answers, AnswersFault, AnswersKind};
-use kc_value::{Sink, Source};
+use kc_value::{MAX_VARIABLE_BYTES, Sink, Source};
 use kmin_words::{Definition, Expansion};
 use std::alloc::{AllocError, Global};
-
-/// The most bytes of the value of a variable of the environment; one with a longer value counts as not set.
-const MAX_VARIABLE_BYTES: usize = 65_536;
 
 /// The answers to the questions of a job's tree: by its definitions, else by its answer files, else by the environment.
 /// Reports why an answer file is refused.
@@ -121,7 +119,7 @@ fn report_answers_fault<E: Sink>(path: &str, fault: AnswersFault, err: &mut E) -
 
 /// Gives names the values of definitions, in place of those that they have. The last definition of a name counts.
 fn define(definitions: &[Definition<'_>], answers: &mut Answers) -> Result<(), AllocError>
-    ensures { OnOk result ((question : List ℕ) → keyword_in_table answers.new question ≡ or_else (defined_answer (map definition_view definitions.now) question) (keyword_in_table answers.old question)) }
+    ensures { OnOk result ((question : List ℕ) → keyword_in_table answers.new question ≡ option_or (defined_answer (map definition_view definitions.now) question) (keyword_in_table answers.old question)) }
 {
     for definition in definitions {
         let value = definition.value.as_bytes();

@@ -99,13 +99,9 @@ fn answer_over<F: Files, E: Sink>(
     ensures stopped { IfErr result (λ stop. (lines : List (List ℕ)) × StopsAmongFiles (F.content_of files.old) (settings_view settings.now).format settings.now.strict (tree_of_settled settled.now) (paths_of (task_view task.now)) (status_of stop) lines × TakesLines (E.taken err.old) (E.failures err.old) lines (E.taken err.new) (E.failures err.new)) }
 {
     match task {
-        Task::Over {
-            verb,
-            files: paths,
-            exit_code,
-        } => answer_files(
-            alloc, settings, *verb, *exit_code, paths, settled, files, err,
-        ),
+        Task::Over { verb, files: paths } => {
+            answer_files(alloc, settings, *verb, paths, settled, files, err)
+        }
         Task::Compare { left, right } => {
             answer_comparison(alloc, settings, left, right, settled, files, err)
         }
@@ -118,7 +114,6 @@ fn answer_files<F: Files, E: Sink>(
     alloc: Global,
     settings: &Settings<'_>,
     verb: Verb,
-    exit_code: bool,
     paths: &[&str],
     settled: &Settled,
     files: &mut F,
@@ -126,11 +121,11 @@ fn answer_files<F: Files, E: Sink>(
 ) -> Result<AnswerText, RunError>
     requires profile { profile_of settled.now ≡ settings.now.profile }
     ensures status { IfOk result (λ answer. answer.status ≤ 1) }
-    ensures answer { IfOk result (λ answer. (notices : List (List ℕ)) × ((texts : trees.Files) → AreAccepted texts settings.now.tree.now (tree_of_settled settled.now) → Answer (F.content_of files.old) (settings_view settings.now) texts (over verb (map (λ (path : Bor (List ℕ)). path.now) paths.now) exit_code) answer.text.items answer.status notices) × TakesLines (E.taken err.old) (E.failures err.old) notices (E.taken err.new) (E.failures err.new)) }
+    ensures answer { IfOk result (λ answer. (notices : List (List ℕ)) × ((texts : trees.Files) → AreAccepted texts settings.now.tree.now (tree_of_settled settled.now) → Answer (F.content_of files.old) (settings_view settings.now) texts (over verb (map (λ (path : Bor (List ℕ)). path.now) paths.now)) answer.text.items answer.status notices) × TakesLines (E.taken err.old) (E.failures err.old) notices (E.taken err.new) (E.failures err.new)) }
     ensures stopped { IfErr result (λ stop. (lines : List (List ℕ)) × StopsAmongFiles (F.content_of files.old) (settings_view settings.now).format settings.now.strict (tree_of_settled settled.now) (map (λ (path : Bor (List ℕ)). path.now) paths.now) (status_of stop) lines × TakesLines (E.taken err.old) (E.failures err.old) lines (E.taken err.new) (E.failures err.new)) }
 {
     let config = configured(alloc, settled, settings, paths, files, err)?;
-    let answer = answer_of(alloc, verb, exit_code, &config, &settings.format);
+    let answer = answer_of(alloc, verb, &config, &settings.format);
     drop(config);
     Ok(answer?)
 }

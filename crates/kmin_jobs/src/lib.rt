@@ -11,7 +11,6 @@ mod job_answers;
 mod job_output;
 mod job_trees;
 mod laws;
-mod lines;
 mod output;
 mod output_file;
 mod prefetch;

@@ -3,7 +3,7 @@ ghost use Rattle.std.specs.Prelude.{◌≡◌, ◌∷◌, [], ◌<◌, length, t
 ghost use Rattle.std.specs.Io.KnownBytes.{Appends};
 ghost use Rattle.kmin_jobs.specs.Reports.{last_lines};
 ghost use Rattle.kmin_tidy.specs.Reports.{output_line};
-ghost use Rattle.kmin_tidy.specs.StandardError.{Rises, TakesLines};
+ghost use Rattle.kmin_tidy.specs.StandardError.{HasRisen, TakesLines};
 ghost use Rattle.kmin_jobs.specs.between.RunErrors.{status_of};
 
 use crate::report::{Report, write_report};
@@ -21,7 +21,7 @@ pub(crate) fn write_answer<O: Sink, E: Sink>(
     ensures unfailed { OnOk result (O.failures out.new ≡ O.failures out.old) }
     ensures unreported { OnOk result (TakesLines (E.taken err.old) (E.failures err.old) [] (E.taken err.new) (E.failures err.new)) }
     ensures part { IfErr result (λ fault. (fault.written < length text.now) × Appends (O.taken out.old) (O.taken out.new) (take fault.written text.now)) }
-    ensures failed { OnErr result (Rises (O.failures out.old) (O.failures out.new)) }
+    ensures failures { OnErr result (HasRisen (O.failures out.old) (O.failures out.new)) }
     ensures reported { OnErr result (TakesLines (E.taken err.old) (E.failures err.old) (output_line ∷ []) (E.taken err.new) (E.failures err.new)) }
 {
     match write_out(out, text) {

@@ -1,8 +1,8 @@
 //! Guesses which files a Kconfig file sources, before it is parsed. A wrong guess only opens a file in vain.
-use crate::lines::first_line;
 use bstr::ByteSlice;
 use kc_tree::Texts;
 use kc_value::MAX_FILES;
+use kmin_lines::first_piece;
 use std::alloc::{AllocError, Global};
 
 /// The keyword of a line that sources a file.
@@ -61,7 +61,7 @@ fn sourced_path(bytes: &[u8], place: usize) -> Option<&str> {
 
 /// The bytes up to the first newline.
 fn line_from(bytes: &[u8]) -> &[u8] {
-    match first_line(bytes) {
+    match first_piece(bytes, b'\n') {
         Some((line, _)) => line,
         None => bytes,
     }

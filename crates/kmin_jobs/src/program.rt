@@ -8,8 +8,8 @@ ghost use Rattle.kmin_tidy.specs.Steps.{disk_of};
 ghost use Rattle.kmin_jobs.specs.FileContents.{known_by};
 ghost use Rattle.kmin_jobs.specs.Reports.{last_lines};
 ghost use Rattle.kmin_jobs.specs.Saves.{EndsChanging};
-ghost use Rattle.kmin_tidy.specs.StandardError.{Rises, TakesLines};
-ghost use Rattle.kmin_jobs.specs.TidyRuns.{EndsTidying, outside_of};
+ghost use Rattle.kmin_tidy.specs.StandardError.{HasRisen, TakesLines};
+ghost use Rattle.kmin_jobs.specs.TidyRuns.{EndsTidying, outputs_of};
 
 use crate::bundle_answer::run_bundle;
 use crate::files::Files;
@@ -53,7 +53,7 @@ pub fn run<F: Files, D: WriteDisk, I: Source, O: Sink, E: Sink>(
 
     // On every other status the fault that ended the run is reported.
     ensures stopped { words.now ≡ [] → result ≢ 0 → (lines : List (List ℕ)) × StopsOnBundle (I.left input.old) (I.left input.new) result lines × TakesLines (E.taken err.old) (E.failures err.old) (lines ++ last_lines result) (E.taken err.new) (E.failures err.new) }
-    ensures failed { words.now ≡ [] → result ≡ 5 → Rises (I.failures input.old) (I.failures input.new) ⊎ Rises (O.failures out.old) (O.failures out.new) }
+    ensures failures { words.now ≡ [] → result ≡ 5 → HasRisen (I.failures input.old) (I.failures input.new) ⊎ HasRisen (O.failures out.old) (O.failures out.new) }
     // On status 5 the writer took the first bytes of the full file, or nothing.
     ensures part { words.now ≡ [] → result ≡ 5 → (O.taken out.new ≡ O.taken out.old) ⊎ WritesPart (I.left input.old) (I.left input.new) (O.taken out.old) (O.taken out.new) }
     ensures bundle_unwritten { words.now ≡ [] → result ≢ 0 → result ≢ 5 → O.taken out.new ≡ O.taken out.old }
@@ -62,13 +62,13 @@ pub fn run<F: Files, D: WriteDisk, I: Source, O: Sink, E: Sink>(
 
     // On status 4 something was written only by a run of `tidy`, of which a file is refused.
     ensures refused { result ≡ 4 → (O.taken out.new ≡ O.taken out.old) ⊎ EndsTidying (known_by (F.content_of files.old) (F.regular_content_of files.old) (F.names_of files.old) (F.variable_of files.old)) (I.left input.old)
-        (outside_of (disk_of (D.state disk.old) (D.failures disk.old)) (O.taken out.old) (O.failures out.old))
-        (outside_of (disk_of (D.state disk.new) (D.failures disk.new)) (O.taken out.new) (O.failures out.new)) result }
+        (outputs_of (disk_of (D.state disk.old) (D.failures disk.old)) (O.taken out.old) (O.failures out.old))
+        (outputs_of (disk_of (D.state disk.new) (D.failures disk.new)) (O.taken out.new) (O.failures out.new)) result }
 
     // The disk changes only by a run of `tidy` that may write files, and by a command with an output file.
     ensures unasked { (D.state disk.new ≡ D.state disk.old) ⊎ EndsChanging (known_by (F.content_of files.old) (F.regular_content_of files.old) (F.names_of files.old) (F.variable_of files.old)) (I.left input.old)
-        (outside_of (disk_of (D.state disk.old) (D.failures disk.old)) (O.taken out.old) (O.failures out.old))
-        (outside_of (disk_of (D.state disk.new) (D.failures disk.new)) (O.taken out.new) (O.failures out.new)) result }
+        (outputs_of (disk_of (D.state disk.old) (D.failures disk.old)) (O.taken out.old) (O.failures out.old))
+        (outputs_of (disk_of (D.state disk.new) (D.failures disk.new)) (O.taken out.new) (O.failures out.new)) result }
 {
     if words.is_empty() {
         return match run_bundle(alloc, files.seed(), input, out, err) {
@@ -92,11 +92,11 @@ fn run_words<F: Files, D: WriteDisk, I: Source, O: Sink, E: Sink>(
     ensures status { result ≤ 6 }
     ensures unwritten { result ≢ 0 → result ≢ 1 → result ≢ 4 → result ≢ 5 → O.taken out.new ≡ O.taken out.old }
     ensures refused { result ≡ 4 → (O.taken out.new ≡ O.taken out.old) ⊎ EndsTidying (known_by (F.content_of files.old) (F.regular_content_of files.old) (F.names_of files.old) (F.variable_of files.old)) (I.left input.old)
-        (outside_of (disk_of (D.state disk.old) (D.failures disk.old)) (O.taken out.old) (O.failures out.old))
-        (outside_of (disk_of (D.state disk.new) (D.failures disk.new)) (O.taken out.new) (O.failures out.new)) result }
+        (outputs_of (disk_of (D.state disk.old) (D.failures disk.old)) (O.taken out.old) (O.failures out.old))
+        (outputs_of (disk_of (D.state disk.new) (D.failures disk.new)) (O.taken out.new) (O.failures out.new)) result }
     ensures unasked { (D.state disk.new ≡ D.state disk.old) ⊎ EndsChanging (known_by (F.content_of files.old) (F.regular_content_of files.old) (F.names_of files.old) (F.variable_of files.old)) (I.left input.old)
-        (outside_of (disk_of (D.state disk.old) (D.failures disk.old)) (O.taken out.old) (O.failures out.old))
-        (outside_of (disk_of (D.state disk.new) (D.failures disk.new)) (O.taken out.new) (O.failures out.new)) result }
+        (outputs_of (disk_of (D.state disk.old) (D.failures disk.old)) (O.taken out.old) (O.failures out.old))
+        (outputs_of (disk_of (D.state disk.new) (D.failures disk.new)) (O.taken out.new) (O.failures out.new)) result }
 {
     match read_words(alloc, words) {
         Ok(ParsedWords::Job(job)) => serve(alloc, &job, files, out, err),

@@ -68,11 +68,11 @@ fn push_difference(
     }
     out.extend_from_slice(name_of(tree, s).as_bytes())?;
     out.extend_from_slice(b": ")?;
-    let seen = settled.value_of_symbol(s, left);
-    push_spelled(out, strings, seen.kind, seen.text)?;
+    let value = settled.value_of_symbol(s, left);
+    push_spelled(out, strings, value.kind, value.text)?;
     out.extend_from_slice(b" -> ")?;
-    let seen = settled.value_of_symbol(s, right);
-    push_spelled(out, strings, seen.kind, seen.text)?;
+    let value = settled.value_of_symbol(s, right);
+    push_spelled(out, strings, value.kind, value.text)?;
     out.push(b'\n')?;
     Ok(())
 }

@@ -3,16 +3,16 @@ ghost use Rattle.std.specs.Prelude.{◌≡◌, ◌≢◌, ◌≤◌, ◌++◌, [
 ghost use Rattle.std.specs.List.{list_all};
 ghost use Rattle.std.specs.Str.{is_utf8};
 ghost use Rattle.std.specs.Borrow.{Bor};
+ghost use Rattle.kc_expansion.specs.TreeContents.{FileContent};
 ghost use Rattle.kmin_lines.specs.Lists.{paths_in, is_one_line};
 ghost use Rattle.kmin_tidy.specs.Steps.{disk_of};
 ghost use Rattle.kmin_words.specs.Jobs.{list_view, settings_view, tidying_view};
-ghost use Rattle.kmin_jobs.specs.FileContents.{FileContent, known_by};
+ghost use Rattle.kmin_jobs.specs.FileContents.{known_by};
 ghost use Rattle.kmin_tidy.specs.KnownBytes.{AreKnownBytes};
 ghost use Rattle.kmin_disk.specs.Contents.{OpensAs};
 ghost use Rattle.kmin_tidy.specs.Reports.{fault_line};
 ghost use Rattle.kmin_tidy.specs.StandardError.{TakesLine, TakesLines};
-ghost use Rattle.kmin_jobs.specs.TidyRuns.{AreListBytes, AreNamed, StopsReadingList, StopsAtList, PathsEnd, TidyEnds, list_content, malformed_line, is_ended_by_nul, options_of, outside_of};
-ghost use Rattle.kmin_jobs.specs.declared.tidy_command.TheConstants.{MAX_LIST_BYTES};
+ghost use Rattle.kmin_jobs.specs.TidyRuns.{AreListBytes, AreNamed, StopsReadingList, StopsAtList, PathsEnd, TidyEnds, list_content, malformed_line, is_ended_by_nul, options_of, outputs_of};
 ghost use Rattle.kmin_jobs.specs.between.RunErrors.{status_of};
 
 use crate::files::Files;
@@ -21,15 +21,12 @@ use crate::output::exit_status;
 use crate::report::{Report, write_report};
 use crate::run_error::RunError;
 use kc_dotconfig::LoadKind;
-use kc_value::{ReadBytes, ReadEnd, Sink, Source, read_up_to};
+use kc_value::{MAX_LIST_BYTES, ReadBytes, ReadEnd, Sink, Source, read_up_to};
 use kmin_disk::WriteDisk;
 use kmin_lines::{ListFault, listed_paths};
 use kmin_tidy::{TidyOptions, tidy_files};
 use kmin_words::{PathList, TidyFlags, Tidying};
 use std::alloc::{AllocError, Global};
-
-/// The most bytes of the list of `--from`.
-const MAX_LIST_BYTES: usize = 67_108_864;
 
 /// Tidies the files of the command on the disk, and then those that its list names, and returns the exit status: 2 a
 /// path in the list isn't UTF-8 or has a newline, 3 tree refused, 4 list too large, 5 list can't be read, 6 out of
@@ -50,8 +47,8 @@ pub fn tidy<F: Files, D: WriteDisk, I: Source, O: Sink, E: Sink>(
     // The files are tidied as by `tidy_files`; or the list or the tree is refused, which is reported, and nothing
     // changes.
     ensures ends { (lines : List (List ℕ)) × TidyEnds (known_by (F.content_of files.old) (F.regular_content_of files.old) (F.names_of files.old) (F.variable_of files.old)) (I.left input.old) (tidying_view tidying.now)
-        (outside_of (disk_of (D.state disk.old) (D.failures disk.old)) (O.taken out.old) (O.failures out.old))
-        (outside_of (disk_of (D.state disk.new) (D.failures disk.new)) (O.taken out.new) (O.failures out.new)) lines result × TakesLines (E.taken err.old) (E.failures err.old) lines (E.taken err.new) (E.failures err.new) }
+        (outputs_of (disk_of (D.state disk.old) (D.failures disk.old)) (O.taken out.old) (O.failures out.old))
+        (outputs_of (disk_of (D.state disk.new) (D.failures disk.new)) (O.taken out.new) (O.failures out.new)) lines result × TakesLines (E.taken err.old) (E.failures err.old) lines (E.taken err.new) (E.failures err.new) }
 
     // Without `--write` the disk doesn't change.
     ensures unasked { tidying.now.flags.write ≡ false → D.state disk.new ≡ D.state disk.old }
@@ -78,8 +75,8 @@ fn tidy_listed<F: Files, D: WriteDisk, O: Sink, E: Sink>(
     ensures status { result ≤ 6 }
     ensures ends { (left : Option (List ℕ)) → AreListBytes (F.content_of files.old) left (tidying_view tidying.now).list list.now
         → (lines : List (List ℕ)) × TidyEnds (known_by (F.content_of files.old) (F.regular_content_of files.old) (F.names_of files.old) (F.variable_of files.old)) left (tidying_view tidying.now)
-        (outside_of (disk_of (D.state disk.old) (D.failures disk.old)) (O.taken out.old) (O.failures out.old))
-        (outside_of (disk_of (D.state disk.new) (D.failures disk.new)) (O.taken out.new) (O.failures out.new)) lines result × TakesLines (E.taken err.old) (E.failures err.old) lines (E.taken err.new) (E.failures err.new) }
+        (outputs_of (disk_of (D.state disk.old) (D.failures disk.old)) (O.taken out.old) (O.failures out.old))
+        (outputs_of (disk_of (D.state disk.new) (D.failures disk.new)) (O.taken out.new) (O.failures out.new)) lines result × TakesLines (E.taken err.old) (E.failures err.old) lines (E.taken err.new) (E.failures err.new) }
     ensures unasked { tidying.now.flags.write ≡ false → D.state disk.new ≡ D.state disk.old }
     ensures unwritten { result ≢ 0 → result ≢ 1 → result ≢ 4 → result ≢ 5 → O.taken out.new ≡ O.taken out.old }
 {
@@ -112,8 +109,8 @@ fn tidy_paths<F: Files, D: WriteDisk, O: Sink, E: Sink>(
 ) -> u8
     ensures status { result ≤ 6 }
     ensures ends { (lines : List (List ℕ)) × PathsEnd (known_by (F.content_of files.old) (F.regular_content_of files.old) (F.names_of files.old) (F.variable_of files.old)) (settings_view tidying.now.settings) tidying.now.flags (map (λ (path : Bor (List ℕ)). path.now) paths.now)
-        (outside_of (disk_of (D.state disk.old) (D.failures disk.old)) (O.taken out.old) (O.failures out.old))
-        (outside_of (disk_of (D.state disk.new) (D.failures disk.new)) (O.taken out.new) (O.failures out.new)) lines result × TakesLines (E.taken err.old) (E.failures err.old) lines (E.taken err.new) (E.failures err.new) }
+        (outputs_of (disk_of (D.state disk.old) (D.failures disk.old)) (O.taken out.old) (O.failures out.old))
+        (outputs_of (disk_of (D.state disk.new) (D.failures disk.new)) (O.taken out.new) (O.failures out.new)) lines result × TakesLines (E.taken err.old) (E.failures err.old) lines (E.taken err.new) (E.failures err.new) }
     ensures unasked { tidying.now.flags.write ≡ false → D.state disk.new ≡ D.state disk.old }
     ensures unwritten { result ≢ 0 → result ≢ 1 → result ≢ 4 → result ≢ 5 → O.taken out.new ≡ O.taken out.old }
 {

@@ -9,15 +9,8 @@ use crate::prefetch::absent_paths_of_file;
 use crate::trees::read_texts;
 use kc_expr::Language;
 use kc_tree::{Texts, Tree, TreeFault, TreeKind, wanted};
-use kc_value::{MAX_FILES, MAX_TREE_BYTES, ReadBytes, ReadEnd, Source, read_up_to};
+use kc_value::{MAX_FILE_BYTES, MAX_FILES, MAX_ROUNDS, ReadBytes, ReadEnd, Source, read_up_to};
 use std::alloc::{AllocError, Global};
-
-/// The most bytes of a file that are read: one more than a tree may have.
-const MAX_FILE_BYTES: usize = MAX_TREE_BYTES + 1;
-
-/// The most readings of a tree until one wants no further file. Each reaches files one `source` deeper, and no more
-/// than 32 files are open at a time.
-const MAX_ROUNDS: u32 = 64;
 
 /// The texts of a tree's files, and the result of reading them as a tree.
 #[derive(Drop)]

@@ -8,7 +8,7 @@ ghost use Rattle.kc_rules.specs.between.SettledViews.{profile_of};
 ghost use Rattle.kc_dotconfig.specs.ConfigStates.{tree_in};
 ghost use Rattle.kc_dotconfig_model.specs.between.Formats as formats;
 ghost use Rattle.kmin_jobs.specs.Answers.{name_line, IsTextOfVerb, difference_line};
-ghost use Rattle.kmin_jobs.specs.Statuses.{status_of_list, listed};
+ghost use Rattle.kmin_jobs.specs.Statuses.{status_of_list, status_of_verb};
 ghost use Rattle.kmin_words.specs.Jobs.{Settings};
 
 use crate::symbol_lines::{difference_lines, name_lines};
@@ -25,22 +25,21 @@ pub(crate) struct AnswerText {
     pub(crate) status: u8,
 }
 
-/// The output of a verb for a configuration, and its status: 1 if a symbol is listed and `exit_code` is set, else 0.
+/// The output of a verb for a configuration, and its status: 1 if a symbol is listed with `--exit-code`, else 0.
 pub(crate) fn answer_of(
     alloc: Global,
     verb: Verb,
-    exit_code: bool,
     config: &Config<'_>,
     format: &Format,
 ) -> Result<AnswerText, AllocError>
     ensures text { IfOk result (λ answer. (settings : Settings) → settings.format ≡ formats.file_format format.now → settings.profile ≡ profile_of config.now.system → IsTextOfVerb settings (tree_in config.now) config.now.users config.now.values verb answer.text.items) }
-    ensures status { IfOk result (λ answer. answer.status ≡ status_of_list exit_code (listed (tree_in config.now) config.now.users config.now.values verb)) }
+    ensures status { IfOk result (λ answer. answer.status ≡ status_of_verb (tree_in config.now) config.now.users config.now.values verb) }
 {
     match verb {
         Verb::Min => file_answer(minimal_text(alloc, config, format)),
         Verb::Full => file_answer(full_text(alloc, config, format)),
-        Verb::Missed => missed_answer(alloc, exit_code, config),
-        Verb::Check => unmet_answer(alloc, exit_code, config),
+        Verb::Missed { exit_code } => missed_answer(alloc, exit_code, config),
+        Verb::Check { exit_code } => unmet_answer(alloc, exit_code, config),
     }
 }
 

@@ -1,27 +1,49 @@
 -- Texts and the pieces into which an end byte cuts them; lines and the carriage returns at their ends.
-use Rattle.std.proofs.Common.{◌≡◌, ℕ, zero, suc, ◌-◌, ◌<◌, ◌==◌, Bool, true, false, cond, List, [], ◌∷◌, ◌++◌, length, refl, sym, ap, ◌∙◌, take, drop, get_or, arith}
+use Rattle.std.proofs.Common.{◌≡◌, ℕ, zero, suc, ◌-◌, ◌<◌, ◌==◌, Bool, true, false, not, ◌&&◌, cond, List, [], ◌∷◌, ◌++◌, length, refl, sym, ap, ◌∙◌, take, drop, get_or, arith}
 use Rattle.std.specs.List.{onto_first}
 use Rattle.std.proofs.Math.Seq.{take-suc}
 use Rattle.std.proofs.lemmas.Grind.{common_steps}
-use Rattle.std.proofs.lemmas.Bool.{false_from_ne_true, eqb-true}
-use Rattle.kmin_lines.specs.Lines.{pieces, without_carriage_return}
+use Rattle.std.proofs.lemmas.Bool.{false_from_ne_true, eqb-true, eq-eqb}
+use Rattle.kmin_lines.specs.Lines.{pieces, has_no_byte, without_carriage_return}
 
+-- a text with a byte `ender` at `at` consists of the bytes before it, that byte, and the bytes after it
+pub parted_at : (ender : ℕ) (text : List ℕ) (at : ℕ) → at < length text → (get_or text at 0 == ender) ≡ true
+    → text ≡ take at text ++ ender ∷ drop (suc at) text
+parted_at ender [] at l found = absurd (omega arith)
+parted_at ender (c ∷ cs) zero l found = ap (λ b. b ∷ cs) (eqb-true c ender found)
+parted_at ender (c ∷ cs) (suc n) l found = ap (λ bytes. c ∷ bytes) (parted_at ender cs n (omega arith) found)
+
+-- a text without a byte `ender` at any place has no byte `ender`
+pub none_in : (ender : ℕ) (text : List ℕ) → ((k : ℕ) → k < length text → (get_or text k 0 == ender) ≡ true → ⊥) → has_no_byte ender text ≡ true
+none_in ender [] none = refl
+none_in ender (c ∷ cs) none =
+    rw (false_from_ne_true (c == ender) (none 0 (omega arith))) (none_in ender cs (λ k h. none (suc k) (omega arith)))
+
+-- the bytes before the first byte `ender` of a text have no byte `ender`
+pub none_before : (ender : ℕ) (text : List ℕ) (at : ℕ) → at < length text → ((k : ℕ) → k < at → (get_or text k 0 == ender) ≡ true → ⊥)
+    → has_no_byte ender (take at text) ≡ true
+none_before ender [] at l before = absurd (omega arith)
+none_before ender (c ∷ cs) zero l before = refl
+none_before ender (c ∷ cs) (suc n) l before =
+    rw (false_from_ne_true (c == ender) (before 0 (omega arith))) (none_before ender cs n (omega arith) (λ k h. before (suc k) (omega arith)))
+
+-- the first piece of a text is the bytes before a first byte `ender`, and the bytes after it give the rest
+begin_cases : (ender c : ℕ) (cs rest : List ℕ) (b : Bool) → (not b && has_no_byte ender cs) ≡ true
+    → (has_no_byte ender cs ≡ true → pieces ender (cs ++ ender ∷ rest) ≡ cs ∷ pieces ender rest)
+    → cond b ([] ∷ pieces ender (cs ++ ender ∷ rest)) (onto_first c (pieces ender (cs ++ ender ∷ rest))) ≡ (c ∷ cs) ∷ pieces ender rest
+begin_cases ender c cs rest true alone next = cc
+begin_cases ender c cs rest false alone next = rw (next alone) refl
+
+pub pieces_parted : (ender : ℕ) (piece rest : List ℕ) → has_no_byte ender piece ≡ true → pieces ender (piece ++ ender ∷ rest) ≡ piece ∷ pieces ender rest
+pieces_parted ender [] rest alone = rw (eq-eqb ender ender refl) refl
+pieces_parted ender (c ∷ cs) rest alone = begin_cases ender c cs rest (c == ender) alone (pieces_parted ender cs rest)
+
+-- a text that isn't empty and has no byte `ender` is one piece
 onto_next : (ender c : ℕ) (cs front back : List ℕ) (b : Bool) → (c == ender) ≡ b → ((c == ender) ≡ true → ⊥) → pieces ender cs ≡ front ∷ pieces ender back
     → cond b ([] ∷ pieces ender cs) (onto_first c (pieces ender cs)) ≡ (c ∷ front) ∷ pieces ender back
 onto_next ender c cs front back true e other h = absurd (other e)
 onto_next ender c cs front back false e other h = rw h refl
 
--- where the first byte `ender` of a text is at `at`, the first piece is the bytes before it, and the bytes after it give the rest
-pub pieces_at : (ender : ℕ) (text : List ℕ) (at : ℕ) → at < length text → ((k : ℕ) → k < at → (get_or text k 0 == ender) ≡ true → ⊥)
-    → (get_or text at 0 == ender) ≡ true
-    → pieces ender text ≡ take at text ∷ pieces ender (drop (suc at) text)
-pieces_at ender [] at l before found = absurd (omega arith)
-pieces_at ender (c ∷ cs) zero l before found = rw found refl
-pieces_at ender (c ∷ cs) (suc n) l before found =
-    onto_next ender c cs (take n cs) (drop (suc n) cs) (c == ender) refl (before 0 (omega arith))
-    (pieces_at ender cs n (omega arith) (λ k h. before (suc k) (omega arith)) found)
-
--- a text that isn't empty and has no byte `ender` is one piece
 pub one_piece : (ender : ℕ) (text : List ℕ) → 0 < length text → ((k : ℕ) → k < length text → (get_or text k 0 == ender) ≡ true → ⊥)
     → pieces ender text ≡ text ∷ []
 one_piece ender [] some none = absurd (omega arith)

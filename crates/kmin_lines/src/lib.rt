@@ -1,4 +1,4 @@
-//! The lines of texts: how many differ between two texts, and the paths that a list names.
+//! The lines of texts: the first of a text, how many differ between two texts, and the paths that a list names.
 #![tactic(auto)]
 
 mod counts;
@@ -8,3 +8,4 @@ mod pieces;
 
 pub use counts::{LineCounts, count_lines};
 pub use list::{ListFault, listed_paths};
+pub use pieces::first_piece;

@@ -1,12 +1,14 @@
 //! Texts cut into pieces, each ended by a byte.
-ghost use Rattle.std.specs.Prelude.{◌≡◌, ◌∷◌, [], ◌<◌, length, IfSome, IfNone};
-ghost use Rattle.kmin_lines.specs.Lines.{pieces, without_carriage_return};
+ghost use Rattle.std.specs.Prelude.{◌≡◌, ◌∷◌, [], ◌<◌, length, true, IfSome, IfNone};
+ghost use Rattle.kmin_lines.specs.Lines.{pieces, BeginsWithPiece, has_no_byte, without_carriage_return};
 
 use bstr::ByteSlice;
 
 /// The bytes of a text before its first byte `ender`, and the bytes after that; without such a byte, the whole text and no bytes.
 /// `None` for an empty text.
-pub(crate) fn first_piece(text: &[u8], ender: u8) -> Option<(&[u8], &[u8])>
+pub fn first_piece(text: &[u8], ender: u8) -> Option<(&[u8], &[u8])>
+    ensures bytes { IfSome result (λ found. BeginsWithPiece ender text.now found.0.now found.1.now) }
+    ensures alone { IfSome result (λ found. has_no_byte ender found.0.now ≡ true) }
     ensures piece { IfSome result (λ found. pieces ender text.now ≡ found.0.now ∷ pieces ender found.1.now) }
     ensures shorter { IfSome result (λ found. length found.1.now < length text.now) }
     ensures none { IfNone result (text.now ≡ []) }

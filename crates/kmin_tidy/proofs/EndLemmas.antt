@@ -9,7 +9,7 @@ use Rattle.kmin_tidy.specs.Options.{Settings}
 use Rattle.kmin_tidy.specs.Steps.{Disk}
 use Rattle.kmin_tidy.specs.Runs.{Tidies}
 use Rattle.kmin_tidy.specs.Ends.{Ends, whole, part, stopped, Stops, before_write, at_write, at_left, IsToBeReplaced, LeavesNewFile}
-use Rattle.kmin_tidy.specs.Promises.{Became, IsKept, IsTidy, AreTidy}
+use Rattle.kmin_tidy.specs.Promises.{IsKeptOrLeft, IsKept, IsTidy, AreTidy}
 use Rattle.kmin_tidy.specs.checker.Endings.{status_of_stop, IsWrittenOut}
 use Rattle.kmin_tidy.specs.checker.Endings as written
 use Rattle.kmin_tidy.specs.checker.FileResults.{StopsRun}
@@ -17,7 +17,7 @@ use Rattle.kmin_tidy.specs.checker.FileResults as results
 use Rattle.kmin_tidy.specs.checker.ReportLines.{stop_line}
 use Rattle.kmin_tidy.specs.declared.stop.Stop.{Stop}
 use Rattle.kmin_tidy.specs.declared.stop.Stop.TheVariants.{Memory, Left}
-use Rattle.kmin_tidy.specs.declared.whole_run.Tidied.{Tidied}
+use Rattle.kmin_tidy.specs.declared.whole_run.RunResult.{RunResult}
 use Rattle.kmin_tidy.proofs.KeptPlaces.{stays_same, kept_after, newest_written}
 use Rattle.kmin_tidy.proofs.StepLemmas.{tidy_same}
 use Rattle.kmin_tidy.proofs.RunLemmas.{all_front, all_next, run_kept, run_unasked, run_tidy}
@@ -36,10 +36,10 @@ module _ (s : Settings) (a : Disk) where
   tidies_tidy b paths text reports status t tidy =
       run_tidy s a b t.files text reports t.run (subst (AreTidy s a.state) (sym t.paths_are) tidy)
 
-  -- a place that held nothing, and at which a new file is left, has changed as `Became` allows
+  -- a place that held nothing, and at which a new file is left, has changed as `IsKeptOrLeft` allows
   new_place : (before between after : History) → IsKept s before between → after ≡ with_newest unfinished between
       → (newest between ≢ None → newest between ≡ Some nothing)
-      → Became s before after
+      → IsKeptOrLeft s before after
   new_place before [] after k left free = inl (subst (IsKept s before) (sym left) k)
   new_place before (content ∷ rest) after (inl stays) left free =
       let is : Some content ≡ Some nothing = free (λ e. let z : Some content ≡ None = e in (cc)) in
@@ -49,12 +49,12 @@ module _ (s : Settings) (a : Disk) where
       absurd (newest_written m.least before (ap newest (sym m.replaced) ∙ is))
 
   left_became : (between b : Disk) (path new_path place : List ℕ) → LeavesNewFile between b path new_path
-      → IsKept s (a.state.history place) (between.state.history place) → Became s (a.state.history place) (b.state.history place)
+      → IsKept s (a.state.history place) (between.state.history place) → IsKeptOrLeft s (a.state.history place) (b.state.history place)
   left_became between b path new_path place l k =
       elim (same_place_or_other place (between.state.place new_path)) [
         | inl is ↦ (let kept : IsKept s (a.state.history (between.state.place new_path)) (between.state.history (between.state.place new_path)) =
             subst (λ p. IsKept s (a.state.history p) (between.state.history p)) is k in
-            subst (λ p. Became s (a.state.history p) (b.state.history p)) (sym is)
+            subst (λ p. IsKeptOrLeft s (a.state.history p) (b.state.history p)) (sym is)
             (new_place (a.state.history (between.state.place new_path)) (between.state.history (between.state.place new_path))
             (b.state.history (between.state.place new_path))
             kept l.leaves.left l.leaves.free))
@@ -63,7 +63,7 @@ module _ (s : Settings) (a : Disk) where
       ]
 
   stops_became : (b : Disk) (paths reports : List (List ℕ)) (status : ℕ) → Stops s a b paths reports status
-      → (place : List ℕ) → Became s (a.state.history place) (b.state.history place)
+      → (place : List ℕ) → IsKeptOrLeft s (a.state.history place) (b.state.history place)
   stops_became b paths reports status (before_write between front back text earlier made e t same r n) place =
       inl (subst (λ (d : Disk). IsKept s (a.state.history place) (d.state.history place)) (sym same) (tidies_kept between front text earlier made t place))
   stops_became b paths reports status (at_write between front back path text earlier made e t asked u r n) place =
@@ -74,7 +74,7 @@ module _ (s : Settings) (a : Disk) where
 
   -- after a run, each place is as before, has its minimal file as its newest content, or has an unfinished new file
   pub ends_became : (b : Disk) (paths reports : List (List ℕ)) (taken after : Option (List ℕ)) (failed failed_after status : ℕ)
-      → Ends s a b paths taken after failed failed_after reports status → (place : List ℕ) → Became s (a.state.history place) (b.state.history place)
+      → Ends s a b paths taken after failed failed_after reports status → (place : List ℕ) → IsKeptOrLeft s (a.state.history place) (b.state.history place)
   ends_became b paths reports taken after failed failed_after status (whole text t w f) place = inl (tidies_kept b paths text reports status t place)
   ends_became b paths reports taken after failed failed_after status (part text earlier made count t l w f r n) place =
       inl (tidies_kept b paths text earlier made t place)
@@ -144,7 +144,7 @@ module _ (s : Settings) (a : Disk) where
       subst (λ later. Appends taken later []) (sym same) (Appends-nil taken)
 
 -- a run that went over all its files, and whose text was then written whole or in part, ends as `Ends` says
-pub ends_written : (s : Settings) (a b : Disk) (paths : List (List ℕ)) (tidied : Tidied) (earlier own : List (List ℕ)) (taken after : Option (List ℕ))
+pub ends_written : (s : Settings) (a b : Disk) (paths : List (List ℕ)) (tidied : RunResult) (earlier own : List (List ℕ)) (taken after : Option (List ℕ))
     (failed failed_after status : ℕ)
     → Tidies s a b paths tidied.text.items earlier tidied.status → IsWrittenOut tidied taken after failed failed_after own status
     → Ends s a b paths taken after failed failed_after (earlier ++ own) status

@@ -4,7 +4,7 @@ use Rattle.kmin_disk.specs.Contents.{Content, nothing, file, unfinished, special
 use Rattle.kmin_disk.specs.Disks.{DiskState, IsUnchanged, Replaces, content_at}
 use Rattle.kmin_disk.proofs.Places.{same_place_or_other}
 use Rattle.kmin_tidy.specs.Options.{Settings, Notices, refuses_notices}
-use Rattle.kmin_tidy.specs.MinimalFiles.{IsReadAs, HasMinimalFile, Differs}
+use Rattle.kmin_tidy.specs.MinimalFiles.{IsReadAs, HasMinimalFile, IsNotMinimal}
 use Rattle.kmin_tidy.specs.Steps.{Disk, Step, refused, noticed, minimal, shown, replaced, unwritten, IsUnwritten, call_failed, names_taken, not_regular, unsynced}
 use Rattle.kmin_tidy.specs.Promises.{IsMinimised, IsKept, IsTidy}
 use Rattle.kmin_tidy.specs.Runs.{HoldsMinimalFile}
@@ -23,7 +23,7 @@ module _ (s : Settings) (a b : Disk) (path : List ℕ) where
   unchanged_kept u place = inl (u.histories place)
 
   -- replacing the file at a path by its minimal file changes the place of that path alone, as `IsKept` allows
-  pub replaced_kept : (bytes least : List ℕ) (notices : Notices) → Differs s a.state path bytes least notices → Replaces a.state b.state path least
+  pub replaced_kept : (bytes least : List ℕ) (notices : Notices) → IsNotMinimal s a.state path bytes least notices → Replaces a.state b.state path least
       → (place : List ℕ) → IsKept s (a.state.history place) (b.state.history place)
   replaced_kept bytes least notices d r place =
       elim (same_place_or_other place (a.state.place path)) [
@@ -39,7 +39,7 @@ module _ (s : Settings) (a b : Disk) (path : List ℕ) where
         | inr other ↦ inl (r.others place other)
       ]
 
-  unwritten_kept : (bytes least : List ℕ) (notices : Notices) → Differs s a.state path bytes least notices → IsUnwritten a b path least
+  unwritten_kept : (bytes least : List ℕ) (notices : Notices) → IsNotMinimal s a.state path bytes least notices → IsUnwritten a b path least
       → (place : List ℕ) → IsKept s (a.state.history place) (b.state.history place)
   unwritten_kept bytes least notices d (call_failed u f) place = unchanged_kept u place
   unwritten_kept bytes least notices d (names_taken u t f) place = unchanged_kept u place
@@ -119,7 +119,7 @@ tidy_content s (Some special) bytes least notices t r m allowed other = t
 
 -- a path that leads to no file, or to a minimal or refused one, has no minimal file of other bytes
 pub tidy_same : (s : Settings) (disk : DiskState) (path bytes least : List ℕ) (notices : Notices) → IsTidy s (content_at disk path)
-    → Differs s disk path bytes least notices → ⊥
+    → IsNotMinimal s disk path bytes least notices → ⊥
 tidy_same s disk path bytes least notices t d =
     tidy_content s (content_at disk path) bytes least notices t d.minimises.read.bytes_are d.minimises.minimal d.minimises.allowed d.differs
 

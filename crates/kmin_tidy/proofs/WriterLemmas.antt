@@ -6,7 +6,7 @@ use Rattle.std.proofs.KnownBytes.{Appends-nil, Appends-trans}
 use Rattle.std.proofs.lemmas.Grind.{flat_map-append}
 use Rattle.std.proofs.lemmas.List.{take-append-le, map-append}
 use Rattle.std.proofs.Math.Seq.{take-append-add, take-suc}
-use Rattle.kmin_tidy.specs.StandardError.{TakesWhole, TakesPart, TakesLine, TakesLines, none, one_more, Rises}
+use Rattle.kmin_tidy.specs.StandardError.{TakesWhole, TakesPart, TakesLine, TakesLines, none, one_more, HasRisen}
 
 -- a writer takes the empty text whole, and is as before
 pub whole_none : (before : Option (List ℕ)) (failed : ℕ) → TakesWhole before failed [] before failed
@@ -26,7 +26,7 @@ whole_part before middle after failed failed_middle failed_after text more h k =
   within = let w = k.within in omega (arith, length-append text more);
   appends = subst (λ bytes. Appends before after bytes) (sym (take-append-add text more k.written))
       (Appends-trans before middle after text (take k.written more) h.appends k.appends);
-  rose = subst (λ n. Rises n failed_after) h.unfailed k.rose;
+  rose = subst (λ n. HasRisen n failed_after) h.unfailed k.rose;
 }
 
 pub part_more : (before after : Option (List ℕ)) (failed failed_after : ℕ) (text more : List ℕ)

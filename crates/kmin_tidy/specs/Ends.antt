@@ -5,9 +5,9 @@ use Rattle.kc_value.specs.Streams.{one_failure_more}
 use Rattle.kmin_disk.specs.Disks.{IsUnchanged, Leaves}
 use Rattle.kmin_disk.specs.NewFiles.{IsNewPath}
 use Rattle.kmin_tidy.specs.Options.{Settings, Notices}
-use Rattle.kmin_tidy.specs.MinimalFiles.{Differs}
+use Rattle.kmin_tidy.specs.MinimalFiles.{IsNotMinimal}
 use Rattle.kmin_tidy.specs.Reports.{left_line, output_line, memory_line}
-use Rattle.kmin_tidy.specs.StandardError.{Rises}
+use Rattle.kmin_tidy.specs.StandardError.{HasRisen}
 use Rattle.kmin_tidy.specs.Steps.{Disk}
 use Rattle.kmin_tidy.specs.Runs.{Tidies}
 
@@ -18,7 +18,7 @@ pub record IsToBeReplaced (s : Settings) (disk : Disk) (path : List ℕ) : Type 
   pub bytes : List ℕ
   pub least : List ℕ
   pub notices : Notices
-  pub differs : Differs s disk.state path bytes least notices
+  pub differs : IsNotMinimal s disk.state path bytes least notices
 
 -- Replacing the file at `path` failed, and so did removing its new file, which is left at `new_path` in the same folder.
 pub record LeavesNewFile (old new : Disk) (path new_path : List ℕ) : Type 0 where
@@ -48,7 +48,7 @@ pub data Ends (s : Settings) (old new : Disk) (paths : List (List ℕ)) (taken t
   whole : (text : List ℕ) → Tidies s old new paths text reports status → Appends taken taken_after text
       → failed_after ≡ failed → Ends s old new paths taken taken_after failed failed_after reports status
   part : (text : List ℕ) (earlier : List (List ℕ)) (made count : ℕ) → Tidies s old new paths text earlier made
-      → count < length text → Appends taken taken_after (take count text) → Rises failed failed_after
+      → count < length text → Appends taken taken_after (take count text) → HasRisen failed failed_after
       → reports ≡ earlier ++ output_line ∷ [] → status ≡ 5
       → Ends s old new paths taken taken_after failed failed_after reports status
   stopped : Stops s old new paths reports status → taken_after ≡ taken → failed_after ≡ failed

@@ -9,7 +9,7 @@ use Rattle.kc_minimal_model.specs.FileValues.{Loads}
 use Rattle.kmin_disk.specs.Contents.{Content, special, readable}
 use Rattle.kmin_disk.specs.Disks.{DiskState, content_at}
 use Rattle.kmin_tidy.specs.KnownBytes.{AreKnownBytes}
-use Rattle.kmin_tidy.specs.Options.{Settings, Notices, Allows}
+use Rattle.kmin_tidy.specs.Options.{Settings, Notices, AreAllowed}
 
 -- these bytes may be read from a file of this content, as far as it is known
 abbrev pub IsReadAs : Option Content → (bytes : List ℕ) → Type 0
@@ -47,9 +47,9 @@ IsMinimalFile s bytes = (values : List UnitValue) × IsCanonicalText s.format s.
 pub record Minimises (s : Settings) (disk : DiskState) (path bytes least : List ℕ) (notices : Notices) : Type 0 where
   pub read : IsReadAt s disk path bytes
   pub minimal : HasMinimalFile s bytes least notices
-  pub allowed : Allows s.options notices
+  pub allowed : AreAllowed s.options notices
 
 -- The file at a path is accepted with these notices, and not refused for them, and its bytes aren't those of its minimal file.
-pub record Differs (s : Settings) (disk : DiskState) (path bytes least : List ℕ) (notices : Notices) : Type 0 where
+pub record IsNotMinimal (s : Settings) (disk : DiskState) (path bytes least : List ℕ) (notices : Notices) : Type 0 where
   pub minimises : Minimises s disk path bytes least notices
   pub differs : least ≢ bytes

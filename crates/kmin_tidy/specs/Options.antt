@@ -35,5 +35,5 @@ abbrev pub refuses_notices : TidyOptions → Bool
 refuses_notices options = options.strict || (options.write && not options.drop)
 
 -- under these options, a file with these notices isn't refused for them
-abbrev pub Allows : TidyOptions → Notices → Type 0
-Allows options notices = refuses_notices options ≡ true → notices ≡ []
+abbrev pub AreAllowed : TidyOptions → Notices → Type 0
+AreAllowed options notices = refuses_notices options ≡ true → notices ≡ []

@@ -27,8 +27,8 @@ IsLeft old new = (newest old ≡ Some nothing) × (newest new ≡ Some unfinishe
 
 -- After a run, a name in a folder holds what it held before, its file was replaced by its minimal file, or it held nothing and
 -- now holds an unfinished new file.
-abbrev pub Became : Settings → (old new : History) → Type 0
-Became s old new = IsKept s old new ⊎ IsLeft old new
+abbrev pub IsKeptOrLeft : Settings → (old new : History) → Type 0
+IsKeptOrLeft s old new = IsKept s old new ⊎ IsLeft old new
 
 -- a file of these bytes isn't accepted as a configuration file, or is refused for its notices
 abbrev pub IsRefusedFile : Settings → (bytes : List ℕ) → Type 0

@@ -3,8 +3,8 @@ use Rattle.std.specs.Prelude.{◌≡◌, ℕ, ◌<◌, ◌-◌, ◌^◌, ◌⊎�
 use Rattle.std.specs.Io.KnownBytes.{Appends}
 
 -- a count of failed writes rose, unless it was at its limit, 2 ^ 64 - 1
-abbrev pub Rises : (before after : ℕ) → Type 0
-Rises before after = before < 2 ^ 64 - 1 → before < after
+abbrev pub HasRisen : (before after : ℕ) → Type 0
+HasRisen before after = before < 2 ^ 64 - 1 → before < after
 
 -- a writer took a text to its end, and no write failed
 pub record TakesWhole (before : Option (List ℕ)) (failed : ℕ) (text : List ℕ) (after : Option (List ℕ)) (failed_after : ℕ) : Type 0 where
@@ -16,7 +16,7 @@ pub record TakesPart (before : Option (List ℕ)) (failed : ℕ) (text : List �
   pub written : ℕ
   pub within : written < length text
   pub appends : Appends before after (take written text)
-  pub rose : Rises failed failed_after
+  pub rose : HasRisen failed failed_after
 
 -- a writer took a line, or its first bytes if a write failed
 abbrev pub TakesLine : Option (List ℕ) → ℕ → List ℕ → Option (List ℕ) → ℕ → Type 0

@@ -6,7 +6,7 @@ use Rattle.kmin_disk.specs.Disks.{DiskState, IsUnchanged, Replaces, content_at}
 use Rattle.kmin_disk.specs.Replacements.{HasTakenName}
 use Rattle.kmin_disk.specs.declared.kind.FileKind.TheVariants.{NotRegular}
 use Rattle.kmin_tidy.specs.Options.{Settings, Notices, refuses_notices}
-use Rattle.kmin_tidy.specs.MinimalFiles.{IsReadAt, HasNotices, Minimises, Differs}
+use Rattle.kmin_tidy.specs.MinimalFiles.{IsReadAt, HasNotices, Minimises, IsNotMinimal}
 use Rattle.kmin_tidy.specs.Refusals.{IsRefused}
 use Rattle.kmin_tidy.specs.Reports.{difference_line, notice_lines, write_line}
 use Rattle.kmin_tidy.specs.declared.outcome.FileOutcome.{FileOutcome}
@@ -46,16 +46,16 @@ pub data Step (s : Settings) (old new : Disk) (path line : List ℕ) (reports : 
   minimal : (bytes : List ℕ) (notices : Notices) → Minimises s old.state path bytes bytes notices → new ≡ old → line ≡ []
       → reports ≡ notice_lines path notices → outcome ≡ Minimal → Step s old new path line reports outcome
   -- the file isn't minimal, and files aren't replaced
-  shown : (bytes least : List ℕ) (notices : Notices) → Differs s old.state path bytes least notices
+  shown : (bytes least : List ℕ) (notices : Notices) → IsNotMinimal s old.state path bytes least notices
       → s.options.write ≡ false → new ≡ old → line ≡ difference_line path bytes least
       → reports ≡ notice_lines path notices → outcome ≡ NotMinimal → Step s old new path line reports outcome
   -- the file is replaced by its minimal file
-  replaced : (bytes least : List ℕ) (notices : Notices) → Differs s old.state path bytes least notices
+  replaced : (bytes least : List ℕ) (notices : Notices) → IsNotMinimal s old.state path bytes least notices
       → s.options.write ≡ true → Replaces old.state new.state path least → new.failures ≡ old.failures
       → line ≡ difference_line path bytes least
       → reports ≡ notice_lines path notices → outcome ≡ Minimal → Step s old new path line reports outcome
   -- the file couldn't be replaced, or not for good
-  unwritten : (bytes least : List ℕ) (notices : Notices) → Differs s old.state path bytes least notices
+  unwritten : (bytes least : List ℕ) (notices : Notices) → IsNotMinimal s old.state path bytes least notices
       → s.options.write ≡ true → IsUnwritten old new path least → line ≡ difference_line path bytes least
       → reports ≡ notice_lines path notices ++ write_line path ∷ [] → outcome ≡ Failed
       → Step s old new path line reports outcome

@@ -6,7 +6,7 @@ ghost use Rattle.kc_dotconfig.specs.Fragments.{FitsTree, notice_pair};
 ghost use Rattle.kmin_disk.specs.Contents.{IsOfKind, readable, special};
 ghost use Rattle.kmin_disk.specs.Disks.{content_at};
 ghost use Rattle.kmin_disk.specs.declared.kind.FileKind.TheVariants.{NotRegular};
-ghost use Rattle.kmin_tidy.specs.Options.{settings_of, refuses_notices, Allows};
+ghost use Rattle.kmin_tidy.specs.Options.{settings_of, refuses_notices, AreAllowed};
 ghost use Rattle.kmin_tidy.specs.MinimalFiles.{HasMinimalFile, IsReadAt, MayBeRead, Minimises};
 ghost use Rattle.kmin_tidy.specs.Steps.{Step, disk_of};
 ghost use Rattle.kmin_tidy.specs.checker.Readings.{IsAcceptedAs, IsFragmentOf};
@@ -144,7 +144,7 @@ fn tidy_allowed<D: WriteDisk>(
 ) -> Result<FileEnd, Stop>
     requires read { IsReadAt (settings_of config.old.system format.now options) (D.state disk.old) path.now bytes.now }
     requires fragment { IsFragmentOf (file_format format.now) (tree_in config.old) bytes.now fragment.now }
-    requires allowed { Allows options (map notice_pair fragment.now.notices.items) }
+    requires allowed { AreAllowed options (map notice_pair fragment.now.notices.items) }
     ensures settled { config.new.system ≡ config.old.system }
     ensures rewritten { IfOk result (λ end. (line : List ℕ) × (text.new.items ≡ text.old.items ++ line) × (least : List ℕ)
         × Minimises (settings_of config.old.system format.now options) (D.state disk.old) path.now bytes.now least

@@ -5,7 +5,7 @@ ghost use Rattle.kmin_tidy.specs.Options.{settings_of};
 ghost use Rattle.kmin_tidy.specs.Steps.{disk_of};
 ghost use Rattle.kmin_tidy.specs.Runs.{paths_of};
 ghost use Rattle.kmin_tidy.specs.Ends.{Ends};
-ghost use Rattle.kmin_tidy.specs.Promises.{Became, AreTidy};
+ghost use Rattle.kmin_tidy.specs.Promises.{IsKeptOrLeft, AreTidy};
 ghost use Rattle.kmin_tidy.specs.StandardError.{TakesLines};
 ghost use Rattle.kmin_tidy.specs.checker.ReportLines.{stop_line};
 ghost use Rattle.kmin_tidy.specs.checker.Endings.{status_of_stop, IsWrittenOut};
@@ -13,7 +13,7 @@ ghost use Rattle.kmin_tidy.specs.checker.Endings.{status_of_stop, IsWrittenOut};
 use crate::options::TidyOptions;
 use crate::report::{report_output, report_stop};
 use crate::stop::Stop;
-use crate::whole_run::{Tidied, tidy_all};
+use crate::whole_run::{RunResult, tidy_all};
 use kc_dotconfig::Format;
 use kc_minimal::write_out;
 use kc_rules::Settled;
@@ -51,7 +51,7 @@ pub fn tidy_files<D: WriteDisk, O: Sink, E: Sink>(
 
     // However the run ends, each place is as before, or its file was replaced by its minimal file, or a new file is
     // left there.
-    ensures became { (place : List ℕ) → Became (settings_of settled.now format.now options) ((D.state disk.old).history place)
+    ensures became { (place : List ℕ) → IsKeptOrLeft (settings_of settled.now format.now options) ((D.state disk.old).history place)
         ((D.state disk.new).history place) }
 
     ensures unasked { options.write ≡ false → D.state disk.new ≡ D.state disk.old }
@@ -86,7 +86,7 @@ fn run_to_end<D: WriteDisk, O: Sink, E: Sink>(
 }
 
 /// Writes the text of a run, and returns its status.
-fn write_text<O: Sink, E: Sink>(tidied: &Tidied, out: &mut O, err: &mut E) -> u8
+fn write_text<O: Sink, E: Sink>(tidied: &RunResult, out: &mut O, err: &mut E) -> u8
     ensures { (reports : List (List ℕ)) × IsWrittenOut tidied.now (O.taken out.old) (O.taken out.new) (O.failures out.old)
         (O.failures out.new) reports result × TakesLines (E.taken err.old) (E.failures err.old) reports (E.taken err.new) (E.failures err.new) }
 {

@@ -18,7 +18,7 @@ use std::alloc::Global;
 
 /// The text for standard output of a run over all its files, and its exit status.
 #[derive(Drop)]
-pub(crate) struct Tidied {
+pub(crate) struct RunResult {
     pub(crate) text: Vec<u8>,
     pub(crate) status: u8,
 }
@@ -32,7 +32,7 @@ pub(crate) fn tidy_all<D: WriteDisk, E: Sink>(
     paths: &[&str],
     disk: &mut D,
     err: &mut E,
-) -> Result<Tidied, Stop>
+) -> Result<RunResult, Stop>
     ensures run { IfOk result (λ tidied. (reports : List (List ℕ)) × Tidies (settings_of settled.now format.now options)
         (disk_of (D.state disk.old) (D.failures disk.old)) (disk_of (D.state disk.new) (D.failures disk.new))
         (paths_of paths.now) tidied.text.items reports tidied.status × TakesLines (E.taken err.old) (E.failures err.old) reports (E.taken err.new)
@@ -54,7 +54,7 @@ fn tidy_each<D: WriteDisk, E: Sink>(
     paths: &[&str],
     disk: &mut D,
     err: &mut E,
-) -> Result<Tidied, Stop>
+) -> Result<RunResult, Stop>
     ensures run { IfOk result (λ tidied. (reports : List (List ℕ)) × Tidies (settings_of config.old.system format.now options)
         (disk_of (D.state disk.old) (D.failures disk.old)) (disk_of (D.state disk.new) (D.failures disk.new))
         (paths_of paths.now) tidied.text.items reports tidied.status × TakesLines (E.taken err.old) (E.failures err.old) reports (E.taken err.new)
@@ -70,5 +70,5 @@ fn tidy_each<D: WriteDisk, E: Sink>(
         report_file(path, &report, err);
         status = report.outcome.status_after(status);
     }
-    Ok(Tidied { text, status })
+    Ok(RunResult { text, status })
 }

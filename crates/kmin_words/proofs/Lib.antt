@@ -1,3 +1,4 @@
+pub mod CommandParts
 pub mod FoundWords
 pub mod Lists
 pub mod TidyRefusals

@@ -6,10 +6,10 @@ use Rattle.kmin_words.specs.declared.job.Tidying.{Tidying as DeclaredTidying}
 use Rattle.kmin_words.specs.declared.refusal.Refusal.{Refusal}
 use Rattle.kmin_words.specs.declared.refusal.Refusal.TheVariants.{Words, OutOfMemory}
 use Rattle.kmin_words.specs.Jobs.{Settings, PathList, Tidying, settings_view, tidying_view}
-use Rattle.kmin_words.specs.between.WordValues.{OrRefused, and_then, values_of, flags_of, list_of, one_line_paths, paths_read, settings_of, tidying_of}
+use Rattle.kmin_words.specs.between.WordValues.{ValueResult, and_then, values_of, flags_of, list_of, one_line_paths, paths_read, settings_of, tidying_of}
 use Rattle.kmin_words.specs.checker.Refusals.{Agrees}
 
-abbrev made : Found → List (List ℕ) → Settings → OrRefused Tidying
+abbrev made : Found → List (List ℕ) → Settings → ValueResult Tidying
 made found files settings = Ok (record { settings = settings; flags = flags_of found; list = list_of found; files = files })
 
 -- a refusal of the options of `tidy` is the refusal of the whole command

@@ -58,9 +58,9 @@ pub record Questions : Type 0 where
   pub tree : List ℕ
   pub expansion : Expansion
 
--- a command: a verb over the files of one configuration, with `--exit-code` or without it, or the comparison of two files
+-- a command: a verb over the files of one configuration, or the comparison of two files
 pub data Task : Type 0 where
-  over : Verb → (paths : List (List ℕ)) → (exit_code : Bool) → Task
+  over : Verb → (paths : List (List ℕ)) → Task
   compare : (left right : List ℕ) → Task
 
 -- a `Definition` of the code, as contracts see it
@@ -106,10 +106,10 @@ questions_view q = record { root = q.root.now; tree = q.tree.now; expansion = ex
 
 -- a `Task` of the code, as contracts see it
 abbrev pub task_view : DeclaredTask → Task
-task_view (Over verb files exit_code) = over verb (map (λ (path : Bor (List ℕ)). path.now) files.items) exit_code
+task_view (Over verb files) = over verb (map (λ (path : Bor (List ℕ)). path.now) files.items)
 task_view (Compare left right) = compare left.now right.now
 
 -- the configuration files of a command, in the order in which they are read
 abbrev pub paths_of : Task → List (List ℕ)
-paths_of (over verb paths exit_code) = paths
+paths_of (over verb paths) = paths
 paths_of (compare left right) = left ∷ right ∷ []

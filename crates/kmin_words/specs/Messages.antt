@@ -25,7 +25,5 @@ kind_text kind tables = flat_map (table_text kind) tables
 
 -- the help on a kind of message if the words of the command line are `help KIND`; empty if not
 abbrev pub kind_asked : (words : List (List ℕ)) → List Table → List ℕ
-kind_asked [] tables = []
-kind_asked (first ∷ []) tables = []
 kind_asked (first ∷ second ∷ []) tables = if bytes_eq first (codes "help") then kind_text second tables else []
-kind_asked (first ∷ second ∷ third ∷ words) tables = []
+kind_asked words tables = []

@@ -1,5 +1,6 @@
 -- Names similar to a mistyped word.
 use Rattle.std.specs.Prelude.{ℕ, ◌+◌, ◌==◌, List, [], ◌∷◌, ◌++◌, codes, position, take, drop, Option, Some, None, length, nat_le, nat_lt, if◌then◌else◌}
+use Rattle.std.specs.Option.{option_or}
 use Rattle.std.specs.Str.{chars}
 use Rattle.strsim.specs.Edits.{osa_table}
 
@@ -21,7 +22,4 @@ first_near word most (name ∷ names) = if nat_le (steps_between word name) most
 
 -- the first of these names at most one edit from a word, or if there is none and the word has six bytes or more, at most two
 abbrev pub nearest : (word : List ℕ) → (names : List (List ℕ)) → Option (List ℕ)
-nearest word names = elim (first_near word 1 names) [
-  | Some name ↦ Some name
-  | None ↦ if nat_lt (length word) 6 then None else first_near word 2 names
-]
+nearest word names = option_or (first_near word 1 names) (if nat_lt (length word) 6 then None else first_near word 2 names)

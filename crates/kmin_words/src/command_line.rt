@@ -50,7 +50,10 @@ pub fn read_words<'a>(alloc: Global, words: &'a [&'a str]) -> Result<ParsedWords
         return Ok(ParsedWords::Help(help));
     }
     match program(alloc)?.try_get_matches_from(words) {
-        Ok(matches) => job_of(alloc, &matches),
+        Ok(matches) => {
+            let (name, matches) = matches.subcommand().unwrap();
+            named_job(alloc, name, matches)
+        }
         Err(error) => clap_message(alloc, words, &error),
     }
 }
@@ -94,16 +97,6 @@ fn name_near(alloc: Global, words: &[&str]) -> Result<Option<&'static str>, Allo
         [first, ..] if *first != "help" => nearest(alloc, first, &command_names(alloc)?),
         _ => Ok(None),
     }
-}
-
-/// The job of words that `clap` accepts, or the message for a value that isn't allowed.
-fn job_of<'a>(alloc: Global, matches: &ArgMatches<'a>) -> Result<ParsedWords<'a>, AllocError>
-    ensures { IfOk result parsed.HasFoundValues }
-{
-    let Some((name, matches)) = matches.subcommand() else {
-        return Ok(ParsedWords::Refused(String::new(alloc)));
-    };
-    named_job(alloc, name, matches)
 }
 
 /// The job of a command by its name, or the message for a value that isn't allowed.
@@ -285,15 +278,14 @@ fn profile_of(value: &str) -> Profile
     }
 }
 
-/// The command of a name, with its files in their order, and with `--exit-code` where it is given.
+/// The command of a name, with its files in their order.
 fn task_of<'a>(alloc: Global, name: &str, matches: &ArgMatches<'a>) -> Result<Task<'a>, AllocError>
     ensures { IfOk result (λ task. task_view task ≡ parsed.task_of name.now (found_of matches.now)) }
 {
-    match verb_of(name) {
+    match verb_of(name, matches) {
         Some(verb) => Ok(Task::Over {
             verb,
             files: values_of(alloc, matches, "FILE")?,
-            exit_code: is_given(matches, "exit-code"),
         }),
         None => Ok(Task::Compare {
             left: value_of(matches, "LEFT"),
@@ -302,15 +294,16 @@ fn task_of<'a>(alloc: Global, name: &str, matches: &ArgMatches<'a>) -> Result<Ta
     }
 }
 
-/// The verb that the name of a command means; `None` for `compare`.
-fn verb_of(name: &str) -> Option<Verb>
-    ensures { result ≡ parsed.verb_of name.now }
+/// The verb that the name of a command means, with `--exit-code` where it is given; `None` for `compare`.
+fn verb_of(name: &str, matches: &ArgMatches<'_>) -> Option<Verb>
+    ensures { result ≡ parsed.verb_of name.now (found_of matches.now) }
 {
+    let exit_code = is_given(matches, "exit-code");
     match name {
         "min" => Some(Verb::Min),
         "full" => Some(Verb::Full),
-        "missed" => Some(Verb::Missed),
-        "check" => Some(Verb::Check),
+        "missed" => Some(Verb::Missed { exit_code }),
+        "check" => Some(Verb::Check { exit_code }),
         _ => None,
     }
 }

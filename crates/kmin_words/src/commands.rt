@@ -1,4 +1,7 @@
 //! The commands and their options, declared for `clap`.
+ghost use Rattle.std.specs.Prelude.{IfOk};
+ghost use Rattle.kmin_words.specs.checker.Commands.{IsLocal, HasLocalArguments, IsCommandRequired};
+
 use crate::help_texts;
 use crate::messages::{self, message_tables};
 use clap::{Arg, ArgAction, Command};
@@ -152,17 +155,19 @@ static ANSWERS: [ListHelp; 3] = [
 ];
 
 /// The program and all its commands, as `clap` needs them.
-pub(crate) fn program<'a>(alloc: Global) -> Result<Command<'a>, AllocError> {
+pub(crate) fn program<'a>(alloc: Global) -> Result<Command<'a>, AllocError>
+    ensures { IfOk result IsCommandRequired }
+{
     let mut program = named(alloc)?;
     for help in &WRITING {
-        program = with_command(program, over_files(alloc, help))?;
+        program = program.subcommand(over_files(alloc, help)?)?;
     }
     for help in &LISTING {
-        program = with_command(program, listing(alloc, help))?;
+        program = program.subcommand(listing(alloc, help)?)?;
     }
-    program = with_command(program, over_two_files(alloc, &COMPARE))?;
-    program = with_command(program, over_each_file(alloc, &TIDY))?;
-    with_command(program, over_a_tree(alloc, &WANTS))
+    program = program.subcommand(over_two_files(alloc, &COMPARE)?)?;
+    program = program.subcommand(over_each_file(alloc, &TIDY)?)?;
+    program.subcommand(over_a_tree(alloc, &WANTS)?)
 }
 
 /// The names of all commands, with `help`.
@@ -191,16 +196,10 @@ pub(crate) fn explained_names(alloc: Global) -> Result<Vec<&'static str>, AllocE
     Ok(names)
 }
 
-/// Adds a command to the program, unless it couldn't be made.
-fn with_command<'a>(
-    program: Command<'a>,
-    command: Result<Command<'a>, AllocError>,
-) -> Result<Command<'a>, AllocError> {
-    program.subcommand(command?)
-}
-
 /// The program without its commands.
-fn named<'a>(alloc: Global) -> Result<Command<'a>, AllocError> {
+fn named<'a>(alloc: Global) -> Result<Command<'a>, AllocError>
+    ensures { IfOk result IsCommandRequired }
+{
     let program = Command::new(alloc, "kmin")
         .no_binary_name(true)
         .subcommand_required(true);
@@ -208,7 +207,9 @@ fn named<'a>(alloc: Global) -> Result<Command<'a>, AllocError> {
 }
 
 /// Adds the help of the program as a whole.
-fn helped(program: Command<'_>) -> Command<'_> {
+fn helped(program: Command<'_>) -> Command<'_>
+    ensures { IsCommandRequired program.entry → IsCommandRequired result }
+{
     program
         .version(help_texts::VERSION)
         .about(help_texts::ABOUT)
@@ -218,7 +219,9 @@ fn helped(program: Command<'_>) -> Command<'_> {
 }
 
 /// A command over any number of configuration files, which make one configuration.
-fn over_files<'a>(alloc: Global, help: &CommandHelp) -> Result<Command<'a>, AllocError> {
+fn over_files<'a>(alloc: Global, help: &CommandHelp) -> Result<Command<'a>, AllocError>
+    ensures { IfOk result HasLocalArguments }
+{
     let command = with_output(alloc, help, with_options(alloc, help)?)?;
     command.arg(any_number(alloc, "FILE", help_texts::FILES))
 }
@@ -228,7 +231,9 @@ fn with_output<'a>(
     alloc: Global,
     help: &CommandHelp,
     command: Command<'a>,
-) -> Result<Command<'a>, AllocError> {
+) -> Result<Command<'a>, AllocError>
+    ensures { IfOk result (λ made. HasLocalArguments command.entry → HasLocalArguments made) }
+{
     match help.name {
         "min" | "full" => command.arg(output(alloc)),
         _ => Ok(command),
@@ -236,12 +241,16 @@ fn with_output<'a>(
 }
 
 /// A command that lists symbols of a configuration, with `--exit-code`.
-fn listing<'a>(alloc: Global, help: &CommandHelp) -> Result<Command<'a>, AllocError> {
+fn listing<'a>(alloc: Global, help: &CommandHelp) -> Result<Command<'a>, AllocError>
+    ensures { IfOk result HasLocalArguments }
+{
     over_files(alloc, help)?.arg(flag(alloc, "exit-code", help_texts::EXIT_CODE))
 }
 
 /// An argument of any number of words.
-fn any_number<'a>(alloc: Global, name: &'a str, help: &'a str) -> Arg<'a> {
+fn any_number<'a>(alloc: Global, name: &'a str, help: &'a str) -> Arg<'a>
+    ensures { IsLocal result }
+{
     Arg::new(alloc, name)
         .action(ArgAction::Append)
         .num_args(0..)
@@ -249,14 +258,18 @@ fn any_number<'a>(alloc: Global, name: &'a str, help: &'a str) -> Arg<'a> {
 }
 
 /// A command over two files, both of which are required.
-fn over_two_files<'a>(alloc: Global, help: &CommandHelp) -> Result<Command<'a>, AllocError> {
+fn over_two_files<'a>(alloc: Global, help: &CommandHelp) -> Result<Command<'a>, AllocError>
+    ensures { IfOk result HasLocalArguments }
+{
     let command = with_options(alloc, help)?;
     let command = command.arg(required(alloc, "LEFT", help_texts::LEFT))?;
     command.arg(required(alloc, "RIGHT", help_texts::RIGHT))
 }
 
 /// A command over files, each a configuration of its own, of which at least one, or a list, is required.
-fn over_each_file<'a>(alloc: Global, help: &CommandHelp) -> Result<Command<'a>, AllocError> {
+fn over_each_file<'a>(alloc: Global, help: &CommandHelp) -> Result<Command<'a>, AllocError>
+    ensures { IfOk result HasLocalArguments }
+{
     let command = with_tidy_flags(alloc, with_options(alloc, help)?)?;
     let from = valued(alloc, "from", "LIST", help_texts::FROM);
     let command = command.arg(from)?;
@@ -267,25 +280,33 @@ fn over_each_file<'a>(alloc: Global, help: &CommandHelp) -> Result<Command<'a>, 
 }
 
 /// Adds `--write` and `--drop` to a command.
-fn with_tidy_flags<'a>(alloc: Global, command: Command<'a>) -> Result<Command<'a>, AllocError> {
+fn with_tidy_flags<'a>(alloc: Global, command: Command<'a>) -> Result<Command<'a>, AllocError>
+    ensures { IfOk result (λ made. HasLocalArguments command.entry → HasLocalArguments made) }
+{
     let command = command.arg(flag(alloc, "write", help_texts::WRITE))?;
     let drop = flag(alloc, "drop", help_texts::DROP).requires_arg("write")?;
     command.arg(drop.conflicts_with("strict")?)
 }
 
 /// An argument of one word that can't be left out.
-fn required<'a>(alloc: Global, name: &'a str, help: &'a str) -> Arg<'a> {
+fn required<'a>(alloc: Global, name: &'a str, help: &'a str) -> Arg<'a>
+    ensures { IsLocal result }
+{
     Arg::new(alloc, name).required(true).help(help)
 }
 
 /// A command over a tree without configuration files.
-fn over_a_tree<'a>(alloc: Global, help: &CommandHelp) -> Result<Command<'a>, AllocError> {
+fn over_a_tree<'a>(alloc: Global, help: &CommandHelp) -> Result<Command<'a>, AllocError>
+    ensures { IfOk result HasLocalArguments }
+{
     let command = with_place(alloc, described(alloc, help))?;
     with_answers(alloc, command)
 }
 
 /// A command with its help and the options that all commands over configuration files share.
-fn with_options<'a>(alloc: Global, help: &CommandHelp) -> Result<Command<'a>, AllocError> {
+fn with_options<'a>(alloc: Global, help: &CommandHelp) -> Result<Command<'a>, AllocError>
+    ensures { IfOk result HasLocalArguments }
+{
     let command = with_place(alloc, described(alloc, help))?;
     let command = command.arg(language(alloc))?;
     let command = command.arg(option(alloc, &PREFIX))?;
@@ -296,7 +317,9 @@ fn with_options<'a>(alloc: Global, help: &CommandHelp) -> Result<Command<'a>, Al
 }
 
 /// Adds the options for the place of the tree to a command.
-fn with_place<'a>(alloc: Global, mut command: Command<'a>) -> Result<Command<'a>, AllocError> {
+fn with_place<'a>(alloc: Global, mut command: Command<'a>) -> Result<Command<'a>, AllocError>
+    ensures { IfOk result (λ made. HasLocalArguments command.entry → HasLocalArguments made) }
+{
     for valued in &PLACE {
         command = command.arg(option(alloc, valued))?;
     }
@@ -304,7 +327,9 @@ fn with_place<'a>(alloc: Global, mut command: Command<'a>) -> Result<Command<'a>
 }
 
 /// Adds the options that turn the expansion of macros on to a command.
-fn with_answers<'a>(alloc: Global, command: Command<'a>) -> Result<Command<'a>, AllocError> {
+fn with_answers<'a>(alloc: Global, command: Command<'a>) -> Result<Command<'a>, AllocError>
+    ensures { IfOk result (λ made. HasLocalArguments command.entry → HasLocalArguments made) }
+{
     let mut command = command.arg(flag(alloc, "expand", help_texts::EXPAND))?;
     for list in &ANSWERS {
         command = command.arg(repeated(alloc, list))?;
@@ -313,7 +338,9 @@ fn with_answers<'a>(alloc: Global, command: Command<'a>) -> Result<Command<'a>, 
 }
 
 /// An option without a value.
-fn flag<'a>(alloc: Global, name: &'a str, help: &'a str) -> Arg<'a> {
+fn flag<'a>(alloc: Global, name: &'a str, help: &'a str) -> Arg<'a>
+    ensures { IsLocal result }
+{
     Arg::new(alloc, name)
         .long(name)
         .action(ArgAction::SetTrue)
@@ -321,7 +348,9 @@ fn flag<'a>(alloc: Global, name: &'a str, help: &'a str) -> Arg<'a> {
 }
 
 /// An option with a value and no default.
-fn valued<'a>(alloc: Global, name: &'a str, value: &'a str, help: &'a str) -> Arg<'a> {
+fn valued<'a>(alloc: Global, name: &'a str, value: &'a str, help: &'a str) -> Arg<'a>
+    ensures { IsLocal result }
+{
     Arg::new(alloc, name)
         .long(name)
         .value_name(value)
@@ -329,14 +358,18 @@ fn valued<'a>(alloc: Global, name: &'a str, value: &'a str, help: &'a str) -> Ar
 }
 
 /// The option for the output file.
-fn output<'a>(alloc: Global) -> Arg<'a> {
+fn output<'a>(alloc: Global) -> Arg<'a>
+    ensures { IsLocal result }
+{
     valued(alloc, "output", "FILE", help_texts::OUTPUT)
         .short('o')
         .long_help(help_texts::OUTPUT_LONG)
 }
 
 /// An option that may be given again.
-fn repeated<'a>(alloc: Global, list: &ListHelp) -> Arg<'a> {
+fn repeated<'a>(alloc: Global, list: &ListHelp) -> Arg<'a>
+    ensures { IsLocal result }
+{
     Arg::new(alloc, list.name)
         .long(list.name)
         .value_name(list.value)
@@ -345,28 +378,36 @@ fn repeated<'a>(alloc: Global, list: &ListHelp) -> Arg<'a> {
 }
 
 /// The option for the language of the tree.
-fn language<'a>(alloc: Global) -> Arg<'a> {
+fn language<'a>(alloc: Global) -> Arg<'a>
+    ensures { IsLocal result }
+{
     valued(alloc, "language", "LANGUAGE", help_texts::LANGUAGE)
         .long_help(help_texts::LANGUAGE_LONG)
         .value_parser(LANGUAGES.as_slice())
 }
 
 /// The option for the form of strings.
-fn strings<'a>(alloc: Global) -> Arg<'a> {
+fn strings<'a>(alloc: Global) -> Arg<'a>
+    ensures { IsLocal result }
+{
     option(alloc, &STRINGS)
         .long_help(help_texts::STRINGS_LONG)
         .value_parser(FORMS.as_slice())
 }
 
 /// The option for the profile.
-fn imply<'a>(alloc: Global) -> Arg<'a> {
+fn imply<'a>(alloc: Global) -> Arg<'a>
+    ensures { IsLocal result }
+{
     option(alloc, &IMPLY)
         .long_help(help_texts::IMPLY_LONG)
         .value_parser(PROFILES.as_slice())
 }
 
 /// A command with its help and no options.
-fn described<'a>(alloc: Global, help: &CommandHelp) -> Command<'a> {
+fn described<'a>(alloc: Global, help: &CommandHelp) -> Command<'a>
+    ensures { HasLocalArguments result }
+{
     Command::new(alloc, help.name)
         .about(help.about)
         .long_about(help.long)
@@ -374,7 +415,9 @@ fn described<'a>(alloc: Global, help: &CommandHelp) -> Command<'a> {
 }
 
 /// An option with a value and a default.
-fn option<'a>(alloc: Global, valued: &OptionHelp) -> Arg<'a> {
+fn option<'a>(alloc: Global, valued: &OptionHelp) -> Arg<'a>
+    ensures { IsLocal result }
+{
     Arg::new(alloc, valued.name)
         .long(valued.name)
         .value_name(valued.value)

@@ -4,7 +4,7 @@ ghost use Rattle.std.specs.List.{list_all, filter_map, suffix_len};
 ghost use Rattle.std.specs.Borrow.{Bor};
 ghost use Rattle.clap.specs.Words.{found_of};
 ghost use Rattle.kc_expr.specs.Token.{is_white_byte};
-ghost use Rattle.kc_tree_model.specs.TreeLookup.{is_name_byte};
+ghost use Rattle.kc_tree_model.specs.TreeLookup.{has_newline, is_name_byte};
 ghost use Rattle.kc_macros_model.specs.Variables.{is_environment_name, without_white_end};
 ghost use Rattle.kmin_words.specs.Jobs.{definition_view, expansion_view};
 ghost use Rattle.kmin_words.specs.between.WordValues as parsed;
@@ -14,10 +14,8 @@ use crate::job::{Definition, Expansion};
 use crate::refusal::Refusal;
 use crate::values::{has_values, is_given, value_of, values_of};
 use clap::ArgMatches;
+use kc_value::MAX_VARIABLE_BYTES;
 use std::alloc::{AllocError, Global};
-
-/// The most bytes of the value of a `--define`.
-const MAX_VALUE_BYTES: usize = 65_536;
 
 /// A white byte: a tab, a vertical tab, a form feed, a carriage return or a space.
 fn is_white(byte: u8) -> bool
@@ -73,17 +71,17 @@ fn is_environment_name(name: &str) -> bool
 
 /// Whether a text has a newline.
 pub(crate) fn has_newline(text: &str) -> bool
-    ensures { result ≡ parsed.has_newline text.now }
+    ensures { result ≡ has_newline text.now }
 {
     text.as_bytes().iter().any(|&byte| byte == b'\n')
 }
 
 /// The definition of a name by a value, whose white bytes at the end are dropped. `None` for a name that no environment
-/// may have, and for a value with a newline or more than `MAX_VALUE_BYTES` bytes.
+/// may have, and for a value with a newline or more than `MAX_VARIABLE_BYTES` bytes.
 fn named_value<'a>(name: &'a str, value: &'a str) -> Option<Definition<'a>>
     ensures { option_map definition_view result ≡ parsed.named_value name.now value.now }
 {
-    if !is_environment_name(name) || value.len() > MAX_VALUE_BYTES || has_newline(value) {
+    if !is_environment_name(name) || value.len() > MAX_VARIABLE_BYTES || has_newline(value) {
         return None;
     }
     Some(Definition {

@@ -11,9 +11,15 @@ pub enum Verb {
     /// `full`: writes the full file: the symbols that are visible, selected, implied or have a default.
     Full,
     /// `missed`: lists the names of the symbols that don't have the value that a configuration file assigns.
-    Missed,
+    Missed {
+        /// `--exit-code`: whether the exit status is 1 where a symbol is listed.
+        exit_code: bool,
+    },
     /// `check`: lists the names of the symbols that are selected against their dependencies.
-    Check,
+    Check {
+        /// `--exit-code`: whether the exit status is 1 where a symbol is listed.
+        exit_code: bool,
+    },
 }
 
 /// A definition of the command line: one `--define NAME=VALUE`.
@@ -57,17 +63,9 @@ pub struct Settings<'a> {
 #[derive(Drop)]
 pub enum Task<'a> {
     /// `min`, `full`, `missed` or `check` of one configuration, in which each file overrides those before it.
-    Over {
-        verb: Verb,
-        files: Vec<&'a str>,
-        /// `--exit-code`: whether the exit status is 1 where a symbol is listed.
-        exit_code: bool,
-    },
+    Over { verb: Verb, files: Vec<&'a str> },
     /// `compare`: the symbols whose values differ between two configurations of one file each.
-    Compare {
-        left: &'a str,
-        right: &'a str,
-    },
+    Compare { left: &'a str, right: &'a str },
 }
 
 /// A command over configuration files, with its options.

@@ -3,7 +3,7 @@ use Rattle.std.specs.Prelude.{◌≡◌, ℕ, ◌+◌, ◌≤◌, List, ◌++◌
 use Rattle.kc_tree_model.specs.Trees.{Tree}
 use Rattle.kc_dotconfig_model.specs.Formats.{FileFormat}
 use Rattle.kc_dotconfig_model.specs.declared.fault.LoadKind.{LoadKind}
-use Rattle.kc_dotconfig_model.specs.declared.fault.LoadKind.TheVariants.{Malformed, NotUtf8, LineTooLong, TooManyLines, Read, OutOfMemory, TooLarge}
+use Rattle.kc_dotconfig_model.specs.declared.fault.LoadKind.TheVariants.{OutOfMemory}
 use Rattle.kc_dotconfig_model.specs.ConfigLines.{LineMeaning}
 use Rattle.kc_dotconfig_model.specs.ConfigFiles.{FileMeans, file_assignment, notices_from}
 use Rattle.kc_value.specs.declared.limits.TheConstants.{MAX_CONFIG_BYTES}
@@ -12,25 +12,20 @@ use Rattle.kc_dotconfig_model.specs.between.PartialFiles.{IsCut}
 use Rattle.kc_dotconfig.specs.declared.accumulator.Accumulator.{Accumulator}
 use Rattle.kc_dotconfig.specs.declared.fragment.Fragment.{Fragment}
 use Rattle.kc_dotconfig.specs.Fragments.{users_of, notice_pair}
-use Rattle.kc_dotconfig.specs.checker.UserValueOrder.{Rises, Below}
+use Rattle.kc_dotconfig.specs.checker.UserValueOrder.{IsAscending, AreBelow}
 
 -- the accumulator has the assignment, the notices and the number of the lines with these meanings
 pub record IsGathered (tree : Tree) (meanings : List LineMeaning) (g : Accumulator) : Type 0 where
   pub users : users_of tree g.assigns ≡ file_assignment tree meanings
   pub noted : map notice_pair g.notices.items ≡ notices_from 1 meanings
   pub counted : g.lines ≡ length meanings
-  pub rises : Rises g.assigns
-  pub below : Below (length tree.units) g.assigns
+  pub rises : IsAscending g.assigns
+  pub below : AreBelow (length tree.units) g.assigns
 
 -- the line number of a fault of a kind after this number of complete lines: the next line's, but 0 for out of memory
 abbrev pub fault_line : LoadKind → ℕ → ℕ
 fault_line OutOfMemory lines = 0
-fault_line Malformed lines = lines + 1
-fault_line NotUtf8 lines = lines + 1
-fault_line LineTooLong lines = lines + 1
-fault_line TooManyLines lines = lines + 1
-fault_line Read lines = lines + 1
-fault_line TooLarge lines = lines + 1
+fault_line _ lines = lines + 1
 
 -- the bytes read so far end with this incomplete line, and the accumulator has the meanings of the complete lines before it
 abbrev pub Holds : FileFormat → Tree → List ℕ → List ℕ → Accumulator → Type 0
@@ -76,4 +71,4 @@ abbrev pub IsFragmentOf : FileFormat → Tree → List ℕ → Accumulator → F
 IsFragmentOf format tree line g f = (known : List ℕ) → Holds format tree known line g
     → (meanings : List LineMeaning) × IsAccepted format tree known × FileMeans format tree known meanings
     × (users_of tree f.assigns.items ≡ file_assignment tree meanings) × (map notice_pair f.notices.items ≡ notices_from 1 meanings)
-    × Rises f.assigns.items × Below (length tree.units) f.assigns.items
+    × IsAscending f.assigns.items × AreBelow (length tree.units) f.assigns.items

@@ -18,10 +18,10 @@ next_at units (suc k) = slice_index units k + 1
 abbrev pub clears_of : List ℕ → List (ℕ × Option UserValue)
 clears_of units = map (λ (u : ℕ). (u, None)) units
 
--- a configuration's tree is `settled`, the configuration is solved, and `held` has units of the tree, among them each unit with a
--- user value
-pub record IsSoundConfig (settled : Settled) (c : Configured) (held : List ℕ) : Type 0 where
+-- a configuration's tree is `settled`, the configuration is solved, and `valued` has units of the tree, among them each unit with
+-- a user value
+pub record IsSoundConfig (settled : Settled) (c : Configured) (valued : List ℕ) : Type 0 where
   pub same : c.system ≡ settled
   pub solved : IsSolved c
-  pub covers : (u : ℕ) (x : UserValue) → user_of c.users u ≡ Some x → Contains held u
-  pub within : (u : ℕ) → Contains held u → u < length (tree_in c).units
+  pub covers : (u : ℕ) (x : UserValue) → user_of c.users u ≡ Some x → Contains valued u
+  pub within : (u : ℕ) → Contains valued u → u < length (tree_in c).units

@@ -1,7 +1,7 @@
 -- The files and folders of a tree that were read so far.
 use Rattle.std.specs.Prelude.{◌≡◌, ℕ, ◌<◌, Bool, true, false, List, length, Option, Some, None}
 use Rattle.kc_tree_model.specs.Keywords.{keyword_in_table}
-use Rattle.kc_macros_model.specs.Limits.{max_bytes, max_listed_names}
+use Rattle.kc_value.specs.declared.limits.TheConstants.{MAX_TREE_BYTES, MAX_LISTED_NAMES}
 use Rattle.kc_macros_model.specs.Worlds.{World}
 use Rattle.kc_expansion.specs.TreeContents.{FileContent, FolderContent, TreeContents}
 
@@ -25,12 +25,12 @@ pub record KnownFiles : Type 0 where
 abbrev pub AreBytes : FileRead → Option (List ℕ) → Type 0
 AreBytes missing bytes = bytes ≡ None
 AreBytes (whole read) bytes = bytes ≡ Some read
-AreBytes too_long bytes = (more : List ℕ) × (bytes ≡ Some more) × (max_bytes < length more)
+AreBytes too_long bytes = (more : List ℕ) × (bytes ≡ Some more) × (MAX_TREE_BYTES < length more)
 
 -- the names in a folder agree with the result of listing it
 abbrev pub AreNames : FolderRead → List (List ℕ) → Type 0
 AreNames (names read) all = all ≡ read
-AreNames too_many all = max_listed_names < length all
+AreNames too_many all = MAX_LISTED_NAMES < length all
 
 -- a world has all files and folders that were read, as they were read
 pub record Agrees (w : World) (known : KnownFiles) : Type 0 where
@@ -43,7 +43,7 @@ MatchFile None read = Unit {0}
 MatchFile (Some None) read = read ≡ missing
 MatchFile (Some (Some known)) missing = Unit {0}
 MatchFile (Some (Some known)) (whole bytes) = bytes ≡ known
-MatchFile (Some (Some known)) too_long = max_bytes < length known
+MatchFile (Some (Some known)) too_long = MAX_TREE_BYTES < length known
 
 -- the known content of the file that a reader reads, from the bytes that the reader is known to have left
 abbrev pub content_of_reader : Option (List ℕ) → FileContent
@@ -54,7 +54,7 @@ content_of_reader (Some bytes) = Some (Some bytes)
 abbrev pub MatchFolder : FolderContent → FolderRead → Type 0
 MatchFolder None read = Unit {0}
 MatchFolder (Some known) (names read) = read ≡ known
-MatchFolder (Some known) too_many = max_listed_names < length known
+MatchFolder (Some known) too_many = MAX_LISTED_NAMES < length known
 
 -- all files and folders that were read agree with the known contents of the tree
 pub record AreAsKnown (contents : TreeContents) (known : KnownFiles) : Type 0 where

@@ -3,7 +3,7 @@ use Rattle.std.specs.Prelude.{◌≡◌, ℕ, ◌<◌, length, List, [], ◌∷�
 use Rattle.kc_macros_model.specs.Programs.{Place, Program, returns, ◌>>=◌}
 use Rattle.kc_macros_model.specs.Worlds.{returned, failed}
 use Rattle.kc_macros_model.specs.PathPatterns.{FoundPaths, found, path_pieces}
-use Rattle.kc_expansion.specs.declared.patterns.Found.{Found}
+use Rattle.kc_expansion.specs.declared.patterns.FoundPaths.{FoundPaths as CodePaths}
 use Rattle.kc_expansion.specs.declared.patterns.PatternStop.{PatternStop}
 use Rattle.kc_expansion.specs.declared.patterns.PatternStop.TheVariants.{TooMany, OutOfMemory}
 use Rattle.kc_expansion.specs.between.KnownFiles.{KnownFiles}
@@ -11,12 +11,12 @@ use Rattle.kc_expansion.specs.between.FileRuns.{Comes, too_many_at}
 use Rattle.kc_expansion.specs.TextViews.{texts_of}
 
 -- the paths that the code found and the number of names that it listed, as `FoundPaths` of `kc_macros_model`
-abbrev pub found_of : Found → FoundPaths
+abbrev pub found_of : CodePaths → FoundPaths
 found_of f = found (texts_of f.paths) f.listed
 
 -- a program finds the paths of the code's result, or fails by `TooMany` as the result does; where memory ran out, the program may
 -- do anything
-abbrev pub Finds : KnownFiles → Place → Program FoundPaths → Result Found PatternStop → Type 0
+abbrev pub Finds : KnownFiles → Place → Program FoundPaths → Result CodePaths PatternStop → Type 0
 Finds known at p (Ok f) = Comes known p (returned (found_of f))
 Finds known at p (Err TooMany) = Comes known p (failed (too_many_at at))
 Finds known at p (Err OutOfMemory) = Unit {0}

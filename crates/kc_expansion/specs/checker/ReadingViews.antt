@@ -4,7 +4,7 @@ use Rattle.std.specs.declared.alloc.Global.{Global}
 use Rattle.kc_tree_model.specs.LogicalLines.{PhysicalLine}
 use Rattle.kc_macros_model.specs.declared.fault.MacroKind.{MacroKind}
 use Rattle.kc_macros_model.specs.declared.fault.MacroKind.TheVariants.{JoinedAssignment}
-use Rattle.kc_macros_model.specs.Limits.{max_files, max_bytes, max_open_files}
+use Rattle.kc_value.specs.declared.limits.TheConstants.{MAX_FILES, MAX_TREE_BYTES, MAX_OPEN_FILES}
 use Rattle.kc_macros_model.specs.Expansion.{fault}
 use Rattle.kc_macros_model.specs.Variables.{Bindings}
 use Rattle.kc_macros_model.specs.LineForms.{SourceSort, LineForm, sources}
@@ -15,7 +15,7 @@ use Rattle.kc_macros_model.specs.TreeExpansion.{SourceReader, one_file, file_lis
 use Rattle.kc_macros.specs.declared.stop.Stop.{Stop}
 use Rattle.kc_macros.specs.declared.stop.Stop.TheVariants as kinds
 use Rattle.kc_macros.specs.declared.assignments.Assignment.{Assignment}
-use Rattle.kc_macros.specs.between.AssignmentViews.{operator_of, bindings_assigned}
+use Rattle.kc_macros.specs.between.AssignmentViews.{bindings_assigned}
 use Rattle.kc_macros.specs.between.Variables.{bindings_of}
 use Rattle.kc_macros.specs.between.LineContents.{tokens_of}
 use Rattle.kc_macros.specs.between.LineFormViews.{source_sort_of}
@@ -24,7 +24,7 @@ use Rattle.kc_expansion.specs.TreeContents.{TreeContents}
 use Rattle.kc_expansion.specs.between.KnownFiles.{FileRead, whole, AreBytes}
 use Rattle.kc_expansion.specs.between.Reads.{FileRun, file_run}
 use Rattle.kc_expansion.specs.checker.FileViews.{known_of}
-use Rattle.kc_expansion.specs.checker.Slices.{slices_of}
+use Rattle.kc_macros.specs.between.SliceTexts.{texts_of_slices}
 use Rattle.kc_expansion.specs.declared.source_faults.ReadCounts.{ReadCounts}
 use Rattle.kc_expansion.specs.declared.line_steps.LineState.{LineState}
 use Rattle.kc_expansion.specs.declared.line_steps.LineStep.{LineStep}
@@ -52,11 +52,11 @@ file_run_of contents r = file_run contents (known_of r.store) r.lines.run
 
 -- how the files of a `source` line are read while the files of these paths are open within each other
 abbrev pub reader_for : (root : List ℕ) → List (List ℕ) → SourceReader
-reader_for root open_files = source_read (suc max_open_files - length open_files) root open_files
+reader_for root open_files = source_read (suc MAX_OPEN_FILES - length open_files) root open_files
 
 -- how the files of a `source` line are read while the code has these files open within each other
 abbrev pub reader_of : OpenFiles → SourceReader
-reader_of o = reader_for o.root.now (slices_of o.paths.now)
+reader_of o = reader_for o.root.now (texts_of_slices o.paths.now)
 
 -- a stop is the reason why the path of a `source` line isn't copied: the path isn't known, or memory ran out
 abbrev pub IsNoPath : Option (List ℕ) → Stop → Type 0
@@ -72,7 +72,7 @@ IsNoSource form = Unit {0}
 -- the program that returns the bindings after an assignment on a line; it fails where the line is continued
 abbrev pub assigned_or_fault : Place → (continued : Bool) → Bindings → Assignment → Program Bindings
 assigned_or_fault at true b a = fault at JoinedAssignment []
-assigned_or_fault at false b a = bindings_assigned at b a.name (operator_of a.operator) a.text
+assigned_or_fault at false b a = bindings_assigned at b a.name a.operator a.text
 
 -- the program for the rest of a line after its first step: it returns the written line, or first reads the files of a `source`
 -- line
@@ -111,9 +111,9 @@ pub record AreCounts (counts : ReadCounts) (s : ReadingState) : Type 0 where
 pub record MayBeRead (open_files : List (List ℕ)) (counts : ReadCounts) (path : List ℕ) (read : FileRead) (bytes : List ℕ) : Type 0 where
   pub is_whole : read ≡ whole bytes
   pub no_fault : (s : ReadingState) → AreCounts counts s → source_fault open_files s path (Some bytes) ≡ None
-  pub few_files : counts.files < max_files
-  pub few_bytes : counts.bytes + length bytes ≤ max_bytes
-  pub few_open : length open_files < max_open_files
+  pub few_files : counts.files < MAX_FILES
+  pub few_bytes : counts.bytes + length bytes ≤ MAX_TREE_BYTES
+  pub few_open : length open_files < MAX_OPEN_FILES
 
 -- a file that was read may not be sourced where these files are open, by a fault of this kind
 pub record MayNotBeRead (open_files : List (List ℕ)) (counts : ReadCounts) (path : List ℕ) (read : FileRead) (kind : MacroKind) : Type 0 where

@@ -1,7 +1,7 @@
 -- Lines that stay as they are.
 use Rattle.std.specs.Prelude.{◌≡◌, ℕ, Bool, false, ◌||◌, not, nat_lt, List, length, Option, Some, None}
 use Rattle.std.specs.Str.{is_utf8}
-use Rattle.kc_macros_model.specs.Limits.{max_text_bytes}
+use Rattle.kc_value.specs.declared.limits.TheConstants.{MAX_TEXT_BYTES}
 use Rattle.kc_macros_model.specs.Programs.{Place, returns}
 use Rattle.kc_macros_model.specs.ReadingStates.{ReadingState, written_line}
 use Rattle.kc_macros_model.specs.TreeExpansion.{SourceReader, line_written}
@@ -13,4 +13,4 @@ pub record Stays (text : List ℕ) (begins_help : Bool) : Type 0 where
 -- a line stays as it is, with a help text after it or not (`Some`); or it may change, and is UTF-8 and not too long (`None`)
 abbrev pub MayStay : List ℕ → Option Bool → Type 0
 MayStay text (Some begins_help) = Stays text begins_help
-MayStay text None = (nat_lt max_text_bytes (length text) || not (is_utf8 text)) ≡ false
+MayStay text None = (nat_lt MAX_TEXT_BYTES (length text) || not (is_utf8 text)) ≡ false

@@ -10,8 +10,8 @@ use Rattle.kc_listing.specs.between.MemoryFaults.{no_memory}
 
 -- the result of a reading by the code, given the outcome in the model: a listing of all that was read and the first fault, if
 -- any; or out of memory
-abbrev pub OutcomeRead : Outcome → Listing × Option TreeFault → Type 0
-OutcomeRead o result = (result.1 ≡ Some no_memory) ⊎ ((result.1 ≡ o.fault) × RepresentsListing result.0 o.read)
+abbrev pub ReturnsOutcome : Outcome → Listing × Option TreeFault → Type 0
+ReturnsOutcome o result = (result.1 ≡ Some no_memory) ⊎ ((result.1 ≡ o.fault) × RepresentsListing result.0 o.read)
 
 -- the outcome of reading the first file and all files that it sources
 unfoldable pub of_first : FileSource → Outcome

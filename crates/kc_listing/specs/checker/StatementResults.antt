@@ -49,12 +49,12 @@ pub record IsSourceGiven (r : FileSource) (given : Result (Option Statement) Tre
 
 -- the step after a line: its statement, if it has one, was appended, and the next line or a help text follows; or its statement
 -- is a `source`, which isn't appended yet
-abbrev pub StepGiven : FileSource → ℕ → ℕ → Result (Option Statement) TreeKind → Bool → List Group → ReaderState → Step → Type 0
-StepGiven r file line given begins before new Next = IsGiven r file line given begins before false new
-StepGiven r file line given begins before new Help = IsGiven r file line given begins before true new
-StepGiven r file line given begins before new (Source path) = IsSourceGiven r given begins path before new
+abbrev pub IsStepGiven : FileSource → ℕ → ℕ → Result (Option Statement) TreeKind → Bool → List Group → ReaderState → Step → Type 0
+IsStepGiven r file line given begins before new Next = IsGiven r file line given begins before false new
+IsStepGiven r file line given begins before new Help = IsGiven r file line given begins before true new
+IsStepGiven r file line given begins before new (Source path) = IsSourceGiven r given begins path before new
 
 -- the result of a call that reads the tokens of a line: the next step of the reader, or the fault of the line, or out of memory
 abbrev pub ReturnsStatementRead : FileSource → ℕ → ℕ → Result (Option Statement) TreeKind → Bool → List Group → ReaderState → Result Step TreeKind → Type 0
-ReturnsStatementRead r file line given begins before new (Ok s) = StepGiven r file line given begins before new s
+ReturnsStatementRead r file line given begins before new (Ok s) = IsStepGiven r file line given begins before new s
 ReturnsStatementRead r file line given begins before new (Err k) = (k ≡ OutOfMemory) ⊎ ((given ≡ Err k) × RepresentsListing new.listing before)

@@ -41,15 +41,16 @@ pub record IsSource (r : FileSource) (line : ℕ) (text path : List ℕ) (before
 
 -- the step after a line with this text: its statement, if it has one, was appended, and the next line or a help text follows; or
 -- its statement is a `source`, which isn't appended yet
-abbrev pub StepRead : FileSource → ℕ → ℕ → List ℕ → List Group → ReaderState → Step → Type 0
-StepRead r file line text before new Next = HasStatement r file line text before false new
-StepRead r file line text before new Help = HasStatement r file line text before true new
-StepRead r file line text before new (Source path) = IsSource r line text path before new
+abbrev pub IsStepRead : FileSource → ℕ → ℕ → List ℕ → List Group → ReaderState → Step → Type 0
+IsStepRead r file line text before new Next = HasStatement r file line text before false new
+IsStepRead r file line text before new Help = HasStatement r file line text before true new
+IsStepRead r file line text before new (Source path) = IsSource r line text path before new
 
 -- the result of a call that reads a logical line: the next step of the reader, or the fault of the line, or out of memory
-abbrev pub LineRead : FileSource → ℕ → ℕ → List ℕ → List Group → ReaderState → Result Step TreeKind → Type 0
-LineRead r file line text before new (Ok s) = StepRead r file line text before new s
-LineRead r file line text before new (Err k) = (k ≡ OutOfMemory) ⊎ ((statement_on_line r.language before (line_here line text) ≡ Err k) × RepresentsListing new.listing before)
+abbrev pub ReturnsLineRead : FileSource → ℕ → ℕ → List ℕ → List Group → ReaderState → Result Step TreeKind → Type 0
+ReturnsLineRead r file line text before new (Ok s) = IsStepRead r file line text before new s
+ReturnsLineRead r file line text before new (Err k) =
+    (k ≡ OutOfMemory) ⊎ ((statement_on_line r.language before (line_here line text) ≡ Err k) × RepresentsListing new.listing before)
 
 -- the reading ended with this fault, which is the outcome's, and the listing represents the statements of the outcome; or memory
 -- ran out
@@ -57,24 +58,24 @@ abbrev pub IsEnded : FileSource → Outcome → ReaderState → TreeFault → Ty
 IsEnded r o new f = IsMemory f ⊎ ((o.fault ≡ Some f) × RepresentsListing new.listing o.read)
 
 -- the result of a call that reads the rest of a file, given the outcome in the model: all was read, or a fault ended the reading
-abbrev pub FileRead : FileSource → Outcome → ReaderState → Result (Unit {0}) TreeFault → Type 0
-FileRead r o new (Ok u) = (o.fault ≡ None) × Describes r new o.read
-FileRead r o new (Err f) = IsEnded r o new f
+abbrev pub ReturnsFileRead : FileSource → Outcome → ReaderState → Result (Unit {0}) TreeFault → Type 0
+ReturnsFileRead r o new (Ok u) = (o.fault ≡ None) × Describes r new o.read
+ReturnsFileRead r o new (Err f) = IsEnded r o new f
 
 -- the result of reading a help text from a byte index on: the index after the text and its number of lines, which have no
 -- statements; or the first fault of one of its lines, which ends the reading; or out of memory
-abbrev pub HelpRead : ℕ → List ℕ → ℕ → ℕ → ℕ → Result (ℕ × ℕ) TreeFault → Type 0
-HelpRead file bytes at number count (Ok p) =
+abbrev pub ReturnsHelpRead : ℕ → List ℕ → ℕ → ℕ → ℕ → Result (ℕ × ℕ) TreeFault → Type 0
+ReturnsHelpRead file bytes at number count (Ok p) =
     ((sub : List ℕ → List Group → Outcome) (r : FileSource) (read : List Group) → read_lines sub r file (logical_lines_from 0 count number (physical_lines (drop at bytes))) read ≡ read_lines sub r file (logical_lines_from 0 0 (number + p.1) (physical_lines (drop p.0 bytes))) read)
     × (at ≤ p.0) × (p.0 ≤ length bytes) × (at + p.1 ≤ p.0)
-HelpRead file bytes at number count (Err f) =
+ReturnsHelpRead file bytes at number count (Err f) =
     IsMemory f ⊎ ((sub : List ℕ → List Group → Outcome) (r : FileSource) (read : List Group) → read_lines sub r file (logical_lines_from 0 count number (physical_lines (drop at bytes))) read ≡ record { read = read; fault = Some f })
 
 -- the result of a call that appends a `source`: it was appended, and the `source`'s file or fault is returned; or memory ran out
-abbrev pub Sourced : FileSource → ℕ → ℕ → List ℕ → List Group → ReaderState → Result SourceFile TreeFault → Type 0
-Sourced r file line path before new (Ok o) =
+abbrev pub AppendsSource : FileSource → ℕ → ℕ → List ℕ → List Group → ReaderState → Result SourceFile TreeFault → Type 0
+AppendsSource r file line path before new (Ok o) =
     (source_fault r before path ≡ None) × (o.number ≡ r.number path) × (o.bytes.now ≡ bytes_in r path) × Describes r new (with_statement (at_line file line) (Some (head (source path))) before)
-Sourced r file line path before new (Err f) =
+AppendsSource r file line path before new (Err f) =
     IsMemory f ⊎ ((k : TreeKind) × (source_fault r before path ≡ Some k) × (f ≡ record { file = Some file; line = line; kind = k }) × RepresentsListing new.listing (with_statement (at_line file line) (Some (head (source path))) before))
 
 -- the result of a call that appends the end of a sourced file: it was appended, or memory ran out
@@ -83,9 +84,9 @@ IsAfter r file line before new (Ok u) = Describes r new (with_group (at_line fil
 IsAfter r file line before new (Err f) = IsMemory f
 
 -- the result at the end of a file: no fault, or the fault that a block is still open in the file
-abbrev pub EndRead : ℕ → List Group → Result (Unit {0}) TreeFault → Type 0
-EndRead file before (Ok u) = (at_file_end file before (innermost before)).fault ≡ None
-EndRead file before (Err f) = (at_file_end file before (innermost before)).fault ≡ Some f
+abbrev pub ReturnsEndRead : ℕ → List Group → Result (Unit {0}) TreeFault → Type 0
+ReturnsEndRead file before (Ok u) = (at_file_end file before (innermost before)).fault ≡ None
+ReturnsEndRead file before (Err f) = (at_file_end file before (innermost before)).fault ≡ Some f
 
 -- the file of a `source` and its end were read, and the lines after the `source` are left to read
 pub record IsSourceRead (r : FileSource) (sub : List ℕ → List Group → Outcome) (file line : ℕ) (path : List ℕ) (before : List Group) (new : ReaderState) : Type 0 where
@@ -101,9 +102,9 @@ pub record IsSourceEnded (r : FileSource) (sub : List ℕ → List Group → Out
   pub shows : RepresentsListing new.listing outcome.read
 
 -- the result of reading the file of a `source`: it and its end were read, or a fault ended the reading, or memory ran out
-abbrev pub SourceRead : FileSource → (List ℕ → List Group → Outcome) → ℕ → ℕ → List ℕ → List Group → ReaderState → Result (Unit {0}) TreeFault → Type 0
-SourceRead r sub file line path before new (Ok u) = IsSourceRead r sub file line path before new
-SourceRead r sub file line path before new (Err f) = IsMemory f ⊎ IsSourceEnded r sub file line path before new f
+abbrev pub ReturnsSourceRead : FileSource → (List ℕ → List Group → Outcome) → ℕ → ℕ → List ℕ → List Group → ReaderState → Result (Unit {0}) TreeFault → Type 0
+ReturnsSourceRead r sub file line path before new (Ok u) = IsSourceRead r sub file line path before new
+ReturnsSourceRead r sub file line path before new (Err f) = IsMemory f ⊎ IsSourceEnded r sub file line path before new f
 
 -- the outcome of reading the lines of a file from a byte index on; the last number is the line number of the first of them
 abbrev pub left_from : (List ℕ → List Group → Outcome) → FileSource → ℕ → List ℕ → ℕ → ℕ → List Group → Outcome
@@ -116,9 +117,9 @@ pub record IsOneRead (r : FileSource) (sub : List ℕ → List Group → Outcome
   pub left : left_from sub r file bytes at number before ≡ left_from sub r file bytes next (number + lines) now
 
 -- the result of reading the logical line at a byte index: the index after what was read and its number of lines; or the fault
-abbrev pub OneRead : FileSource → (List ℕ → List Group → Outcome) → ℕ → List ℕ → ℕ → ℕ → List Group → ReaderState → Result (ℕ × ℕ) TreeFault → Type 0
-OneRead r sub file bytes at number before new (Ok p) = IsOneRead r sub file bytes at number before new p.0 p.1
-OneRead r sub file bytes at number before new (Err f) = IsEnded r (left_from sub r file bytes at number before) new f
+abbrev pub ReturnsOneRead : FileSource → (List ℕ → List Group → Outcome) → ℕ → List ℕ → ℕ → ℕ → List Group → ReaderState → Result (ℕ × ℕ) TreeFault → Type 0
+ReturnsOneRead r sub file bytes at number before new (Ok p) = IsOneRead r sub file bytes at number before new p.0 p.1
+ReturnsOneRead r sub file bytes at number before new (Err f) = IsEnded r (left_from sub r file bytes at number before) new f
 
 -- the byte index `next` is after `at` and within the file, and `lines` is at most the number of bytes between them
 pub record IsForward (bytes : List ℕ) (at next lines : ℕ) : Type 0 where
@@ -133,8 +134,9 @@ pub record IsLeft (r : FileSource) (sub : List ℕ → List Group → Outcome) (
   pub left : left_from sub r file bytes at number now ≡ read_lines sub r file (lines_of bytes) before
 
 -- the result of a call that reads a file is right for each path of the model that has the file's number and bytes
-abbrev pub FileOfRead : FileSource → ℕ → SourceFile → List Group → ReaderState → Result (Unit {0}) TreeFault → Type 0
-FileOfRead r depth file before new result = (path : List ℕ) → file.number ≡ r.number path → file.bytes.now ≡ bytes_in r path → FileRead r (read_file depth r path before) new result
+abbrev pub ReturnsReadOfFile : FileSource → ℕ → SourceFile → List Group → ReaderState → Result (Unit {0}) TreeFault → Type 0
+ReturnsReadOfFile r depth file before new result = (path : List ℕ) → file.number ≡ r.number path → file.bytes.now ≡ bytes_in r path
+    → ReturnsFileRead r (read_file depth r path before) new result
 
 -- the result of checking a logical line's bytes: its text, or its fault (too long or not UTF-8)
 abbrev pub IsText : List ℕ → Result (Bor (List ℕ)) TreeKind → Type 0
@@ -155,14 +157,14 @@ pub record IsIndentedLeft (file : ℕ) (bytes : List ℕ) (at number columns beg
 
 -- the result of finding the file of a `source` after the groups that were read: its number and bytes, or the fault of
 -- the `source`, or out of memory
-abbrev pub SourcedFile : FileSource → List ℕ → List Group → Result SourceFile TreeKind → Type 0
-SourcedFile r path before (Ok o) = (source_fault r before path ≡ None) × (o.number ≡ r.number path) × (o.bytes.now ≡ bytes_in r path)
-SourcedFile r path before (Err k) = (k ≡ OutOfMemory) ⊎ (source_fault r before path ≡ Some k)
+abbrev pub ReturnsSourceFile : FileSource → List ℕ → List Group → Result SourceFile TreeKind → Type 0
+ReturnsSourceFile r path before (Ok o) = (source_fault r before path ≡ None) × (o.number ≡ r.number path) × (o.bytes.now ≡ bytes_in r path)
+ReturnsSourceFile r path before (Err k) = (k ≡ OutOfMemory) ⊎ (source_fault r before path ≡ Some k)
 
 -- the result of finding the file of a path: its number and bytes, or the fault `MissingFile`, or out of memory
-abbrev pub FileFound : FileSource → List ℕ → Result SourceFile TreeKind → Type 0
-FileFound r path (Ok o) = (is_some (r.bytes path) ≡ true) × (o.number ≡ r.number path) × (o.bytes.now ≡ bytes_in r path)
-FileFound r path (Err k) = (k ≡ OutOfMemory) ⊎ ((k ≡ MissingFile) × (is_some (r.bytes path) ≡ false))
+abbrev pub ReturnsFile : FileSource → List ℕ → Result SourceFile TreeKind → Type 0
+ReturnsFile r path (Ok o) = (is_some (r.bytes path) ≡ true) × (o.number ≡ r.number path) × (o.bytes.now ≡ bytes_in r path)
+ReturnsFile r path (Err k) = (k ≡ OutOfMemory) ⊎ ((k ≡ MissingFile) × (is_some (r.bytes path) ≡ false))
 
 -- the fault of a statement that passes a limit after the groups that were read; None if it passes none
 abbrev pub limits : List Group → Statement → Option TreeKind

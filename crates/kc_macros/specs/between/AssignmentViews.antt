@@ -1,16 +1,9 @@
--- Assignments of the code, as `kc_macros_model` defines them.
+-- Assignments to variables, by the bindings that they give.
 use Rattle.std.specs.Prelude.{ℕ, List}
 use Rattle.kc_macros_model.specs.Programs.{Place, Program, returns, ◌>>=◌}
 use Rattle.kc_macros_model.specs.Variables.{Bindings, with_variable}
-use Rattle.kc_macros_model.specs.Assignments.{Operator, sets_now, appends, sets, variable_assigned}
-use Rattle.kc_macros.specs.declared.assignments.Operator.{Operator as CodeOperator}
-use Rattle.kc_macros.specs.declared.assignments.Operator.TheVariants as kinds
-
--- an assignment operator of the code as one of `kc_macros_model`
-abbrev pub operator_of : CodeOperator → Operator
-operator_of kinds.SetsNow = sets_now
-operator_of kinds.Appends = appends
-operator_of kinds.Sets = sets
+use Rattle.kc_macros_model.specs.declared.operator.Operator.{Operator}
+use Rattle.kc_macros_model.specs.Assignments.{variable_assigned}
 
 -- the program that gives the bindings after an assignment of a text to a name, given those before
 abbrev pub bindings_assigned : Place → Bindings → (name : List ℕ) → Operator → List ℕ → Program Bindings

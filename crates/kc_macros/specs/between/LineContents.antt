@@ -5,7 +5,6 @@ use Rattle.kc_macros_model.specs.Assignments.{assigned, LineContent, assigns, to
 use Rattle.kc_macros.specs.declared.written_tokens.WrittenToken.{WrittenToken as CodeToken}
 use Rattle.kc_macros.specs.declared.line_content.LineContent.{LineContent as CodeContent}
 use Rattle.kc_macros.specs.declared.line_content.LineContent.TheVariants as kinds
-use Rattle.kc_macros.specs.between.AssignmentViews.{operator_of}
 use Rattle.kc_macros.specs.between.WrittenTokens.{token_of}
 
 -- written tokens of the code as those of `kc_macros_model`
@@ -14,5 +13,5 @@ tokens_of ts = map token_of ts
 
 -- the content of a line of the code, an assignment or written tokens, as one of `kc_macros_model`
 abbrev pub content_of : CodeContent → LineContent
-content_of (kinds.Assigns a) = assigns a.name (assigned (operator_of a.operator) a.text)
+content_of (kinds.Assigns a) = assigns a.name (assigned a.operator a.text)
 content_of (kinds.Tokens ts) = tokens (tokens_of ts.items)

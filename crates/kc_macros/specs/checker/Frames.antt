@@ -7,7 +7,7 @@ use Rattle.kc_macros_model.specs.Expansion.{Expander, item_value, item_values, e
 use Rattle.kc_macros.specs.declared.frame.Frame.{Frame}
 use Rattle.kc_macros.specs.between.Variables.{bindings_of}
 use Rattle.kc_macros.specs.Runs.{place_of}
-use Rattle.kc_macros.specs.checker.Texts.{texts_of}
+use Rattle.kc_macros.specs.between.SliceTexts.{texts_of_slices}
 
 -- the file and the line of the text that is expanded in a frame, as a place of `kc_macros_model`
 abbrev pub frame_place : Frame → Place
@@ -19,7 +19,7 @@ frame_bindings f = bindings_of f.bindings.now
 
 -- the names of the variables whose values are being expanded in a frame, the innermost first
 abbrev pub frame_names : Frame → List (List ℕ)
-frame_names f = texts_of f.names.now
+frame_names f = texts_of_slices f.names.now
 
 -- the expander of a frame: what gives the value of a text, by the names that are being expanded and the arguments
 abbrev pub frame_expander : Frame → Expander

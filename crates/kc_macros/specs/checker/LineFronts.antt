@@ -4,12 +4,11 @@ use Rattle.kc_macros_model.specs.Programs.{Place, Program, returns, ◌>>=◌}
 use Rattle.kc_macros_model.specs.Variables.{Bindings}
 use Rattle.kc_macros_model.specs.LineTokens.{LineToken, run, line_tokens}
 use Rattle.kc_macros_model.specs.WrittenTokens.{WrittenToken}
-use Rattle.kc_macros_model.specs.Assignments.{Assigned, assigned, LineContent, assigns, tokens, line_content}
+use Rattle.kc_macros_model.specs.Assignments.{AssignedText, assigned, LineContent, assigns, tokens, line_content}
 use Rattle.kc_macros.specs.declared.assignment_syntax.FoundAssignment.{FoundAssignment}
 use Rattle.kc_macros.specs.declared.line_content.LineFront.{LineFront}
 use Rattle.kc_macros.specs.declared.line_content.LineStep.{LineStep}
 use Rattle.kc_macros.specs.declared.line_content.LineStep.TheVariants as steps
-use Rattle.kc_macros.specs.between.AssignmentViews.{operator_of}
 use Rattle.kc_macros.specs.between.LineContents.{tokens_of}
 
 -- the token `run` with this text, which may be the name of an assignment
@@ -17,8 +16,8 @@ abbrev pub name_token : List ℕ → LineToken
 name_token s = run s
 
 -- the operator and the text of an assignment that the code found in a line
-abbrev pub assigned_of : FoundAssignment → Assigned
-assigned_of f = assigned (operator_of f.operator) f.text.now
+abbrev pub assigned_of : FoundAssignment → AssignedText
+assigned_of f = assigned f.operator f.text.now
 
 -- the content of a line with more written tokens before its own; an assignment gets none
 abbrev pub with_tokens : List WrittenToken → LineContent → LineContent
@@ -36,7 +35,7 @@ front_left at b front ts = content_left at b (tokens_of front.tokens.items) fron
 -- the program that gives the content of a line after a step of the code along the line
 abbrev pub step_left : Place → Bindings → LineFront → LineStep → Program LineContent
 step_left at b front (steps.Rest after) = front_left at b front (line_tokens 0 after.now)
-step_left at b front (steps.Assigns a) = returns (assigns a.name (assigned (operator_of a.operator) a.text))
+step_left at b front (steps.Assigns a) = returns (assigns a.name (assigned a.operator a.text))
 
 -- after a step of the code along a line, fewer bytes than this number are left to read, or the line is an assignment
 abbrev pub IsShorter : LineStep → ℕ → Type 0

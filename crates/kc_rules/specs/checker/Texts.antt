@@ -2,7 +2,7 @@
 use Rattle.std.specs.Prelude.{ℕ, Bool, not, List, Option, Some, None, ℤ, pos, unwrap_or, find, if◌then◌else◌}
 use Rattle.std.specs.Option.{option_map, option_and_then}
 use Rattle.kc_value.specs.declared.value.Kind.{Kind}
-use Rattle.kc_value.specs.declared.value.Kind.TheVariants.{Bool as Boolean, Tristate, Text, Int, Hex}
+use Rattle.kc_value.specs.declared.value.Kind.TheVariants.{Int, Hex}
 use Rattle.kc_value.specs.Number.{number_of_text}
 use Rattle.kc_expr.specs.Expr.{Expr}
 use Rattle.kc_tree_model.specs.Trees.{Tree, Symbol, Default, Range}
@@ -16,9 +16,7 @@ use Rattle.kc_rules.specs.checker.RuleParts.{active_default_of}
 abbrev pub IsNumber : Kind → Type 0
 IsNumber Int = Unit {0}
 IsNumber Hex = Unit {0}
-IsNumber Boolean = ⊥
-IsNumber Tristate = ⊥
-IsNumber Text = ⊥
+IsNumber _ = ⊥
 
 -- the expression of the first of some defaults whose condition isn't `n`, if there is one
 abbrev pub active_value_of : Tree → List UnitValue → List Default → Option Expr

@@ -120,8 +120,9 @@ no_number true within d = refl
 no_number false within d = refl
 
 -- what the restore law asks at one unit, of a rule and what fits
-abbrev Restored : (Option UserValue → UnitValue) → (UserValue → Bool) → Option UserValue → Type 0
-Restored f fits x = IfSome x (λ y. IsTrue (fits y)) → f x ≢ f None → (again : UserValue) × (as_user (f x) ≡ Some again) × IsTrue (fits again) × (f (Some again) ≡ f x)
+abbrev IsRestored : (Option UserValue → UnitValue) → (UserValue → Bool) → Option UserValue → Type 0
+IsRestored f fits x = IfSome x (λ y. IsTrue (fits y)) → f x ≢ f None → (again : UserValue) × (as_user (f x) ≡ Some again) × IsTrue (fits again) ×
+    (f (Some again) ≡ f x)
 
 -- where the value is a user value's own
 itself : (f : Option UserValue → UnitValue) (fits : UserValue → Bool) (x : UserValue) → IsTrue (fits x) → as_user (f (Some x)) ≡ Some x
@@ -130,7 +131,7 @@ itself f fits x fitting e = (x, e, fitting, refl)
 
 module _ (tree : Tree) (values : List UnitValue) where
   restored_tri : (profile : Profile) (symbol : Symbol) (x : Option UserValue) → ((l : Bool) (t : Tri) → IsTrue (tri_fits symbol.kind (promoted_if l (promoted_if (is_bool symbol.kind || (is_tristate symbol.kind && is_n (modules_value tree values))) t))))
-      → Restored (λ y. TriValue (tri_rule profile tree symbol y values)) (symbol_user_fits (Some symbol)) x
+      → IsRestored (λ y. TriValue (tri_rule profile tree symbol y values)) (symbol_user_fits (Some symbol)) x
   restored_tri profile symbol None small fits differs = absurd (differs refl)
   restored_tri profile symbol (Some (TextUser t)) small fits differs = absurd (differs refl)
   restored_tri profile symbol (Some (MemberUser s)) small fits differs = absurd (differs refl)
@@ -153,7 +154,7 @@ module _ (tree : Tree) (values : List UnitValue) where
             )
       ]
 
-  restored_text : (symbol : Symbol) (x : Option UserValue) → Restored (λ y. TextValue (string_rule tree symbol y values)) (symbol_user_fits (Some symbol)) x
+  restored_text : (symbol : Symbol) (x : Option UserValue) → IsRestored (λ y. TextValue (string_rule tree symbol y values)) (symbol_user_fits (Some symbol)) x
   restored_text symbol None fits differs = absurd (differs refl)
   restored_text symbol (Some (TriUser t)) fits differs = absurd (differs refl)
   restored_text symbol (Some (MemberUser s)) fits differs = absurd (differs refl)
@@ -163,7 +164,8 @@ module _ (tree : Tree) (values : List UnitValue) where
       itself (λ y. TextValue (string_rule tree symbol y values)) (symbol_user_fits (Some symbol)) (TextUser t) fits
       (ap (λ r. Some (TextUser r)) (text_kept seen t d (λ e. differs (ap (λ r. TextValue r) (e ∙ sym (no_text seen d))))))
 
-  restored_number : (symbol : Symbol) (x : Option UserValue) → Restored (λ y. TextValue (number_rule tree symbol y values)) (symbol_user_fits (Some symbol)) x
+  restored_number : (symbol : Symbol) (x : Option UserValue) → IsRestored (λ y. TextValue (number_rule tree symbol y values))
+      (symbol_user_fits (Some symbol)) x
   restored_number symbol None fits differs = absurd (differs refl)
   restored_number symbol (Some (TriUser t)) fits differs = absurd (differs refl)
   restored_number symbol (Some (MemberUser s)) fits differs = absurd (differs refl)
@@ -174,7 +176,8 @@ module _ (tree : Tree) (values : List UnitValue) where
       itself (λ y. TextValue (number_rule tree symbol y values)) (symbol_user_fits (Some symbol)) (TextUser t) fits
       (ap (λ r. Some (TextUser r)) (number_kept seen within t d (λ e. differs (ap (λ r. TextValue r) (e ∙ sym (no_number seen within d))))))
 
-  restored_choice : (choice : Choice) (fits : UserValue → Bool) (x : Option UserValue) → Restored (λ y. MemberValue (choice_rule tree choice y values)) fits x
+  restored_choice : (choice : Choice) (fits : UserValue → Bool) (x : Option UserValue)
+      → IsRestored (λ y. MemberValue (choice_rule tree choice y values)) fits x
   restored_choice choice fits None fitting differs = absurd (differs refl)
   restored_choice choice fits (Some (TriUser t)) fitting differs = absurd (differs refl)
   restored_choice choice fits (Some (TextUser t)) fitting differs = absurd (differs refl)
@@ -191,22 +194,25 @@ module _ (tree : Tree) (values : List UnitValue) where
   fits_promoted Int b l t e = absurd (false≢true e)
   fits_promoted Hex b l t e = absurd (false≢true e)
 
-  restored_symbol : (profile : Profile) (symbol : Symbol) (kind : Kind) → symbol.kind ≡ kind → (x : Option UserValue) → Restored (λ y. symbol_rule kind profile tree symbol y values) (symbol_user_fits (Some symbol)) x
+  restored_symbol : (profile : Profile) (symbol : Symbol) (kind : Kind) → symbol.kind ≡ kind → (x : Option UserValue)
+      → IsRestored (λ y. symbol_rule kind profile tree symbol y values) (symbol_user_fits (Some symbol)) x
   restored_symbol profile symbol Boolean e x = restored_tri profile symbol x (λ l t. fits_promoted symbol.kind (is_tristate symbol.kind && is_n (modules_value tree values)) l t (ap is_tri_kind e))
   restored_symbol profile symbol Tristate e x = restored_tri profile symbol x (λ l t. fits_promoted symbol.kind (is_tristate symbol.kind && is_n (modules_value tree values)) l t (ap is_tri_kind e))
   restored_symbol profile symbol Text e x = restored_text symbol x
   restored_symbol profile symbol Int e x = restored_number symbol x
   restored_symbol profile symbol Hex e x = restored_number symbol x
 
-  restored_symbol_at : (profile : Profile) (o : Option Symbol) (x : Option UserValue) → Restored (λ y. rule_of_symbol profile tree o y values) (symbol_user_fits o) x
+  restored_symbol_at : (profile : Profile) (o : Option Symbol) (x : Option UserValue)
+      → IsRestored (λ y. rule_of_symbol profile tree o y values) (symbol_user_fits o) x
   restored_symbol_at profile None x fits differs = absurd (differs refl)
   restored_symbol_at profile (Some symbol) x fits differs = restored_symbol profile symbol symbol.kind refl x fits differs
 
-  restored_choice_at : (o : Option Choice) (fits : UserValue → Bool) (x : Option UserValue) → Restored (λ y. rule_of_choice tree o y values) fits x
+  restored_choice_at : (o : Option Choice) (fits : UserValue → Bool) (x : Option UserValue) → IsRestored (λ y. rule_of_choice tree o y values) fits x
   restored_choice_at None fits x fitting differs = absurd (differs refl)
   restored_choice_at (Some choice) fits x fitting differs = restored_choice choice fits x fitting differs
 
-  restored_unit : (profile : Profile) (o : Option TreeUnit) (x : Option UserValue) → Restored (λ y. rule_of_unit profile tree o y values) (unit_user_fits tree o) x
+  restored_unit : (profile : Profile) (o : Option TreeUnit) (x : Option UserValue)
+      → IsRestored (λ y. rule_of_unit profile tree o y values) (unit_user_fits tree o) x
   restored_unit profile None x fits differs = absurd (differs refl)
   restored_unit profile (Some (of_symbol s)) x fits differs = restored_symbol_at profile (slice_get tree.symbols s) x fits differs
   restored_unit profile (Some (of_choice c)) x fits differs = restored_choice_at (slice_get tree.choices c) (choice_user_fits (slice_get tree.choices c)) x fits differs

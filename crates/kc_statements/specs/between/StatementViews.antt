@@ -107,7 +107,6 @@ RangeNodesExist e r = OperandNodeExists e r.low × OperandNodeExists e r.high ×
 
 -- all numbers in an attribute are those of nodes and names of the arena
 abbrev pub AttributeNodesExist : Exprs → CodeAttribute → Type 0
-AttributeNodesExist e (attributes.Typed k) = Unit {0}
 AttributeNodesExist e (attributes.TypedPrompt k c) = IfNodeExists e c
 AttributeNodesExist e (attributes.TypedDefault k d) = DefaultNodesExist e d
 AttributeNodesExist e (attributes.Prompt c) = IfNodeExists e c
@@ -117,21 +116,13 @@ AttributeNodesExist e (attributes.Select s) = TargetNodesExist e s
 AttributeNodesExist e (attributes.Imply s) = TargetNodesExist e s
 AttributeNodesExist e (attributes.Range r) = RangeNodesExist e r
 AttributeNodesExist e (attributes.Visible id) = NodeExists e id
-AttributeNodesExist e attributes.Help = Unit {0}
-AttributeNodesExist e attributes.Modules = Unit {0}
-AttributeNodesExist e attributes.Optional = Unit {0}
+AttributeNodesExist e a = Unit {0}
 
 -- the condition of an `if` statement is the number of a node of the arena; other statements that aren't attributes have no
 -- numbers
 abbrev pub HeadNodesExist : Exprs → CodeHead → Type 0
-HeadNodesExist e (heads.Config name) = Unit {0}
-HeadNodesExist e heads.Choice = Unit {0}
-HeadNodesExist e (heads.Menu title) = Unit {0}
 HeadNodesExist e (heads.Condition id) = NodeExists e id
-HeadNodesExist e (heads.Comment title) = Unit {0}
-HeadNodesExist e (heads.Source path) = Unit {0}
-HeadNodesExist e heads.Mainmenu = Unit {0}
-HeadNodesExist e (heads.Ends b) = Unit {0}
+HeadNodesExist e h = Unit {0}
 
 -- all numbers in a statement are those of nodes and names of the arena
 abbrev pub StatementNodesExist : Exprs → CodeStatement → Type 0

@@ -8,7 +8,7 @@ IsEliminated eliminated u = (k : ℕ) × (slice_get eliminated k ≡ Some u)
 
 -- the state of an elimination: each unit of the list is in it once, after its dependencies, and the flags of just these units are
 -- set
-pub record Eliminating (size : ℕ) (dependencies : ℕ → List ℕ) (eliminated : List ℕ) (flags : List Bool) : Type 0 where
+pub record IsElimination (size : ℕ) (dependencies : ℕ → List ℕ) (eliminated : List ℕ) (flags : List Bool) : Type 0 where
   pub units : (k u : ℕ) → slice_get eliminated k ≡ Some u → u < size
   pub once : (j k u : ℕ) → slice_get eliminated j ≡ Some u → slice_get eliminated k ≡ Some u → j ≡ k
   pub after : (k u d : ℕ) → slice_get eliminated k ≡ Some u → Contains (dependencies u) d → (j : ℕ) × (j < k) × (slice_get eliminated j ≡ Some d)
@@ -16,7 +16,7 @@ pub record Eliminating (size : ℕ) (dependencies : ℕ → List ℕ) (eliminate
   pub flagged : (u : ℕ) → u < size → (get_or flags u false ≡ true) ↔ IsEliminated eliminated u
 
 -- in an elimination the first `next[u]` dependencies of each unit u have their flags set, that is, are eliminated
-pub record Passed (size : ℕ) (dependencies : ℕ → List ℕ) (flags : List Bool) (next : List ℕ) : Type 0 where
+pub record ArePassed (size : ℕ) (dependencies : ℕ → List ℕ) (flags : List Bool) (next : List ℕ) : Type 0 where
   pub one_each : length next ≡ size
   pub within : (u : ℕ) → u < size → get_or next u 0 ≤ length (dependencies u)
   pub passed : (u k d : ℕ) → u < size → k < get_or next u 0 → slice_get (dependencies u) k ≡ Some d → get_or flags d false ≡ true

@@ -22,7 +22,7 @@ use Rattle.kc_tree.specs.checker.UnitList.{units_read}
 use Rattle.kc_tree.specs.declared.builder.AllParts.{AllParts}
 use Rattle.kc_tree.specs.declared.builder.ChoiceParts.{ChoiceParts}
 use Rattle.kc_tree.specs.declared.builder.SymbolParts.{SymbolParts}
-use Rattle.kc_tree.specs.declared.tree_lists.Gathered.{Gathered}
+use Rattle.kc_tree.specs.declared.tree_lists.TreeLists.{TreeLists}
 use Rattle.kc_tree.specs.declared.listing_walk.WalkedListing.{WalkedListing}
 
 -- a walked listing represents the statements read from files, with their conditions; the files have no fault
@@ -55,6 +55,6 @@ pub record AreAllParts (l : Listing) (read : List Group) (p : AllParts) : Type 0
   pub choices : AreChoiceParts l read p.choices
 
 -- the collected lists represent the tree of the statements read, and all numbers in them are in range
-pub record IsGathering (read : List Group) (g : Gathered) : Type 0 where
+pub record IsGathering (read : List Group) (g : TreeLists) : Type 0 where
   pub whole : gathered_tree g ≡ tree_of_groups read
   pub fits : GatheredFit g

@@ -21,7 +21,7 @@ use Rattle.kc_tree.specs.checker.GatheredAttributes.{AreKeys}
 use Rattle.kc_tree.specs.checker.GroupedItems.{items_of}
 use Rattle.kc_tree.specs.checker.Summaries.{is_choice_code}
 use Rattle.kc_tree.specs.checker.Walks.{RepresentsAllConditions}
-use Rattle.kc_tree.specs.declared.items_with_keys.Keyed.{Keyed}
+use Rattle.kc_tree.specs.declared.items_with_keys.ItemsWithKeys.{ItemsWithKeys}
 use Rattle.kc_tree.specs.declared.symbol.MemberDefault.{MemberDefault}
 use Rattle.kc_tree.specs.declared.group_walk.GroupConditions.{GroupConditions}
 
@@ -60,7 +60,7 @@ choice_defaults_of c None = []
 choice_defaults_of c (Some p) = filter_map (member_default c p) (attribute_values default_of p.group)
 
 -- the collected defaults, each under its choice's number, represent those of the choices that groups in `places` open
-pub record AreDefaultsOf (l : Listing) (c : Contents) (places : List GroupInContext) (count : ℕ) (found : Keyed MemberDefault) : Type 0 where
+pub record AreDefaultsOf (l : Listing) (c : Contents) (places : List GroupInContext) (count : ℕ) (found : ItemsWithKeys MemberDefault) : Type 0 where
   pub keys : AreKeys count found.keys.items
   pub fits : All (MemberDefaultFits (length l.names.arena.nodes) (length l.names.symbols.items)) found.items.items
   pub are : (k : ℕ) → map (member_default_view l.names.arena) (items_of k found.keys.items found.items.items) ≡ choice_defaults_of c (slice_get (filter (λ (p : GroupInContext). opens_choice p.group) places) k)

@@ -13,19 +13,14 @@ use Rattle.kc_tree.specs.declared.conditions.EntryConditions.{EntryConditions}
 
 -- the number of the expression after an attribute's `if`; `None` for an attribute without an `if`
 abbrev pub if_view : CodeAttribute → Option ℕ
-if_view (attributes.Typed k) = None
 if_view (attributes.TypedPrompt k c) = c
 if_view (attributes.TypedDefault k d) = d.condition
 if_view (attributes.Prompt c) = c
 if_view (attributes.Default d) = d.condition
-if_view (attributes.Depends id) = None
 if_view (attributes.Select s) = s.condition
 if_view (attributes.Imply s) = s.condition
 if_view (attributes.Range r) = r.condition
-if_view (attributes.Visible id) = None
-if_view attributes.Help = None
-if_view attributes.Modules = None
-if_view attributes.Optional = None
+if_view a = None
 
 -- whether an attribute is a prompt, with or without a type
 abbrev pub is_prompt : CodeAttribute → Bool

@@ -5,10 +5,10 @@ use Rattle.kc_tree.specs.checker.GatheredAttributes.{AreKeys, HaveKeys}
 use Rattle.kc_tree.specs.checker.StoredParts.{EntryRowFits}
 use Rattle.kc_tree.specs.declared.parts.SymbolRow.{SymbolRow}
 use Rattle.kc_tree.specs.declared.parts.ChoiceRow.{ChoiceRow}
-use Rattle.kc_tree.specs.declared.tree_lists.Gathered.{Gathered}
+use Rattle.kc_tree.specs.declared.tree_lists.TreeLists.{TreeLists}
 
 -- the symbol, choice, name, expression and title numbers in the collected lists are in range, and bounds of ranges are operands
-pub record GatheredFit (g : Gathered) : Type 0 where
+pub record GatheredFit (g : TreeLists) : Type 0 where
   pub few_symbols : length g.symbols.items < 2 ^ 32
   pub few_choices : length g.choices.items < 2 ^ 32
   pub few_units : length g.units.items < 2 ^ 32

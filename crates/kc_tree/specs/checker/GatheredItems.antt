@@ -9,7 +9,7 @@ use Rattle.kc_listing.specs.between.SymbolTable.{number_in, text_of_name}
 use Rattle.kc_tree.specs.checker.Conjuncts.{is_prompt}
 use Rattle.kc_tree.specs.declared.definition_attributes.ReverseKind.{ReverseKind}
 use Rattle.kc_tree.specs.declared.definition_attributes.ReverseKind.TheVariants.{Select, Imply}
-use Rattle.kc_tree.specs.declared.items_with_keys.Keyed.{Keyed}
+use Rattle.kc_tree.specs.declared.items_with_keys.ItemsWithKeys.{ItemsWithKeys}
 use Rattle.kc_tree.specs.declared.symbol.Default.{Default}
 use Rattle.kc_tree.specs.declared.symbol.Range.{Range}
 use Rattle.kc_tree.specs.declared.symbol.ReverseDependency.{ReverseDependency}
@@ -67,6 +67,6 @@ gathered_items item (l ∷ ls) [] = []
 gathered_items item (l ∷ ls) (c ∷ cs) = cons_option (item l c) (gathered_items item ls cs)
 
 -- `new` is `old` with the keys and the items that attribute lines give appended
-pub record HasAppended {T : Type 0} (key : CodeLine → ℕ → Option ℕ) (item : CodeLine → ℕ → Option T) (old new : Keyed T) (lines : List CodeLine) (conditions : List ℕ) : Type 0 where
+pub record HasAppended {T : Type 0} (key : CodeLine → ℕ → Option ℕ) (item : CodeLine → ℕ → Option T) (old new : ItemsWithKeys T) (lines : List CodeLine) (conditions : List ℕ) : Type 0 where
   pub keys : new.keys.items ≡ old.keys.items ++ gathered_items key lines conditions
   pub items : new.items.items ≡ old.items.items ++ gathered_items item lines conditions

@@ -9,10 +9,10 @@ use Rattle.kc_tree.specs.checker.GroupedItems.{items_of}
 use Rattle.kc_tree.specs.checker.PartsView.{from_rows, entry_from_row}
 use Rattle.kc_tree.specs.declared.parts.SymbolRow.{SymbolRow}
 use Rattle.kc_tree.specs.declared.parts.ChoiceRow.{ChoiceRow}
-use Rattle.kc_tree.specs.declared.tree_lists.Gathered.{Gathered}
+use Rattle.kc_tree.specs.declared.tree_lists.TreeLists.{TreeLists}
 
 -- the symbol that a number and a row represent, with the attributes collected under the number
-abbrev pub symbol_gathered : Gathered → ℕ → SymbolRow → tree.Symbol
+abbrev pub symbol_gathered : TreeLists → ℕ → SymbolRow → tree.Symbol
 symbol_gathered g s r = record {
   name = slice_index_or g.arena.names r.name [];
   kind = r.kind;
@@ -28,7 +28,7 @@ symbol_gathered g s r = record {
 }
 
 -- the choice that a number and a row represent, with the members and defaults collected under the number
-abbrev pub choice_gathered : Gathered → ℕ → ChoiceRow → tree.Choice
+abbrev pub choice_gathered : TreeLists → ℕ → ChoiceRow → tree.Choice
 choice_gathered g c r = record {
   file = r.file;
   line = r.line;
@@ -39,7 +39,7 @@ choice_gathered g c r = record {
 }
 
 -- the tree that collected lists represent: its symbols, choices, entries and units
-abbrev pub gathered_tree : Gathered → Tree
+abbrev pub gathered_tree : TreeLists → Tree
 gathered_tree g = record {
   symbols = from_rows (symbol_gathered g) 0 g.symbols.items;
   choices = from_rows (choice_gathered g) 0 g.choices.items;

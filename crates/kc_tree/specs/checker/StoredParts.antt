@@ -60,5 +60,5 @@ pub record AreSoundParts (p : Parts) : Type 0 where
   pub units : (s : ℕ) → s < length p.symbols.items → (slice_index p.unit_of_symbol.items s ≡ unit_of (tree_from_rows p) s) × (slice_index p.unit_of_symbol.items s < length p.units.items)
   pub choice_units : (c : ℕ) → c < length p.choices.items → (slice_index p.unit_of_choice.items c ≡ index_of_unit (tree_from_rows p) (of_choice c)) × (slice_index p.unit_of_choice.items c < length p.units.items)
   pub table : p.symbol_of_name.items ≡ map (symbol_named (tree_from_rows p)) p.arena.names
-  pub held : (x : List ℕ) → index_of_name x p.arena.names ≡ None → symbol_named (tree_from_rows p) x ≡ None
+  pub absent : (x : List ℕ) → index_of_name x p.arena.names ≡ None → symbol_named (tree_from_rows p) x ≡ None
   pub consistent : IsConsistent (tree_from_rows p)

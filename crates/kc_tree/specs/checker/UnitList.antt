@@ -1,5 +1,5 @@
 -- The units of the statements read, from the symbols' summaries.
-use Rattle.std.specs.Prelude.{ℕ, Bool, false, ◌==◌, ◌&&◌, List, filter_map, slice_get, Option, Some, None, is_none, if◌then◌else◌}
+use Rattle.std.specs.Prelude.{ℕ, Bool, ◌&&◌, List, filter_map, slice_get, Option, Some, None, is_none, if◌then◌else◌}
 use Rattle.kc_tree_model.specs.declared.ids.Unit.{Unit as TreeUnit}
 use Rattle.kc_tree_model.specs.declared.ids.Unit.TheVariants.{Symbol as of_symbol, Choice as of_choice}
 use Rattle.kc_tree_model.specs.Blocks.{from_head}
@@ -7,16 +7,12 @@ use Rattle.kc_tree_model.specs.Conditions.{GroupInContext}
 use Rattle.kc_tree_model.specs.Contents.{Contents, unit_of_head}
 use Rattle.kc_listing.specs.declared.listing.GroupHead.{GroupHead as CodeHead}
 use Rattle.kc_listing.specs.declared.listing.GroupHead.TheVariants as codes
+use Rattle.kc_tree.specs.checker.Summaries.{first_is}
 use Rattle.kc_tree.specs.declared.summary.SymbolSummary.{SymbolSummary}
-
--- whether an optional number is present and equals a number
-abbrev pub is_number : ℕ → Option ℕ → Bool
-is_number n None = false
-is_number n (Some k) = k == n
 
 -- whether a symbol is outside choices and is first defined by the group of this number
 abbrev pub is_unit_at : ℕ → SymbolSummary → Bool
-is_unit_at n a = is_number n a.first && is_none a.choice
+is_unit_at n a = first_is a.first n && is_none a.choice
 
 -- the unit of a symbol outside choices that the group of the first number defines first; the second number is the symbol's
 abbrev pub first_unit : ℕ → ℕ → Option SymbolSummary → Option TreeUnit

@@ -4,7 +4,7 @@ use Rattle.kc_value.specs.declared.tri.Tri.TheVariants.{N}
 use Rattle.kc_expr.specs.between.Arena.{Exprs, Represents, node_expr, Grows}
 use Rattle.kc_expr.specs.Expr.{Expr, alone, constant}
 use Rattle.kc_tree_model.specs.Trees as tree
-use Rattle.kc_tree_model.specs.Statements.{Attribute, typed, typed_prompt, typed_default, prompt, default, depends, select, imply, range, visible, help, modules, optional, prompt_of, visible_of}
+use Rattle.kc_tree_model.specs.Statements.{Attribute, typed_prompt, typed_default, prompt, default, select, imply, range, prompt_of, visible_of}
 use Rattle.kc_tree_model.specs.Blocks.{Group, Line, closing, side_of, open_blocks}
 use Rattle.kc_tree_model.specs.Conditions.{conjunction_of, visible_conjunct, attribute_values, dependencies_of, dependency_of, context, GroupInContext, group_in_context}
 use Rattle.kc_tree_model.specs.Contents.{menu_end_of}
@@ -15,19 +15,14 @@ use Rattle.kc_tree.specs.declared.group_walk.GroupWalk.{GroupWalk}
 
 -- the expression after an attribute's `if`; `None` for an attribute without an `if`
 abbrev pub if_of_attribute : Attribute → Option Expr
-if_of_attribute (typed k) = None
 if_of_attribute (typed_prompt k c) = c
 if_of_attribute (typed_default k d) = d.condition
 if_of_attribute (prompt c) = c
 if_of_attribute (default d) = d.condition
-if_of_attribute (depends e) = None
 if_of_attribute (select s) = s.condition
 if_of_attribute (imply s) = s.condition
 if_of_attribute (range r) = r.condition
-if_of_attribute (visible e) = None
-if_of_attribute help = None
-if_of_attribute modules = None
-if_of_attribute optional = None
+if_of_attribute a = None
 
 -- an attribute's joined condition: its entry's dependencies, for a prompt the enclosing `visible if`s, and its own `if`
 abbrev pub condition_among : List Expr → List Expr → Attribute → Expr

@@ -3,6 +3,7 @@ use Rattle.kc_expr.specs.declared.language.Language.{Language}
 use Rattle.kc_tree_model.specs.Statements.{DefaultAttribute, default_of}
 use Rattle.std.proofs.Common.{◌≡◌, ℕ, ◌<◌, true, List, [], Option, Some, None, refl, ap, sym, ◌∙◌, subst, length, filter, not, cond, Bool, false}
 use Rattle.std.specs.Prelude.{slice_get, filter_map, flat_map, ◌==◌, option_map, option_and_then}
+use Rattle.std.specs.Option.{option_or}
 use Rattle.std.specs.List.{list_any, list_all}
 use Rattle.kc_value.specs.declared.value.Kind.TheVariants.{Bool as Boolean}
 use Rattle.kc_expr.specs.Lookup.{index_of_name}
@@ -174,7 +175,7 @@ defaults_pass test holds c s i symbol h =
     (default_is_plain c s a.0 d (has-filter (defines r.0) c.places a.0 a.1).0 a.2)))
 
 -- the reading and the checks of a tree without a fault
-no_reading_fault : (o : Option TreeFault) (t : Option TreeFault) → elim o as (λ _. Option TreeFault) [ None ↦ t | Some f ↦ Some f ] ≡ None → t ≡ None
+no_reading_fault : (o : Option TreeFault) (t : Option TreeFault) → option_or o t ≡ None → t ≡ None
 no_reading_fault None t h = h
 no_reading_fault (Some f) t h = cc
 

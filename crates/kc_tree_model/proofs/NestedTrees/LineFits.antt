@@ -254,8 +254,8 @@ statement_keyword language read k t ts o h =
     let d = bind_ok (statement_of k ts) _ o c.1 in
     let e = fault_if_ok (is_too_deep read d.0) TooDeep _ o d.2 in
     let f = fault_if_ok (is_too_many read d.0) TooMany _ o e.1 in
-    let said : Some d.0 ≡ o = cc in
-    subst (IsKeywordStatementIfSome read (Ok (t ∷ ts))) said (record {
+    let some_is : Some d.0 ≡ o = cc in
+    subst (IsKeywordStatementIfSome read (Ok (t ∷ ts))) some_is (record {
       keyword = k;
       first = t;
       rest = ts;

@@ -98,17 +98,17 @@ is_source : (ts : List Lexeme) → OfOk (IsForm words.Source ts) (source_line ts
 is_source [] = tt
 is_source (t ∷ ts) = is_source_by t (path_of t) ts refl
 
-is_prompt : (k : Keyword) (f : Option Expr → Attribute)
+is_prompt_form : (k : Keyword) (f : Option Expr → Attribute)
     → ((t : Lexeme) (ts : List Lexeme) (c : Option Expr) → is_quoted_kind t.kind ≡ true → IsOptionalIf ts c → IsForm k (t ∷ ts) (attribute (f c)))
     → (ts : List Lexeme) → OfOk (IsForm k ts) (prompt_line f ts)
-is_prompt k f form [] = tt
-is_prompt k f form (t ∷ ts) =
+is_prompt_form k f form [] = tt
+is_prompt_form k f form (t ∷ ts) =
     ok_when (IsForm k (t ∷ ts)) (is_quoted_kind t.kind) _
     (λ e. ok_bind (IsOptionalIf ts) (IsForm k (t ∷ ts)) (optional_if ts) _ (is_optional_if ts) (λ c h. form t ts c e h))
 
 is_type : (k : Kind) (ts : List Lexeme) → OfOk (IsForm (words.Type k) ts) (type_line k ts)
 is_type k [] = type_form
-is_type k (t ∷ ts) = is_prompt (words.Type k) (typed_prompt k) (λ t ts c e h. type_prompt_form e h) (t ∷ ts)
+is_type k (t ∷ ts) = is_prompt_form (words.Type k) (typed_prompt k) (λ t ts c e h. type_prompt_form e h) (t ∷ ts)
 
 is_default : (k : Keyword) (f : DefaultAttribute → Attribute) → ((ts : List Lexeme) (d : DefaultAttribute) → IsDefault ts d → IsForm k ts (attribute (f d)))
     → (ts : List Lexeme) → OfOk (IsForm k ts) (default_line f ts)
@@ -170,7 +170,7 @@ form_is words.Mainmenu ts = is_titled words.Mainmenu (λ _. mainmenu) (λ t e. m
 form_is (words.End b) ts = is_last (words.End b) (head (ends b)) end_form ts
 form_is (words.Type k) ts = is_type k ts
 form_is (words.DefaultType k) ts = is_default (words.DefaultType k) (typed_default k) (λ ts d h. type_default_form h) ts
-form_is words.Prompt ts = is_prompt words.Prompt prompt (λ t ts c e h. prompt_form e h) ts
+form_is words.Prompt ts = is_prompt_form words.Prompt prompt (λ t ts c e h. prompt_form e h) ts
 form_is words.Default ts = is_default words.Default default (λ ts d h. default_form h) ts
 form_is words.Depends ts = is_worded words.Depends (codes "on") depends (λ t ts c e h. depends_form e h) ts
 form_is words.Select ts = is_target words.Select select (λ t ts c e h. select_form e h) ts

@@ -1,7 +1,7 @@
 -- The tree of files and the reported fault, by the relation of reading.
 use Rattle.std.proofs.Common.{◌≡◌, inl, inr, ℕ, List, Option, Some, None, Result, refl, ap, sym, ◌∙◌, subst}
 use Rattle.std.specs.Prelude.{◌↔◌, slice_get}
-use Rattle.kc_expr.specs.declared.language.Language.{Language}
+use Rattle.std.specs.Option.{option_or}
 use Rattle.kc_tree_model.specs.declared.fault.TreeFault.{TreeFault}
 use Rattle.kc_tree_model.specs.TreeFiles.{Files}
 use Rattle.kc_tree_model.specs.Trees.{Tree}
@@ -15,10 +15,6 @@ use Rattle.kc_tree_model.specs.TreesOfFiles.{origin_of, lenient_origin, IsTreeOf
 use Rattle.kc_tree_model.proofs.Consistency.Definitions.{no_first}
 use Rattle.kc_tree_model.proofs.ReadingLaws.ReadingCompleteness.{whole_read, cut_read}
 use Rattle.kc_tree_model.proofs.ReadingLaws.ReadingSoundness.{whole_related, cut_related}
-
-fault_after : (language : Language) (o : Outcome) (k : Option TreeFault) → o.fault ≡ k
-    → first_fault_after language o ≡ elim k as (λ _. Option TreeFault) [ None ↦ slice_get (tree_faults language o.read) 0 | Some f ↦ Some f ]
-fault_after language o k e = ap (λ x. elim x as (λ _. Option TreeFault) [ None ↦ slice_get (tree_faults language o.read) 0 | Some f ↦ Some f ]) e
 
 -- an outcome is what is read
 outcome_by : (r : FileSource) (o : Outcome) (k : Option TreeFault) → o.fault ≡ k → reading_from r ≡ o → IsOutcome r o
@@ -43,7 +39,7 @@ one_outcome r o other a b = sym (outcome_read r o a) ∙ outcome_read r other b
 -- the tree
 module _ (files : Files) (root : List ℕ) where
   tree_by : (tree : Tree) (k : Option TreeFault) → (reading files root).fault ≡ k
-      → elim k as (λ _. Option TreeFault) [ None ↦ slice_get (tree_faults files.language (reading files root).read) 0 | Some f ↦ Some f ] ≡ None
+      → option_or k (slice_get (tree_faults files.language (reading files root).read) 0) ≡ None
       → tree ≡ tree_of_groups (reading files root).read → IsTreeOfFiles files root tree
   unfolding reading
   tree_by tree None e h same =
@@ -64,7 +60,7 @@ module _ (files : Files) (root : List ℕ) where
   )
 
   reported_by : (fault : TreeFault) (k : Option TreeFault) → (reading files root).fault ≡ k
-      → elim k as (λ _. Option TreeFault) [ None ↦ slice_get (tree_faults files.language (reading files root).read) 0 | Some f ↦ Some f ] ≡ Some fault
+      → option_or k (slice_get (tree_faults files.language (reading files root).read) 0) ≡ Some fault
       → IsReportedFault files root fault
   unfolding reading
   reported_by fault None e h =

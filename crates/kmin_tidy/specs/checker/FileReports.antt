@@ -8,7 +8,7 @@ use Rattle.kmin_tidy.specs.declared.file_step.FileEnd.{FileEnd}
 use Rattle.kmin_tidy.specs.declared.stop.Stop.{Stop}
 use Rattle.kmin_tidy.specs.declared.stop.Stop.TheVariants.{Memory, Left as StopLeft}
 use Rattle.kmin_disk.specs.declared.fault.ReplaceFault.{ReplaceFault}
-use Rattle.kmin_disk.specs.declared.fault.ReplaceFault.TheVariants.{NotRegular, Unchanged, NamesTaken, Left, FolderNotSynced, OutOfMemory}
+use Rattle.kmin_disk.specs.declared.fault.ReplaceFault.TheVariants.{Left, OutOfMemory}
 use Rattle.kmin_tidy.specs.declared.report.FileReport.{FileReport}
 
 -- a file with this fault has this report: no notices, the fault as its problem, and the outcome `Failed` for a failed read, and
@@ -26,16 +26,10 @@ IsNotWritten end = (end.problem ≡ Some Write) × (end.outcome ≡ Failed)
 abbrev pub IsFailedBy : ReplaceFault → FileEnd → Type 0
 IsFailedBy OutOfMemory end = ⊥
 IsFailedBy (Left new_path) end = ⊥
-IsFailedBy NotRegular end = IsNotWritten end
-IsFailedBy Unchanged end = IsNotWritten end
-IsFailedBy NamesTaken end = IsNotWritten end
-IsFailedBy FolderNotSynced end = IsNotWritten end
+IsFailedBy _ end = IsNotWritten end
 
 -- a fault of replacing a file ends the run for this reason
 abbrev pub IsStoppedBy : ReplaceFault → Stop → Type 0
 IsStoppedBy OutOfMemory stop = stop ≡ Memory
 IsStoppedBy (Left new_path) stop = stop ≡ StopLeft new_path
-IsStoppedBy NotRegular stop = ⊥
-IsStoppedBy Unchanged stop = ⊥
-IsStoppedBy NamesTaken stop = ⊥
-IsStoppedBy FolderNotSynced stop = ⊥
+IsStoppedBy _ stop = ⊥

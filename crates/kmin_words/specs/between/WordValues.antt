@@ -1,9 +1,10 @@
 -- The job of accepted words, by the values that their parser found.
 use Rattle.std.specs.Prelude.{◌≡◌, ℕ, ◌+◌, Bool, true, false, not, ◌&&◌, ◌||◌, ◌==◌, nat_lt, nat_le, List, [], ◌∷◌, ◌++◌, length, take, drop, position, count_by, Option, Some, None, Result, Ok, Err, is_some, codes, unwrap_or, option_map, bytes_eq, if◌then◌else◌}
-use Rattle.std.specs.List.{list_all, list_any, filter_map}
+use Rattle.std.specs.List.{list_all, filter_map}
 use Rattle.clap.specs.Words.{matched_of, first_value}
 use Rattle.clap.specs.Matches.{raw_values}
 use Rattle.clap.specs.declared.parser.matches.Found.{Found}
+use Rattle.kc_value.specs.declared.limits.TheConstants.{MAX_VARIABLE_BYTES}
 use Rattle.kc_expr.specs.declared.language.Language.{Language}
 use Rattle.kc_expr.specs.declared.language.Language.TheVariants.{Strict, Linux}
 use Rattle.kc_rules_model.specs.declared.profile.Profile.{Profile}
@@ -11,7 +12,7 @@ use Rattle.kc_rules_model.specs.declared.profile.Profile.TheVariants.{Present, C
 use Rattle.kc_dotconfig_model.specs.declared.format.Strings.{Strings}
 use Rattle.kc_dotconfig_model.specs.declared.format.Strings.TheVariants.{Escaped, Raw}
 use Rattle.kc_dotconfig_model.specs.PrefixGrammar.{is_prefix}
-use Rattle.kc_macros_model.specs.Limits.{max_text_bytes}
+use Rattle.kc_tree_model.specs.TreeLookup.{has_newline}
 use Rattle.kc_macros_model.specs.Variables.{is_environment_name, without_white_end}
 use Rattle.kmin_words.specs.declared.job.TidyFlags.{TidyFlags}
 use Rattle.kmin_words.specs.declared.job.Verb.{Verb}
@@ -32,12 +33,16 @@ values_of found id = unwrap_or (option_map raw_values (matched_of found id)) []
 abbrev pub is_given : Found → List ℕ → Bool
 is_given found id = bytes_eq (value_of found id) (codes "true")
 
--- the verb with this name; `None` if it is the name of another command
-abbrev pub verb_of : List ℕ → Option Verb
-verb_of name = if bytes_eq name (codes "min") then Some Min
+-- whether `--exit-code` is given
+abbrev pub exit_code_of : Found → Bool
+exit_code_of found = is_given found (codes "exit-code")
+
+-- the verb with this name, `missed` and `check` with `--exit-code` or without it; `None` if it is the name of another command
+abbrev pub verb_of : List ℕ → Found → Option Verb
+verb_of name found = if bytes_eq name (codes "min") then Some Min
     else (if bytes_eq name (codes "full") then Some Full
-    else (if bytes_eq name (codes "missed") then Some Missed
-    else (if bytes_eq name (codes "check") then Some Check else None)))
+    else (if bytes_eq name (codes "missed") then Some (Missed (exit_code_of found))
+    else (if bytes_eq name (codes "check") then Some (Check (exit_code_of found)) else None)))
 
 -- the profile (how `imply` acts) for a value of `--imply`: `Classic` for `classic`, and `Present` for any other
 abbrev pub profile_of : List ℕ → Profile
@@ -54,26 +59,22 @@ language_of value is_expanded =
     else (if bytes_eq value (codes "linux") then Linux
     else (if is_expanded then Linux else Strict))
 
--- the command with this name: a verb over its files in order, with `--exit-code` or without it, or the comparison of two files
+-- the command with this name: a verb over its files in order, or the comparison of two files
 abbrev pub task_of : List ℕ → Found → Task
-task_of name found = elim (verb_of name) [
-  | Some verb ↦ over verb (values_of found (codes "FILE")) (is_given found (codes "exit-code"))
+task_of name found = elim (verb_of name found) [
+  | Some verb ↦ over verb (values_of found (codes "FILE"))
   | None ↦ compare (value_of found (codes "LEFT")) (value_of found (codes "RIGHT"))
 ]
 
 -- a value of the command line, or the line of the message with which it is refused
-abbrev pub OrRefused : Type 0 → Type 0
-OrRefused A = Result A (List ℕ)
-
--- whether a text has a newline
-abbrev pub has_newline : List ℕ → Bool
-has_newline text = list_any (λ b. b == 10) text
+abbrev pub ValueResult : Type 0 → Type 0
+ValueResult A = Result A (List ℕ)
 
 -- the definition of a name by a value, whose white bytes at the end are dropped; `None` unless an environment may have the name,
--- and the value has at most `max_text_bytes` bytes and no newline
+-- and the value has at most `MAX_VARIABLE_BYTES` bytes and no newline
 abbrev pub named_value : List ℕ → List ℕ → Option Definition
 named_value name value =
-    if is_environment_name name && (nat_le (length value) max_text_bytes && not (has_newline value))
+    if is_environment_name name && (nat_le (length value) MAX_VARIABLE_BYTES && not (has_newline value))
     then Some (record { name = name; value = without_white_end value })
     else None
 
@@ -86,15 +87,15 @@ abbrev pub is_definition : List ℕ → Bool
 is_definition text = is_some (definition_of text)
 
 -- the definitions of the values of `--define`; refused unless each value is a definition
-abbrev pub definitions_of : List (List ℕ) → OrRefused (List Definition)
+abbrev pub definitions_of : List (List ℕ) → ValueResult (List Definition)
 definitions_of texts = if list_all is_definition texts then Ok (filter_map definition_of texts) else Err (codes "define: Malformed\n")
 
 -- the values of `--env`; refused unless each is a name that an environment may have
-abbrev pub environment_of : List (List ℕ) → OrRefused (List (List ℕ))
+abbrev pub environment_of : List (List ℕ) → ValueResult (List (List ℕ))
 environment_of names = if list_all is_environment_name names then Ok names else Err (codes "env: Malformed\n")
 
 -- the path of the first Kconfig file of a tree whose macros are expanded; refused if it has a newline
-abbrev pub expanded_tree_of : List ℕ → OrRefused (List ℕ)
+abbrev pub expanded_tree_of : List ℕ → ValueResult (List ℕ)
 expanded_tree_of path = if has_newline path then Err (codes "tree: Malformed\n") else Ok path
 
 -- how many of the paths are `/dev/stdin`
@@ -103,16 +104,16 @@ inputs_among paths = count_by (λ path. bytes_eq path (codes "/dev/stdin")) path
 
 -- the paths of configuration files; refused if they and those of answer files name standard input more than once, compared as
 -- texts
-abbrev pub paths_beside : (answers paths : List (List ℕ)) → OrRefused (List (List ℕ))
+abbrev pub paths_beside : (answers paths : List (List ℕ)) → ValueResult (List (List ℕ))
 paths_beside answers paths = if nat_lt 1 (inputs_among answers + inputs_among paths) then Err (codes "stdin: NamedTwice\n") else Ok paths
 
 -- the result of a function on a value, or the refusal of that value
-abbrev pub and_then : {A B : Type 0} → OrRefused A → (A → OrRefused B) → OrRefused B
+abbrev pub and_then : {A B : Type 0} → ValueResult A → (A → ValueResult B) → ValueResult B
 and_then (Ok x) f = f x
 and_then (Err line) f = Err line
 
 -- the values of `--answers`, `--define` and `--env`; refused if one is malformed, or if the path of `--tree` has a newline
-abbrev pub expansion_of : Found → OrRefused Expansion
+abbrev pub expansion_of : Found → ValueResult Expansion
 expansion_of found =
     and_then (definitions_of (values_of found (codes "define"))) (λ definitions.
     and_then (environment_of (values_of found (codes "env"))) (λ environment.
@@ -128,15 +129,15 @@ is_expanded found =
     || nat_lt 0 (length (values_of found (codes "env")))))
 
 -- the values of `--answers`, `--define` and `--env`, or `None` if no option turns the expansion of macros on
-abbrev pub expansion_if_given : Found → OrRefused (Option Expansion)
+abbrev pub expansion_if_given : Found → ValueResult (Option Expansion)
 expansion_if_given found = if is_expanded found then and_then (expansion_of found) (λ e. Ok (Some e)) else Ok None
 
 -- the value of `--prefix`; refused unless names of symbols in configuration files may have it in front
-abbrev pub prefix_of : List ℕ → OrRefused (List ℕ)
+abbrev pub prefix_of : List ℕ → ValueResult (List ℕ)
 prefix_of text = if is_prefix text then Ok text else Err (codes "prefix: Malformed\n")
 
 -- the options of a command over configuration files of these paths, by the values that were found
-abbrev pub settings_of : Found → (paths : List (List ℕ)) → OrRefused Settings
+abbrev pub settings_of : Found → (paths : List (List ℕ)) → ValueResult Settings
 settings_of found paths =
     and_then (prefix_of (value_of found (codes "prefix"))) (λ prefix.
     and_then (expansion_if_given found) (λ expansion.
@@ -152,24 +153,24 @@ settings_of found paths =
     }))))
 
 -- the options of a command, and the command with this name and its files
-abbrev pub job_of : List ℕ → Found → OrRefused (Settings × Task)
+abbrev pub job_of : List ℕ → Found → ValueResult (Settings × Task)
 job_of name found = and_then (settings_of found (paths_of (task_of name found))) (λ settings. Ok (settings, task_of name found))
 
 -- the path of an output file, if it is given; refused if it has a newline
-abbrev pub one_line_output : Option (List ℕ) → OrRefused (Option (List ℕ))
+abbrev pub one_line_output : Option (List ℕ) → ValueResult (Option (List ℕ))
 one_line_output None = Ok None
 one_line_output (Some path) = if has_newline path then Err (codes "file: Malformed\n") else Ok (Some path)
 
 -- the value of `--output`, if it is given; refused if it has a newline
-abbrev pub output_of : Found → OrRefused (Option (List ℕ))
+abbrev pub output_of : Found → ValueResult (Option (List ℕ))
 output_of found = one_line_output (first_value found (codes "output"))
 
 -- the options of a command, the command with this name and its files, and the path of its output file, if it is given
-abbrev pub job_and_output_of : List ℕ → Found → OrRefused ((Settings × Task) × Option (List ℕ))
+abbrev pub job_and_output_of : List ℕ → Found → ValueResult ((Settings × Task) × Option (List ℕ))
 job_and_output_of name found = and_then (output_of found) (λ output. and_then (job_of name found) (λ job. Ok (job, output)))
 
 -- the folder, first Kconfig file and sources of answers that the words of the command `wants` give, or why they are refused
-abbrev pub questions_of : Found → OrRefused Questions
+abbrev pub questions_of : Found → ValueResult Questions
 questions_of found =
     and_then (expansion_of found) (λ expansion.
     and_then (paths_beside (values_of found (codes "answers")) []) (λ named.
@@ -188,7 +189,7 @@ abbrev pub is_one_line : List ℕ → Bool
 is_one_line path = not (has_newline path)
 
 -- the paths themselves; refused if one has a newline
-abbrev pub one_line_paths : List (List ℕ) → OrRefused (List (List ℕ))
+abbrev pub one_line_paths : List (List ℕ) → ValueResult (List (List ℕ))
 one_line_paths paths = if list_all is_one_line paths then Ok paths else Err (codes "file: Malformed\n")
 
 -- the path from which the list of `--from` is read: `/dev/stdin` for `-`
@@ -201,39 +202,31 @@ paths_read files None = files
 paths_read files (Some list) = files ++ path_read list.path ∷ []
 
 -- the values of the command `tidy`: its options, flags, list and files
-abbrev pub tidying_of : Found → OrRefused Tidying
+abbrev pub tidying_of : Found → ValueResult Tidying
 tidying_of found =
     and_then (one_line_paths (values_of found (codes "FILE"))) (λ files.
     and_then (settings_of found (paths_read files (list_of found))) (λ settings.
     Ok (record { settings = settings; flags = flags_of found; list = list_of found; files = files })))
 
 -- parsed words are the command `wants` with these values, or the message with which a value is refused
-abbrev pub AreQuestions : OrRefused Questions → ParsedWords → Type 0
+abbrev pub AreQuestions : ValueResult Questions → ParsedWords → Type 0
 AreQuestions found (TheQuestions questions) = found ≡ Ok (questions_view questions)
 AreQuestions found (Refused text) = found ≡ Err text.bytes.items
-AreQuestions found (Job job) = ⊥
-AreQuestions found (Save saving) = ⊥
-AreQuestions found (Tidy tidying) = ⊥
-AreQuestions found (Help text) = ⊥
+AreQuestions found words = ⊥
 
 -- parsed words are a command with these values, with its output file if there is one, or the message with which a value is
 -- refused
-abbrev pub AreJob : OrRefused ((Settings × Task) × Option (List ℕ)) → ParsedWords → Type 0
+abbrev pub AreJob : ValueResult ((Settings × Task) × Option (List ℕ)) → ParsedWords → Type 0
 AreJob found (Job job) = found ≡ Ok ((settings_view job.settings, task_view job.task), None)
 AreJob found (Save saving) = found ≡ Ok ((settings_view saving.job.settings, task_view saving.job.task), Some saving.output.now)
 AreJob found (Refused text) = found ≡ Err text.bytes.items
-AreJob found (TheQuestions questions) = ⊥
-AreJob found (Tidy tidying) = ⊥
-AreJob found (Help text) = ⊥
+AreJob found words = ⊥
 
 -- parsed words are the command `tidy` with these values, or the message with which a value is refused
-abbrev pub IsTidying : OrRefused Tidying → ParsedWords → Type 0
+abbrev pub IsTidying : ValueResult Tidying → ParsedWords → Type 0
 IsTidying found (Tidy tidying) = found ≡ Ok (tidying_view tidying)
 IsTidying found (Refused text) = found ≡ Err text.bytes.items
-IsTidying found (Job job) = ⊥
-IsTidying found (Save saving) = ⊥
-IsTidying found (TheQuestions questions) = ⊥
-IsTidying found (Help text) = ⊥
+IsTidying found words = ⊥
 
 -- parsed words are the command of this name with the values that were found, or the message with which one is refused
 abbrev pub HasValues : (name : List ℕ) → Found → ParsedWords → Type 0

@@ -5,4 +5,4 @@ use Rattle.kc_dotconfig.specs.checker.Configs.{units_of}
 use Rattle.kc_dotconfig.proofs.changes.merge_units.Given as goal
 
 abbrev pub invariant-loop-unit : goal.invariant-loop-unit
-invariant-loop-unit l = l.held.items ≡ l.fn.held.items ++ filter (λ u. is_none (user_of l.fn.users u)) (units_of (take l.unit-index l.fn.assigns))
+invariant-loop-unit l = l.valued.items ≡ l.fn.valued.items ++ filter (λ u. is_none (user_of l.fn.users u)) (units_of (take l.unit-index l.fn.assigns))

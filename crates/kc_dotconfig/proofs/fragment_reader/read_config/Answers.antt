@@ -1,9 +1,8 @@
 use Rattle.std.proofs.Common.{inr, ◌≡◌, ◌<◌, ◌≤◌, length, take, refl, ◌∙◌, sym, arith}
 use Rattle.std.proofs.lemmas.Grind.{common_steps}
 use Rattle.kc_rules.specs.between.SettledViews.{tree_of_settled}
-use Rattle.kc_value.specs.declared.limits.TheConstants.{MAX_CONFIG_LINES}
+use Rattle.kc_value.specs.declared.limits.TheConstants.{MAX_CONFIG_BLOCK_BYTES, MAX_CONFIG_LINES}
 use Rattle.kc_dotconfig_model.specs.between.Formats.{file_format}
-use Rattle.kc_dotconfig.specs.ReadResults.{MAX_READ}
 use Rattle.kc_dotconfig.proofs.WholeReads.{has_read_none, has_read_more, read_cut_short, rises, one_read, on_any_ok, if_any_err, reports_cut_short, reports_refused, refused_in, block_fault, whole_read, whole_fits, end_fault}
 use Rattle.kc_dotconfig.proofs.fragment_reader.read_config.Goals as goal
 
@@ -48,7 +47,7 @@ pub returns-in-Err-clause-fault : goal.returns-in-Err-clause-fault
 returns-in-Err-clause-fault g c =
     let n : length (take c.in-Ok.count c.read_some.new.buf) ≡ c.in-Ok.count = sym c.in-Ok.ensures.bound.1 in
     let most = c.in-Ok.ensures.bound.0 in
-    let short : length (take c.in-Ok.count c.read_some.new.buf) ≤ MAX_READ = omega arith in
+    let short : length (take c.in-Ok.count c.read_some.new.buf) ≤ MAX_CONFIG_BLOCK_BYTES = omega arith in
     reports_refused (file_format c.args.format.now) (tree_of_settled c.args.settled.now) (g.R.Source.left c.args.source.now)
     (g.R.Source.left c.read_some.new.self) _ _ c.fault_on_next_line-in-Err.result.kind c.fault_on_next_line-in-Err.result.line
     (refused_in (file_format c.args.format.now) (tree_of_settled c.args.settled.now) (g.R.Source.left c.args.source.now) (g.R.Source.left c.loop-size.source)

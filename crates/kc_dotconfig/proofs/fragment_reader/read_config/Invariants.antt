@@ -5,7 +5,7 @@ use Rattle.kc_dotconfig_model.specs.between.Formats.{file_format}
 use Rattle.kc_dotconfig.proofs.WholeReads.{HasRead}
 use Rattle.kc_dotconfig.proofs.fragment_reader.read_config.Given as goal
 
--- the bytes of the file read so far have no fault, and are held as an incomplete line and an accumulator
+-- the bytes of the file read so far have no fault, and are kept as an incomplete line and an accumulator
 abbrev pub invariant-loop-size : goal.invariant-loop-size
 invariant-loop-size g l = record {
   small : l.size ≤ MAX_CONFIG_BYTES;

@@ -1,5 +1,6 @@
 use Rattle.std.proofs.Common.{◌≡◌, ◌<◌, ◌≤◌, ◌∙◌, ◌∷◌, [], ◌++◌, Some, length, refl, ap, arith}
 use Rattle.std.specs.Prelude.{vec_len}
+use Rattle.kc_value.specs.declared.limits.TheConstants.{MAX_TREE_BYTES}
 use Rattle.kc_tree_model.specs.LogicalLines.{split_at_newlines}
 use Rattle.kc_macros_model.specs.declared.fault.MacroKind.TheVariants.{MissingFile, TooMany}
 use Rattle.kc_macros_model.specs.Programs.{returns as returns_value, fails, ◌>>=◌}
@@ -10,7 +11,7 @@ use Rattle.kc_expansion.specs.between.KnownFiles.{missing, whole, too_long}
 use Rattle.kc_expansion.specs.checker.FileViews.{file_of}
 use Rattle.kc_expansion.specs.checker.ExpansionViews.{with_root}
 use Rattle.kc_expansion.specs.checker.ReadingViews.{state_of, file_run_of, fault_at, reader_for}
-use Rattle.kc_expansion.specs.checker.Slices.{slices_of}
+use Rattle.kc_macros.specs.between.SliceTexts.{texts_of_slices}
 use Rattle.kc_expansion.proofs.FileProgramLemmas.{reads_on, reads_fails, out_now}
 use Rattle.kc_expansion.proofs.SourceReadLemmas.{lines_here}
 use Rattle.kc_expansion.proofs.ExpansionLemmas.{root_missing, root_too_long, root_opened, root_leads, root_ends, counted_first}
@@ -59,7 +60,7 @@ returns-then-len-gt-MAX_TREE_BYTES g c = record {
       let f = fault_at (place root 0) TooMany in
       let bytes = c.in-Whole.bytes.value.items in
       let n : c.len.result ≡ length bytes = c.len.ensures ∙ ap vec_len c.deref.ensures ∙ c.in-Whole.bytes.value.ok.0 in
-      let long : 67108864 < length bytes = omega (arith, n, c.if-len-gt-MAX_TREE_BYTES.true) in
+      let long : MAX_TREE_BYTES < length bytes = omega (arith, n, c.if-len-gt-MAX_TREE_BYTES.true) in
       reads_on a b b (tree_read root) (fails f) (end_of_stop c.fault-then-len-gt-MAX_TREE_BYTES.result)
       (root_leads a b root s (whole bytes) (fails f) c.requires.initial c.file.ensures.same c.file.ensures.grows refl
       (c.in_ok-read.ensures.read ∙ ap (λ x. Some (file_of x)) c.in-Whole.is) (λ there e. root_too_long root s there bytes e long))
@@ -86,9 +87,9 @@ returns g c = record {
       let bytes = c.in-Whole.bytes.value.items in
       let n : c.len.result ≡ length bytes = c.len.ensures ∙ ap vec_len c.deref.ensures ∙ c.in-Whole.bytes.value.ok.0 in
       let m : c.len-2.result ≡ length bytes = c.len-2.ensures ∙ ap vec_len c.deref-3.ensures ∙ c.in-Whole.bytes.value.ok.0 in
-      let few : length bytes ≤ 67108864 = omega (arith, n, c.if-len-gt-MAX_TREE_BYTES.false) in
-      let paths = slices_of c.deref-2.result.now in
-      let h : paths ≡ root ∷ [] = ap slices_of c.deref-2.ensures.value ∙ c.in_ok-paths.ensures in
+      let few : length bytes ≤ MAX_TREE_BYTES = omega (arith, n, c.if-len-gt-MAX_TREE_BYTES.false) in
+      let paths = texts_of_slices c.deref-2.result.now in
+      let h : paths ≡ root ∷ [] = ap texts_of_slices c.deref-2.ensures.value ∙ c.in_ok-paths.ensures in
       let t = counted_first s c.len-2.result (length bytes) c.requires.initial m in
       let lines = lines_read (reader_for root (root ∷ [])) root 0 1 (split_at_newlines bytes) (counted (length bytes) s) in
       let q = lines >>= λ (p : Progress). returns_value (p.state.expanded ++ record { key = root; path = root; text = p.text } ∷ []) in

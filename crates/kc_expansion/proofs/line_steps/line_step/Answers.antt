@@ -6,7 +6,6 @@ use Rattle.kc_macros_model.specs.Programs.{returns as returns_value, ◌>>=◌}
 use Rattle.kc_macros_model.specs.ReadingStates.{ReadingState, written_line}
 use Rattle.kc_macros_model.specs.TreeExpansion.{content_written, tokens_written, line_written}
 use Rattle.kc_macros_model.specs.Variables.{Bindings}
-use Rattle.kc_macros.specs.between.AssignmentViews.{operator_of}
 use Rattle.kc_macros.specs.between.LineContents.{tokens_of, content_of}
 use Rattle.kc_macros.specs.Runs.{place_of, Runs, end_of_stop, ends}
 use Rattle.kc_macros.specs.between.Variables.{bindings_of}
@@ -63,7 +62,7 @@ returns-in_err-assign_line-in-Assigns c = record {
       let m = line_content at u.bindings true (line_tokens 0 c.args.text.now) in
       let k = content_written sub at c.args.joined u in
       let asg = c.in-Assigns.assignment in
-      let x = assigns asg.name (assigned (operator_of asg.operator) asg.text) in
+      let x = assigns asg.name (assigned asg.operator asg.text) in
       let n = assigned_or_fault at c.args.joined u.bindings asg in
       let j = λ (bs : Bindings). let t : ReadingState = record u { bindings = bs } in returns_value (written_line [] false t) in
       steps_stopped a b d p (n >>= j) _ c.in_err-assign_line-in-Assigns.field-0.0 _
@@ -88,7 +87,7 @@ returns-in_ok-assign_line-in-Assigns c = record {
       let m = line_content at u.bindings true (line_tokens 0 c.args.text.now) in
       let k = content_written sub at c.args.joined u in
       let asg = c.in-Assigns.assignment in
-      let x = assigns asg.name (assigned (operator_of asg.operator) asg.text) in
+      let x = assigns asg.name (assigned asg.operator asg.text) in
       let n = assigned_or_fault at c.args.joined u.bindings asg in
       let j = λ (bs : Bindings). let t : ReadingState = record u { bindings = bs } in returns_value (written_line [] false t) in
       let after = bindings_of c.assign_line.new.state.bindings in

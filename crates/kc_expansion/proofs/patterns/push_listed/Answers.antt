@@ -4,7 +4,7 @@ use Rattle.std.specs.declared.alloc.Global.{Global}
 use Rattle.std.proofs.lemmas.List.{length-map}
 use Rattle.kc_macros_model.specs.Programs.{list_folder, does}
 use Rattle.kc_macros_model.specs.Worlds.{returned}
-use Rattle.kc_macros_model.specs.Limits.{max_listed_names}
+use Rattle.kc_value.specs.declared.limits.TheConstants.{MAX_LISTED_NAMES}
 use Rattle.kc_macros_model.specs.PathPatterns.{found, matches_name, matching_names}
 use Rattle.kc_expansion.specs.TextViews.{items_of}
 use Rattle.kc_expansion.specs.between.FileRuns.{Comes}
@@ -20,7 +20,7 @@ pub returns-then-listed-gt-MAX_LISTED_NAMES-clause-finds : goal.returns-then-lis
 returns-then-listed-gt-MAX_LISTED_NAMES-clause-finds g c = λ at.
     let ns = c.in-Some.names.now in
     let len : length (items_of ns) ≡ length ns = length-map ns (λ (v : Vec ℕ Global). v.items) in
-    let many : max_listed_names < c.args.found.now.listed + length (items_of ns) = omega (arith, c.saturating_add-listed.ensures) in
+    let many : MAX_LISTED_NAMES < c.args.found.now.listed + length (items_of ns) = omega (arith, c.saturating_add-listed.ensures) in
     too_many_listed (known_of c.list.new.self) at c.args.piece.now c.args.folder.now c.args.found.now.listed (items_of ns) c.in-Some.ensures.value
     (more_is_many (c.args.found.now.listed + length (items_of ns)) many)
 
@@ -33,7 +33,7 @@ returns-clause-finds g c = λ at.
     let more = map (λ n. folder ++ n) (filter (matches_name piece) (items_of ns)) in
     let len : length (items_of ns) ≡ length ns = length-map ns (λ (v : Vec ℕ Global). v.items) in
     let sum : c.saturating_add-listed.result ≡ listed + length (items_of ns) = omega (arith, c.saturating_add-listed.ensures) in
-    let few : listed + length (items_of ns) ≤ max_listed_names = omega arith in
+    let few : listed + length (items_of ns) ≤ MAX_LISTED_NAMES = omega arith in
     let comes = finds_listed (known_of c.list.new.self) at piece folder listed (items_of ns) c.in-Some.ensures.value
     (less_is_few (listed + length (items_of ns)) few) in (
       more,

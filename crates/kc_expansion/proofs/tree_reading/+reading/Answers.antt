@@ -1,7 +1,7 @@
 use Rattle.std.proofs.Common.{◌≡◌, ◌≤◌, ◌<◌, ◌∙◌, ◌∷◌, ◌++◌, ◌+◌, [], ℕ, List, Some, true, false, length, drop, refl, sym, ap, subst, arith, rules, take, suc, Vec, Global, ◌||◌, not}
 use Rattle.std.specs.Prelude.{codes, nat_lt, vec_len}
 use Rattle.std.specs.Str.{is_utf8}
-use Rattle.kc_macros_model.specs.Limits.{max_text_bytes}
+use Rattle.kc_value.specs.declared.limits.TheConstants.{MAX_TEXT_BYTES, MAX_OPEN_FILES}
 use Rattle.kc_expansion.specs.between.KnownFiles.{whole}
 use Rattle.kc_expansion.specs.checker.ExpandedViews.{with_file}
 use Rattle.std.specs.List.{list_any}
@@ -18,7 +18,7 @@ use Rattle.kc_macros.specs.Runs.{place_of, end_of_stop}
 use Rattle.kc_expansion.specs.TextViews.{items_of, texts_of}
 use Rattle.kc_expansion.specs.between.Reads.{Reads}
 use Rattle.kc_expansion.specs.checker.FileViews.{file_of, known_of}
-use Rattle.kc_expansion.specs.checker.Slices.{slices_of}
+use Rattle.kc_macros.specs.between.SliceTexts.{texts_of_slices}
 use Rattle.kc_expansion.specs.checker.ProgramSteps.{Leads}
 use Rattle.kc_expansion.specs.checker.LineViews.{IsHelpPassed}
 use Rattle.kc_expansion.specs.checker.ReadingViews.{state_of, file_run_of, reader_of, reader_for, fault_at, step_left, paths_left, AreCounts, lines_left, lists_left, IsWrittenTo}
@@ -153,7 +153,7 @@ read_source-returns-in-Err g t c = record {
       let a = file_run_of (g.F.TreeFiles.contents c.args.files.now) r in
       let b = file_run_of (g.F.TreeFiles.contents c.file.new.files) (record r { store = c.file.new.self }) in
       let root = c.args.opened.now.root.now in
-      let ps = slices_of c.args.opened.now.paths.now in
+      let ps = texts_of_slices c.args.opened.now.paths.now in
       let few = few_open c.args.opened.now.paths.now c.requires.few in
       let at = place_of c.args.at in
       let s = state_of r in
@@ -173,7 +173,7 @@ read_source-returns-in_err-paths g t c = record {
       let a = file_run_of (g.F.TreeFiles.contents c.args.files.now) r in
       let b = file_run_of (g.F.TreeFiles.contents c.file.new.files) (record r { store = c.file.new.self }) in
       let root = c.args.opened.now.root.now in
-      let ps = slices_of c.args.opened.now.paths.now in
+      let ps = texts_of_slices c.args.opened.now.paths.now in
       let few = few_open c.args.opened.now.paths.now c.requires.few in
       let at = place_of c.args.at in
       let s = state_of r in
@@ -201,9 +201,9 @@ read_source-read_lines-requires g t c κs within =
     let os = c.args.opened.now.paths.now in
     let path = c.args.path.now in
     let ps = c.deref.result.now in
-    let h : slices_of ps ≡ path ∷ slices_of os = ap slices_of c.deref.ensures.value ∙ c.in_ok-paths.ensures in
+    let h : texts_of_slices ps ≡ path ∷ texts_of_slices os = ap texts_of_slices c.deref.ensures.value ∙ c.in_ok-paths.ensures in
     let n : length ps ≡ suc (length os) = count_more os ps path h in
-    let few : length os ≤ 32 = c.requires.few in
+    let few : length os ≤ MAX_OPEN_FILES = c.requires.few in
     (omega (arith, n, few), (within.0, (within.1, (one_more_open os ps path h m.few_open, omega (arith, m.few_bytes)))))
 
 pub read_source-returns-in_err-text : goal.read_source-returns-in_err-text
@@ -212,7 +212,7 @@ read_source-returns-in_err-text g t c = record {
       let a = file_run_of (g.F.TreeFiles.contents c.args.files.now) r in
       let b = file_run_of (g.F.TreeFiles.contents c.file.new.files) (record r { store = c.file.new.self }) in
       let root = c.args.opened.now.root.now in
-      let ps = slices_of c.args.opened.now.paths.now in
+      let ps = texts_of_slices c.args.opened.now.paths.now in
       let few = few_open c.args.opened.now.paths.now c.requires.few in
       let at = place_of c.args.at in
       let s = state_of r in
@@ -222,8 +222,8 @@ read_source-returns-in_err-text g t c = record {
       let m = c.in-Ok.ensures.ok in
       let bytes = c.in-Ok.bytes.value.items in
       let d = file_run_of (g.F.TreeFiles.contents c.read_lines.new.files) c.read_lines.new.reading in
-      let open_paths = slices_of c.deref.result.now in
-      let h : open_paths ≡ path ∷ ps = ap slices_of c.deref.ensures.value ∙ c.in_ok-paths.ensures in
+      let open_paths = texts_of_slices c.deref.result.now in
+      let h : open_paths ≡ path ∷ ps = ap texts_of_slices c.deref.ensures.value ∙ c.in_ok-paths.ensures in
       let k = counted_by s c.with-reading.result c.len.result (length bytes) c.with-reading.ensures.value
       (c.len.ensures ∙ ap vec_len c.deref-2.ensures ∙ c.in-Ok.bytes.value.ok.0) in
       let u = state_of c.read_lines.new.reading in
@@ -239,7 +239,7 @@ read_source-returns-in_err-keep g t c = record {
       let a = file_run_of (g.F.TreeFiles.contents c.args.files.now) r in
       let b = file_run_of (g.F.TreeFiles.contents c.file.new.files) (record r { store = c.file.new.self }) in
       let root = c.args.opened.now.root.now in
-      let ps = slices_of c.args.opened.now.paths.now in
+      let ps = texts_of_slices c.args.opened.now.paths.now in
       let few = few_open c.args.opened.now.paths.now c.requires.few in
       let at = place_of c.args.at in
       let s = state_of r in
@@ -249,8 +249,8 @@ read_source-returns-in_err-keep g t c = record {
       let m = c.in-Ok.ensures.ok in
       let bytes = c.in-Ok.bytes.value.items in
       let d = file_run_of (g.F.TreeFiles.contents c.read_lines.new.files) c.read_lines.new.reading in
-      let open_paths = slices_of c.deref.result.now in
-      let h : open_paths ≡ path ∷ ps = ap slices_of c.deref.ensures.value ∙ c.in_ok-paths.ensures in
+      let open_paths = texts_of_slices c.deref.result.now in
+      let h : open_paths ≡ path ∷ ps = ap texts_of_slices c.deref.ensures.value ∙ c.in_ok-paths.ensures in
       let k = counted_by s c.with-reading.result c.len.result (length bytes) c.with-reading.ensures.value
       (c.len.ensures ∙ ap vec_len c.deref-2.ensures ∙ c.in-Ok.bytes.value.ok.0) in
       let u = state_of c.read_lines.new.reading in
@@ -266,7 +266,7 @@ read_source-returns g t c = record {
       let a = file_run_of (g.F.TreeFiles.contents c.args.files.now) r in
       let b = file_run_of (g.F.TreeFiles.contents c.file.new.files) (record r { store = c.file.new.self }) in
       let root = c.args.opened.now.root.now in
-      let ps = slices_of c.args.opened.now.paths.now in
+      let ps = texts_of_slices c.args.opened.now.paths.now in
       let few = few_open c.args.opened.now.paths.now c.requires.few in
       let at = place_of c.args.at in
       let s = state_of r in
@@ -276,8 +276,8 @@ read_source-returns g t c = record {
       let m = c.in-Ok.ensures.ok in
       let bytes = c.in-Ok.bytes.value.items in
       let d = file_run_of (g.F.TreeFiles.contents c.read_lines.new.files) c.read_lines.new.reading in
-      let open_paths = slices_of c.deref.result.now in
-      let h : open_paths ≡ path ∷ ps = ap slices_of c.deref.ensures.value ∙ c.in_ok-paths.ensures in
+      let open_paths = texts_of_slices c.deref.result.now in
+      let h : open_paths ≡ path ∷ ps = ap texts_of_slices c.deref.ensures.value ∙ c.in_ok-paths.ensures in
       let k = counted_by s c.with-reading.result c.len.result (length bytes) c.with-reading.ensures.value
       (c.len.ensures ∙ ap vec_len c.deref-2.ensures ∙ c.in-Ok.bytes.value.ok.0) in
       let u = state_of c.read_lines.new.reading in
@@ -293,7 +293,7 @@ read_list-returns-in_err-new g t c = record {
   reads = let r = c.args.reading.now in
       let a = file_run_of (g.F.TreeFiles.contents c.args.files.now) r in
       let root = c.args.opened.now.root.now in
-      let ps = slices_of c.args.opened.now.paths.now in
+      let ps = texts_of_slices c.args.opened.now.paths.now in
       let few = few_open c.args.opened.now.paths.now c.requires.few in
       let at = place_of c.args.at in
       let s = state_of r in
@@ -309,7 +309,7 @@ read_list-returns-in-Err g t c = record {
   reads = let r = c.args.reading.now in
       let a = file_run_of (g.F.TreeFiles.contents c.args.files.now) r in
       let root = c.args.opened.now.root.now in
-      let ps = slices_of c.args.opened.now.paths.now in
+      let ps = texts_of_slices c.args.opened.now.paths.now in
       let few = few_open c.args.opened.now.paths.now c.requires.few in
       let at = place_of c.args.at in
       let s = state_of r in
@@ -329,7 +329,7 @@ read_list-returns-in_err-open_paths g t c = record {
   reads = let r = c.args.reading.now in
       let a = file_run_of (g.F.TreeFiles.contents c.args.files.now) r in
       let root = c.args.opened.now.root.now in
-      let ps = slices_of c.args.opened.now.paths.now in
+      let ps = texts_of_slices c.args.opened.now.paths.now in
       let few = few_open c.args.opened.now.paths.now c.requires.few in
       let at = place_of c.args.at in
       let s = state_of r in
@@ -354,9 +354,9 @@ read_list-list_lines-requires g t c κs within =
     let os = c.args.opened.now.paths.now in
     let name = c.args.name.now in
     let ps = c.deref.result.now in
-    let h : slices_of ps ≡ name ∷ slices_of os = ap slices_of c.deref.ensures.value ∙ c.in_ok-open_paths.ensures in
+    let h : texts_of_slices ps ≡ name ∷ texts_of_slices os = ap texts_of_slices c.deref.ensures.value ∙ c.in_ok-open_paths.ensures in
     let n : length ps ≡ suc (length os) = count_more os ps name h in
-    let few : length os ≤ 32 = c.requires.few in
+    let few : length os ≤ MAX_OPEN_FILES = c.requires.few in
     (omega (arith, n, few), (within.0, (within.1, one_more_open os ps name h m.few_open)))
 
 pub read_list-returns-in_err-text : goal.read_list-returns-in_err-text
@@ -364,7 +364,7 @@ read_list-returns-in_err-text g t c = record {
   reads = let r = c.args.reading.now in
       let a = file_run_of (g.F.TreeFiles.contents c.args.files.now) r in
       let root = c.args.opened.now.root.now in
-      let ps = slices_of c.args.opened.now.paths.now in
+      let ps = texts_of_slices c.args.opened.now.paths.now in
       let few = few_open c.args.opened.now.paths.now c.requires.few in
       let at = place_of c.args.at in
       let s = state_of r in
@@ -377,8 +377,8 @@ read_list-returns-in_err-text g t c = record {
       let m = c.in_default.ensures.ok in
       let bytes = c.in_default.field-0.value.items in
       let d = file_run_of (g.F.TreeFiles.contents c.list_lines.new.files) c.list_lines.new.reading in
-      let open_paths = slices_of c.deref.result.now in
-      let h : open_paths ≡ name ∷ ps = ap slices_of c.deref.ensures.value ∙ c.in_ok-open_paths.ensures in
+      let open_paths = texts_of_slices c.deref.result.now in
+      let h : open_paths ≡ name ∷ ps = ap texts_of_slices c.deref.ensures.value ∙ c.in_ok-open_paths.ensures in
       let k = counted_by s c.with-reading.result 0 0 c.with-reading.ensures.value refl in
       let u = state_of c.list_lines.new.reading in
       passes_on a d p _ c.in_err-text.field-0.0 _ c.from_residual-in_err-text.ensures.1
@@ -391,7 +391,7 @@ read_list-returns-in_err-new-2 g t c = record {
   reads = let r = c.args.reading.now in
       let a = file_run_of (g.F.TreeFiles.contents c.args.files.now) r in
       let root = c.args.opened.now.root.now in
-      let ps = slices_of c.args.opened.now.paths.now in
+      let ps = texts_of_slices c.args.opened.now.paths.now in
       let few = few_open c.args.opened.now.paths.now c.requires.few in
       let at = place_of c.args.at in
       let s = state_of r in
@@ -404,8 +404,8 @@ read_list-returns-in_err-new-2 g t c = record {
       let m = c.in_default.ensures.ok in
       let bytes = c.in_default.field-0.value.items in
       let d = file_run_of (g.F.TreeFiles.contents c.list_lines.new.files) c.list_lines.new.reading in
-      let open_paths = slices_of c.deref.result.now in
-      let h : open_paths ≡ name ∷ ps = ap slices_of c.deref.ensures.value ∙ c.in_ok-open_paths.ensures in
+      let open_paths = texts_of_slices c.deref.result.now in
+      let h : open_paths ≡ name ∷ ps = ap texts_of_slices c.deref.ensures.value ∙ c.in_ok-open_paths.ensures in
       let k = counted_by s c.with-reading.result 0 0 c.with-reading.ensures.value refl in
       let u = state_of c.list_lines.new.reading in
       let text = c.in_ok-text.text.items in
@@ -420,7 +420,7 @@ read_list-returns-in_err-keep g t c = record {
   reads = let r = c.args.reading.now in
       let a = file_run_of (g.F.TreeFiles.contents c.args.files.now) r in
       let root = c.args.opened.now.root.now in
-      let ps = slices_of c.args.opened.now.paths.now in
+      let ps = texts_of_slices c.args.opened.now.paths.now in
       let few = few_open c.args.opened.now.paths.now c.requires.few in
       let at = place_of c.args.at in
       let s = state_of r in
@@ -433,8 +433,8 @@ read_list-returns-in_err-keep g t c = record {
       let m = c.in_default.ensures.ok in
       let bytes = c.in_default.field-0.value.items in
       let d = file_run_of (g.F.TreeFiles.contents c.list_lines.new.files) c.list_lines.new.reading in
-      let open_paths = slices_of c.deref.result.now in
-      let h : open_paths ≡ name ∷ ps = ap slices_of c.deref.ensures.value ∙ c.in_ok-open_paths.ensures in
+      let open_paths = texts_of_slices c.deref.result.now in
+      let h : open_paths ≡ name ∷ ps = ap texts_of_slices c.deref.ensures.value ∙ c.in_ok-open_paths.ensures in
       let k = counted_by s c.with-reading.result 0 0 c.with-reading.ensures.value refl in
       let u = state_of c.list_lines.new.reading in
       let text = c.in_ok-text.text.items in
@@ -449,7 +449,7 @@ read_list-returns g t c = record {
   reads = let r = c.args.reading.now in
       let a = file_run_of (g.F.TreeFiles.contents c.args.files.now) r in
       let root = c.args.opened.now.root.now in
-      let ps = slices_of c.args.opened.now.paths.now in
+      let ps = texts_of_slices c.args.opened.now.paths.now in
       let few = few_open c.args.opened.now.paths.now c.requires.few in
       let at = place_of c.args.at in
       let s = state_of r in
@@ -462,8 +462,8 @@ read_list-returns g t c = record {
       let m = c.in_default.ensures.ok in
       let bytes = c.in_default.field-0.value.items in
       let d = file_run_of (g.F.TreeFiles.contents c.list_lines.new.files) c.list_lines.new.reading in
-      let open_paths = slices_of c.deref.result.now in
-      let h : open_paths ≡ name ∷ ps = ap slices_of c.deref.ensures.value ∙ c.in_ok-open_paths.ensures in
+      let open_paths = texts_of_slices c.deref.result.now in
+      let h : open_paths ≡ name ∷ ps = ap texts_of_slices c.deref.ensures.value ∙ c.in_ok-open_paths.ensures in
       let k = counted_by s c.with-reading.result 0 0 c.with-reading.ensures.value refl in
       let u = state_of c.list_lines.new.reading in
       let text = c.in_ok-text.text.items in
@@ -850,9 +850,9 @@ next_line-is_continued_at-joined-requires g t c = record {
 
 pub next_line-write_line-requires : goal.next_line-write_line-requires
 next_line-write_line-requires g t c κs within =
-    let may : (nat_lt max_text_bytes (length c.deref.result.now) || not (is_utf8 c.deref.result.now)) ≡ false = c.in_default.ensures in
+    let may : (nat_lt MAX_TEXT_BYTES (length c.deref.result.now) || not (is_utf8 c.deref.result.now)) ≡ false = c.in_default.ensures in
     let e : c.deref.result.now ≡ c.deref-2.result.now = c.deref.ensures.value ∙ sym c.deref-2.ensures.value in
-    (omega arith, (within.0, (within.1, (c.requires.few, subst (λ x. (nat_lt max_text_bytes (length x) || not (is_utf8 x)) ≡ false) e may))))
+    (omega arith, (within.0, (within.1, (c.requires.few, subst (λ x. (nat_lt MAX_TEXT_BYTES (length x) || not (is_utf8 x)) ≡ false) e may))))
 
 pub next_line-returns-in_err-new-clause-written : goal.next_line-returns-in_err-new-clause-written
 next_line-returns-in_err-new-clause-written g t c = search rules

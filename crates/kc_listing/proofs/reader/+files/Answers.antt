@@ -17,18 +17,18 @@ read_statement-returns-in-Ok-Next-clause-read t c = λ before d.
     one_next (file_source_of c.args.from) (read_file c.args.depth (file_source_of c.args.from)) c.args.file.number c.args.file.bytes.now c.args.at c.args.number
     before _ _ _ c.requires.here c.in-Ok.ensures.line c.read_logical.new.read (rw c.in-Ok-Next.field-0-is at (c.in-Ok-Next.ensures before d))
 
-pub read_statement-returns-in_err-behind-in-Ok-Help-clause-read : goal.read_statement-returns-in_err-behind-in-Ok-Help-clause-read
-read_statement-returns-in_err-behind-in-Ok-Help-clause-read t c = λ before d.
+pub read_statement-returns-in_err-end-in-Ok-Help-clause-read : goal.read_statement-returns-in_err-end-in-Ok-Help-clause-read
+read_statement-returns-in_err-end-in-Ok-Help-clause-read t c = λ before d.
     let p = err_from_is_err_and c.from_residual.result c.from_residual.ensures.1 in
     rw (p.1, p.2) (one_help_faulty (file_source_of c.args.from) (read_file c.args.depth (file_source_of c.args.from)) c.args.file.number c.args.file.bytes.now
     c.args.at c.args.number before _ _ _ c.requires.here c.in-Ok.ensures.line c.read_logical.new.read _ _
-    (rw c.in-Ok-Help.field-0-is at (c.in-Ok-Help.ensures before d)) refl c.in_err-behind-in-Ok-Help.ensures.read)
+    (rw c.in-Ok-Help.field-0-is at (c.in-Ok-Help.ensures before d)) refl c.in_err-end-in-Ok-Help.ensures.read)
 
 pub read_statement-returns-in-Ok-Help-clause-read : goal.read_statement-returns-in-Ok-Help-clause-read
 read_statement-returns-in-Ok-Help-clause-read t c = λ before d.
     one_help (file_source_of c.args.from) (read_file c.args.depth (file_source_of c.args.from)) c.args.file.number c.args.file.bytes.now c.args.at c.args.number
     before _ _ _ c.requires.here c.in-Ok.ensures.line c.read_logical.new.read _ _ (rw c.in-Ok-Help.field-0-is at (c.in-Ok-Help.ensures before d)) refl
-    c.in_ok-behind-in-Ok-Help.ensures.read
+    c.in_ok-end-in-Ok-Help.ensures.read
 
 pub read_statement-returns-in_err-read_sourced-in-Ok-Source-clause-read : goal.read_statement-returns-in_err-read_sourced-in-Ok-Source-clause-read
 read_statement-returns-in_err-read_sourced-in-Ok-Source-clause-read t c = λ before d.

@@ -1,5 +1,6 @@
 use Rattle.std.proofs.Common.{◌∙◌, ap, inl, inr, ⊎_elim, arith, ◌+◌, ◌≤◌}
 use Rattle.std.proofs.lemmas.Result.{err_from_is_err_and}
+use Rattle.kc_value.specs.declared.limits.TheConstants.{MAX_ANSWER_LINES}
 use Rattle.kc_macros_model.specs.AnswerFiles.{recorded_from}
 use Rattle.kc_macros.specs.ReadAnswers.{end_of_file}
 use Rattle.kc_macros.specs.checker.LinesView.{bytes_of, lines_view}
@@ -15,7 +16,7 @@ returns-in_err-waiting-clause-err c =
 
 pub loop-at-preserved : goal.loop-at-preserved
 loop-at-preserved c =
-    let few : c.loop-at.count + 1 ≤ 1048576 = omega (arith, c.in_ok-waiting.ensures.few) in
+    let few : c.loop-at.count + 1 ≤ MAX_ANSWER_LINES = omega (arith, c.in_ok-waiting.ensures.few) in
     record {
       few = few;
       same = one_recorded (end_of_file c.args.cut) (lines_view c.loop-at.count (bytes_of c.loop-at.waiting) c.loop-at.table) c.loop-at.rest.now c.in-Some.at

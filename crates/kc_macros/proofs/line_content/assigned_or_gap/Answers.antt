@@ -1,7 +1,6 @@
 use Rattle.std.proofs.Common.{◌∙◌, ◌<◌, ◌∷◌, ◌++◌, [], length, sym, ap, arith}
 use Rattle.kc_macros_model.specs.LineTokens.{line_tokens}
 use Rattle.kc_macros_model.specs.Assignments.{assigned}
-use Rattle.kc_macros.specs.between.AssignmentViews.{operator_of}
 use Rattle.kc_macros.specs.Runs.{place_of}
 use Rattle.kc_macros.specs.between.Variables.{bindings_of}
 use Rattle.kc_macros.specs.between.LineContents.{tokens_of}
@@ -48,5 +47,5 @@ returns-clause-steps c =
     omega (arith, ap length c.as_slice.ensures, some_of (length c.as_slice.result.now) c.is_empty.result c.is_empty.ensures c.if-is_empty.false) in
     name_assigned (place_of c.args.at) (bindings_of c.args.bindings.now) c.args.run.now (tokens_of c.args.front.now.tokens.items) c.args.front.now.may_assign
     c.requires.may_assign c.args.found.name.now (line_tokens 0 c.args.after.now) (assigned_of c.args.found) c.requires.found c.run_value.new.run
-    c.in_ok-name.field-0 c.in_ok-name.ensures c.in-Some.name c.in-Some.is some (assigned (operator_of c.args.found.operator) c.in_ok-text.text)
-    (ap (λ t. assigned (operator_of c.args.found.operator) t) c.in_ok-text.ensures)
+    c.in_ok-name.field-0 c.in_ok-name.ensures c.in-Some.name c.in-Some.is some (assigned c.args.found.operator c.in_ok-text.text)
+    (ap (λ t. assigned c.args.found.operator t) c.in_ok-text.ensures)

@@ -2,7 +2,7 @@ use Rattle.std.proofs.Common.{◌∙◌, Some, sym, ap}
 use Rattle.kc_macros_model.specs.Programs.{returns as returns_value}
 use Rattle.kc_macros_model.specs.Expansion.{built_in_value}
 use Rattle.kc_macros.specs.Runs.{place_of}
-use Rattle.kc_macros.specs.checker.BuiltIns.{built_in_of, arity_of}
+use Rattle.kc_macros.specs.checker.BuiltIns.{arity_of}
 use Rattle.kc_macros.proofs.RunLemmas.{runs_out}
 use Rattle.kc_macros.proofs.ExpansionLemmas.{returns_so}
 use Rattle.kc_macros.proofs.NameLemmas.{file_named, line_named}
@@ -20,14 +20,14 @@ returns-in_err-decimal_text-in-Lineno c = record {
 
 pub returns-in_ok-copied-in-Filename : goal.returns-in_ok-copied-in-Filename
 returns-in_ok-copied-in-Filename c = record {
-  run = returns_so c.args.run.now _ _ (ap (λ f. built_in_value (place_of c.args.at) c.args.name.now (built_in_of f) c.args.args.now) c.in-Filename.is
-      ∙ file_named (place_of c.args.at) c.args.name.now c.args.args.now (c.requires.arity ∙ ap (λ f. arity_of (built_in_of f)) c.in-Filename.is)
+  run = returns_so c.args.run.now _ _ (ap (λ f. built_in_value (place_of c.args.at) c.args.name.now f c.args.args.now) c.in-Filename.is
+      ∙ file_named (place_of c.args.at) c.args.name.now c.args.args.now (c.requires.arity ∙ ap arity_of c.in-Filename.is)
       ∙ ap (λ v. returns_value (Some v)) (sym c.in_ok-copied-in-Filename.ensures));
 }
 
 pub returns-in_ok-decimal_text-in-Lineno : goal.returns-in_ok-decimal_text-in-Lineno
 returns-in_ok-decimal_text-in-Lineno c = record {
-  run = returns_so c.args.run.now _ _ (ap (λ f. built_in_value (place_of c.args.at) c.args.name.now (built_in_of f) c.args.args.now) c.in-Lineno.is
-      ∙ line_named (place_of c.args.at) c.args.name.now c.args.args.now (c.requires.arity ∙ ap (λ f. arity_of (built_in_of f)) c.in-Lineno.is)
+  run = returns_so c.args.run.now _ _ (ap (λ f. built_in_value (place_of c.args.at) c.args.name.now f c.args.args.now) c.in-Lineno.is
+      ∙ line_named (place_of c.args.at) c.args.name.now c.args.args.now (c.requires.arity ∙ ap arity_of c.in-Lineno.is)
       ∙ ap (λ v. returns_value (Some v)) (sym c.in_ok-decimal_text-in-Lineno.ensures));
 }

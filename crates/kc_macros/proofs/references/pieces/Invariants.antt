@@ -1,11 +1,11 @@
 use Rattle.std.proofs.Common.{◌≡◌, ◌++◌, length}
 use Rattle.kc_macros_model.specs.References.{pieces}
-use Rattle.kc_macros.specs.checker.Texts.{texts_of}
+use Rattle.kc_macros.specs.between.SliceTexts.{texts_of_slices}
 use Rattle.kc_macros.proofs.references.pieces.Given as goal
 
 -- the pieces of the reference are those found so far and the pieces of `rest`
 abbrev pub invariant-pieces : goal.invariant-pieces
-invariant-pieces l = pieces 0 l.fn.inside ≡ texts_of l.pieces.items ++ pieces 0 l.rest
+invariant-pieces l = pieces 0 l.fn.inside ≡ texts_of_slices l.pieces.items ++ pieces 0 l.rest
 
 abbrev pub decreases-pieces : goal.decreases-pieces
 decreases-pieces l = length l.rest

@@ -7,7 +7,7 @@ use Rattle.kc_macros.specs.checker.Pieces.{pieces_left}
 use Rattle.kc_macros_model.specs.References.{reference, items, pieces}
 use Rattle.kc_macros_model.specs.Expansion.{call_value, named_value, piece_values}
 use Rattle.kc_macros.specs.Runs.{ends, end_of_stop}
-use Rattle.kc_macros.specs.checker.Texts.{texts_of}
+use Rattle.kc_macros.specs.between.SliceTexts.{texts_of_slices}
 use Rattle.kc_macros.specs.checker.Frames.{frame_place, frame_bindings, frame_names, frame_expander, frame_item, frame_value}
 use Rattle.kc_macros.proofs.RunLemmas.{runs_out, passes_on, then_runs, stops_early}
 use Rattle.kc_macros.proofs.ProgramLemmas.{runs_same, leads_same, steps_stopped}
@@ -133,16 +133,16 @@ next_items-returns-clause-steps t c =
 pub piece_values-pieces-init : goal.piece_values-pieces-init
 piece_values-pieces-init t c =
     let f = c.args.frame.now in
-    leads_same c.args.run.now _ _ (pieces_at_first (frame_value f) (texts_of c.args.pieces.now)
-    ∙ ap (λ vs. pieces_left (frame_value f) vs (texts_of c.args.pieces.now)) (sym c.new-values.ensures.items))
+    leads_same c.args.run.now _ _ (pieces_at_first (frame_value f) (texts_of_slices c.args.pieces.now)
+    ∙ ap (λ vs. pieces_left (frame_value f) vs (texts_of_slices c.args.pieces.now)) (sym c.new-values.ensures.items))
 
 pub piece_values-returns-in_err-value : goal.piece_values-returns-in_err-value
 piece_values-returns-in_err-value t c =
     let f = c.args.frame.now in
     passes_on _ _ _ _ c.in_err-value.field-0.0 _ c.from_residual.ensures.1
-    (piece_stopped (frame_value f) c.args.run.now c.pieces.run (piece_values (frame_value f) (texts_of c.args.pieces.now)) c.pieces.values.items
+    (piece_stopped (frame_value f) c.args.run.now c.pieces.run (piece_values (frame_value f) (texts_of_slices c.args.pieces.now)) c.pieces.values.items
     c.expanded.new.run _ _ c.in_err-value.field-0.0 (piece_front (frame_value f) c.args.run.now c.pieces.run
-    (piece_values (frame_value f) (texts_of c.args.pieces.now)) c.pieces.values.items c.args.pieces.now c.pieces.piece-index
+    (piece_values (frame_value f) (texts_of_slices c.args.pieces.now)) c.pieces.values.items c.args.pieces.now c.pieces.piece-index
     (record { ref_ptr = (0, 0); now = [] }) (omega arith) c.pieces.invariant) c.in_err-value.ensures)
 
 pub piece_values-returns-in_err-push : goal.piece_values-returns-in_err-push
@@ -153,16 +153,16 @@ piece_values-returns-in_err-push t c =
 pub piece_values-pieces-preserved : goal.piece_values-pieces-preserved
 piece_values-pieces-preserved t c =
     let f = c.args.frame.now in
-    piece_found (frame_value f) c.args.run.now c.pieces.run (piece_values (frame_value f) (texts_of c.args.pieces.now)) c.pieces.values.items c.expanded.new.run
+    piece_found (frame_value f) c.args.run.now c.pieces.run (piece_values (frame_value f) (texts_of_slices c.args.pieces.now)) c.pieces.values.items c.expanded.new.run
     _ _ c.in_ok-value.value _ c.in_ok-push.ensures.items (piece_front (frame_value f) c.args.run.now c.pieces.run
-    (piece_values (frame_value f) (texts_of c.args.pieces.now)) c.pieces.values.items c.args.pieces.now c.pieces.piece-index
+    (piece_values (frame_value f) (texts_of_slices c.args.pieces.now)) c.pieces.values.items c.args.pieces.now c.pieces.piece-index
     (record { ref_ptr = (0, 0); now = [] }) (omega arith) c.pieces.invariant) c.in_ok-value.ensures
 
 pub piece_values-returns : goal.piece_values-returns
 piece_values-returns t c =
     let f = c.args.frame.now in
     pieces_found (frame_value f) c.args.run.now c.pieces.run _ c.pieces.values.items _
-    (at_drop_all texts_of c.args.pieces.now c.pieces.piece-index (omega arith)) c.pieces.invariant
+    (at_drop_all texts_of_slices c.args.pieces.now c.pieces.piece-index (omega arith)) c.pieces.invariant
 
 pub recursive_value-returns-then-is_recursion : goal.recursive_value-returns-then-is_recursion
 recursive_value-returns-then-is_recursion t c =
@@ -210,8 +210,8 @@ reference_value-returns-in_err-values t c =
     (sym c.in_default.ensures) (omega (arith, ap length c.in_ok-pieces.ensures, texts_length c.in_ok-pieces.pieces.items)))
     (stops_early s u (piece_values (frame_value f) (pieces 0 c.args.inside.now))
     (call_value (frame_expander f) (frame_place f) (frame_bindings f) (frame_names f)) stop
-    (runs_same s u (piece_values (frame_value f) (pieces 0 c.args.inside.now)) (piece_values (frame_value f) (texts_of c.as_slice.result.now))
-    (end_of_stop stop) (ap (piece_values (frame_value f)) (sym (ap texts_of c.as_slice.ensures.value ∙ c.in_ok-pieces.ensures))) c.in_err-values.ensures)))
+    (runs_same s u (piece_values (frame_value f) (pieces 0 c.args.inside.now)) (piece_values (frame_value f) (texts_of_slices c.as_slice.result.now))
+    (end_of_stop stop) (ap (piece_values (frame_value f)) (sym (ap texts_of_slices c.as_slice.ensures.value ∙ c.in_ok-pieces.ensures))) c.in_err-values.ensures)))
 
 pub reference_value-returns : goal.reference_value-returns
 reference_value-returns t c =
@@ -226,8 +226,8 @@ reference_value-returns t c =
     (omega (arith, ap length c.in_ok-pieces.ensures, texts_length c.in_ok-pieces.pieces.items)))
     (then_runs s u (piece_values (frame_value f) (pieces 0 c.args.inside.now))
     (call_value (frame_expander f) (frame_place f) (frame_bindings f) (frame_names f)) vs v _
-    (runs_same s u (piece_values (frame_value f) (pieces 0 c.args.inside.now)) (piece_values (frame_value f) (texts_of c.as_slice.result.now))
-    (ends (returned vs)) (ap (piece_values (frame_value f)) (sym (ap texts_of c.as_slice.ensures.value ∙ c.in_ok-pieces.ensures))) c.in_ok-values.ensures)
+    (runs_same s u (piece_values (frame_value f) (pieces 0 c.args.inside.now)) (piece_values (frame_value f) (texts_of_slices c.as_slice.result.now))
+    (ends (returned vs)) (ap (piece_values (frame_value f)) (sym (ap texts_of_slices c.as_slice.ensures.value ∙ c.in_ok-pieces.ensures))) c.in_ok-values.ensures)
     (runs_same u v ((call_value (frame_expander f) (frame_place f) (frame_bindings f) (frame_names f)) vs)
     ((call_value (frame_expander f) (frame_place f) (frame_bindings f) (frame_names f)) c.as_slice-2.result.now) _
     (ap (call_value (frame_expander f) (frame_place f) (frame_bindings f) (frame_names f)) (sym c.as_slice-2.ensures.value)) c.call_value.ensures))

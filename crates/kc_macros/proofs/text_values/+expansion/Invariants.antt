@@ -1,8 +1,8 @@
 use Rattle.std.proofs.Common.{◌≤◌, ◌+◌, ◌*◌, false, length, drop}
-use Rattle.kc_macros_model.specs.Limits.{max_text_bytes}
+use Rattle.kc_value.specs.declared.limits.TheConstants.{MAX_TEXT_BYTES}
 use Rattle.kc_macros_model.specs.References.{items}
 use Rattle.kc_macros_model.specs.Expansion.{piece_values}
-use Rattle.kc_macros.specs.checker.Texts.{texts_of}
+use Rattle.kc_macros.specs.between.SliceTexts.{texts_of_slices}
 use Rattle.kc_macros.specs.checker.PartialValues.{values_left}
 use Rattle.kc_macros.specs.checker.Pieces.{pieces_left}
 use Rattle.kc_macros.specs.checker.ProgramSteps.{Leads}
@@ -36,7 +36,7 @@ decreases-piece_values l = 8 * l.frame.now.more + 1
 -- the value of the whole text is the value in `out` joined with the values of the items of `rest`
 abbrev pub invariant-text_items-items : goal.invariant-text_items-items
 invariant-text_items-items l = record {
-  within : length l.out.bytes.items ≤ max_text_bytes;
+  within : length l.out.bytes.items ≤ MAX_TEXT_BYTES;
   left : Leads l.fn.run (frame_items l.frame l.fn.text) l.run (values_left (frame_place l.frame) (frame_item l.frame) l.out.known l.out.bytes.items
       (items false 0 l.rest));
 }
@@ -46,5 +46,5 @@ decreases-text_items-items l = length l.rest
 
 -- the values of all pieces of the reference are those found so far and the values of the pieces left
 abbrev pub invariant-piece_values-pieces : goal.invariant-piece_values-pieces
-invariant-piece_values-pieces l = Leads l.fn.run (piece_values (frame_value l.frame) (texts_of l.pieces)) l.run
-    (pieces_left (frame_value l.frame) l.values.items (texts_of (drop l.piece-index l.pieces)))
+invariant-piece_values-pieces l = Leads l.fn.run (piece_values (frame_value l.frame) (texts_of_slices l.pieces)) l.run
+    (pieces_left (frame_value l.frame) l.values.items (texts_of_slices (drop l.piece-index l.pieces)))

@@ -1,13 +1,13 @@
 use Rattle.std.proofs.Common.{◌≤◌, ℕ, length, take}
 use Rattle.std.specs.List.{Contains}
-use Rattle.kc_system.specs.checker.Elimination.{Eliminating, Passed, Grows, WaitsBeyond}
+use Rattle.kc_system.specs.checker.Elimination.{IsElimination, ArePassed, Grows, WaitsBeyond}
 use Rattle.kc_system.proofs.elimination.eliminate_ready.Given as goal
 
 abbrev pub invariant-loop-u : goal.invariant-loop-u
 invariant-loop-u g l = record {
   within : l.u-index ≤ length l.units;
-  eliminating : Eliminating (g.G.Graph.size l.graph) (g.G.Graph.dependencies l.graph) l.eliminated.items l.flags;
-  passed : Passed (g.G.Graph.size l.graph) (g.G.Graph.dependencies l.graph) l.flags l.next;
+  eliminating : IsElimination (g.G.Graph.size l.graph) (g.G.Graph.dependencies l.graph) l.eliminated.items l.flags;
+  passed : ArePassed (g.G.Graph.size l.graph) (g.G.Graph.dependencies l.graph) l.flags l.next;
   grows : Grows l.initial.eliminated.items l.eliminated.items;
   beyond : (u : ℕ) → Contains (take l.u-index l.units) u → WaitsBeyond (g.G.Graph.dependencies l.graph) l.eliminated.items
       (length l.initial.eliminated.items) u;

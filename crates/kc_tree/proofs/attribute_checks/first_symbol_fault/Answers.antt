@@ -30,7 +30,7 @@ loop-i-preserved c = λ read g name h m f.
     let prompted : c.if-prompted.prompted ≡ (c.loop-i.prompted || prompts) =
     elim c.if-prompted.branch [
       | then-prompted w ↦ w.prompted-is ∙ w.if-prompted.true ∙ sym (ap (λ b. b || prompts) w.if-prompted.true)
-      | else-prompted w ↦ w.prompted-is ∙ w.is_prompt-prompted.ensures e ∙ sym (ap (λ b. b || prompts) w.if-prompted.false)
+      | else-prompted w ↦ w.prompted-is ∙ w.is_prompt-prompted.ensures.prompt e ∙ sym (ap (λ b. b || prompts) w.if-prompted.false)
     ] in
     c.loop-i.invariant read g name h m f
     ∙ left_more e g (attribute_faults (contents_of read) name c.args.kind) c.loop-i.prompted c.if-prompted.prompted c.args.lines.now c.loop-i.i l (omega arith)

@@ -1,6 +1,6 @@
 use Rattle.std.proofs.Common.{List, length, reverse}
 use Rattle.kc_expr.specs.between.Arena.{Exprs}
-use Rattle.kc_tree_model.specs.Blocks.{Group as CodeGroup}
+use Rattle.kc_tree_model.specs.Blocks.{Group as ModelGroup}
 use Rattle.kc_listing.specs.between.ListingView.{RepresentsListing}
 use Rattle.kc_tree.specs.checker.Walks.{RepresentsAllConditions}
 use Rattle.kc_tree.proofs.ChoiceRowSteps.{AreRowsTo}
@@ -8,6 +8,6 @@ use Rattle.kc_tree.proofs.choice_rows.choice_rows.Given as goal
 
 abbrev pub invariant-loop-i : goal.invariant-loop-i
 invariant-loop-i l =
-    (exprs : Exprs) (read : List CodeGroup) (s : RepresentsListing l.listing read)
+    (exprs : Exprs) (read : List ModelGroup) (s : RepresentsListing l.listing read)
     (k : RepresentsAllConditions exprs l.listing.texts.items l.conditions (length l.conditions) (reverse l.groups) read)
     → AreRowsTo l.listing exprs l.groups l.conditions read s k l.i l.rows.items

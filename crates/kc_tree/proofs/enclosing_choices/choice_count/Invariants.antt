@@ -1,5 +1,5 @@
 use Rattle.std.proofs.Common.{◌≡◌, ◌≤◌, List, length}
-use Rattle.kc_tree_model.specs.Blocks.{Group as CodeGroup}
+use Rattle.kc_tree_model.specs.Blocks.{Group as ModelGroup}
 use Rattle.kc_listing.specs.between.ListingView.{RepresentsListing}
 use Rattle.kc_tree.specs.checker.Summaries.{read_before}
 use Rattle.kc_tree.proofs.Rounds.{numbers_of_choices}
@@ -8,5 +8,5 @@ use Rattle.kc_tree.proofs.enclosing_choices.choice_count.Given as goal
 abbrev pub invariant-loop-group : goal.invariant-loop-group
 invariant-loop-group l = record {
   few : l.choices ≤ l.group-index;
-  counted : (read : List CodeGroup) → RepresentsListing l.listing read → l.choices ≡ length (numbers_of_choices (read_before l.group-index read));
+  counted : (read : List ModelGroup) → RepresentsListing l.listing read → l.choices ≡ length (numbers_of_choices (read_before l.group-index read));
 }

@@ -6,13 +6,13 @@ use Rattle.kc_tree.proofs.group_walk.first_condition.Goals as goal
 pub loop-i-preserved : goal.loop-i-preserved
 loop-i-preserved c =
     c.loop-i.invariant ∙ first_step c.args.lines.now c.args.conditions.now c.loop-i.i c.index-lines-i.result c.loop-i-test.true c.requires.many
-    (sym c.is_prompt_attribute.ensures ∙ c.if-is_prompt_attribute.false)
+    (sym c.is_prompt.ensures.value ∙ c.if-is_prompt.false)
 
 pub bounds-conditions-i : goal.bounds-conditions-i
 bounds-conditions-i c = grind (arith, common_steps)
 
-pub returns-then-is_prompt_attribute : goal.returns-then-is_prompt_attribute
-returns-then-is_prompt_attribute c = grind (arith, common_steps)
+pub returns-then-is_prompt : goal.returns-then-is_prompt
+returns-then-is_prompt c = grind (arith, common_steps)
 
 pub returns : goal.returns
 returns c = grind (arith, common_steps)

@@ -2,5 +2,5 @@ use Rattle.std.proofs.Common.{arith}
 use Rattle.std.proofs.lemmas.Grind.{common_steps}
 use Rattle.kc_tree.proofs.group_walk.inside_choice.Goals as goal
 
-pub returns-clause-shown : goal.returns-clause-shown
-returns-clause-shown c = grind (arith, common_steps)
+pub returns-clause-represents : goal.returns-clause-represents
+returns-clause-represents c = grind (arith, common_steps)

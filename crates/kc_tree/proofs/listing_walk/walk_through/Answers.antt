@@ -67,10 +67,10 @@ loop-i-preserved c = record {
       let kept = lines_kept c.args.arena c.loop-i.walk.arena (slice_range c.args.lines.now begin end) c.loop-i.invariant.grows
       (All-take (LineNodesExist c.args.arena) (end - begin) (drop begin c.args.lines.now)
       (All-drop (LineNodesExist c.args.arena) begin c.args.lines.now c.requires.held)) in
-      let said : s.group.attributes ≡ map (line_in c.loop-i.walk.arena) c.lines_at.result.now = s.shown.attributes ∙ sym kept
+      let same_attributes : s.group.attributes ≡ map (line_in c.loop-i.walk.arena) c.lines_at.result.now = s.shown.attributes ∙ sym kept
       ∙ ap (map (line_in c.loop-i.walk.arena)) (sym c.lines_at.ensures.value) in
       subst (HasWalked texts c.visit.new.self) (sym s.now) (c.in_ok-visit.ensures.walked names texts (read_before c.loop-i.i read) s.group
-      (c.loop-i.invariant.walked names texts read h) what said);
+      (c.loop-i.invariant.walked names texts read h) what same_attributes);
 }
 
 pub returns-clause-walked : goal.returns-clause-walked

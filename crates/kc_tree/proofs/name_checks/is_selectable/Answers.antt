@@ -20,7 +20,7 @@ returns-in-Some-kind c = record {
   value = λ read h.
       let at = place-get c.args.name.now (names_defined read) c.in-Some.s (sym (c.in-Some.ensures read h)) in
       let about = about_is read c.args.symbols.now (c.requires.symbols read h) c.in-Some.s c.args.name.now nothing at in
-      c.is_logical.ensures ∙ sym (selectable_some (contents_of read) c.args.name.now c.in-Some-kind.kind
+      c.is_tri_kind.ensures ∙ sym (selectable_some (contents_of read) c.args.name.now c.in-Some-kind.kind
       (sym (kind_is read c.args.name.now (get_or c.args.symbols.now c.in-Some.s nothing) about) ∙ sym c.in-Some-kind.ensures));
 }
 

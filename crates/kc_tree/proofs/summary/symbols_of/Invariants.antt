@@ -1,5 +1,5 @@
 use Rattle.std.proofs.Common.{◌≡◌, List}
-use Rattle.kc_tree_model.specs.Blocks.{Group as CodeGroup}
+use Rattle.kc_tree_model.specs.Blocks.{Group as ModelGroup}
 use Rattle.kc_tree_model.specs.Conditions.{groups_in_context}
 use Rattle.kc_tree_model.specs.Contents.{contents_of}
 use Rattle.kc_listing.specs.between.ListingView.{RepresentsListing}
@@ -8,4 +8,4 @@ use Rattle.kc_tree.proofs.summary.symbols_of.Given as goal
 
 abbrev pub invariant-loop-i : goal.invariant-loop-i
 invariant-loop-i l =
-    (read : List CodeGroup) → RepresentsListing l.listing read → l.symbols.items ≡ symbol_summaries (contents_of read) (groups_in_context (read_before l.i read))
+    (read : List ModelGroup) → RepresentsListing l.listing read → l.symbols.items ≡ symbol_summaries (contents_of read) (groups_in_context (read_before l.i read))

@@ -1,5 +1,5 @@
 use Rattle.std.proofs.Common.{◌≤◌, List}
-use Rattle.kc_tree_model.specs.Blocks.{Group as CodeGroup}
+use Rattle.kc_tree_model.specs.Blocks.{Group as ModelGroup}
 use Rattle.kc_listing.specs.between.ListingView.{RepresentsListing}
 use Rattle.kc_tree.proofs.UnitSteps.{AreUnits}
 use Rattle.kc_tree.proofs.unit_list.units_of.Given as goal
@@ -7,5 +7,5 @@ use Rattle.kc_tree.proofs.unit_list.units_of.Given as goal
 abbrev pub invariant-loop-i : goal.invariant-loop-i
 invariant-loop-i l = record {
   few : l.choices ≤ l.i;
-  units : (read : List CodeGroup) → RepresentsListing l.listing read → AreUnits read l.i l.units.items l.choices;
+  units : (read : List ModelGroup) → RepresentsListing l.listing read → AreUnits read l.i l.units.items l.choices;
 }

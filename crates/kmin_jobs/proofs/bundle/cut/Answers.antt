@@ -1,4 +1,4 @@
-use Rattle.kmin_jobs.proofs.BundleCuts.{found, passed}
+use Rattle.kmin_jobs.proofs.BundleCuts.{found, line_and_rest, passed}
 use Rattle.kmin_jobs.proofs.bundle.cut.Goals as goal
 use Rattle.std.proofs.Common.{◌∙◌, sym, arith}
 use Rattle.std.proofs.lemmas.Grind.{common_steps}
@@ -6,14 +6,15 @@ use Rattle.std.proofs.lemmas.Grind.{common_steps}
 pub returns-then-eq : goal.returns-then-eq
 returns-then-eq c =
     let i = c.loop-line.invariant in
-    found c.args.bundle.now i.0 c.loop-line.rest.now c.in-Some.line.now c.in-Some.after.now _ i.1 i.2 i.3 c.in-Some.ensures.parts c.in-Some.ensures.shorter
+    found c.args.bundle.now i.0 c.loop-line.rest.now c.in-Some.line.now c.in-Some.after.now _ i.1 i.2 i.3 c.in-Some.ensures.bytes c.in-Some.ensures.shorter
     (sym c.eq.ensures ∙ c.if-eq.true) c.split_at.ensures.front
 
 pub loop-line-preserved : goal.loop-line-preserved
 loop-line-preserved c =
     let i = c.loop-line.invariant in
-    passed c.args.bundle.now i.0 c.loop-line.rest.now c.in-Some.line.now c.in-Some.after.now i.1 i.2 i.3 c.in-Some.ensures.parts c.in-Some.ensures.shorter
-    c.in-Some.ensures.inline c.in-Some.ensures.line (sym c.eq.ensures ∙ c.if-eq.false)
+    passed c.args.bundle.now i.0 c.loop-line.rest.now c.in-Some.line.now c.in-Some.after.now i.1 i.2 i.3 c.in-Some.ensures.bytes c.in-Some.ensures.shorter
+    c.in-Some.ensures.alone (line_and_rest c.loop-line.rest.now c.in-Some.line.now c.in-Some.after.now c.in-Some.ensures.piece)
+    (sym c.eq.ensures ∙ c.if-eq.false)
 
 pub overflow_sub-bundle : goal.overflow_sub-bundle
 overflow_sub-bundle c = grind (arith, common_steps)

@@ -1,5 +1,5 @@
 use Rattle.std.proofs.Common.{rules}
-use Rattle.kmin_jobs.proofs.Sequences.{if_err}
+use Rattle.kmin_tidy.proofs.WholeRuns.{if_err}
 use Rattle.kmin_jobs.proofs.BundleOutputs.{tree_stopped, bundle_answers, configuration_stopped}
 use Rattle.kmin_jobs.proofs.bundle_answer.bundle_text.Goals as goal
 

@@ -3,7 +3,8 @@ use Rattle.kc_rules.specs.between.SettledViews.{tree_of_settled}
 use Rattle.kc_dotconfig_model.specs.ConfigFiles.{empty_assignment}
 use Rattle.kc_dotconfig.proofs.UserValueUnits.{lies_alone}
 use Rattle.kmin_jobs.specs.BundleAnswers.{bundle_content}
-use Rattle.kmin_jobs.proofs.Sequences.{stopped_for_memory, if_err, memory_err}
+use Rattle.kmin_tidy.proofs.WholeRuns.{if_err}
+use Rattle.kmin_jobs.proofs.Sequences.{stopped_for_memory, memory_err}
 use Rattle.kmin_jobs.proofs.BundleOutputs.{memory_stops, memory_loaded, full_answers}
 use Rattle.kmin_jobs.proofs.bundle_answer.full_over.Goals as goal
 

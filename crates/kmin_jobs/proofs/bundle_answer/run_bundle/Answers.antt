@@ -2,7 +2,7 @@ use Rattle.std.proofs.Common.{[], ◌∷◌, ◌++◌, refl, rules}
 use Rattle.kmin_tidy.specs.Reports.{output_line}
 use Rattle.kmin_jobs.specs.BundleAnswers.{in_bundle, at_write}
 use Rattle.kmin_tidy.proofs.WriterLemmas.{lines_append}
-use Rattle.kmin_jobs.proofs.Sequences.{if_err}
+use Rattle.kmin_tidy.proofs.WholeRuns.{if_err}
 use Rattle.kmin_jobs.proofs.JobOutputs.{lines_kept}
 use Rattle.kmin_jobs.proofs.bundle_answer.run_bundle.Goals as goal
 

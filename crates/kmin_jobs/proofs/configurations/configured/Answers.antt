@@ -3,7 +3,9 @@ use Rattle.std.specs.Borrow.{Bor}
 use Rattle.kmin_tidy.specs.StandardError as taking
 use Rattle.kmin_jobs.specs.Stops as stops
 use Rattle.kmin_jobs.specs.Answers as answers
-use Rattle.kmin_jobs.proofs.Sequences.{loaded_none, loaded_rest, stopped_more, stopped_later, if_err, if_err_map, memory_err, mapped}
+use Rattle.kmin_tidy.proofs.ReadingLemmas.{if_err_map}
+use Rattle.kmin_tidy.proofs.WholeRuns.{if_err}
+use Rattle.kmin_jobs.proofs.Sequences.{loaded_none, loaded_rest, stopped_more, stopped_later, memory_err, mapped}
 use Rattle.kmin_jobs.proofs.configurations.configured.Goals as goal
 
 pub returns-in_default-clause-loaded : goal.returns-in_default-clause-loaded

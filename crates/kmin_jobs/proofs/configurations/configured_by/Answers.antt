@@ -2,7 +2,8 @@ use Rattle.std.proofs.Common.{[], ◌∷◌, refl, ◌∙◌, rules}
 use Rattle.kc_rules.specs.between.SettledViews.{tree_of_settled}
 use Rattle.kc_dotconfig_model.specs.ConfigFiles.{empty_assignment}
 use Rattle.kc_dotconfig.proofs.UserValueUnits.{lies_alone}
-use Rattle.kmin_jobs.proofs.Sequences.{loaded_one, stopped_path, stopped_for_memory, if_err, memory_err}
+use Rattle.kmin_tidy.proofs.WholeRuns.{if_err}
+use Rattle.kmin_jobs.proofs.Sequences.{loaded_one, stopped_path, stopped_for_memory, memory_err}
 use Rattle.kmin_jobs.proofs.configurations.configured_by.Goals as goal
 
 pub returns-in_err-fragment-clause-stopped : goal.returns-in_err-fragment-clause-stopped

@@ -2,7 +2,8 @@ use Rattle.std.proofs.Common.{◌≢◌, [], refl, rules}
 use Rattle.kmin_jobs.specs.Stops.{unopened}
 use Rattle.kmin_jobs.specs.between.LoadStops.{at_file}
 use Rattle.kmin_tidy.proofs.WriterLemmas.{lines_one}
-use Rattle.kmin_jobs.proofs.Sequences.{loaded_from, stopped_at, stopped_noticed, if_err}
+use Rattle.kmin_tidy.proofs.WholeRuns.{if_err}
+use Rattle.kmin_jobs.proofs.Sequences.{loaded_from, stopped_at, stopped_noticed}
 use Rattle.kmin_jobs.proofs.configurations.load_path.Goals as goal
 
 pub returns-in_err-fragment-in-Some-clause-stopped : goal.returns-in_err-fragment-in-Some-clause-stopped

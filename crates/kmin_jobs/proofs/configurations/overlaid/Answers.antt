@@ -2,7 +2,8 @@ use Rattle.std.proofs.Common.{◌≡◌, ◌++◌, ◌∷◌, [], ℕ, suc, List
 use Rattle.std.specs.Borrow.{Bor}
 use Rattle.std.proofs.lemmas.List.{take_all}
 use Rattle.kc_rules.specs.between.SettledViews.{tree_of_settled}
-use Rattle.kmin_jobs.proofs.Sequences.{loaded_one, loaded_none, loaded_append, stopped_path, stopped_more, stopped_later, stopped_for_memory, if_err, memory_err, paths_next, paths_at}
+use Rattle.kmin_tidy.proofs.WholeRuns.{if_err}
+use Rattle.kmin_jobs.proofs.Sequences.{loaded_one, loaded_none, loaded_append, stopped_path, stopped_more, stopped_later, stopped_for_memory, memory_err, paths_next, paths_at}
 use Rattle.kmin_jobs.proofs.configurations.overlaid.Goals as goal
 
 pub loop-path-init : goal.loop-path-init

@@ -4,7 +4,8 @@ use Rattle.kmin_jobs.specs.MacroReports.{macro_fault_line, macro_notice_line}
 use Rattle.kmin_tidy.specs.StandardError.{TakesLines, none}
 use Rattle.kmin_jobs.specs.between.ExpansionStops.{at_fault, for_memory}
 use Rattle.kmin_tidy.proofs.WriterLemmas.{lines_append, lines_one}
-use Rattle.kmin_jobs.proofs.Sequences.{map_twice, memory_err}
+use Rattle.kmin_tidy.proofs.RefusalLemmas.{map_twice}
+use Rattle.kmin_jobs.proofs.Sequences.{memory_err}
 use Rattle.kmin_jobs.proofs.expanded_trees.expanded_tree.Goals as goal
 
 pub returns-in_err-notices-clause-stopped : goal.returns-in_err-notices-clause-stopped

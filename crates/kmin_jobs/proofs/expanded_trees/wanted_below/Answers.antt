@@ -1,5 +1,5 @@
 use Rattle.kmin_jobs.specs.FileContents.{known_by}
-use Rattle.kmin_jobs.proofs.Sequences.{if_ok_map}
+use Rattle.kmin_tidy.proofs.ReadingLemmas.{if_ok_map}
 use Rattle.kmin_jobs.proofs.TreeFolders.{wanted_below}
 use Rattle.kmin_jobs.proofs.expanded_trees.wanted_below.Goals as goal
 

@@ -1,13 +1,14 @@
 use Rattle.std.proofs.Common.{◌≡◌, ◌∷◌, [], ℕ, List, get_or, refl, ap, ◌∙◌, subst, take, arith, rules}
 use Rattle.std.specs.Borrow.{Bor}
 use Rattle.std.proofs.lemmas.List.{take_all}
-use Rattle.kmin_jobs.specs.FileContents.{Known}
+use Rattle.kmin_jobs.specs.FileContents.{Surroundings}
 use Rattle.kmin_jobs.specs.JobAnswers.{FilesRecord}
 use Rattle.kmin_jobs.specs.JobAnswers as answers
 use Rattle.kmin_tidy.specs.StandardError.{none}
 use Rattle.kmin_tidy.proofs.WriterLemmas.{lines_append}
 use Rattle.kmin_jobs.proofs.AnswerFileLists.{record_append, stopped_later}
-use Rattle.kmin_jobs.proofs.Sequences.{if_err, paths_next, paths_at}
+use Rattle.kmin_tidy.proofs.WholeRuns.{if_err}
+use Rattle.kmin_jobs.proofs.Sequences.{paths_next, paths_at}
 use Rattle.kmin_jobs.proofs.job_answers.file_answers.Goals as goal
 
 pub loop-path-init : goal.loop-path-init
@@ -18,7 +19,7 @@ loop-path-preserved g c =
     let absent : Bor (List ℕ) = record { ref_ptr = (0, 0); now = [] } in
     let k = c.loop-path.path-index in
     let path = get_or c.args.paths.now k absent in
-    let content = ap (λ (known : Known). known.content) c.loop-path.invariant.same in
+    let content = ap (λ (known : Surroundings). known.content) c.loop-path.invariant.same in
     record {
       same = c.record_path.ensures.same ∙ c.loop-path.invariant.same;
       recorded = rw (paths_next c.args.paths.now k absent (search rules))
@@ -32,7 +33,7 @@ returns-in_err-record_path-clause-stopped g c =
     let absent : Bor (List ℕ) = record { ref_ptr = (0, 0); now = [] } in
     let k = c.loop-path.path-index in
     let path = get_or c.args.paths.now k absent in
-    let content = ap (λ (known : Known). known.content) c.loop-path.invariant.same in
+    let content = ap (λ (known : Surroundings). known.content) c.loop-path.invariant.same in
     if_err c.from_residual.result c.in_err-record_path.field-0.0 _ (search rules)
     (stopped_later _ (g.F.Files.content_of c.loop-path.files) content _ _ _ path.now _ _ _ _ _ _ _ _
     (paths_at c.args.paths.now k absent (search rules)) c.loop-path.invariant.recorded c.loop-path.invariant.reported c.in_err-record_path.ensures.stopped)

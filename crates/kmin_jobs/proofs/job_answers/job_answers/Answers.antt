@@ -1,9 +1,9 @@
 use Rattle.std.proofs.Common.{ℕ, List, ap, subst, rules}
 use Rattle.kmin_words.specs.Jobs.{expansion_view}
-use Rattle.kmin_jobs.specs.FileContents.{Known, VariableContent}
+use Rattle.kmin_jobs.specs.FileContents.{Surroundings, VariableContent}
 use Rattle.kmin_jobs.specs.between.AnswerSteps.{AreLent}
 use Rattle.kmin_jobs.proofs.LentAnswers.{answers_of_job}
-use Rattle.kmin_jobs.proofs.Sequences.{if_err}
+use Rattle.kmin_tidy.proofs.WholeRuns.{if_err}
 use Rattle.kmin_jobs.proofs.job_answers.job_answers.Goals as goal
 
 pub returns-in_err-answers-clause-stopped : goal.returns-in_err-answers-clause-stopped
@@ -12,7 +12,7 @@ returns-in_err-answers-clause-stopped g c =
 
 pub returns-clause-answers : goal.returns-clause-answers
 returns-clause-answers g c =
-    let variable = ap (λ (known : Known). known.variable) c.file_answers.ensures.same in
+    let variable = ap (λ (known : Surroundings). known.variable) c.file_answers.ensures.same in
     let lent = rw c.deref-3.ensures.value at c.in_ok-lend.ensures.lent in
     answers_of_job _ _ (expansion_view c.args.expansion.now) c.in_ok-answers.answers c.define.new.answers _
     (rw c.deref.ensures.value at c.in_ok-answers.ensures.recorded) (rw c.deref-2.ensures.value at c.in_ok-define.ensures)

@@ -1,7 +1,7 @@
 use Rattle.std.proofs.Common.{◌∷◌, [], ℕ, List, get_or, refl, ap, ◌∙◌, subst, arith, rules}
 use Rattle.std.specs.Borrow.{Bor}
 use Rattle.std.proofs.lemmas.List.{take_all}
-use Rattle.kmin_jobs.specs.FileContents.{Known, VariableContent}
+use Rattle.kmin_jobs.specs.FileContents.{Surroundings, VariableContent}
 use Rattle.kmin_jobs.specs.between.AnswerSteps.{AreLent}
 use Rattle.kmin_jobs.proofs.LentAnswers.{lent_none, lent_append}
 use Rattle.kmin_jobs.proofs.Sequences.{paths_next}
@@ -15,7 +15,7 @@ loop-name-preserved g c =
     let absent : Bor (List ℕ) = record { ref_ptr = (0, 0); now = [] } in
     let k = c.loop-name.name-index in
     let name = get_or c.args.names.now k absent in
-    let variable = ap (λ (known : Known). known.variable) c.loop-name.invariant.same in
+    let variable = ap (λ (known : Surroundings). known.variable) c.loop-name.invariant.same in
     record {
       same = c.lend_one.ensures.same ∙ c.loop-name.invariant.same;
       lent = rw (paths_next c.args.names.now k absent (search rules))

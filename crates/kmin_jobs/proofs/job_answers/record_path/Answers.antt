@@ -2,7 +2,7 @@ use Rattle.std.proofs.Common.{refl}
 use Rattle.kmin_jobs.specs.AnswerStops.{unopened}
 use Rattle.kmin_jobs.specs.between.AnswerSteps.{at_file}
 use Rattle.kmin_jobs.proofs.AnswerFileLists.{recorded_from, stopped_reading, on_ok_map}
-use Rattle.kmin_jobs.proofs.Sequences.{if_err_map}
+use Rattle.kmin_tidy.proofs.ReadingLemmas.{if_err_map}
 use Rattle.kmin_jobs.proofs.TreeFolders.{known_same}
 use Rattle.kmin_jobs.proofs.job_answers.record_path.Goals as goal
 

@@ -2,7 +2,8 @@ use Rattle.std.proofs.Common.{◌≤◌, true, ◌∷◌, [], refl, subst, sym, 
 use Rattle.kc_dotconfig.specs.ConfigStates.{tree_in}
 use Rattle.kc_minimal_model.specs.Differences.{differences}
 use Rattle.kmin_words.specs.Jobs.{settings_view}
-use Rattle.kmin_jobs.proofs.Sequences.{stopped_more, stopped_later, stopped_for_memory, if_err, memory_err}
+use Rattle.kmin_tidy.proofs.WholeRuns.{if_err}
+use Rattle.kmin_jobs.proofs.Sequences.{stopped_more, stopped_later, stopped_for_memory, memory_err}
 use Rattle.kmin_jobs.proofs.JobOutputs.{answers_comparison, status_at_most_one}
 use Rattle.kmin_jobs.proofs.job_output.answer_comparison.Goals as goal
 

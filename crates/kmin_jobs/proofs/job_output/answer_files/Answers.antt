@@ -1,9 +1,10 @@
 use Rattle.std.proofs.Common.{◌≤◌, [], List, ℕ, map, refl, subst, sym, ap, ◌∙◌, append-nil}
 use Rattle.std.specs.Borrow.{Bor}
 use Rattle.kc_rules.specs.between.SettledViews.{profile_of}
+use Rattle.kc_dotconfig.specs.ConfigStates.{tree_in}
 use Rattle.kmin_words.specs.Jobs.{settings_view}
 use Rattle.kmin_jobs.proofs.Sequences.{stopped_for_memory, memory_err}
-use Rattle.kmin_jobs.proofs.JobOutputs.{answers_files, status_at_most_one}
+use Rattle.kmin_jobs.proofs.JobOutputs.{answers_files, status_of_verb_at_most_one}
 use Rattle.kmin_jobs.proofs.job_output.answer_files.Goals as goal
 
 pub returns-in_err-answer-clause-stopped : goal.returns-in_err-answer-clause-stopped
@@ -16,11 +17,12 @@ returns-in_err-answer-clause-stopped g c =
 pub returns-clause-answer : goal.returns-clause-answer
 returns-clause-answer g c =
     let same = c.in_ok-config.ensures.settled in
-    answers_files (g.F.Files.content_of c.args.files.now) (settings_view c.args.settings.now) c.args.verb c.args.exit_code c.in_ok-config.config
-    c.args.settled.now
+    answers_files (g.F.Files.content_of c.args.files.now) (settings_view c.args.settings.now) c.args.verb c.in_ok-config.config c.args.settled.now
     (map (λ (path : Bor (List ℕ)). path.now) c.args.paths.now) _ _ _ _ _ _
     same c.requires.profile c.in_ok-config.ensures.solved c.in_ok-config.ensures.loaded
     (c.in_ok-answer.ensures.text (settings_view c.args.settings.now) refl (sym (ap profile_of same ∙ c.requires.profile))) c.in_ok-answer.ensures.status
 
 pub returns-clause-status : goal.returns-clause-status
-returns-clause-status g c = subst (λ n. n ≤ 1) (sym c.in_ok-answer.ensures.status) (status_at_most_one _ _)
+returns-clause-status g c =
+    let config = c.in_ok-config.config in
+    subst (λ n. n ≤ 1) (sym c.in_ok-answer.ensures.status) (status_of_verb_at_most_one (tree_in config) config.users config.values c.args.verb)

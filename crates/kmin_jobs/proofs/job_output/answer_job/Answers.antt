@@ -3,7 +3,7 @@ use Rattle.kc_rules.specs.between.SettledViews.{tree_of_settled}
 use Rattle.kmin_words.specs.Jobs.{settings_view, task_view}
 use Rattle.kmin_jobs.specs.FileContents.{known_by}
 use Rattle.kmin_jobs.specs.Stops.{at_tree}
-use Rattle.kmin_jobs.proofs.Sequences.{if_err}
+use Rattle.kmin_tidy.proofs.WholeRuns.{if_err}
 use Rattle.kmin_jobs.proofs.JobOutputs.{job_answers, job_stops}
 use Rattle.kmin_jobs.proofs.job_output.answer_job.Goals as goal
 

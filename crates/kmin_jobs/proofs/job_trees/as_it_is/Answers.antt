@@ -5,7 +5,8 @@ use Rattle.kmin_tidy.specs.StandardError.{none}
 use Rattle.kmin_jobs.specs.between.RunErrors.{status_of}
 use Rattle.kmin_jobs.specs.between.TreeStops.{StopsAtTexts, for_memory}
 use Rattle.kmin_jobs.proofs.JobOutputs.{below_none}
-use Rattle.kmin_jobs.proofs.Sequences.{memory_err, if_err_map}
+use Rattle.kmin_tidy.proofs.ReadingLemmas.{if_err_map}
+use Rattle.kmin_jobs.proofs.Sequences.{memory_err}
 use Rattle.kmin_jobs.proofs.job_trees.as_it_is.Goals as goal
 
 pub returns-in_err-texts-clause-stopped : goal.returns-in_err-texts-clause-stopped

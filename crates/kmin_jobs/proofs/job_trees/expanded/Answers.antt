@@ -3,7 +3,7 @@ use Rattle.kmin_words.specs.Jobs.{expansion_view}
 use Rattle.kmin_jobs.specs.FileContents.{known_by}
 use Rattle.kmin_jobs.specs.between.ExpandedStops.{in_expansion}
 use Rattle.kmin_jobs.proofs.JobTrees.{settled_accepted, settled_stopped}
-use Rattle.kmin_jobs.proofs.Sequences.{if_err}
+use Rattle.kmin_tidy.proofs.WholeRuns.{if_err}
 use Rattle.kmin_jobs.proofs.job_trees.expanded.Goals as goal
 
 pub returns-in_err-tree-clause-stopped : goal.returns-in_err-tree-clause-stopped

@@ -3,7 +3,8 @@ use Rattle.kmin_words.specs.Jobs.{expansion_view}
 use Rattle.kmin_jobs.specs.FileContents.{known_by}
 use Rattle.kmin_jobs.specs.Stops.{among_answers}
 use Rattle.kmin_jobs.proofs.JobTrees.{stopped_expanding, both_expanded}
-use Rattle.kmin_jobs.proofs.Sequences.{if_err, if_err_map}
+use Rattle.kmin_tidy.proofs.ReadingLemmas.{if_err_map}
+use Rattle.kmin_tidy.proofs.WholeRuns.{if_err}
 use Rattle.kmin_jobs.proofs.job_trees.expanded_files.Goals as goal
 
 pub returns-in_err-answers-clause-stopped : goal.returns-in_err-answers-clause-stopped

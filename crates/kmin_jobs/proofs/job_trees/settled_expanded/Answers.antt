@@ -2,7 +2,7 @@ use Rattle.std.proofs.Common.{subst}
 use Rattle.kc_tree_model.specs.TreeFiles.{Files}
 use Rattle.kmin_jobs.specs.between.RunErrors.{status_of}
 use Rattle.kmin_jobs.specs.between.TreeStops.{StopsAtTexts}
-use Rattle.kmin_jobs.proofs.Sequences.{if_err_map}
+use Rattle.kmin_tidy.proofs.ReadingLemmas.{if_err_map}
 use Rattle.kmin_jobs.proofs.job_trees.settled_expanded.Goals as goal
 
 pub returns-clause-stopped : goal.returns-clause-stopped

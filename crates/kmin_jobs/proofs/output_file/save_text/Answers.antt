@@ -20,7 +20,7 @@ returns-in-Err-clause-unsaved g c = (
     equal = c.in-Err.ensures.equal;
     not_regular = λ is. c.in-Err.ensures.not_regular (ap Err is);
     refused = λ special. (let h = c.in-Err.ensures.refused special in cc);
-    failed = c.in-Err.ensures.failures;
+    failures = c.in-Err.ensures.failures;
   },
   c.report_update.ensures.status,
   c.report_update.ensures.reported,

@@ -2,7 +2,7 @@ use Rattle.std.proofs.Common.{ap, option_map}
 use Rattle.kmin_words.specs.Jobs.{list_view}
 use Rattle.kmin_tidy.specs.StandardError.{none}
 use Rattle.kmin_jobs.specs.TidyRuns.{reading}
-use Rattle.kmin_jobs.proofs.Sequences.{if_err_map}
+use Rattle.kmin_tidy.proofs.ReadingLemmas.{if_err_map}
 use Rattle.kmin_jobs.proofs.tidy_command.list_bytes.Goals as goal
 
 pub returns-in-Some-clause-stopped : goal.returns-in-Some-clause-stopped

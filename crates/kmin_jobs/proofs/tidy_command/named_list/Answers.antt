@@ -1,7 +1,7 @@
 use Rattle.std.proofs.Common.{refl, rules}
 use Rattle.kmin_jobs.specs.TidyRuns.{list_content, unread}
 use Rattle.kmin_tidy.proofs.WriterLemmas.{lines_one}
-use Rattle.kmin_jobs.proofs.Sequences.{if_err_map}
+use Rattle.kmin_tidy.proofs.ReadingLemmas.{if_err_map}
 use Rattle.kmin_jobs.proofs.TidyLemmas.{opens_input, opens_file}
 use Rattle.kmin_jobs.proofs.tidy_command.named_list.Goals as goal
 

@@ -3,7 +3,8 @@ use Rattle.std.proofs.lemmas.Grind.{common_steps}
 use Rattle.kmin_tidy.specs.StandardError.{none}
 use Rattle.kmin_jobs.specs.TidyRuns.{too_large, unread, for_memory}
 use Rattle.kmin_tidy.proofs.WriterLemmas.{lines_one}
-use Rattle.kmin_jobs.proofs.Sequences.{memory_err, rest_of}
+use Rattle.kmin_tidy.proofs.ReadingLemmas.{rest_of}
+use Rattle.kmin_jobs.proofs.Sequences.{memory_err}
 use Rattle.kmin_jobs.proofs.tidy_command.read_list.Goals as goal
 
 pub returns-in_err-bytes-clause-stopped : goal.returns-in_err-bytes-clause-stopped

@@ -1,7 +1,7 @@
 use Rattle.std.proofs.Common.{◌∷◌, [], refl, rules}
 use Rattle.kmin_jobs.specs.WantedQuestions.{at_fault}
 use Rattle.kmin_tidy.proofs.WriterLemmas.{lines_append, lines_one}
-use Rattle.kmin_jobs.proofs.Sequences.{if_err}
+use Rattle.kmin_tidy.proofs.WholeRuns.{if_err}
 use Rattle.kmin_jobs.proofs.wants_command.answer_questions.Goals as goal
 
 pub returns-in_err-wanted-clause-stopped : goal.returns-in_err-wanted-clause-stopped

@@ -3,7 +3,8 @@ use Rattle.kmin_words.specs.Jobs.{questions_view}
 use Rattle.kmin_jobs.specs.FileContents.{known_by}
 use Rattle.kmin_jobs.specs.WantedQuestions.{among_answers, for_memory}
 use Rattle.kmin_jobs.proofs.QuestionEnds.{are_asked}
-use Rattle.kmin_jobs.proofs.Sequences.{if_err, memory_err}
+use Rattle.kmin_tidy.proofs.WholeRuns.{if_err}
+use Rattle.kmin_jobs.proofs.Sequences.{memory_err}
 use Rattle.kmin_jobs.proofs.wants_command.wanted_of.Goals as goal
 
 pub returns-in_err-answers-clause-stopped : goal.returns-in_err-answers-clause-stopped

@@ -31,17 +31,17 @@ invariant_of-self-in-Ok-apply c =
     let v : c.args.self.now ≡ c.self.inside.session = sym c.self.view_is in
     let users : c.apply.new.self.users ≡ changed_users (changes_of c.args.fragment.now.assigns.items) c.self.inside.session.users = c.in-Ok-apply.ensures.users
     ∙ ap (λ (l : List (ℕ × Option UserValue)). changed_users l c.self.inside.session.users) e in
-    let held = c.in-Ok.ensures.ok
-    ∙ ap (λ (l : List (Option UserValue)). c.self.inside.held.items ++ filter (λ u. is_none (user_of l u)) (units_of c.deref-2.result.now))
+    let valued = c.in-Ok.ensures.ok
+    ∙ ap (λ (l : List (Option UserValue)). c.self.inside.valued.items ++ filter (λ u. is_none (user_of l u)) (units_of c.deref-2.result.now))
     c.users.ensures.users
-    ∙ ap (λ (l : List (ℕ × UserValue)). c.self.inside.held.items ++ filter (λ u. is_none (user_of c.self.inside.session.users u)) (units_of l))
+    ∙ ap (λ (l : List (ℕ × UserValue)). c.self.inside.valued.items ++ filter (λ u. is_none (user_of c.self.inside.session.users u)) (units_of l))
     c.deref-2.ensures.value in
-    merged_kept c.self.inside.settled.now c.self.inside.session c.apply.new.self c.self.inside.held.items c.merge_units.new.held.items
+    merged_kept c.self.inside.settled.now c.self.inside.session c.apply.new.self c.self.inside.valued.items c.merge_units.new.valued.items
     c.args.fragment.now.assigns.items c.self.invariant
     (subst (λ (s : Configured). FitsTree (tree_in s) c.args.fragment.now.assigns.items) v c.requires.fits)
     (solved_by c.self.inside.session c.apply.new.self c.self.invariant.solved c.in-Ok-apply.ensures.system c.in-Ok-apply.ensures.fits
     c.in-Ok-apply.ensures.gives)
-    c.in-Ok-apply.ensures.system users held
+    c.in-Ok-apply.ensures.system users valued
 
 pub returns-in-Ok-apply-clause-users : goal.returns-in-Ok-apply-clause-users
 returns-in-Ok-apply-clause-users c =
@@ -51,7 +51,7 @@ returns-in-Ok-apply-clause-users c =
     let users : c.apply.new.self.users ≡ changed_users (changes_of c.args.fragment.now.assigns.items) c.self.inside.session.users = c.in-Ok-apply.ensures.users
     ∙ ap (λ (l : List (ℕ × Option UserValue)). changed_users l c.self.inside.session.users) e in
     subst (λ (s : Configured). c.apply.new.self.users ≡ overlay (users_of (tree_in s) c.args.fragment.now.assigns.items) s.users) (sym v)
-    (merged_users c.self.inside.settled.now c.self.inside.session c.self.inside.held.items c.args.fragment.now.assigns.items c.apply.new.self.users
+    (merged_users c.self.inside.settled.now c.self.inside.session c.self.inside.valued.items c.args.fragment.now.assigns.items c.apply.new.self.users
     c.self.invariant users)
 
 pub returns-in-Ok-apply-clause-solved : goal.returns-in-Ok-apply-clause-solved
@@ -66,15 +66,15 @@ returns-in-Ok-apply-clause-evaluated c =
 
 pub invariant_of-self-in-Err-apply : goal.invariant_of-self-in-Err-apply
 invariant_of-self-in-Err-apply c =
-    let held = c.truncate-in-Err-apply.ensures.items ∙ ap (λ n. take n c.merge_units.new.held.items) (c.len-count.ensures ∙ c.self.inside.held.ok.0)
+    let valued = c.truncate-in-Err-apply.ensures.items ∙ ap (λ n. take n c.merge_units.new.valued.items) (c.len-count.ensures ∙ c.self.inside.valued.ok.0)
     ∙ c.in-Ok.ensures.kept in
-    rw (c.in-Err-apply.ensures.err, held) c.self.invariant
+    rw (c.in-Err-apply.ensures.err, valued) c.self.invariant
 
 pub invariant_of-self : goal.invariant_of-self
 invariant_of-self c =
-    let held = c.truncate.ensures.items ∙ ap (λ n. take n c.merge_units.new.held.items) (c.len-count.ensures ∙ c.self.inside.held.ok.0)
+    let valued = c.truncate.ensures.items ∙ ap (λ n. take n c.merge_units.new.valued.items) (c.len-count.ensures ∙ c.self.inside.valued.ok.0)
     ∙ c.in-Err.ensures.kept in
-    rw held c.self.invariant
+    rw valued c.self.invariant
 
 pub returns-clause-solved : goal.returns-clause-solved
 returns-clause-solved c = rw c.in-Err-apply.ensures.err c.self.invariant.solved

@@ -9,7 +9,7 @@ use Rattle.kc_rules.specs.between.SettledViews.{tree_of_settled}
 use Rattle.kc_dotconfig.specs.Fragments.{changes_of, users_of}
 use Rattle.kc_dotconfig.specs.checker.Configs.{units_of}
 use Rattle.kc_dotconfig.proofs.UserValueUnits.{users_fit}
-use Rattle.kc_dotconfig.proofs.ConfigSolutions.{solved_as, held_kept}
+use Rattle.kc_dotconfig.proofs.ConfigSolutions.{solved_as, fragment_kept}
 use Rattle.kc_dotconfig.proofs.config.Config.of.Goals as goal
 
 -- user values over a number of units, as the assignment of a tree
@@ -39,8 +39,8 @@ invariant_of-result c =
     c.in_ok-users.ensures.ok c.deref-2.ensures.value c.len.ensures in
     let solved = solved_as settled session c.in_ok-session.ensures.system c.tree.ensures.settled c.values.ensures.fits_users c.values.ensures.fits
     c.values.ensures.gives in
-    held_kept settled session c.in_ok-held.held.items c.args.fragment.now.assigns.items c.requires.fits solved c.in_ok-session.ensures.system
-    (c.in_ok-session.ensures.users ∙ is) (c.in_ok-held.ensures ∙ ap units_of c.deref.ensures.value)
+    fragment_kept settled session c.in_ok-valued.valued.items c.args.fragment.now.assigns.items c.requires.fits solved c.in_ok-session.ensures.system
+    (c.in_ok-session.ensures.users ∙ is) (c.in_ok-valued.ensures ∙ ap units_of c.deref.ensures.value)
 
 pub returns-clause-solved : goal.returns-clause-solved
 returns-clause-solved c =

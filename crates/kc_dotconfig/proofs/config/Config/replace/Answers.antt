@@ -14,7 +14,7 @@ use Rattle.kc_dotconfig.proofs.config.Config.replace.Goals as goal
 
 pub apply-requires : goal.apply-requires
 apply-requires c = record {
-  fits = let e : c.deref-4.result.now ≡ clears_of c.self.inside.held.items ++ changes_of c.args.fragment.now.assigns.items =
+  fits = let e : c.deref-4.result.now ≡ clears_of c.self.inside.valued.items ++ changes_of c.args.fragment.now.assigns.items =
       c.deref-4.ensures.value ∙ c.in_ok-push_users.ensures
       ∙ ap (λ (l : List (ℕ × Option UserValue)). l ++ changes_of c.deref-3.result.now)
       (c.in_ok-push_cleared.ensures ∙ ap (λ (l : List (ℕ × Option UserValue)). l ++ clears_of c.deref-2.result.now) c.in_ok-changes.ensures.items)
@@ -22,7 +22,7 @@ apply-requires c = record {
       ∙ ap (λ (l : List ℕ). clears_of l ++ changes_of c.args.fragment.now.assigns.items) c.deref-2.ensures.value in
       let v : c.args.self.now ≡ c.self.inside.session = sym c.self.view_is in
       subst (FitsChanges (length (tree_in c.self.inside.session).units) (λ u x. IsTrue (user_fits (tree_in c.self.inside.session) u x))) (sym e)
-      (fits_both (length (tree_in c.self.inside.session).units) (λ u x. IsTrue (user_fits (tree_in c.self.inside.session) u x)) c.self.inside.held.items
+      (fits_both (length (tree_in c.self.inside.session).units) (λ u x. IsTrue (user_fits (tree_in c.self.inside.session) u x)) c.self.inside.valued.items
       (changes_of c.args.fragment.now.assigns.items) c.self.invariant.within
       (fits_changes (tree_in c.self.inside.session) c.args.fragment.now.assigns.items
       (subst (λ (s : Configured). FitsTree (tree_in s) c.args.fragment.now.assigns.items) v c.requires.fits)));
@@ -30,33 +30,35 @@ apply-requires c = record {
 
 pub invariant_of-self-2 : goal.invariant_of-self-2
 invariant_of-self-2 c =
-    let e : c.deref-4.result.now ≡ clears_of c.self.inside.held.items ++ changes_of c.args.fragment.now.assigns.items =
+    let e : c.deref-4.result.now ≡ clears_of c.self.inside.valued.items ++ changes_of c.args.fragment.now.assigns.items =
     c.deref-4.ensures.value ∙ c.in_ok-push_users.ensures
     ∙ ap (λ (l : List (ℕ × Option UserValue)). l ++ changes_of c.deref-3.result.now)
     (c.in_ok-push_cleared.ensures ∙ ap (λ (l : List (ℕ × Option UserValue)). l ++ clears_of c.deref-2.result.now) c.in_ok-changes.ensures.items)
     ∙ ap (λ (l : List (ℕ × UserValue)). clears_of c.deref-2.result.now ++ changes_of l) c.deref-3.ensures.value
     ∙ ap (λ (l : List ℕ). clears_of l ++ changes_of c.args.fragment.now.assigns.items) c.deref-2.ensures.value in
     let v : c.args.self.now ≡ c.self.inside.session = sym c.self.view_is in
-    let users = replaced_users c.self.inside.settled.now c.self.inside.session c.self.inside.held.items c.args.fragment.now.assigns.items c.apply.new.self.users
+    let users = replaced_users c.self.inside.settled.now c.self.inside.session c.self.inside.valued.items c.args.fragment.now.assigns.items
+    c.apply.new.self.users
     c.self.invariant
     (c.in_ok-report.ensures.users ∙ ap (λ (l : List (ℕ × Option UserValue)). changed_users l c.self.inside.session.users) e) in
-    replaced_kept c.self.inside.settled.now c.self.inside.session c.apply.new.self c.self.inside.held.items c.in_ok-held.held.items
+    replaced_kept c.self.inside.settled.now c.self.inside.session c.apply.new.self c.self.inside.valued.items c.in_ok-valued.valued.items
     c.args.fragment.now.assigns.items c.self.invariant
     (subst (λ (s : Configured). FitsTree (tree_in s) c.args.fragment.now.assigns.items) v c.requires.fits)
     (solved_by c.self.inside.session c.apply.new.self c.self.invariant.solved c.in_ok-report.ensures.system c.in_ok-report.ensures.fits
     c.in_ok-report.ensures.gives)
-    c.in_ok-report.ensures.system users (c.in_ok-held.ensures ∙ ap units_of c.deref.ensures.value)
+    c.in_ok-report.ensures.system users (c.in_ok-valued.ensures ∙ ap units_of c.deref.ensures.value)
 
 pub returns-clause-users : goal.returns-clause-users
 returns-clause-users c =
-    let e : c.deref-4.result.now ≡ clears_of c.self.inside.held.items ++ changes_of c.args.fragment.now.assigns.items =
+    let e : c.deref-4.result.now ≡ clears_of c.self.inside.valued.items ++ changes_of c.args.fragment.now.assigns.items =
     c.deref-4.ensures.value ∙ c.in_ok-push_users.ensures
     ∙ ap (λ (l : List (ℕ × Option UserValue)). l ++ changes_of c.deref-3.result.now)
     (c.in_ok-push_cleared.ensures ∙ ap (λ (l : List (ℕ × Option UserValue)). l ++ clears_of c.deref-2.result.now) c.in_ok-changes.ensures.items)
     ∙ ap (λ (l : List (ℕ × UserValue)). clears_of c.deref-2.result.now ++ changes_of l) c.deref-3.ensures.value
     ∙ ap (λ (l : List ℕ). clears_of l ++ changes_of c.args.fragment.now.assigns.items) c.deref-2.ensures.value in
     let v : c.args.self.now ≡ c.self.inside.session = sym c.self.view_is in
-    let users = replaced_users c.self.inside.settled.now c.self.inside.session c.self.inside.held.items c.args.fragment.now.assigns.items c.apply.new.self.users
+    let users = replaced_users c.self.inside.settled.now c.self.inside.session c.self.inside.valued.items c.args.fragment.now.assigns.items
+    c.apply.new.self.users
     c.self.invariant
     (c.in_ok-report.ensures.users ∙ ap (λ (l : List (ℕ × Option UserValue)). changed_users l c.self.inside.session.users) e) in
     subst (λ (s : Configured). c.apply.new.self.users ≡ users_of (tree_in s) c.args.fragment.now.assigns.items) (sym v) users
@@ -103,8 +105,8 @@ returns-in_err-push_cleared-clause-settled c = grind (arith, common_steps)
 pub returns-in_err-push_users-clause-settled : goal.returns-in_err-push_users-clause-settled
 returns-in_err-push_users-clause-settled c = grind (arith, common_steps)
 
-pub returns-in_err-held-clause-solved : goal.returns-in_err-held-clause-solved
-returns-in_err-held-clause-solved c = grind (arith, elements)
+pub returns-in_err-valued-clause-solved : goal.returns-in_err-valued-clause-solved
+returns-in_err-valued-clause-solved c = grind (arith, elements)
 
 pub returns-clause-err : goal.returns-clause-err
 returns-clause-err c = grind (arith, common_steps)
@@ -115,5 +117,5 @@ returns-in_err-changes-clause-solved c = grind (arith, common_steps)
 pub returns-in_err-push_users-clause-solved : goal.returns-in_err-push_users-clause-solved
 returns-in_err-push_users-clause-solved c = grind (arith, common_steps)
 
-pub returns-in_err-held-clause-settled : goal.returns-in_err-held-clause-settled
-returns-in_err-held-clause-settled c = grind (arith, common_steps)
+pub returns-in_err-valued-clause-settled : goal.returns-in_err-valued-clause-settled
+returns-in_err-valued-clause-settled c = grind (arith, common_steps)

@@ -8,7 +8,7 @@ use Rattle.kc_rules.proofs.valuation.Valuation.condition.Goals as goal
 pub returns : goal.returns
 returns c = record {
   value = (rw c.arena.ensures.arena at c.value.ensures.value) ∙ values_agree (valuation_tree c.args.self.now) (valuation_values c.args.self.now)
-      (valuation_exprs c.args.self.now).names c.arena.ensures.held (node_expr (valuation_exprs c.args.self.now) c.args.id);
+      (valuation_exprs c.args.self.now).names c.arena.ensures.absent (node_expr (valuation_exprs c.args.self.now) c.args.id);
 }
 
 pub value-requires : goal.value-requires

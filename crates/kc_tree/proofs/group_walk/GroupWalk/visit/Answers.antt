@@ -136,7 +136,7 @@ returns-clause-walked c = λ names texts before m walked what attributes_are.
     let p : RepresentsPrompt far c.first_prompt_condition-prompt.result (slice_get (prompts_of (context s) m) 0) = rw (← attributes_are) at p0 in
     let t = top_shown w.arena texts w.yes (reverse w.stack.items) s here.stack_is in
     let a = subst (λ (x : EnclosingConditions). RepresentsEnclosing w.arena texts w.yes x s) (sym c.enclosing-enclosing.ensures) t in
-    let shown = c.in_ok-opened.ensures.shown names texts w.yes m s (what_on w.arena far names texts c.args.head.now m.head to_far what)
+    let shown = c.in_ok-opened.ensures.represents names texts w.yes m s (what_on w.arena far names texts c.args.head.now m.head to_far what)
     (around_on w.arena far texts w.yes c.enclosing-enclosing.result s to_far a)
     (joined_on mid far c.push_conditions.ensures.grows c.in_ok-entry.entry _ _ _ j) p
     (represents_on mid far w.yes (conjunction_of []) c.push_conditions.ensures.grows y) (represents_on w.arena far w.no _ to_far here.no_is) in

@@ -1,7 +1,0 @@
--- Lists of texts, by slices.
-use Rattle.std.specs.Prelude.{ℕ, List, map}
-use Rattle.std.specs.Borrow.{Bor}
-
--- the bytes of each slice of a list, as a text
-abbrev pub slices_of : List (Bor (List ℕ)) → List (List ℕ)
-slices_of ts = map (λ (t : Bor (List ℕ)). t.now) ts
