@@ -11,7 +11,8 @@ use Rattle.kc_dotconfig_model.specs.declared.notice.NoticeKind.{NoticeKind}
 use Rattle.kc_dotconfig.specs.declared.meanings.Meaning.{Meaning}
 use Rattle.kc_dotconfig.specs.declared.meanings.Meaning.TheVariants.{Assigns, Noted, Nothing}
 use Rattle.kc_dotconfig_model.specs.PrefixGrammar.{is_prefix}
-use Rattle.kc_dotconfig_model.specs.ConfigLines.{LineMeaning, Means, IsMalformed, without_white_end}
+use Rattle.kc_dotconfig_model.specs.ConfigLines.{LineMeaning, Means, IsMalformed}
+use Rattle.kc_tree_model.specs.LogicalLines.{without_white_end}
 use Rattle.kc_dotconfig_model.specs.between.LineMeanings.{line_meaning}
 use Rattle.kc_dotconfig.specs.checker.MeaningViews.{meaning_view, IsWithin}
 use Rattle.kc_dotconfig.specs.checker.Accumulation.{IsGathered}
@@ -44,7 +45,8 @@ pub takes_nothing : (g h : Accumulator) (meaning : Meaning) → meaning ≡ Noth
 takes_nothing g h meaning is entries notices lines tree meanings within before =
     subst (λ s. IsGathered tree (meanings ++ meaning_view s ∷ []) h) (sym is) (gathers_nothing tree meanings g h before entries notices lines)
 
-pub means_of_view : (format : FileFormat) (tree : Tree) (line text : List ℕ) (o : Option Meaning) (meaning : Meaning) → is_prefix format.prefix ≡ true → text ≡ line
+pub means_of_view : (format : FileFormat) (tree : Tree) (line text : List ℕ) (o : Option Meaning) (meaning : Meaning)
+    → is_prefix format.prefix ≡ true → text ≡ line
     → option_map meaning_view o ≡ line_meaning format tree (without_white_end text) → o ≡ Some meaning
     → Means format tree (without_white_end line) (meaning_view meaning)
 means_of_view format tree line text o meaning valid same read is =

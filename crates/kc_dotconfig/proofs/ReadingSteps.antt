@@ -11,8 +11,9 @@ use Rattle.kc_dotconfig_model.specs.Formats.{FileFormat}
 use Rattle.kc_dotconfig_model.specs.declared.fault.LoadKind.{LoadKind}
 use Rattle.kc_dotconfig_model.specs.declared.fault.LoadKind.TheVariants.{Malformed, NotUtf8, LineTooLong, TooManyLines, OutOfMemory, TooLarge}
 use Rattle.kc_dotconfig.specs.declared.accumulator.Accumulator.{Accumulator}
-use Rattle.kc_dotconfig_model.specs.PrefixGrammar.{lacks}
-use Rattle.kc_dotconfig_model.specs.ConfigLines.{LineMeaning, Means, IsMalformed, without_white_end}
+use Rattle.kc_value.specs.Lines.{has_no_byte}
+use Rattle.kc_dotconfig_model.specs.ConfigLines.{LineMeaning, Means, IsMalformed}
+use Rattle.kc_tree_model.specs.LogicalLines.{without_white_end}
 use Rattle.kc_dotconfig_model.specs.ConfigFiles.{FileMeans}
 use Rattle.kc_value.specs.declared.limits.TheConstants.{MAX_CONFIG_BYTES, MAX_CONFIG_LINES, MAX_LINE_BYTES}
 use Rattle.kc_dotconfig_model.specs.LoadFaults.{complete, IsFirstFault}
@@ -33,17 +34,18 @@ none_of [] e = refl
 none_of (x ∷ xs) e = let n = eqb-true (length (x ∷ xs)) 0 e in absurd (omega arith)
 
 -- the bytes of a line have no newline before the limit, and one is there
-cut_piece : (k : ℕ) (piece : List ℕ) → k < length piece → lacks 10 piece ≡ true
-    → (b : ℕ) × (more : List ℕ) × (piece ≡ take k piece ++ b ∷ more) × (lacks 10 (take k piece) ≡ true) × ((b == 10) ≡ false) × (length (take k piece) ≡ k)
+cut_piece : (k : ℕ) (piece : List ℕ) → k < length piece → has_no_byte 10 piece ≡ true
+    → (b : ℕ) × (more : List ℕ) × (piece ≡ take k piece ++ b ∷ more) × (has_no_byte 10 (take k piece) ≡ true) ×
+    ((b == 10) ≡ false) × (length (take k piece) ≡ k)
 cut_piece k [] h one = absurd (omega arith)
-cut_piece zero (b ∷ piece) h one = (b, piece, refl, refl, no (b == 10) (and_parts (not (b == 10)) (lacks 10 piece) one).0, refl) where
+cut_piece zero (b ∷ piece) h one = (b, piece, refl, refl, no (b == 10) (and_parts (not (b == 10)) (has_no_byte 10 piece) one).0, refl) where
   no : (t : Bool) → not t ≡ true → t ≡ false
   no true e = cc
   no false e = refl
 cut_piece (suc k) (b ∷ piece) h one =
-    let parts = and_parts (not (b == 10)) (lacks 10 piece) one in
+    let parts = and_parts (not (b == 10)) (has_no_byte 10 piece) one in
     let rest = cut_piece k piece (omega arith) parts.1 in
-    (rest.0, rest.1, ap (λ l. b ∷ l) rest.2, and_from (not (b == 10)) (lacks 10 (take k piece)) parts.0 rest.3, rest.4, (let e = rest.5 in omega arith))
+    (rest.0, rest.1, ap (λ l. b ∷ l) rest.2, and_from (not (b == 10)) (has_no_byte 10 (take k piece)) parts.0 rest.3, rest.4, (let e = rest.5 in omega arith))
 
 -- a piece that isn't empty, after the greatest number of lines, has the fault `TooManyLines`
 pub many_stops : (old piece : List ℕ) (lines : ℕ) → 0 < length piece → lines ≡ MAX_CONFIG_LINES → StopsIn old piece lines TooManyLines
@@ -53,7 +55,7 @@ many_stops old piece lines some full format tree known rest meanings c same room
     subst (λ n. IsFirstFault format tree complete (known ++ (piece ++ rest)) TooManyLines (n + 1)) same here
 
 -- a piece that makes its line longer than `MAX_LINE_BYTES` has the fault `LineTooLong`
-pub long_stops : (old piece : List ℕ) (lines : ℕ) → MAX_LINE_BYTES < length old + length piece → lacks 10 piece ≡ true → lines < MAX_CONFIG_LINES
+pub long_stops : (old piece : List ℕ) (lines : ℕ) → MAX_LINE_BYTES < length old + length piece → has_no_byte 10 piece ≡ true → lines < MAX_CONFIG_LINES
     → StopsIn old piece lines LineTooLong
 long_stops old piece lines long one few format tree known rest meanings c same room =
     let short = c.short in
@@ -74,7 +76,7 @@ long_stops old piece lines long one few format tree known rest meanings c same r
 
 pub push_stops : {T : Type 0} (r : Result T LoadKind) (old piece : List ℕ) (lines : ℕ) → (r ≡ Err LineTooLong → MAX_LINE_BYTES < length old + length piece)
     → IfErr r (λ kind. (kind ≡ LineTooLong) ⊎ (kind ≡ OutOfMemory))
-    → lacks 10 piece ≡ true → lines < MAX_CONFIG_LINES → IfErr r (λ kind. (kind ≡ OutOfMemory) ⊎ StopsIn old piece lines kind)
+    → has_no_byte 10 piece ≡ true → lines < MAX_CONFIG_LINES → IfErr r (λ kind. (kind ≡ OutOfMemory) ⊎ StopsIn old piece lines kind)
 push_stops (Ok x) old piece lines long kinds one few = tt
 push_stops {T} (Err kind) old piece lines long kinds one few = elim kinds [
   | inl e ↦ inr (subst (StopsIn old piece lines) (sym e) (long_stops old piece lines (long (ap (λ (k : LoadKind). let r : Result T LoadKind = Err k in r) e))
@@ -107,7 +109,7 @@ many_refuses format tree old g piece full known rest (meanings, c, gathered) roo
 
 -- the last piece of a line with its newline is accepted if the line is UTF-8 and its meaning was added to the accumulator
 pub line_taken : (format : FileFormat) (tree : Tree) (old : List ℕ) (g : Accumulator) (piece line : List ℕ) (g_new : Accumulator) → line ≡ old ++ piece
-    → length line ≤ MAX_LINE_BYTES → lacks 10 piece ≡ true → g.lines < MAX_CONFIG_LINES
+    → length line ≤ MAX_LINE_BYTES → has_no_byte 10 piece ≡ true → g.lines < MAX_CONFIG_LINES
     → IsUtf8 line × ((x : LineMeaning) × Means format tree (without_white_end line) x
     × ((meanings : List LineMeaning) → IsGathered tree meanings g → IsGathered tree (meanings ++ x ∷ []) g_new))
     → AcceptsBytes format tree old g (piece ++ 10 ∷ []) [] g_new
@@ -129,7 +131,7 @@ line_taken format tree old g piece line g_new is short one few (text, meaning) k
 -- if a line that ends is not UTF-8 or is malformed, its last piece with the newline has the file's first fault
 pub line_refused : (format : FileFormat) (tree : Tree) (old : List ℕ) (g : Accumulator) (piece line : List ℕ) (kind : LoadKind) (lines : ℕ)
     → line ≡ old ++ piece
-    → length line ≤ MAX_LINE_BYTES → lacks 10 piece ≡ true → g.lines < MAX_CONFIG_LINES → lines ≡ g.lines
+    → length line ≤ MAX_LINE_BYTES → has_no_byte 10 piece ≡ true → g.lines < MAX_CONFIG_LINES → lines ≡ g.lines
     → (kind ≡ NotUtf8 → IsUtf8 line → ⊥) → (kind ≡ Malformed → IsUtf8 line × IsMalformed format tree line)
     → (kind ≡ NotUtf8) ⊎ (kind ≡ Malformed) ⊎ (kind ≡ OutOfMemory)
     → (kind ≡ OutOfMemory) ⊎ Refuses format tree old g (piece ++ 10 ∷ []) kind lines
@@ -258,7 +260,7 @@ abbrev AsErr : (T : Type 0) → LoadKind → Result T LoadKind
 AsErr T kind = Err kind
 
 pub result_refused : {T : Type 0} (r : Result T LoadKind) (format : FileFormat) (tree : Tree) (old : List ℕ) (g : Accumulator) (piece line : List ℕ) (lines : ℕ)
-    → line ≡ old ++ piece → length line ≤ MAX_LINE_BYTES → lacks 10 piece ≡ true → g.lines < MAX_CONFIG_LINES
+    → line ≡ old ++ piece → length line ≤ MAX_LINE_BYTES → has_no_byte 10 piece ≡ true → g.lines < MAX_CONFIG_LINES
     → (r ≡ Err NotUtf8 → IsUtf8 line → ⊥) → (r ≡ Err Malformed → IsUtf8 line × IsMalformed format tree line)
     → IfErr r (λ kind. (kind ≡ NotUtf8) ⊎ (kind ≡ Malformed) ⊎ (kind ≡ OutOfMemory)) → OnErr r (lines ≡ g.lines)
     → IfErr r (λ kind. (kind ≡ OutOfMemory) ⊎ Refuses format tree old g (piece ++ 10 ∷ []) kind lines)
@@ -268,7 +270,8 @@ result_refused {T} (Err kind) format tree old g piece line lines is short one fe
 
 pub push_refused : {T : Type 0} (r : Result T LoadKind) (format : FileFormat) (tree : Tree) (old : List ℕ) (g : Accumulator) (piece : List ℕ)
     → (r ≡ Err LineTooLong → MAX_LINE_BYTES < length old + length piece) → IfErr r (λ kind. (kind ≡ LineTooLong) ⊎ (kind ≡ OutOfMemory))
-    → lacks 10 piece ≡ true → g.lines < MAX_CONFIG_LINES → IfErr r (λ kind. (kind ≡ OutOfMemory) ⊎ Refuses format tree old g (piece ++ 10 ∷ []) kind g.lines)
+    → has_no_byte 10 piece ≡ true → g.lines < MAX_CONFIG_LINES
+    → IfErr r (λ kind. (kind ≡ OutOfMemory) ⊎ Refuses format tree old g (piece ++ 10 ∷ []) kind g.lines)
 push_refused (Ok x) format tree old g piece long kinds one few = tt
 push_refused {T} (Err kind) format tree old g piece long kinds one few = elim kinds [
   | inl e ↦ inr (subst (λ k. Refuses format tree old g (piece ++ 10 ∷ []) k g.lines) (sym e)
@@ -278,7 +281,7 @@ push_refused {T} (Err kind) format tree old g piece long kinds one few = elim ki
 
 pub result_taken : {T : Type 0} (r : Result T LoadKind) (format : FileFormat) (tree : Tree) (old : List ℕ) (g : Accumulator) (piece line after : List ℕ)
     (g_new : Accumulator)
-    → line ≡ old ++ piece → length line ≤ MAX_LINE_BYTES → lacks 10 piece ≡ true → g.lines < MAX_CONFIG_LINES → after ≡ []
+    → line ≡ old ++ piece → length line ≤ MAX_LINE_BYTES → has_no_byte 10 piece ≡ true → g.lines < MAX_CONFIG_LINES → after ≡ []
     → OnOk r (IsUtf8 line × ((x : LineMeaning) × Means format tree (without_white_end line) x
     × ((meanings : List LineMeaning) → IsGathered tree meanings g → IsGathered tree (meanings ++ x ∷ []) g_new)))
     → OnOk r (AcceptsBytes format tree old g (piece ++ 10 ∷ []) after g_new)
@@ -312,27 +315,30 @@ result_ends_badly {T} (Err kind) format tree old line g lines is some odd bad ki
 
 -- the bytes up to the first newline, and those after it
 newline_at : (rest : List ℕ) (at : ℕ) → at < length rest → (slice_index rest at == 10) ≡ true → ((k : ℕ) → k < at → (slice_index rest k == 10) ≡ true → ⊥)
-    → (rest ≡ take at rest ++ 10 ∷ drop (at + 1) rest) × (lacks 10 (take at rest) ≡ true)
+    → (rest ≡ take at rest ++ 10 ∷ drop (at + 1) rest) × (has_no_byte 10 (take at rest) ≡ true)
 newline_at [] at h e none = absurd (omega arith)
 newline_at (b ∷ rest) zero h e none = (ap (λ c. c ∷ rest) (eqb-true b 10 e), refl)
 newline_at (b ∷ rest) (suc at) h e none =
     let next = newline_at rest at (omega arith) e (λ k less is. none (suc k) (omega arith) is) in
     let n : suc at + 1 ≡ suc (at + 1) = omega arith in
-    let other : not (b == 10) ≡ true = no (b == 10) (none 0 (omega arith)) in
-    (ap (λ l. b ∷ l) next.0 ∙ ap (λ m. b ∷ (take at rest ++ 10 ∷ drop m (b ∷ rest))) (sym n), and_from (not (b == 10)) (lacks 10 (take at rest)) other next.1)
+    let other : not (b == 10) ≡ true = no (b == 10) (none 0 (omega arith)) in (
+      ap (λ l. b ∷ l) next.0 ∙ ap (λ m. b ∷ (take at rest ++ 10 ∷ drop m (b ∷ rest))) (sym n),
+      and_from (not (b == 10))
+          (has_no_byte 10 (take at rest)) other next.1,
+    )
   where
     no : (t : Bool) → (t ≡ true → ⊥) → not t ≡ true
     no true h = absurd (h refl)
     no false h = refl
 
 pub first_newline : (rest : List ℕ) (at : ℕ) → IsFirstByte (is_byte 10) rest (Some at)
-    → (rest ≡ take at rest ++ 10 ∷ drop (at + 1) rest) × (lacks 10 (take at rest) ≡ true)
+    → (rest ≡ take at rest ++ 10 ∷ drop (at + 1) rest) × (has_no_byte 10 (take at rest) ≡ true)
 first_newline rest at first = newline_at rest at first.0.high first.1 (λ k less is. first.0.before k (omega arith) less is)
 
-pub no_newline : (rest : List ℕ) → IsFirstByte (is_byte 10) rest None → lacks 10 rest ≡ true
+pub no_newline : (rest : List ℕ) → IsFirstByte (is_byte 10) rest None → has_no_byte 10 rest ≡ true
 no_newline [] none = refl
 no_newline (b ∷ rest) none =
-    and_from (not (b == 10)) (lacks 10 rest) (no (b == 10) (none 0 (omega arith) (omega arith)))
+    and_from (not (b == 10)) (has_no_byte 10 rest) (no (b == 10) (none 0 (omega arith) (omega arith)))
     (no_newline rest (λ k low high is. none (suc k) (omega arith) (omega arith) is)) where
       no : (t : Bool) → (t ≡ true → ⊥) → not t ≡ true
       no true h = absurd (h refl)

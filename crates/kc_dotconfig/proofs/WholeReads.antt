@@ -226,7 +226,8 @@ block_fault format tree line g block size kind k lines n same is fault = elim fa
   | inr bad ↦ inr (λ known rest holds count. fault_with_line format tree (known ++ (block ++ rest)) kind k lines n same is (bad known rest holds count))
 ]
 
-pub reports_cut_short : (format : FileFormat) (tree : Tree) (a c : Option (List ℕ)) (f f_after : ℕ) (k : LoadKind) (n : ℕ) → k ≡ Read → IsCutShort format tree a c n
+pub reports_cut_short : (format : FileFormat) (tree : Tree) (a c : Option (List ℕ)) (f f_after : ℕ) (k : LoadKind) (n : ℕ)
+    → k ≡ Read → IsCutShort format tree a c n
     → (f < 2 ^ 64 - 1 → f < f_after) → ReportsFault format tree a c f f_after k n
 reports_cut_short format tree a c f f_after k n is cut rise = subst (λ x. ReportsFault format tree a c f f_after x n) (sym is) (cut, rise)
 

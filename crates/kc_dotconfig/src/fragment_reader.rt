@@ -1,6 +1,6 @@
 //! Reading a configuration file, a block at a time.
 ghost use Rattle.std.specs.Prelude.{◌≡◌, ◌⊎◌, ◌<◌, ◌≤◌, ℕ, ◌+◌, ◌-◌, List, [], ◌∷◌, ◌++◌, length, true, IfOk, IfErr, OnOk};
-ghost use Rattle.kc_dotconfig_model.specs.PrefixGrammar.{lacks};
+ghost use Rattle.kc_value.specs.Lines.{has_no_byte};
 ghost use Rattle.kc_dotconfig_model.specs.between.Formats.{file_format};
 ghost use Rattle.kc_dotconfig_model.specs.LoadFaults.{complete, IsFirstFault};
 ghost use Rattle.kc_dotconfig.specs.checker.Accumulation.{fault_line, Holds, GoesOn, StopsIn, AcceptsBytes, Refuses, EndsWell, EndsBadly, IsFragmentOf};
@@ -23,7 +23,7 @@ use std::alloc::{AllocError, Global};
 /// Takes a piece of a line that has no newline yet; `lines` counts the complete lines before it.
 fn take_piece(cutter: &mut LineBuffer, lines: u32, piece: &[u8]) -> Result<(), LoadKind>
     requires few { lines ≤ MAX_CONFIG_LINES }
-    requires one_line { lacks 10 piece.now ≡ true }
+    requires one_line { has_no_byte 10 piece.now ≡ true }
     ensures ok { OnOk result (GoesOn cutter.old cutter.new piece.now lines) }
     ensures err { IfErr result (λ kind. (kind ≡ LoadKind.OutOfMemory) ⊎ StopsIn cutter.old piece.now lines kind) }
 {
@@ -46,7 +46,7 @@ fn take_ended(
     piece: &[u8],
 ) -> Result<(), LoadKind>
     requires few { gathered.old.lines ≤ MAX_CONFIG_LINES }
-    requires one_line { lacks 10 piece.now ≡ true }
+    requires one_line { has_no_byte 10 piece.now ≡ true }
     ensures ok { OnOk result (AcceptsBytes (file_format format.now) (tree_of_settled settled.now) cutter.old gathered.old (piece.now ++ 10 ∷ []) cutter.new gathered.new) }
     ensures err { IfErr result (λ kind. (kind ≡ LoadKind.OutOfMemory) ⊎ Refuses (file_format format.now) (tree_of_settled settled.now) cutter.old gathered.old (piece.now ++ 10 ∷ []) kind gathered.new.lines) }
     ensures few { gathered.new.lines ≤ MAX_CONFIG_LINES }

@@ -2,7 +2,7 @@
 ghost use Rattle.std.specs.Prelude.{◌≡◌, ◌≢◌, ◌<◌, ℕ, List, not, Some, None, IfSome, IfNone, IsAscii};
 ghost use Rattle.std.specs.List.{find};
 ghost use Rattle.kc_expr.specs.Token.{is_white_byte};
-ghost use Rattle.kc_dotconfig_model.specs.ConfigLines.{without_white_end};
+ghost use Rattle.kc_tree_model.specs.LogicalLines.{without_white_end};
 ghost use Rattle.kc_dotconfig_model.specs.Formats.{between_quotes};
 ghost use Rattle.kc_dotconfig_model.specs.between.Prefixes.{prefix_bytes};
 ghost use Rattle.kc_dotconfig_model.specs.between.LineMeanings.{after_front, named_before, value_parts, unset_name, is_hash};

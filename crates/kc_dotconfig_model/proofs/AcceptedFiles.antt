@@ -7,18 +7,19 @@ use Rattle.std.proofs.lemmas.List.Sums.{sum_by-cons, sum_by-append}
 use Rattle.kc_tree_model.specs.Trees.{Tree}
 use Rattle.kc_dotconfig_model.specs.Formats.{FileFormat}
 use Rattle.kc_dotconfig_model.specs.declared.fault.LoadKind.TheVariants.{Malformed}
-use Rattle.kc_dotconfig_model.specs.PrefixGrammar.{lacks}
-use Rattle.kc_dotconfig_model.specs.ConfigLines.{LineMeaning, IsMalformed, without_white_end}
+use Rattle.kc_value.specs.Lines.{has_no_byte, newline_count}
+use Rattle.kc_dotconfig_model.specs.ConfigLines.{LineMeaning, IsMalformed}
+use Rattle.kc_tree_model.specs.LogicalLines.{without_white_end}
 use Rattle.kc_dotconfig_model.specs.ConfigFiles.{file_lines, FileMeans}
-use Rattle.kc_dotconfig_model.specs.LoadFaults.{IsLineAt, newlines}
+use Rattle.kc_dotconfig_model.specs.LoadFaults.{IsLineAt}
 use Rattle.kc_dotconfig_model.specs.between.LineMeanings.{line_meaning, with_rest, meanings_of_lines, file_meanings}
 use Rattle.kc_dotconfig_model.specs.FileLaws.{AcceptedFilesAreRead}
 use Rattle.kc_dotconfig_model.proofs.LineLaws.{line_read, file_read}
 
-count_more : (b : ℕ) (bytes : List ℕ) → newlines (b ∷ bytes) ≡ cond (b == 10) 1 0 + newlines bytes
+count_more : (b : ℕ) (bytes : List ℕ) → newline_count (b ∷ bytes) ≡ cond (b == 10) 1 0 + newline_count bytes
 count_more b bytes = sum_by-cons (λ c. cond (c == 10) 1 0) b bytes
 
-count_ends : (earlier : List ℕ) → newlines (earlier ++ 10 ∷ []) ≡ newlines earlier + 1
+count_ends : (earlier : List ℕ) → newline_count (earlier ++ 10 ∷ []) ≡ newline_count earlier + 1
 count_ends earlier = sum_by-append (λ c. cond (c == 10) 1 0) earlier (10 ∷ [])
 
 -- after one more line
@@ -35,9 +36,11 @@ line_after_newline bytes line n start a = record {
 }
 
 -- after one more byte of an earlier line
-line_after_byte : (b : ℕ) (bytes line : List ℕ) (n start : ℕ) → (b == 10) ≡ false → 1 < n → IsLineAt bytes line n start → IsLineAt (b ∷ bytes) line n (start + 1)
+line_after_byte : (b : ℕ) (bytes line : List ℕ) (n start : ℕ) → (b == 10) ≡ false → 1 < n → IsLineAt bytes line n start
+    → IsLineAt (b ∷ bytes) line n (start + 1)
 line_after_byte b bytes line n start other later a =
-    let same : newlines (b ∷ a.front) ≡ newlines a.front = count_more b a.front ∙ ap (λ t. cond t 1 0 + newlines a.front) other ∙ (omega arith) in
+    let same : newline_count (b ∷ a.front) ≡ newline_count a.front = count_more b a.front
+    ∙ ap (λ t. cond t 1 0 + newline_count a.front) other ∙ (omega arith) in
     record {
       front = b ∷ a.front;
       rest = a.rest;
@@ -45,7 +48,7 @@ line_after_byte b bytes line n start other later a =
       starts = (let e = a.starts in omega arith);
       number_is = a.number_is ∙ ap (λ k. k + 1) (sym same);
       begins = elim a.begins [
-        | inl none ↦ (let zero_lines : newlines a.front ≡ 0 = ap newlines none in let e = a.number_is in absurd (omega arith))
+        | inl none ↦ (let zero_lines : newline_count a.front ≡ 0 = ap newline_count none in let e = a.number_is in absurd (omega arith))
         | inr some ↦ inr (b ∷ some.0, ap (λ l. b ∷ l) some.1)
       ];
       ends = a.ends;
@@ -57,7 +60,8 @@ longer_first : (b : ℕ) (bytes line : List ℕ) (start : ℕ) → (b == 10) ≡
 longer_first b bytes line start other a =
     let none : a.front ≡ [] = elim a.begins [
       | inl none ↦ none
-      | inr some ↦ (let ended : newlines a.front ≡ newlines some.0 + 1 = ap newlines some.1 ∙ count_ends some.0 in let e = a.number_is in absurd (omega arith))
+      | inr some ↦ (let ended : newline_count a.front ≡ newline_count some.0 + 1 = ap newline_count some.1
+          ∙ count_ends some.0 in let e = a.number_is in absurd (omega arith))
     ] in
     record {
       front = [];
@@ -67,7 +71,7 @@ longer_first b bytes line start other a =
       number_is = refl;
       begins = inl refl;
       ends = elim a.ends [ inl last ↦ inl (last.0, omega arith) | inr more ↦ inr more ];
-      one_line = and_from (not (b == 10)) (lacks 10 line) (ap not other) a.one_line;
+      one_line = and_from (not (b == 10)) (has_no_byte 10 line) (ap not other) a.one_line;
     }
 
 some_line : (b : ℕ) (bytes : List ℕ) → file_lines (b ∷ bytes) ≡ [] → ⊥
@@ -165,6 +169,7 @@ accepted_read format tree bytes valid accepted = go (file_meanings format tree b
   go None e =
       let lost = unread format tree (file_lines bytes) e in
       let place = placed bytes lost.0 (lost.0 + 1) lost.1 refl lost.2 in
-      let malformed : IsMalformed format tree lost.1 = λ meaning has_meaning. let read = (line_read format tree (without_white_end lost.1) meaning valid).1 has_meaning in cc
+      let malformed : IsMalformed format tree lost.1 = λ meaning has_meaning.
+      let read = (line_read format tree (without_white_end lost.1) meaning valid).1 has_meaning in cc
       (read, lost.3) in
       absurd (accepted Malformed (place.0 + length lost.1) (lost.0 + 1) (lost.1, place.0, place.1, malformed, refl))

@@ -11,20 +11,22 @@ use Rattle.kc_tree_model.specs.Trees.{Tree}
 use Rattle.kc_dotconfig_model.specs.Formats.{FileFormat}
 use Rattle.kc_dotconfig_model.specs.declared.fault.LoadKind.TheVariants.{Malformed, NotUtf8, LineTooLong, TooManyLines, Read, OutOfMemory, TooLarge}
 use Rattle.kc_system.proofs.Lists.{get-some}
-use Rattle.kc_dotconfig_model.specs.PrefixGrammar.{lacks, is_prefix}
-use Rattle.kc_dotconfig_model.specs.ConfigLines.{LineMeaning, Means, IsMalformed, without_white_end}
+use Rattle.kc_value.specs.Lines.{has_no_byte, newline_count}
+use Rattle.kc_dotconfig_model.specs.PrefixGrammar.{is_prefix}
+use Rattle.kc_dotconfig_model.specs.ConfigLines.{LineMeaning, Means, IsMalformed}
+use Rattle.kc_tree_model.specs.LogicalLines.{without_white_end}
 use Rattle.kc_dotconfig_model.specs.ConfigFiles.{file_lines, has_utf8_lines}
 use Rattle.kc_dotconfig_model.specs.FileLaws.{IsGoodLine, AcceptedFilesHaveGoodLines}
 use Rattle.kc_dotconfig_model.specs.between.LineMeanings.{line_meaning}
 use Rattle.kc_dotconfig_model.proofs.LineLaws.{line_read}
 use Rattle.kc_dotconfig_model.proofs.AcceptedFiles.{placed}
 use Rattle.kc_value.specs.declared.limits.TheConstants.{MAX_CONFIG_BYTES, MAX_CONFIG_LINES, MAX_LINE_BYTES}
-use Rattle.kc_dotconfig_model.specs.LoadFaults.{IsLineAt, newlines, IsAccepted}
+use Rattle.kc_dotconfig_model.specs.LoadFaults.{IsLineAt, IsAccepted}
 
-count_more : (b : ℕ) (bytes : List ℕ) → newlines (b ∷ bytes) ≡ cond (b == 10) 1 0 + newlines bytes
+count_more : (b : ℕ) (bytes : List ℕ) → newline_count (b ∷ bytes) ≡ cond (b == 10) 1 0 + newline_count bytes
 count_more b bytes = sum_by-cons (λ c. cond (c == 10) 1 0) b bytes
 
-count_ends : (earlier : List ℕ) → newlines (earlier ++ 10 ∷ []) ≡ newlines earlier + 1
+count_ends : (earlier : List ℕ) → newline_count (earlier ++ 10 ∷ []) ≡ newline_count earlier + 1
 count_ends earlier = sum_by-append (λ c. cond (c == 10) 1 0) earlier (10 ∷ [])
 
 abbrev Ends : List ℕ → List ℕ → Type 0
@@ -43,11 +45,11 @@ onto_rest c [] (suc i) h = refl
 onto_rest c (x ∷ xs) (suc i) h = refl
 
 -- the line at the front
-first_line : (line rest : List ℕ) → lacks 10 line ≡ true → Ends line rest → slice_get (file_lines (line ++ rest)) 0 ≡ Some line
+first_line : (line rest : List ℕ) → has_no_byte 10 line ≡ true → Ends line rest → slice_get (file_lines (line ++ rest)) 0 ≡ Some line
 first_line [] rest none (inl e) = let h = e.1 in absurd (omega (arith, h))
 first_line [] rest none (inr e) = ap (λ r. slice_get (file_lines r) 0) e.1
 first_line (c ∷ cs) rest none ends =
-    let parts = and_parts (not (c == 10)) (lacks 10 cs) none in
+    let parts = and_parts (not (c == 10)) (has_no_byte 10 cs) none in
     let other = not-true (c == 10) parts.0 in
     ap (λ t. slice_get (cond t ([] ∷ file_lines (cs ++ rest)) (onto_first c (file_lines (cs ++ rest)))) 0) other ∙ go cs ends (first_line cs rest parts.1) where
       go : (ds : List ℕ) → Ends (c ∷ ds) rest → (Ends ds rest → slice_get (file_lines (ds ++ rest)) 0 ≡ Some ds)
@@ -58,40 +60,42 @@ first_line (c ∷ cs) rest none ends =
       go (d ∷ ds) (inr e) next = onto_head c (file_lines ((d ∷ ds) ++ rest)) (d ∷ ds) (next (inr e))
 
 -- the line after some lines, at their number
-later_line : (front line rest : List ℕ) → Begins front → lacks 10 line ≡ true → Ends line rest
-    → slice_get (file_lines (front ++ (line ++ rest))) (newlines front) ≡ Some line
+later_line : (front line rest : List ℕ) → Begins front → has_no_byte 10 line ≡ true → Ends line rest
+    → slice_get (file_lines (front ++ (line ++ rest))) (newline_count front) ≡ Some line
 later_line [] line rest begins none ends = first_line line rest none ends
 later_line (b ∷ front) line rest (inl e) none ends = cc
 later_line (b ∷ front) line rest (inr e) none ends = go e.0 e.1 (cases_Bool (b == 10)) (λ begins. later_line front line rest begins none ends) where
   go : (earlier : List ℕ) → b ∷ front ≡ earlier ++ 10 ∷ [] → ((b == 10) ≡ true) ⊎ ((b == 10) ≡ false)
-      → (Begins front → slice_get (file_lines (front ++ (line ++ rest))) (newlines front) ≡ Some line)
-      → slice_get (file_lines (b ∷ (front ++ (line ++ rest)))) (newlines (b ∷ front)) ≡ Some line
+      → (Begins front → slice_get (file_lines (front ++ (line ++ rest))) (newline_count front) ≡ Some line)
+      → slice_get (file_lines (b ∷ (front ++ (line ++ rest)))) (newline_count (b ∷ front)) ≡ Some line
   go [] e (inl is) next =
       let nothing : front ≡ [] = cc in
-      let count : newlines (b ∷ front) ≡ suc (newlines front) = count_more b front ∙ ap (λ t. cond t 1 0 + newlines front) is ∙ (omega arith) in
-      ap (λ t. slice_get (cond t ([] ∷ file_lines (front ++ (line ++ rest))) (onto_first b (file_lines (front ++ (line ++ rest))))) (newlines (b ∷ front))) is
+      let count : newline_count (b ∷ front) ≡ suc (newline_count front) = count_more b front ∙ ap (λ t. cond t 1 0 + newline_count front) is ∙ (omega arith) in
+      ap (λ t. slice_get (cond t ([] ∷ file_lines (front ++ (line ++ rest))) (onto_first b (file_lines (front ++ (line ++ rest)))))
+      (newline_count (b ∷ front))) is
       ∙ ap (slice_get ([] ∷ file_lines (front ++ (line ++ rest)))) count ∙ next (inl nothing)
   go [] e (inr isn't) next = let same : b ≡ 10 = cc in absurd (false≢true (sym isn't ∙ eq-eqb b 10 same))
   go (x ∷ xs) e (inl is) next =
       let ends_so : front ≡ xs ++ 10 ∷ [] = cc in
-      let count : newlines (b ∷ front) ≡ suc (newlines front) = count_more b front ∙ ap (λ t. cond t 1 0 + newlines front) is ∙ (omega arith) in
-      ap (λ t. slice_get (cond t ([] ∷ file_lines (front ++ (line ++ rest))) (onto_first b (file_lines (front ++ (line ++ rest))))) (newlines (b ∷ front))) is
+      let count : newline_count (b ∷ front) ≡ suc (newline_count front) = count_more b front ∙ ap (λ t. cond t 1 0 + newline_count front) is ∙ (omega arith) in
+      ap (λ t. slice_get (cond t ([] ∷ file_lines (front ++ (line ++ rest))) (onto_first b (file_lines (front ++ (line ++ rest)))))
+      (newline_count (b ∷ front))) is
       ∙ ap (slice_get ([] ∷ file_lines (front ++ (line ++ rest)))) count ∙ next (inr (xs, ends_so))
   go (x ∷ xs) e (inr isn't) next =
       let ends_so : front ≡ xs ++ 10 ∷ [] = cc in
-      let count : newlines (b ∷ front) ≡ newlines front = count_more b front ∙ ap (λ t. cond t 1 0 + newlines front) isn't ∙ (omega arith) in
-      let some : newlines front ≡ newlines xs + 1 = ap newlines ends_so ∙ count_ends xs in
-      ap (λ t. slice_get (cond t ([] ∷ file_lines (front ++ (line ++ rest))) (onto_first b (file_lines (front ++ (line ++ rest))))) (newlines (b ∷ front)))
+      let count : newline_count (b ∷ front) ≡ newline_count front = count_more b front ∙ ap (λ t. cond t 1 0 + newline_count front) isn't ∙ (omega arith) in
+      let some : newline_count front ≡ newline_count xs + 1 = ap newline_count ends_so ∙ count_ends xs in
+      ap (λ t. slice_get (cond t ([] ∷ file_lines (front ++ (line ++ rest))) (onto_first b (file_lines (front ++ (line ++ rest))))) (newline_count (b ∷ front)))
       isn't
       ∙ ap (slice_get (onto_first b (file_lines (front ++ (line ++ rest))))) count
-      ∙ onto_rest b (file_lines (front ++ (line ++ rest))) (newlines front) (omega (arith, some)) ∙ next (inr (xs, ends_so))
+      ∙ onto_rest b (file_lines (front ++ (line ++ rest))) (newline_count front) (omega (arith, some)) ∙ next (inr (xs, ends_so))
 
 -- each line of a file (`IsLineAt`) is in `file_lines`, at an index that is one less than its number
 pub line_listed : (bytes line : List ℕ) (number start : ℕ) → IsLineAt bytes line number start
     → (i : ℕ) × (slice_get (file_lines bytes) i ≡ Some line) × (number ≡ i + 1)
 line_listed bytes line number start at = (
-  newlines at.front,
-  ap (λ b. slice_get (file_lines b) (newlines at.front)) at.whole
+  newline_count at.front,
+  ap (λ b. slice_get (file_lines b) (newline_count at.front)) at.whole
       ∙ later_line at.front line at.rest at.begins at.one_line at.ends,
   at.number_is,
 )
@@ -150,7 +154,7 @@ accepted_line format tree bytes valid accepted i line at =
 -- an accepted configuration file has at most `MAX_CONFIG_BYTES` bytes
 pub accepted_size : (format : FileFormat) (tree : Tree) (bytes : List ℕ) → IsAccepted format tree bytes → length bytes ≤ MAX_CONFIG_BYTES
 accepted_size format tree bytes accepted = elim (cases_lt MAX_CONFIG_BYTES (length bytes)) [
-  | inl large ↦ absurd (accepted TooLarge MAX_CONFIG_BYTES (newlines (take MAX_CONFIG_BYTES bytes) + 1) (large, refl, refl))
+  | inl large ↦ absurd (accepted TooLarge MAX_CONFIG_BYTES (newline_count (take MAX_CONFIG_BYTES bytes) + 1) (large, refl, refl))
   | inr small ↦ small
 ]
 

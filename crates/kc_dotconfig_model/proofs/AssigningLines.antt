@@ -20,7 +20,8 @@ use Rattle.kc_value.specs.Kinds.{is_tri_kind}
 use Rattle.kc_tree_model.proofs.Lookups.{unit_is, index_if_found}
 use Rattle.kc_dotconfig_model.specs.declared.format.Strings.{Strings}
 use Rattle.kc_dotconfig_model.specs.Formats.{FileFormat, IsStringSpelling}
-use Rattle.kc_dotconfig_model.specs.ConfigLines.{LineMeaning, assigns, notice, silent, unset_meaning, ValueMeans, tri, chosen, not_chosen, quoted, number, no_int, no_hex, no_tri, no_text, no_number, Means, value, unset, unknown_value, unknown_unset, empty, comment, without_white_end}
+use Rattle.kc_dotconfig_model.specs.ConfigLines.{LineMeaning, assigns, notice, silent, unset_meaning, ValueMeans, tri, chosen, not_chosen, quoted, number, no_int, no_hex, no_tri, no_text, no_number, Means, value, unset, unknown_value, unknown_unset, empty, comment}
+use Rattle.kc_tree_model.specs.LogicalLines.{without_white_end}
 use Rattle.kc_dotconfig_model.specs.ConfigFiles.{assigned_over}
 
 abbrev Reads : FileFormat → Tree → List (List ℕ) → List LineMeaning → Type 0

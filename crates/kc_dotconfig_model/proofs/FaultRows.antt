@@ -5,7 +5,7 @@ use Rattle.kc_value.specs.declared.tri.Tri.TheVariants.{Y}
 use Rattle.kc_rules_model.specs.declared.values.UserValue.TheVariants.{Tri as TriUser}
 use Rattle.kc_rules_model.proofs.RowTrees.{tree_a}
 use Rattle.kc_dotconfig_model.specs.declared.fault.LoadKind.TheVariants.{Malformed, Read}
-use Rattle.kc_dotconfig_model.specs.PrefixGrammar.{lacks}
+use Rattle.kc_value.specs.Lines.{has_no_byte}
 use Rattle.kc_dotconfig_model.specs.declared.format.Strings.TheVariants.{Escaped}
 use Rattle.kc_dotconfig_model.specs.Formats.{FileFormat}
 use Rattle.kc_dotconfig_model.specs.ConfigLines.{LineMeaning, assigns}
@@ -52,7 +52,7 @@ known_front = record {
 }
 
 -- after it a line that isn't whole
-known_more : (line : List ℕ) → length line ≤ 8 → lacks 10 line ≡ true → IsCut plain tree_a (front ++ line) ([] ++ line) first
+known_more : (line : List ℕ) → length line ≤ 8 → has_no_byte 10 line ≡ true → IsCut plain tree_a (front ++ line) ([] ++ line) first
 known_more line few one = held plain tree_a front [] first known_front line one (omega arith) (omega arith) (omega arith)
 
 none_read : line_meaning plain tree_a (codes "CON") ≡ None

@@ -11,12 +11,13 @@ use Rattle.kc_tree_model.specs.Trees.{Tree}
 use Rattle.kc_dotconfig_model.specs.Formats.{FileFormat}
 use Rattle.kc_dotconfig_model.specs.declared.fault.LoadKind.{LoadKind}
 use Rattle.kc_dotconfig_model.specs.declared.fault.LoadKind.TheVariants.{Malformed, NotUtf8, LineTooLong, TooManyLines, Read, OutOfMemory, TooLarge}
-use Rattle.kc_dotconfig_model.specs.PrefixGrammar.{lacks}
-use Rattle.kc_dotconfig_model.specs.ConfigLines.{LineMeaning, Means, silent, empty, IsMalformed, without_white_end}
+use Rattle.kc_value.specs.Lines.{has_no_byte, newline_count, HasWholeLines}
+use Rattle.kc_dotconfig_model.specs.ConfigLines.{LineMeaning, Means, silent, empty, IsMalformed}
+use Rattle.kc_tree_model.specs.LogicalLines.{without_white_end}
 use Rattle.kc_dotconfig_model.specs.ConfigFiles.{file_lines, FileMeans}
 use Rattle.kc_value.specs.declared.limits.TheConstants.{MAX_CONFIG_BYTES, MAX_CONFIG_LINES, MAX_LINE_BYTES}
-use Rattle.kc_dotconfig_model.specs.LoadFaults.{complete, newlines, IsLineAt, OccursAt, rank_of, IsFirstFault, IsAccepted}
-use Rattle.kc_dotconfig_model.specs.between.PartialFiles.{IsSound, IsEnded, IsCut}
+use Rattle.kc_dotconfig_model.specs.LoadFaults.{complete, IsLineAt, OccursAt, rank_of, IsFirstFault, IsAccepted}
+use Rattle.kc_dotconfig_model.specs.between.PartialFiles.{IsSound, IsCut}
 use Rattle.kc_dotconfig_model.proofs.Cuts.{split, LinePlace, earlier, this, later, line_place, Ends, no_shorter, no_longer, same_front, a_line, newlines_append, none_in_line, first_of_lines, last_of_lines, lines_after_ended, one_of, zip_length, zip_append, ended_count}
 
 abbrev Part : FileFormat → Tree → List ℕ → List ℕ → List LineMeaning → List ℕ → List ℕ → Type 0
@@ -30,12 +31,12 @@ module _ (format : FileFormat) (tree : Tree) (known line : List ℕ) (meanings :
   known_length : length known ≡ length c.front + length line
   known_length = ap length c.whole ∙ length-append c.front line
 
-  meanings_length : length meanings ≡ newlines c.front
+  meanings_length : length meanings ≡ newline_count c.front
   meanings_length = sym (zip_length (IsSound format tree) (file_lines c.front) meanings c.sound) ∙ ended_count c.front c.ended
 
-  pub known_newlines : newlines known ≡ length meanings
+  pub known_newlines : newline_count known ≡ length meanings
   known_newlines =
-      let a = ap newlines c.whole in
+      let a = ap newline_count c.whole in
       let b = newlines_append c.front line in
       let n = none_in_line line c.one_line in
       let d = meanings_length in
@@ -45,19 +46,20 @@ module _ (format : FileFormat) (tree : Tree) (known line : List ℕ) (meanings :
   line_place_in more found n s at =
       line_place c.front line more found at.front at.rest c.ended c.one_line at.one_line at.ends at.begins (sym (whole_is more) ∙ at.whole)
 
-  earlier_sound : (found f g : List ℕ) → IsEnded f → lacks 10 found ≡ true → c.front ≡ f ++ (found ++ 10 ∷ g) → (x : LineMeaning) × IsSound format tree found x
+  earlier_sound : (found f g : List ℕ) → HasWholeLines f → has_no_byte 10 found ≡ true → c.front ≡ f ++ (found ++ 10 ∷ g)
+      → (x : LineMeaning) × IsSound format tree found x
   earlier_sound found f g ended one is =
       let lines : file_lines c.front ≡ file_lines f ++ (found ∷ file_lines g) = ap file_lines is ∙ lines_after_ended f (found ++ 10 ∷ g) ended
       ∙ ap (λ ls. file_lines f ++ ls) (first_of_lines found g one) in
       one_of (IsSound format tree) (file_lines f) found (file_lines g) meanings (subst (λ ls. AllZip (IsSound format tree) ls meanings) lines c.sound)
 
-  earlier_count : (found f g : List ℕ) → c.front ≡ f ++ (found ++ 10 ∷ g) → newlines f + 1 ≤ length meanings
+  earlier_count : (found f g : List ℕ) → c.front ≡ f ++ (found ++ 10 ∷ g) → newline_count f + 1 ≤ length meanings
   earlier_count found f g is =
-      let a = ap newlines is in
+      let a = ap newline_count is in
       let b = newlines_append f (found ++ 10 ∷ g) in
       let d = newlines_append found (10 ∷ g) in
       let e = newlines_append (10 ∷ []) g in
-      let n : newlines (10 ∷ []) ≡ 1 = refl in
+      let n : newline_count (10 ∷ []) ≡ 1 = refl in
       let s = meanings_length in
       omega arith
 
@@ -73,7 +75,7 @@ module _ (format : FileFormat) (tree : Tree) (known line : List ℕ) (meanings :
       let t = known_length in
       elim (line_place_in more found number byte at) [
         | earlier g is ↦ (let few = c.few in let k = earlier_count found at.front g is in absurd (omega arith))
-        | this same after ↦ (let e = ap length same in let k = ap newlines same in let d = meanings_length in elim (split 0 (length line))
+        | this same after ↦ (let e = ap length same in let k = ap newline_count same in let d = meanings_length in elim (split 0 (length line))
             [ inl some ↦ (let room = c.room some in absurd (omega arith)) | inr none ↦ omega arith ])
         | later h ↦ omega arith
       ]
@@ -182,8 +184,8 @@ module _ (format : FileFormat) (tree : Tree) (known line : List ℕ) (meanings :
   too_large more full some = first_by more TooLarge (length meanings + 1) (
     (let a = length-append known more in omega arith),
     full,
-    sym (ap (λ k. newlines (take k (known ++ more)) + 1) (sym full)
-        ∙ ap (λ b. newlines b + 1) (take-append_seam known more) ∙ ap (λ n. n + 1) known_newlines),
+    sym (ap (λ k. newline_count (take k (known ++ more)) + 1) (sym full)
+        ∙ ap (λ b. newline_count b + 1) (take-append_seam known more) ∙ ap (λ n. n + 1) known_newlines),
   )
       (λ other on at. omega arith)
 
@@ -243,7 +245,7 @@ module _ (format : FileFormat) (tree : Tree) (known line : List ℕ) (meanings :
         whole = ap (λ m. known ++ m) found.2;
         starts = refl;
         number_is = ap (λ n. n + 1) (sym known_newlines);
-        begins = subst IsEnded (sym front_is) c.ended;
+        begins = subst HasWholeLines (sym front_is) c.ended;
         ends = found.4;
         one_line = found.3;
       } in
@@ -264,7 +266,7 @@ module _ (format : FileFormat) (tree : Tree) (known line : List ℕ) (meanings :
         number_is = ap (λ n. n + 1) meanings_length;
         begins = c.ended;
         ends = elim found.4 [ inl last ↦ inl (last.0, omega arith) | inr next ↦ inr next ];
-        one_line = list_all-append (λ c. not (c == 10)) line found.0 ∙ and_from (lacks 10 line) (lacks 10 found.0) c.one_line found.3;
+        one_line = list_all-append (λ c. not (c == 10)) line found.0 ∙ and_from (has_no_byte 10 line) (has_no_byte 10 found.0) c.one_line found.3;
       } in
       let here : length known ≡ length c.front + MAX_LINE_BYTES = (let t = known_length in omega arith) in
       first_by (b ∷ more) LineTooLong (length meanings + 1) (line ++ found.0, length c.front, at, long, here)
@@ -308,7 +310,8 @@ module _ (format : FileFormat) (tree : Tree) (known line : List ℕ) (meanings :
   pub malformed : (more : List ℕ) → AtEnd more → IsUtf8 line → IsMalformed format tree line
       → IsFirstFault format tree complete (known ++ more) Malformed (length meanings + 1)
   malformed more ends text bad =
-      let some = some_bytes (λ l. (meaning : LineMeaning) × Means format tree (without_white_end l) meaning) (silent, empty) (λ has_meaning. bad has_meaning.0 has_meaning.1) in
+      let some = some_bytes (λ l. (meaning : LineMeaning) × Means format tree (without_white_end l) meaning) (silent, empty)
+      (λ has_meaning. bad has_meaning.0 has_meaning.1) in
       first_by more Malformed (length meanings + 1) (line, length c.front, this_line more (ends_of more ends), bad, known_length)
       (λ o on at. after_odd more on (not_large more on (room_of more ends)) (not_many more on some) (not_long more on (stops_of more ends))
       (not_odd more on text) o at)
@@ -390,13 +393,13 @@ module _ (format : FileFormat) (tree : Tree) (known line : List ℕ) (meanings :
       (all_mean (file_lines c.front ++ line ∷ []) (meanings ++ x ∷ []) (zip_append (IsSound format tree) (file_lines c.front) meanings line x c.sound sound)))
 
   -- with more bytes of its last line, without a newline and within the limits, the known part of a file stays without a fault
-  pub held : (piece : List ℕ) → lacks 10 piece ≡ true → length line + length piece ≤ MAX_LINE_BYTES → length meanings < MAX_CONFIG_LINES
+  pub held : (piece : List ℕ) → has_no_byte 10 piece ≡ true → length line + length piece ≤ MAX_LINE_BYTES → length meanings < MAX_CONFIG_LINES
       → length known + length piece ≤ MAX_CONFIG_BYTES → IsCut format tree (known ++ piece) (line ++ piece) meanings
   held piece one short room small = record {
     front = c.front;
     whole = ap (λ t. t ++ piece) c.whole ∙ append_assoc c.front line piece;
     ended = c.ended;
-    one_line = list_all-append (λ c. not (c == 10)) line piece ∙ and_from (lacks 10 line) (lacks 10 piece) c.one_line one;
+    one_line = list_all-append (λ c. not (c == 10)) line piece ∙ and_from (has_no_byte 10 line) (has_no_byte 10 piece) c.one_line one;
     sound = c.sound;
     few = c.few;
     room = λ h. room;

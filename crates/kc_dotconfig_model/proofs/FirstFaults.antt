@@ -7,26 +7,26 @@ use Rattle.kc_tree_model.specs.Trees.{Tree}
 use Rattle.kc_dotconfig_model.specs.Formats.{FileFormat}
 use Rattle.kc_dotconfig_model.specs.declared.fault.LoadKind.{LoadKind}
 use Rattle.kc_dotconfig_model.specs.declared.fault.LoadKind.TheVariants.{Malformed, NotUtf8, LineTooLong, TooManyLines, Read, OutOfMemory, TooLarge}
-use Rattle.kc_dotconfig_model.specs.PrefixGrammar.{lacks}
+use Rattle.kc_value.specs.Lines.{has_no_byte, newline_count}
 use Rattle.kc_value.specs.declared.limits.TheConstants.{MAX_LINE_BYTES}
-use Rattle.kc_dotconfig_model.specs.LoadFaults.{InputEnd, complete, cut_short, IsLineAt, OccursAt, IsConsideredAt, rank_of, newlines}
+use Rattle.kc_dotconfig_model.specs.LoadFaults.{InputEnd, complete, cut_short, IsLineAt, OccursAt, IsConsideredAt, rank_of}
 use Rattle.kc_dotconfig_model.specs.FileLaws.{OneFaultIsFirst, FaultyFilesAreRefused, FailedReadsAreReported}
 
-count_more : (b : ℕ) (bytes : List ℕ) → newlines (b ∷ bytes) ≡ cond (b == 10) 1 0 + newlines bytes
+count_more : (b : ℕ) (bytes : List ℕ) → newline_count (b ∷ bytes) ≡ cond (b == 10) 1 0 + newline_count bytes
 count_more b bytes = sum_by-cons (λ c. cond (c == 10) 1 0) b bytes
 
 -- no newline is met within a line
-none_within : (line rest : List ℕ) (k : ℕ) → lacks 10 line ≡ true → k ≤ length line → newlines (take k (line ++ rest)) ≡ 0
+none_within : (line rest : List ℕ) (k : ℕ) → has_no_byte 10 line ≡ true → k ≤ length line → newline_count (take k (line ++ rest)) ≡ 0
 none_within line rest zero none h = refl
 none_within [] rest (suc k) none h = absurd (omega arith)
 none_within (c ∷ cs) rest (suc k) none h =
-    let parts = and_parts (not (c == 10)) (lacks 10 cs) none in
-    count_more c (take k (cs ++ rest)) ∙ ap (λ t. cond t 1 0 + newlines (take k (cs ++ rest))) (not-true (c == 10) parts.0)
+    let parts = and_parts (not (c == 10)) (has_no_byte 10 cs) none in
+    count_more c (take k (cs ++ rest)) ∙ ap (λ t. cond t 1 0 + newline_count (take k (cs ++ rest))) (not-true (c == 10) parts.0)
     ∙ (let more = none_within cs rest k parts.1 (omega arith) in omega arith)
 
-front_counts : (front line rest : List ℕ) (k n : ℕ) → lacks 10 line ≡ true → k ≤ length line → n ≡ length front + k
-    → newlines (take n (front ++ (line ++ rest))) ≡ newlines front
-front_counts [] line rest k n none h e = let same : n ≡ k = omega arith in ap (λ i. newlines (take i (line ++ rest))) same ∙ none_within line rest k none h
+front_counts : (front line rest : List ℕ) (k n : ℕ) → has_no_byte 10 line ≡ true → k ≤ length line → n ≡ length front + k
+    → newline_count (take n (front ++ (line ++ rest))) ≡ newline_count front
+front_counts [] line rest k n none h e = let same : n ≡ k = omega arith in ap (λ i. newline_count (take i (line ++ rest))) same ∙ none_within line rest k none h
 front_counts (b ∷ front) line rest k zero none h e = absurd (omega arith)
 front_counts (b ∷ front) line rest k (suc n) none h e =
     count_more b (take n (front ++ (line ++ rest))) ∙ ap (λ t. cond (b == 10) 1 0 + t) (front_counts front line rest k n none h (omega arith))
@@ -34,15 +34,15 @@ front_counts (b ∷ front) line rest k (suc n) none h e =
 
 -- a line's number follows from each of its places
 line_counts : (bytes line : List ℕ) (number start k byte : ℕ) → IsLineAt bytes line number start → k ≤ length line → byte ≡ start + k
-    → number ≡ newlines (take byte bytes) + 1
+    → number ≡ newline_count (take byte bytes) + 1
 line_counts bytes line number start k byte at h e =
     let place : byte ≡ length at.front + k = (let s = at.starts in omega arith) in
-    at.number_is ∙ ap (λ n. n + 1) (sym (ap (λ b. newlines (take byte b)) at.whole ∙ front_counts at.front line at.rest k byte at.one_line h place))
+    at.number_is ∙ ap (λ n. n + 1) (sym (ap (λ b. newline_count (take byte b)) at.whole ∙ front_counts at.front line at.rest k byte at.one_line h place))
 
 -- and so is that of each fault
 number_at : (format : FileFormat) (tree : Tree) (bytes : List ℕ) (kind : LoadKind) (byte number : ℕ) → OccursAt format tree bytes kind byte number
-    → number ≡ newlines (take byte bytes) + 1
-number_at format tree bytes TooLarge byte number c = c.2 ∙ ap (λ k. newlines (take k bytes) + 1) (sym c.1)
+    → number ≡ newline_count (take byte bytes) + 1
+number_at format tree bytes TooLarge byte number c = c.2 ∙ ap (λ k. newline_count (take k bytes) + 1) (sym c.1)
 number_at format tree bytes TooManyLines byte number c = line_counts bytes c.0 number byte 0 byte c.1 (omega arith) (omega arith)
 number_at format tree bytes LineTooLong byte number c = line_counts bytes c.0 number c.1 MAX_LINE_BYTES byte c.2 (let long = c.3 in omega arith) c.4
 number_at format tree bytes NotUtf8 byte number c = line_counts bytes c.0 number c.1 (length c.0) byte c.2 (omega arith) c.4
@@ -66,11 +66,11 @@ kind_back OutOfMemory = refl
 
 -- the line number of a considered fault is one more than the number of newlines before its byte
 pub line_number_of_fault : (format : FileFormat) (tree : Tree) (extent : InputEnd) (bytes : List ℕ) (kind : LoadKind) (byte number : ℕ)
-    → IsConsideredAt format tree extent bytes kind byte number → number ≡ newlines (take byte bytes) + 1
+    → IsConsideredAt format tree extent bytes kind byte number → number ≡ newline_count (take byte bytes) + 1
 line_number_of_fault format tree complete bytes kind byte number comes = number_at format tree bytes kind byte number comes
 line_number_of_fault format tree cut_short bytes kind byte number (inl comes) = number_at format tree bytes kind byte number comes.0
 line_number_of_fault format tree cut_short bytes kind byte number (inr read) =
-    read.2 ∙ ap (λ b. newlines b + 1) (sym (ap (λ k. take k bytes) read.1 ∙ take-length bytes))
+    read.2 ∙ ap (λ b. newline_count b + 1) (sym (ap (λ k. take k bytes) read.1 ∙ take-length bytes))
 
 pub one_is_first : OneFaultIsFirst
 one_is_first format tree extent bytes k l m n a b =
@@ -85,7 +85,7 @@ one_is_first format tree extent bytes k l m n a b =
       ]
     ] in (
       sym (kind_back k) ∙ ap kind_at both.1 ∙ kind_back l,
-      line_number_of_fault format tree extent bytes k a.byte m a.comes ∙ ap (λ i. newlines (take i bytes) + 1) both.0
+      line_number_of_fault format tree extent bytes k a.byte m a.comes ∙ ap (λ i. newline_count (take i bytes) + 1) both.0
           ∙ sym (line_number_of_fault format tree extent bytes l b.byte n b.comes),
     )
 
@@ -94,7 +94,7 @@ refused format tree bytes kind number fault accepted = accepted kind fault.byte 
 
 -- a failed read comes after all bytes
 read_last : (format : FileFormat) (tree : Tree) (bytes : List ℕ) (byte number : ℕ) → IsConsideredAt format tree cut_short bytes Read byte number
-    → (byte ≡ length bytes) × (number ≡ newlines bytes + 1)
+    → (byte ≡ length bytes) × (number ≡ newline_count bytes + 1)
 read_last format tree bytes byte number (inl comes) = absurd comes.0
 read_last format tree bytes byte number (inr read) = (read.1, read.2)
 

@@ -19,7 +19,7 @@ use Rattle.kc_value.specs.declared.value.Kind.{Kind}
 use Rattle.kc_value.specs.declared.value.Kind.TheVariants.{Bool as Boolean, Tristate, Text, Int, Hex}
 use Rattle.kc_value.specs.QuotedTexts.{IsBody, none, plain, pair, IsQuoted}
 use Rattle.kc_tree_model.specs.Trees.{Tree, Symbol}
-use Rattle.kc_tree_model.specs.TreeLookup.{has_newline, IsConsistent, unit_of}
+use Rattle.kc_tree_model.specs.TreeLookup.{IsConsistent, unit_of}
 use Rattle.kc_system.specs.Solutions.{user_of, FitsUsers}
 use Rattle.kc_rules_model.specs.declared.values.UserValue.{UserValue}
 use Rattle.kc_rules_model.specs.declared.values.UserValue.TheVariants.{Tri as TriUser, Text as TextUser, Member as MemberUser}
@@ -28,8 +28,9 @@ use Rattle.kc_value.specs.Kinds.{is_tri_kind}
 use Rattle.kc_value.specs.Number.{number_of_text}
 use Rattle.kc_rules_model.specs.Shapes.{user_fits, unit_user_fits, symbol_user_fits, is_member, tri_fits, user_text_fits}
 use Rattle.kc_tree_model.proofs.Lookups.{unit_is}
-use Rattle.kc_dotconfig_model.specs.PrefixGrammar.{lacks}
-use Rattle.kc_dotconfig_model.specs.ConfigLines.{LineMeaning, assigns, notice, silent, tri_of_text, ValueMeans, tri, chosen, not_chosen, quoted, number, no_int, no_hex, no_tri, no_text, no_number, unset_meaning, Means, value, unset, unknown_value, unknown_unset, empty, comment, without_white_end}
+use Rattle.kc_value.specs.Lines.{has_no_byte, has_newline}
+use Rattle.kc_dotconfig_model.specs.ConfigLines.{LineMeaning, assigns, notice, silent, tri_of_text, ValueMeans, tri, chosen, not_chosen, quoted, number, no_int, no_hex, no_tri, no_text, no_number, unset_meaning, Means, value, unset, unknown_value, unknown_unset, empty, comment}
+use Rattle.kc_tree_model.specs.LogicalLines.{without_white_end}
 use Rattle.kc_dotconfig_model.specs.ConfigFiles.{file_lines, assigned_over, empty_assignment}
 use Rattle.kc_dotconfig_model.specs.FileLaws.{FilesFit}
 
@@ -67,33 +68,35 @@ number_fits Text text e = absurd (false≢true e)
 number_fits Int text e = (e, λ same. cc)
 number_fits Hex text e = (e, λ same. cc)
 
-body_one_line : (body means : List ℕ) → IsBody 34 body means → lacks 10 body ≡ true → has_newline means ≡ false
+body_one_line : (body means : List ℕ) → IsBody 34 body means → has_no_byte 10 body ≡ true → has_newline means ≡ false
 body_one_line body means none one = refl
 body_one_line body means (plain {c = c} {bs = bs} {cs = cs} q e rest) one =
-    let parts = and_parts (not (c == 10)) (lacks 10 bs) one in ap (λ b. b || has_newline cs) (not-true (c == 10) parts.0) ∙ body_one_line bs cs rest parts.1
+    let parts = and_parts (not (c == 10)) (has_no_byte 10 bs) one in ap (λ b. b || has_newline cs) (not-true (c == 10) parts.0)
+    ∙ body_one_line bs cs rest parts.1
 body_one_line body means (pair {c = c} {bs = bs} {cs = cs} rest) one =
-    let parts = and_parts (not (c == 10)) (lacks 10 bs) one in ap (λ b. b || has_newline cs) (not-true (c == 10) parts.0) ∙ body_one_line bs cs rest parts.1
+    let parts = and_parts (not (c == 10)) (has_no_byte 10 bs) one in ap (λ b. b || has_newline cs) (not-true (c == 10) parts.0)
+    ∙ body_one_line bs cs rest parts.1
 
-second_lacks : (xs ys : List ℕ) → lacks 10 (xs ++ ys) ≡ true → lacks 10 ys ≡ true
-second_lacks xs ys one = (and_parts (lacks 10 xs) (lacks 10 ys) (sym (list_all-append (λ c. not (c == 10)) xs ys) ∙ one)).1
+second_lacks : (xs ys : List ℕ) → has_no_byte 10 (xs ++ ys) ≡ true → has_no_byte 10 ys ≡ true
+second_lacks xs ys one = (and_parts (has_no_byte 10 xs) (has_no_byte 10 ys) (sym (list_all-append (λ c. not (c == 10)) xs ys) ∙ one)).1
 
-first_lacks : (xs ys : List ℕ) → lacks 10 (xs ++ ys) ≡ true → lacks 10 xs ≡ true
-first_lacks xs ys one = (and_parts (lacks 10 xs) (lacks 10 ys) (sym (list_all-append (λ c. not (c == 10)) xs ys) ∙ one)).0
+first_lacks : (xs ys : List ℕ) → has_no_byte 10 (xs ++ ys) ≡ true → has_no_byte 10 xs ≡ true
+first_lacks xs ys one = (and_parts (has_no_byte 10 xs) (has_no_byte 10 ys) (sym (list_all-append (λ c. not (c == 10)) xs ys) ∙ one)).0
 
-quoted_one_line : (text means : List ℕ) → IsQuoted text means → lacks 10 text ≡ true → has_newline means ≡ false
+quoted_one_line : (text means : List ℕ) → IsQuoted text means → has_no_byte 10 text ≡ true → has_newline means ≡ false
 quoted_one_line text means q one =
-    body_one_line q.0 means q.2 (first_lacks q.0 (34 ∷ []) (second_lacks (34 ∷ []) (q.0 ++ 34 ∷ []) (ap (lacks 10) (sym q.1) ∙ one)))
+    body_one_line q.0 means q.2 (first_lacks q.0 (34 ∷ []) (second_lacks (34 ∷ []) (q.0 ++ 34 ∷ []) (ap (has_no_byte 10) (sym q.1) ∙ one)))
 
-lacks_newline : (text : List ℕ) → lacks 10 text ≡ true → has_newline text ≡ false
+lacks_newline : (text : List ℕ) → has_no_byte 10 text ≡ true → has_newline text ≡ false
 lacks_newline [] one = refl
 lacks_newline (c ∷ text) one =
-    let parts = and_parts (not (c == 10)) (lacks 10 text) one in ap (λ b. b || has_newline text) (not-true (c == 10) parts.0) ∙ lacks_newline text parts.1
+    let parts = and_parts (not (c == 10)) (has_no_byte 10 text) one in ap (λ b. b || has_newline text) (not-true (c == 10) parts.0) ∙ lacks_newline text parts.1
 
 -- in each form of strings, a string whose spelling after `=` has no newline has a text without a newline
-pub string_one_line : (strings : Strings) (text means : List ℕ) → IsStringSpelling strings text means → lacks 10 text ≡ true → has_newline means ≡ false
+pub string_one_line : (strings : Strings) (text means : List ℕ) → IsStringSpelling strings text means → has_no_byte 10 text ≡ true → has_newline means ≡ false
 string_one_line Escaped text means is one = quoted_one_line text means is one
 string_one_line Raw text means is one =
-    lacks_newline means (first_lacks means (34 ∷ []) (second_lacks (34 ∷ []) (means ++ 34 ∷ []) (ap (lacks 10) (sym is) ∙ one)))
+    lacks_newline means (first_lacks means (34 ∷ []) (second_lacks (34 ∷ []) (means ++ 34 ∷ []) (ap (has_no_byte 10) (sym is) ∙ one)))
 
 pub string_utf8 : (strings : Strings) (text means : List ℕ) → IsStringSpelling strings text means → IsUtf8 text → IsUtf8 means
 string_utf8 Escaped text means is utf8 = unquoted_utf8 text means is utf8
@@ -133,7 +136,7 @@ module _ (tree : Tree) (sound : IsConsistent tree) (s : ℕ) (symbol : Symbol) (
   outside None e other = e
   outside (Some c) e other = absurd (other (sound.bool_members s c symbol at e))
 
-  value_fits_unit : (strings : Strings) (text : List ℕ) (meaning : LineMeaning) → lacks 10 text ≡ true → IsUtf8 text
+  value_fits_unit : (strings : Strings) (text : List ℕ) (meaning : LineMeaning) → has_no_byte 10 text ≡ true → IsUtf8 text
       → ValueMeans strings tree s symbol text meaning
       → SayingFits tree meaning
   value_fits_unit strings text meaning one utf8 (tri _ t out meant) = outside_fits (TriUser t) out (tri_meant_fits symbol.kind text t meant)
@@ -158,9 +161,9 @@ module _ (tree : Tree) (sound : IsConsistent tree) (s : ℕ) (symbol : Symbol) (
   unset_fits None e false small = subst (λ b. SayingFits tree (cond b (assigns (unit_of tree s) (TriUser N)) silent)) (sym small) tt
 
 module _ (format : FileFormat) (tree : Tree) (sound : IsConsistent tree) where
-  line_fits : (line : List ℕ) (meaning : LineMeaning) → lacks 10 line ≡ true → IsUtf8 line → Means format tree line meaning → SayingFits tree meaning
+  line_fits : (line : List ℕ) (meaning : LineMeaning) → has_no_byte 10 line ≡ true → IsUtf8 line → Means format tree line meaning → SayingFits tree meaning
   line_fits line meaning one utf8 (value _ name text s symbol _ is named at has_meaning) =
-      let behind_name = second_lacks name (61 ∷ text) (second_lacks format.prefix (name ++ (61 ∷ text)) (ap (lacks 10) (sym is.2) ∙ one)) in
+      let behind_name = second_lacks name (61 ∷ text) (second_lacks format.prefix (name ++ (61 ∷ text)) (ap (has_no_byte 10) (sym is.2) ∙ one)) in
       let parted : line ≡ (format.prefix ++ name) ++ 61 ∷ text = is.2 ∙ sym (append_assoc format.prefix name (61 ∷ text)) in
       value_fits_unit tree sound s symbol at format.strings text meaning (second_lacks (61 ∷ []) text behind_name)
       (utf8_of_back line (format.prefix ++ name) text 61 (omega arith) utf8 parted) has_meaning
@@ -170,27 +173,29 @@ module _ (format : FileFormat) (tree : Tree) (sound : IsConsistent tree) where
   line_fits line meaning one utf8 empty = tt
   line_fits line meaning one utf8 (comment _ hash without) = tt
 
-  front_lacks : (n : ℕ) (line : List ℕ) → lacks 10 line ≡ true → lacks 10 (take n line) ≡ true
+  front_lacks : (n : ℕ) (line : List ℕ) → has_no_byte 10 line ≡ true → has_no_byte 10 (take n line) ≡ true
   front_lacks zero line one = refl
   front_lacks (suc n) [] one = refl
   front_lacks (suc n) (b ∷ line) one =
-      let parts = and_parts (not (b == 10)) (lacks 10 line) one in and_from (not (b == 10)) (lacks 10 (take n line)) parts.0 (front_lacks n line parts.1)
+      let parts = and_parts (not (b == 10)) (has_no_byte 10 line) one
+      in and_from (not (b == 10)) (has_no_byte 10 (take n line)) parts.0 (front_lacks n line parts.1)
 
-  onto_lacks : (b : ℕ) (lines : List (List ℕ)) → (b == 10) ≡ false → AllByRecursion (λ line. lacks 10 line ≡ true) lines
-      → AllByRecursion (λ line. lacks 10 line ≡ true) (onto_first b lines)
+  onto_lacks : (b : ℕ) (lines : List (List ℕ)) → (b == 10) ≡ false → AllByRecursion (λ line. has_no_byte 10 line ≡ true) lines
+      → AllByRecursion (λ line. has_no_byte 10 line ≡ true) (onto_first b lines)
   onto_lacks b [] other all = (and_from (not (b == 10)) true (ap not other) refl, tt)
-  onto_lacks b (line ∷ lines) other all = (and_from (not (b == 10)) (lacks 10 line) (ap not other) all.0, all.1)
+  onto_lacks b (line ∷ lines) other all = (and_from (not (b == 10)) (has_no_byte 10 line) (ap not other) all.0, all.1)
 
   -- no line has a newline
-  lines_lack : (bytes : List ℕ) → AllByRecursion (λ line. lacks 10 line ≡ true) (file_lines bytes)
+  lines_lack : (bytes : List ℕ) → AllByRecursion (λ line. has_no_byte 10 line ≡ true) (file_lines bytes)
   lines_lack [] = tt
   lines_lack (b ∷ bytes) = go (b == 10) refl (lines_lack bytes) where
-    go : (t : Bool) → (b == 10) ≡ t → AllByRecursion (λ line. lacks 10 line ≡ true) (file_lines bytes)
-        → AllByRecursion (λ line. lacks 10 line ≡ true) (cond t ([] ∷ file_lines bytes) (onto_first b (file_lines bytes)))
+    go : (t : Bool) → (b == 10) ≡ t → AllByRecursion (λ line. has_no_byte 10 line ≡ true) (file_lines bytes)
+        → AllByRecursion (λ line. has_no_byte 10 line ≡ true) (cond t ([] ∷ file_lines bytes) (onto_first b (file_lines bytes)))
     go true e all = (refl, all)
     go false e all = onto_lacks b (file_lines bytes) e all
 
-  sayings_fit : (lines : List (List ℕ)) (meanings : List LineMeaning) → AllByRecursion (λ line. lacks 10 line ≡ true) lines → list_all is_utf8 lines ≡ true
+  sayings_fit : (lines : List (List ℕ)) (meanings : List LineMeaning) → AllByRecursion (λ line. has_no_byte 10 line ≡ true) lines
+      → list_all is_utf8 lines ≡ true
       → AllZip (λ line meaning. Means format tree (without_white_end line) meaning) lines meanings → AllByRecursion (SayingFits tree) meanings
   sayings_fit [] [] one utf8 all = tt
   sayings_fit [] (meaning ∷ meanings) one utf8 all = absurd all

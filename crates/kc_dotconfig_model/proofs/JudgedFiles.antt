@@ -8,10 +8,12 @@ use Rattle.kc_tree_model.specs.Trees.{Tree}
 use Rattle.kc_dotconfig_model.specs.Formats.{FileFormat}
 use Rattle.kc_dotconfig_model.specs.declared.fault.LoadKind.{LoadKind}
 use Rattle.kc_dotconfig_model.specs.declared.fault.LoadKind.TheVariants.{Malformed, NotUtf8, LineTooLong, TooManyLines, Read, TooLarge}
-use Rattle.kc_dotconfig_model.specs.PrefixGrammar.{is_prefix, lacks}
-use Rattle.kc_dotconfig_model.specs.ConfigLines.{LineMeaning, without_white_end}
+use Rattle.kc_value.specs.Lines.{has_no_byte, newline_count}
+use Rattle.kc_dotconfig_model.specs.PrefixGrammar.{is_prefix}
+use Rattle.kc_dotconfig_model.specs.ConfigLines.{LineMeaning}
+use Rattle.kc_tree_model.specs.LogicalLines.{without_white_end}
 use Rattle.kc_value.specs.declared.limits.TheConstants.{MAX_CONFIG_BYTES, MAX_CONFIG_LINES, MAX_LINE_BYTES}
-use Rattle.kc_dotconfig_model.specs.LoadFaults.{complete, cut_short, newlines, OccursAt, IsFirstFault, IsAccepted}
+use Rattle.kc_dotconfig_model.specs.LoadFaults.{complete, cut_short, OccursAt, IsFirstFault, IsAccepted}
 use Rattle.kc_dotconfig_model.specs.FileLaws.{EachFileIsJudged, EachCutFileIsJudged}
 use Rattle.kc_dotconfig_model.specs.between.LineMeanings.{line_meaning}
 use Rattle.kc_dotconfig_model.specs.between.PartialFiles.{IsSound, IsCut}
@@ -73,7 +75,7 @@ module _ (format : FileFormat) (valid : is_prefix format.prefix ≡ true) (tree 
           (line_ended format tree known line meanings c x sound room less)))
       | inr other ↦ elim (cases_lt (length line) MAX_LINE_BYTES) [
         | inl short ↦
-            let one : lacks 10 (b ∷ []) ≡ true = and_from (not (b == 10)) true (ap not other) refl in
+            let one : has_no_byte 10 (b ∷ []) ≡ true = and_from (not (b == 10)) true (ap not other) refl in
             next (line ++ b ∷ []) meanings (held format tree known line meanings c (b ∷ []) one (omega arith) room (omega arith))
         | inr full ↦ inr (
           LineTooLong,
@@ -122,7 +124,7 @@ judged format tree bytes valid = judge format valid tree bytes [] [] [] (empty_c
 read_first : (format : FileFormat) (tree : Tree) (bytes : List ℕ)
     → ((kind : LoadKind) (byte other : ℕ) → OccursAt format tree bytes kind byte other → length bytes ≤ byte)
     → (kind : LoadKind) × (number : ℕ) × IsFirstFault format tree cut_short bytes kind number
-read_first format tree bytes late = (Read, newlines bytes + 1, (failed_reads format tree bytes (newlines bytes + 1)).1 (late, refl))
+read_first format tree bytes late = (Read, newline_count bytes + 1, (failed_reads format tree bytes (newline_count bytes + 1)).1 (late, refl))
 
 pub cut_judged : EachCutFileIsJudged
 cut_judged format tree bytes valid = elim (judged format tree bytes valid) [

@@ -4,7 +4,7 @@ use Rattle.std.specs.Prelude.{codes, nat_lt, bytes_eq, option_map}
 use Rattle.std.specs.Option.{option_and_then}
 use Rattle.std.proofs.lemmas.Bool.{eqb-true, eq-eqb, and_parts, and_from, not-true, ltb-true, lt-ltb}
 use Rattle.std.proofs.lemmas.Slice.Eq.{bytes_eq-Decides}
-use Rattle.kc_dotconfig_model.specs.PrefixGrammar.{lacks}
+use Rattle.kc_value.specs.Lines.{has_no_byte}
 use Rattle.kc_dotconfig_model.specs.ConfigLines.{IsValueLine, IsUnsetLine}
 use Rattle.kc_dotconfig_model.specs.between.LineMeanings.{after_front, split_at_byte, if_named, named_before, value_parts, if_not_set, unset_name}
 
@@ -24,7 +24,7 @@ after_front_append (a ∷ front) rest = ap (λ t. cond t (after_front front (fro
 abbrev Parts : Type 0
 Parts = List ℕ × List ℕ
 
-cut_is : (b : ℕ) (text : List ℕ) (parts : Parts) → split_at_byte b text ≡ Some parts → (text ≡ parts.0 ++ b ∷ parts.1) × (lacks b parts.0 ≡ true)
+cut_is : (b : ℕ) (text : List ℕ) (parts : Parts) → split_at_byte b text ≡ Some parts → (text ≡ parts.0 ++ b ∷ parts.1) × (has_no_byte b parts.0 ≡ true)
 cut_is b [] parts e = cc
 cut_is b (c ∷ text) parts e = go (c == b) refl e (cut_is b text) where
   some_after : (o : Option Parts) (p : Parts) → option_map (λ (q : Parts). (c ∷ q.0, q.1)) o ≡ Some p
@@ -33,23 +33,23 @@ cut_is b (c ∷ text) parts e = go (c == b) refl e (cut_is b text) where
   some_after (Some q) p e = let same : (c ∷ q.0, q.1) ≡ p = cc in (q, refl, ap (λ (r : Parts). r.0) (sym same), ap (λ (r : Parts). r.1) (sym same))
 
   go : (t : Bool) → (c == b) ≡ t → cond t (Some ([], text)) (option_map (λ (q : Parts). (c ∷ q.0, q.1)) (split_at_byte b text)) ≡ Some parts
-      → ((p : Parts) → split_at_byte b text ≡ Some p → (text ≡ p.0 ++ b ∷ p.1) × (lacks b p.0 ≡ true))
-      → (c ∷ text ≡ parts.0 ++ b ∷ parts.1) × (lacks b parts.0 ≡ true)
+      → ((p : Parts) → split_at_byte b text ≡ Some p → (text ≡ p.0 ++ b ∷ p.1) × (has_no_byte b p.0 ≡ true))
+      → (c ∷ text ≡ parts.0 ++ b ∷ parts.1) × (has_no_byte b parts.0 ≡ true)
   go true same e next =
       let whole : ([], text) ≡ parts = cc in
-      (ap (λ x. x ∷ text) (eqb-true c b same) ∙ ap (λ (p : Parts). p.0 ++ b ∷ p.1) whole, ap (λ (p : Parts). lacks b p.0) (sym whole))
+      (ap (λ x. x ∷ text) (eqb-true c b same) ∙ ap (λ (p : Parts). p.0 ++ b ∷ p.1) whole, ap (λ (p : Parts). has_no_byte b p.0) (sym whole))
   go false other e next =
       let o = some_after (split_at_byte b text) parts e in
       let rest = next o.0 o.1 in (
         ap (λ l. c ∷ l) rest.0 ∙ ap (λ l. l ++ b ∷ o.0.1) (sym o.2) ∙ ap (λ l. parts.0 ++ b ∷ l) (sym o.3),
-        ap (lacks b) o.2
-            ∙ and_from (not (c == b)) (lacks b o.0.0) (ap not other) rest.1,
+        ap (has_no_byte b) o.2
+            ∙ and_from (not (c == b)) (has_no_byte b o.0.0) (ap not other) rest.1,
       )
 
-cut_front : (b : ℕ) (before after : List ℕ) → lacks b before ≡ true → split_at_byte b (before ++ b ∷ after) ≡ Some (before, after)
+cut_front : (b : ℕ) (before after : List ℕ) → has_no_byte b before ≡ true → split_at_byte b (before ++ b ∷ after) ≡ Some (before, after)
 cut_front b [] after all = ap (λ t. cond t (Some ([], after)) (option_map (λ (q : Parts). (b ∷ q.0, q.1)) (split_at_byte b after))) (eq-eqb b b refl)
 cut_front b (c ∷ before) after all =
-    let parts = and_parts (not (c == b)) (lacks b before) all in
+    let parts = and_parts (not (c == b)) (has_no_byte b before) all in
     ap (λ t. cond t (Some ([], before ++ b ∷ after)) (option_map (λ (q : Parts). (c ∷ q.0, q.1)) (split_at_byte b (before ++ b ∷ after))))
     (not-true (c == b) parts.0)
     ∙ ap (option_map (λ (q : Parts). (c ∷ q.0, q.1))) (cut_front b before after parts.1)
@@ -57,7 +57,7 @@ cut_front b (c ∷ before) after all =
 -- what is read before and after the first such byte
 record IsCut (b : ℕ) (text : List ℕ) (parts : Parts) : Type 0 where
   some : 0 < length parts.0
-  lacking : lacks b parts.0 ≡ true
+  lacking : has_no_byte b parts.0 ≡ true
   whole : text ≡ parts.0 ++ b ∷ parts.1
 
 named_is : (b : ℕ) (text : List ℕ) (parts : Parts) → named_before b text ≡ Some parts → IsCut b text parts
@@ -73,7 +73,7 @@ named_is b text parts e = go (split_at_byte b text) refl e where
       let cut = cut_is b text p c in
       subst (IsCut b text) named.0 (record { some = named.1; lacking = cut.1; whole = cut.0 })
 
-named_front : (b : ℕ) (name after : List ℕ) → 0 < length name → lacks b name ≡ true → named_before b (name ++ b ∷ after) ≡ Some (name, after)
+named_front : (b : ℕ) (name after : List ℕ) → 0 < length name → has_no_byte b name ≡ true → named_before b (name ++ b ∷ after) ≡ Some (name, after)
 named_front b name after some all =
     ap (option_and_then if_named) (cut_front b name after all) ∙ ap (λ t. cond {A = Option Parts} t (Some (name, after)) None) (lt-ltb 0 (length name) some)
 
@@ -105,7 +105,7 @@ unset_line_is prefix line name e =
     let form = named_is 32 rest.0 cut.0 rest.2 in
     let parts = if_not_set_is cut.0 name cut.2 in (
       subst (λ l. 0 < length l) parts.0 form.some,
-      ap (lacks 32) (sym parts.0) ∙ form.lacking,
+      ap (has_no_byte 32) (sym parts.0) ∙ form.lacking,
       after_front_is (codes "# " ++ prefix) line rest.0 rest.1 ∙ ap (λ l. (codes "# " ++ prefix) ++ l)
           (form.whole ∙ ap (λ l. l ++ 32 ∷ cut.0.1) parts.0 ∙ ap (λ l. name ++ 32 ∷ l) parts.1),
     )

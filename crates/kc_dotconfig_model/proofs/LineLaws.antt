@@ -10,7 +10,8 @@ use Rattle.kc_tree_model.specs.Trees.{Tree, Symbol}
 use Rattle.kc_tree_model.specs.TreeLookup.{is_name_byte, symbol_named}
 use Rattle.kc_dotconfig_model.specs.Formats.{FileFormat}
 use Rattle.kc_dotconfig_model.specs.PrefixGrammar.{is_prefix}
-use Rattle.kc_dotconfig_model.specs.ConfigLines.{LineMeaning, silent, Means, value, unset, unknown_value, unknown_unset, empty, comment, IsValueLine, IsUnsetLine, unset_meaning, without_white_end}
+use Rattle.kc_dotconfig_model.specs.ConfigLines.{LineMeaning, silent, Means, value, unset, unknown_value, unknown_unset, empty, comment, IsValueLine, IsUnsetLine, unset_meaning}
+use Rattle.kc_tree_model.specs.LogicalLines.{without_white_end}
 use Rattle.kc_dotconfig_model.specs.ConfigFiles.{file_lines}
 use Rattle.kc_dotconfig_model.specs.between.LineMeanings.{value_meaning, value_parts, unset_name, named_before, after_front, of_symbol_at, of_named, is_hash, of_other, of_unset, of_value, line_meaning, with_rest, meanings_of_lines}
 use Rattle.kc_dotconfig_model.specs.between.LineMeaningLaws.{LinesAreRead, FilesAreRead}

@@ -11,7 +11,7 @@ use Rattle.std.proofs.lemmas.Str.{IsUtf8-take, IsUtf8-nil, IsCharBoundary-end, I
 use Rattle.kc_expr.specs.Token.{is_white_byte}
 use Rattle.kc_tree_model.specs.TreeLookup.{is_name_byte}
 use Rattle.kc_rules_model.proofs.Ink.{all_weaker}
-use Rattle.kc_dotconfig_model.specs.ConfigLines.{without_white_end}
+use Rattle.kc_tree_model.specs.LogicalLines.{without_white_end}
 use Rattle.kc_value.proofs.UnquotedUtf8.{ascii_then}
 
 other_than : (a b : ℕ) → b < a → (a == b) ≡ false
@@ -62,7 +62,8 @@ pub name_utf8 : (name : List ℕ) → list_all is_name_byte name ≡ true → Is
 name_utf8 name all = low_utf8 name (all_weaker is_name_byte (λ b. nat_lt b 128) name_low name all)
 
 -- if a line ends with white bytes, the byte at which they begin is white
-pub white_suffix_begins : (line : List ℕ) → 0 < suffix_len is_white_byte line → is_white_byte (get_or line (length line - suffix_len is_white_byte line) 0) ≡ true
+pub white_suffix_begins : (line : List ℕ) → 0 < suffix_len is_white_byte line
+    → is_white_byte (get_or line (length line - suffix_len is_white_byte line) 0) ≡ true
 white_suffix_begins line some =
     let n = suffix_len is_white_byte line in
     let most : n ≤ length line = suffix_len-le-length is_white_byte line in

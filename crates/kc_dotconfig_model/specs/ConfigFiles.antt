@@ -1,17 +1,18 @@
 -- The meaning of a configuration file: its assignment and its notices (Kconfiglib's `load_config`).
-use Rattle.std.specs.Prelude.{ℕ, Bool, ◌+◌, List, [], ◌∷◌, Option, Some, None, length, ◌==◌, slice_set, replicate, if◌then◌else◌}
-use Rattle.std.specs.List.{AllZip, list_all, onto_first}
+use Rattle.std.specs.Prelude.{ℕ, Bool, ◌+◌, List, [], ◌∷◌, Option, Some, None, length, slice_set, replicate}
+use Rattle.std.specs.List.{AllZip, list_all}
 use Rattle.std.specs.Str.{is_utf8}
+use Rattle.kc_value.specs.Lines.{pieces}
 use Rattle.kc_tree_model.specs.Trees.{Tree}
 use Rattle.kc_rules_model.specs.declared.values.UserValue.{UserValue}
 use Rattle.kc_dotconfig_model.specs.Formats.{FileFormat}
 use Rattle.kc_dotconfig_model.specs.declared.notice.NoticeKind.{NoticeKind}
-use Rattle.kc_dotconfig_model.specs.ConfigLines.{LineMeaning, assigns, notice, silent, Means, without_white_end}
+use Rattle.kc_dotconfig_model.specs.ConfigLines.{LineMeaning, assigns, notice, silent, Means}
+use Rattle.kc_tree_model.specs.LogicalLines.{without_white_end}
 
 -- the lines of a configuration file, without their newlines; the last line may lack its newline in the file
 abbrev pub file_lines : List ℕ → List (List ℕ)
-file_lines [] = []
-file_lines (b ∷ bytes) = if b == 10 then [] ∷ file_lines bytes else onto_first b (file_lines bytes)
+file_lines bytes = pieces 10 bytes
 
 -- whether each line of a configuration file is UTF-8
 abbrev pub has_utf8_lines : List ℕ → Bool

@@ -1,6 +1,6 @@
 -- The meaning of a line of a configuration file. Each file has a format: a prefix, such as `CONFIG_`, and a form of strings.
-use Rattle.std.specs.Prelude.{◌≡◌, ◌≢◌, ℕ, ◌-◌, ◌<◌, true, false, not, List, [], ◌∷◌, ◌++◌, Option, Some, None, is_some, length, take, slice_get, codes, bytes_eq, if◌then◌else◌}
-use Rattle.std.specs.List.{suffix_len, find}
+use Rattle.std.specs.Prelude.{◌≡◌, ◌≢◌, ℕ, ◌<◌, true, false, not, List, [], ◌∷◌, ◌++◌, Option, Some, None, is_some, length, slice_get, codes, bytes_eq, if◌then◌else◌}
+use Rattle.std.specs.List.{find}
 use Rattle.kc_value.specs.declared.tri.Tri.{Tri}
 use Rattle.kc_value.specs.declared.tri.Tri.TheVariants.{N, M, Y}
 use Rattle.kc_value.specs.declared.value.Kind.{Kind}
@@ -16,17 +16,14 @@ use Rattle.kc_dotconfig_model.specs.declared.format.Strings.{Strings}
 use Rattle.kc_dotconfig_model.specs.Formats.{FileFormat, IsStringSpelling}
 use Rattle.kc_dotconfig_model.specs.declared.notice.NoticeKind.{NoticeKind}
 use Rattle.kc_dotconfig_model.specs.declared.notice.NoticeKind.TheVariants.{UnknownSymbol, NotOfType}
-use Rattle.kc_dotconfig_model.specs.PrefixGrammar.{lacks}
+use Rattle.kc_value.specs.Lines.{has_no_byte}
+use Rattle.kc_tree_model.specs.LogicalLines.{without_white_end}
 
 -- what a line of a configuration file means: it assigns a user value to a unit, it gives a notice, or it does neither
 pub data LineMeaning : Type 0 where
   assigns : (unit : ℕ) (user : UserValue) → LineMeaning
   notice : NoticeKind → LineMeaning
   silent : LineMeaning
-
--- a line without the white bytes at its end
-abbrev pub without_white_end : List ℕ → List ℕ
-without_white_end line = take (length line - suffix_len is_white_byte line) line
 
 -- the tristate that a text means: `y` or `n` for a bool, `y`, `m` or `n` for a tristate; None for any other text or type
 abbrev pub tri_of_text : Kind → List ℕ → Option Tri
@@ -68,12 +65,12 @@ unset_meaning tree s symbol (Some c) = silent
 
 -- the line is `# CONFIG_NAME is not set`, with this prefix and this name
 abbrev pub IsUnsetLine : List ℕ → List ℕ → List ℕ → Type 0
-IsUnsetLine prefix line name = (0 < length name) × (lacks 32 name ≡ true)
+IsUnsetLine prefix line name = (0 < length name) × (has_no_byte 32 name ≡ true)
     × (line ≡ codes "# " ++ (prefix ++ (name ++ codes " is not set")))
 
 -- the line is `CONFIG_NAME=text`, with this prefix, this name and this text
 abbrev pub IsValueLine : List ℕ → List ℕ → List ℕ → List ℕ → Type 0
-IsValueLine prefix line name text = (0 < length name) × (lacks 61 name ≡ true)
+IsValueLine prefix line name text = (0 < length name) × (has_no_byte 61 name ≡ true)
     × (line ≡ prefix ++ (name ++ (61 ∷ text)))
 
 -- The meaning of a line without trailing white space (Kconfiglib's `load_config`). Each line has at most one

@@ -10,10 +10,12 @@ use Rattle.kc_dotconfig_model.specs.Formats.{FileFormat}
 use Rattle.kc_dotconfig_model.specs.declared.fault.LoadKind.{LoadKind}
 use Rattle.kc_dotconfig_model.specs.declared.fault.LoadKind.TheVariants.{Read}
 use Rattle.kc_dotconfig_model.specs.PrefixGrammar.{is_prefix}
-use Rattle.kc_dotconfig_model.specs.ConfigLines.{LineMeaning, Means, without_white_end}
+use Rattle.kc_dotconfig_model.specs.ConfigLines.{LineMeaning, Means}
+use Rattle.kc_tree_model.specs.LogicalLines.{without_white_end}
 use Rattle.kc_dotconfig_model.specs.ConfigFiles.{file_lines, has_utf8_lines, FileMeans, assigned_over, file_assignment, overlay}
 use Rattle.kc_value.specs.declared.limits.TheConstants.{MAX_CONFIG_BYTES, MAX_CONFIG_LINES, MAX_LINE_BYTES}
-use Rattle.kc_dotconfig_model.specs.LoadFaults.{InputEnd, complete, cut_short, OccursAt, IsFirstFault, IsAccepted, newlines}
+use Rattle.kc_value.specs.Lines.{newline_count}
+use Rattle.kc_dotconfig_model.specs.LoadFaults.{InputEnd, complete, cut_short, OccursAt, IsFirstFault, IsAccepted}
 
 -- each line of a configuration file has at most one meaning
 abbrev pub LinesHaveOneMeaning : Type 0
@@ -56,7 +58,7 @@ abbrev pub FailedReadsAreReported : Type 0
 FailedReadsAreReported = (format : FileFormat) (tree : Tree) (bytes : List ℕ) (number : ℕ)
     → IsFirstFault format tree cut_short bytes Read number
     ↔ (((kind : LoadKind) (byte other : ℕ) → OccursAt format tree bytes kind byte other → length bytes ≤ byte)
-    × (number ≡ newlines bytes + 1))
+    × (number ≡ newline_count bytes + 1))
 
 -- a line of a configuration file has at most `MAX_LINE_BYTES` bytes, is UTF-8, and has a meaning
 pub record IsGoodLine (format : FileFormat) (tree : Tree) (line : List ℕ) : Type 0 where

@@ -1,18 +1,13 @@
 -- The fault of a configuration file that is reported is the one whose byte comes first.
-use Rattle.std.specs.Prelude.{◌≡◌, ◌⊎◌, ℕ, ◌+◌, ◌<◌, ◌≤◌, List, [], ◌∷◌, ◌++◌, length, take, ◌==◌, true}
-use Rattle.std.specs.List.{count_by}
+use Rattle.std.specs.Prelude.{◌≡◌, ◌⊎◌, ℕ, ◌+◌, ◌<◌, ◌≤◌, List, [], ◌∷◌, ◌++◌, length, take, true}
 use Rattle.std.specs.Str.{IsUtf8}
 use Rattle.kc_value.specs.declared.limits.TheConstants.{MAX_CONFIG_BYTES, MAX_CONFIG_LINES, MAX_LINE_BYTES}
 use Rattle.kc_tree_model.specs.Trees.{Tree}
 use Rattle.kc_dotconfig_model.specs.Formats.{FileFormat}
 use Rattle.kc_dotconfig_model.specs.declared.fault.LoadKind.{LoadKind}
 use Rattle.kc_dotconfig_model.specs.declared.fault.LoadKind.TheVariants.{Malformed, NotUtf8, LineTooLong, TooManyLines, Read, OutOfMemory, TooLarge}
-use Rattle.kc_dotconfig_model.specs.PrefixGrammar.{lacks}
+use Rattle.kc_value.specs.Lines.{has_no_byte, newline_count, HasWholeLines}
 use Rattle.kc_dotconfig_model.specs.ConfigLines.{IsMalformed}
-
--- the number of newlines in some bytes
-abbrev pub newlines : List ℕ → ℕ
-newlines bytes = count_by (λ b. b == 10) bytes
 
 -- `line` is the line of the file with this number, counted from 1, and its first byte is at `start`; its newline isn't part of it
 pub record IsLineAt (bytes line : List ℕ) (number start : ℕ) : Type 0 where
@@ -20,16 +15,16 @@ pub record IsLineAt (bytes line : List ℕ) (number start : ℕ) : Type 0 where
   pub rest : List ℕ
   pub whole : bytes ≡ front ++ (line ++ rest)
   pub starts : start ≡ length front
-  pub number_is : number ≡ newlines front + 1
-  pub begins : (front ≡ []) ⊎ ((earlier : List ℕ) × (front ≡ earlier ++ 10 ∷ []))
+  pub number_is : number ≡ newline_count front + 1
+  pub begins : HasWholeLines front
   pub ends : ((rest ≡ []) × (0 < length line)) ⊎ ((later : List ℕ) × (rest ≡ 10 ∷ later))
-  pub one_line : lacks 10 line ≡ true
+  pub one_line : has_no_byte 10 line ≡ true
 
 -- in a complete file of these bytes, a fault of this kind occurs at the byte of the first number, counted from 0, and
 -- is reported with the line of the second number, counted from 1
 abbrev pub OccursAt : FileFormat → Tree → List ℕ → LoadKind → ℕ → ℕ → Type 0
 OccursAt format tree bytes TooLarge byte number = (MAX_CONFIG_BYTES < length bytes) × (byte ≡ MAX_CONFIG_BYTES)
-    × (number ≡ newlines (take MAX_CONFIG_BYTES bytes) + 1)
+    × (number ≡ newline_count (take MAX_CONFIG_BYTES bytes) + 1)
 OccursAt format tree bytes TooManyLines byte number = (line : List ℕ) × IsLineAt bytes line number byte
     × (number ≡ MAX_CONFIG_LINES + 1)
 OccursAt format tree bytes LineTooLong byte number = (line : List ℕ) × (start : ℕ) × IsLineAt bytes line number start
@@ -61,7 +56,7 @@ pub data InputEnd : Type 0 where
 abbrev pub IsConsideredAt : FileFormat → Tree → InputEnd → List ℕ → LoadKind → ℕ → ℕ → Type 0
 IsConsideredAt format tree complete bytes kind byte number = OccursAt format tree bytes kind byte number
 IsConsideredAt format tree cut_short bytes kind byte number =
-    (OccursAt format tree bytes kind byte number × (byte < length bytes)) ⊎ ((kind ≡ Read) × (byte ≡ length bytes) × (number ≡ newlines bytes + 1))
+    (OccursAt format tree bytes kind byte number × (byte < length bytes)) ⊎ ((kind ≡ Read) × (byte ≡ length bytes) × (number ≡ newline_count bytes + 1))
 
 -- the first fault of the configuration file, which is complete or was cut short by a failed read, has this kind and
 -- this line number

@@ -1,5 +1,5 @@
 -- Names and prefixes in configuration files.
-use Rattle.std.specs.Prelude.{ℕ, Bool, not, ◌&&◌, ◌==◌, nat_lt, nat_le, List, length}
+use Rattle.std.specs.Prelude.{ℕ, Bool, ◌&&◌, nat_lt, nat_le, List, length}
 use Rattle.std.specs.List.{list_all}
 use Rattle.kc_value.specs.declared.limits.TheConstants.{MAX_PREFIX_BYTES}
 use Rattle.kc_tree_model.specs.TreeLookup.{is_name_byte}
@@ -7,7 +7,3 @@ use Rattle.kc_tree_model.specs.TreeLookup.{is_name_byte}
 -- whether a text can be the prefix of names: 1 to `MAX_PREFIX_BYTES` letters, digits and `_`
 abbrev pub is_prefix : List ℕ → Bool
 is_prefix text = nat_lt 0 (length text) && nat_le (length text) MAX_PREFIX_BYTES && list_all is_name_byte text
-
--- whether a byte doesn't occur in a text
-abbrev pub lacks : ℕ → List ℕ → Bool
-lacks b text = list_all (λ c. not (c == b)) text

@@ -103,7 +103,8 @@ end_there view (Err kinds.Unanswered) h = (stopped, refl)
 end_there view (Err kinds.OutOfMemory) h = absurd h
 
 -- where the code's result has the questions or the fault of a reading of a tree, it is what is wanted of the tree
-pub wanted_of : {X V E : Type 0} (contents : TreeContents) (b : FileRun) (answers : RecordedAnswers) (root : List ℕ) (grows : Grows contents nothing_known b.known)
+pub wanted_of : {X V E : Type 0} (contents : TreeContents) (b : FileRun) (answers : RecordedAnswers) (root : List ℕ)
+    (grows : Grows contents nothing_known b.known)
     (view : X → List ExpandedFile) (r : Result X Stop) (of : V → Result (List (List ℕ)) Fault) (result : Result V E) (questions : List (List ℕ))
     → questions ≡ b.run.questions → Reaches b.known (run_at_start answers false) b.run (tree_read root) (end_of view r) → OnOk result (HasEnded r)
     → IfOk result (λ w. (e : Ending (List ExpandedFile)) → end_of view r ≡ ends e → of w ≡ questions_or_fault questions e)

@@ -6,7 +6,7 @@ use Rattle.kc_tree_model.specs.LogicalLines.{PhysicalLine, split_at_newlines, wi
 use Rattle.kc_macros_model.specs.Programs.{Program, returns, ◌>>=◌}
 use Rattle.kc_macros_model.specs.ReadingStates.{ReadingState, Progress, progress, WrittenLine}
 use Rattle.kc_macros_model.specs.TreeExpansion.{SourceReader, place, line_written, bytes_of_lines, newlines_of, lines_written, help_after, lines_read}
-use Rattle.kc_macros_model.specs.TreeLaws.{newline_count}
+use Rattle.kc_value.specs.Lines.{newline_count}
 use Rattle.kc_macros_model.proofs.LineCounts.{count_both, count_clean, AreCleanLines, no_lines, next_line, split_clean, split_bytes, lines_both, taken_clean, drop_twice}
 use Rattle.kc_expansion.specs.checker.LineViews.{is_first_continued}
 use Rattle.kc_expansion.specs.checker.WrittenViews.{text_up_to}

@@ -63,7 +63,8 @@ module _ (root : List ℕ) (open_files : List (List ℕ)) (few : length open_fil
       ≡ sourced_read (reader_for root (name ∷ open_files)) root open_files at (file_list name paths) s (Some [])
   list_begins name paths = ap (λ n. source_read n root open_files at (file_list name paths) s) more_open
 
-module _ (a b : FileRun) (root : List ℕ) (open_files : List (List ℕ)) (few : length open_files ≤ MAX_OPEN_FILES) (at : Place) (s : ReadingState) (counts : ReadCounts)
+module _ (a b : FileRun) (root : List ℕ) (open_files : List (List ℕ)) (few : length open_files ≤ MAX_OPEN_FILES)
+    (at : Place) (s : ReadingState) (counts : ReadCounts)
     (c : AreCounts counts s) (path : List ℕ) (read : FileRead)
     (same : b.contents ≡ a.contents) (grows : Grows a.contents a.known b.known) (run : b.run ≡ a.run)
     (known : keyword_in_table b.known.files path ≡ Some read) where
@@ -256,5 +257,6 @@ list_here b c root paths open_files at files s t e h k r =
     subst (λ ps. Reads b c (list_read (reader_for root ps) at files s) e) h (subst (λ u. Reads b c (list_read (reader_for root paths) at files u) e) k r)
 
 -- where fewer than 32 files are open, opening one more leaves at most 32 open
-pub one_more_open : (os ps : List (Bor (List ℕ))) (path : List ℕ) → texts_of_slices ps ≡ path ∷ texts_of_slices os → length (texts_of_slices os) < MAX_OPEN_FILES → length ps ≤ MAX_OPEN_FILES
+pub one_more_open : (os ps : List (Bor (List ℕ))) (path : List ℕ) → texts_of_slices ps ≡ path ∷ texts_of_slices os
+    → length (texts_of_slices os) < MAX_OPEN_FILES → length ps ≤ MAX_OPEN_FILES
 one_more_open os ps path e h = omega (arith, h, ap length e, length-map ps (λ (o : Bor (List ℕ)). o.now))

@@ -65,7 +65,8 @@ module _ (a b : FileRun) (sub : SourceReader) (at : Place) (ts : List WrittenTok
       (followed (progress key t)) source_leads (leads_on a b (path_read sub at sort shown s) followed (progress key t) r)
 
 -- a file that may be read
-module _ (a b c : FileRun) (root : List ℕ) (open_files : List (List ℕ)) (few : length open_files ≤ MAX_OPEN_FILES) (at : Place) (s : ReadingState) (counts : ReadCounts)
+module _ (a b c : FileRun) (root : List ℕ) (open_files : List (List ℕ)) (few : length open_files ≤ MAX_OPEN_FILES)
+    (at : Place) (s : ReadingState) (counts : ReadCounts)
     (are : AreCounts counts s) (path : List ℕ) (read : FileRead)
     (same : b.contents ≡ a.contents) (grows : Grows a.contents a.known b.known) (run : b.run ≡ a.run) (known : keyword_in_table b.known.files path ≡ Some read)
     (bytes : List ℕ) (m : MayBeRead open_files counts path read bytes)
@@ -96,7 +97,8 @@ module _ (a b c : FileRun) (root : List ℕ) (open_files : List (List ℕ)) (few
       (keeping_file (progress text u)) file_leads (leads_on b c (lines_of_file paths t) keeping_file (progress text u) r)
 
 -- a list that may be read
-module _ (a c : FileRun) (root : List ℕ) (open_files : List (List ℕ)) (few : length open_files ≤ MAX_OPEN_FILES) (at : Place) (s : ReadingState) (counts : ReadCounts)
+module _ (a c : FileRun) (root : List ℕ) (open_files : List (List ℕ)) (few : length open_files ≤ MAX_OPEN_FILES)
+    (at : Place) (s : ReadingState) (counts : ReadCounts)
     (are : AreCounts counts s) (name : List ℕ) (files : List (List ℕ))
     (read : FileRead) (bytes : List ℕ) (none : read ≡ whole []) (m : MayBeRead open_files counts name read bytes) (paths : List (List ℕ)) (t : ReadingState)
     (h : paths ≡ name ∷ open_files) (k : t ≡ counted 0 s) where

@@ -2,10 +2,10 @@
 ghost use Rattle.std.specs.Prelude.{◌≡◌, ℕ, ◌+◌, ◌<◌, List, [], ◌∷◌, ◌||◌, ◌==◌, ◌&&◌, true, false, length, drop, slice_index, slice_index_or, IfOk};
 ghost use Rattle.std.specs.List.{list_any};
 ghost use Rattle.std.specs.Str.{is_utf8};
-ghost use Rattle.kc_tree_model.specs.TreeLookup.{has_newline};
 ghost use Rattle.kc_macros_model.specs.PathPatterns.{matches, is_writable_name, matches_name};
 ghost use Rattle.kc_expansion.specs.checker.EndMatches.{HasEndMatches};
 
+use kc_value::has_newline;
 use std::alloc::{AllocError, Global};
 
 /// For each end of a name of this length, whether it matches an empty piece.
@@ -80,13 +80,6 @@ pub(crate) fn is_utf8(bytes: &[u8]) -> bool
         Ok(_) => true,
         Err(_) => false,
     }
-}
-
-/// Whether a text has a newline.
-fn has_newline(text: &[u8]) -> bool
-    ensures { result ≡ has_newline text.now }
-{
-    text.iter().any(|byte| *byte == b'\n')
 }
 
 /// Whether a line can have this name of a file.

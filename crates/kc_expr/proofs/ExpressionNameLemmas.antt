@@ -110,7 +110,8 @@ none_held P xs e = rw e (search rules)
 
 -- what was met is kept through sorting and taking out repeats, and it is what callers see
 module _ (a : Exprs) (s : Store) (view : exprs_in s ≡ a) (id index : ℕ) (same : index ≡ id) (sound : IsSound s) (none found sorted last : List ℕ)
-    (empty : none ≡ []) (names_are : map (λ i. slice_index_or (stored_names s) i []) found ≡ map (λ i. slice_index_or (stored_names s) i []) none ++ names_in_reverse
+    (empty : none ≡ [])
+    (names_are : map (λ i. slice_index_or (stored_names s) i []) found ≡ map (λ i. slice_index_or (stored_names s) i []) none ++ names_in_reverse
     (node_expr (exprs_in s) index))
     (held : All (λ i. i < length (stored_names s)) none → All (λ i. i < length (stored_names s)) found)
     (permuted : IsPermutation found sorted) (kept : last ≡ dedup eqb sorted) (i : ℕ) where

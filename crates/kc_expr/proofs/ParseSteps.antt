@@ -50,7 +50,8 @@ refused_by all read more e h x = refused_on all read more e (λ f r. h ∙ r) x
 pub parses_by : (s : Store) (all : List Lexeme) (condition : Bool) (at : ℕ) (read more : Read) (r : Result (ℕ × ℕ) ExprFault) → more ≡ read
     → Parses s all condition at read r → Parses s all condition at more r
 parses_by s all condition at read more (Err e) h p = refused_by all read more e h p
-parses_by s all condition at read more (Ok r) h p = record { expr = p.expr; reads = h ∙ p.reads; forward = p.forward; within = p.within; represents = p.represents }
+parses_by s all condition at read more (Ok r) h p =
+    record { expr = p.expr; reads = h ∙ p.reads; forward = p.forward; within = p.within; represents = p.represents }
 
 drop_two : (at : ℕ) (all : List Lexeme) → drop (at + 2) all ≡ drop 1 (drop 1 (drop at all))
 drop_two at all = ap (λ n. drop n all) (let q : at + 2 ≡ (at + 1) + 1 = omega arith in q) ∙ drop_one (at + 1) all ∙ ap (drop 1) (drop_one at all)

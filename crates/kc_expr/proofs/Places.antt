@@ -71,7 +71,8 @@ module _ {K : Type 0} (name : K → List ℕ) (x : List ℕ) where
 
   held : (ks : List K) → list_any (λ k. bytes_eq x (name k)) ks ≡ true → index_of_name x (map name ks) ≡ Some (position_or_len (λ k. bytes_eq x (name k)) ks)
   held [] h = cc
-  held (k ∷ ks) h = place_of_more x (name k) (map name ks) ∙ held_by (bytes_eq x (name k)) (position_or_len (λ k. bytes_eq x (name k)) ks) (index_of_name x (map name ks))
+  held (k ∷ ks) h = place_of_more x (name k) (map name ks)
+      ∙ held_by (bytes_eq x (name k)) (position_or_len (λ k. bytes_eq x (name k)) ks) (index_of_name x (map name ks))
       (list_any (λ k. bytes_eq x (name k)) ks) (held ks) h
 
   new_last : (v : K) → name v ≡ x → (ks : List K) → list_any (λ k. bytes_eq x (name k)) ks ≡ false → index_of_name x (map name (ks ++ v ∷ []))

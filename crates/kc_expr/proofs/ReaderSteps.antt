@@ -105,7 +105,8 @@ unfolding operand_read
 operand_none [] h = refl
 operand_none (t ∷ ts) h = ap (λ o. operand_else o t ts) h
 
-after_operand_by : (k : TokenKind) (a : Operand) (t : Lexeme) (ts : List Lexeme) → t.kind ≡ k → relation_of k ≡ None → after_operand a (t ∷ ts) ≡ Ok (alone a, t ∷ ts)
+after_operand_by : (k : TokenKind) (a : Operand) (t : Lexeme) (ts : List Lexeme) → t.kind ≡ k → relation_of k ≡ None
+    → after_operand a (t ∷ ts) ≡ Ok (alone a, t ∷ ts)
 after_operand_by (Relation op) a t ts e h = cc
 after_operand_by Word a t ts e h = ap (λ k. after_operand_kind a k t ts) e
 after_operand_by Quoted a t ts e h = ap (λ k. after_operand_kind a k t ts) e

@@ -264,7 +264,8 @@ word_longest language Or b bs front rest w e is = absurd (other_word language Or
 word_longest language Open b bs front rest w e is = absurd (other_word language Open b bs front rest (λ q. cc) w e is)
 word_longest language Close b bs front rest w e is = absurd (other_word language Close b bs front rest (λ q. cc) w e is)
 
-word_is_next : (language : Language) (b : ℕ) (bs : List ℕ) → is_word_byte b ≡ true → IsTokenAt language Word (length (take_while is_word_byte (b ∷ bs))) (b ∷ bs)
+word_is_next : (language : Language) (b : ℕ) (bs : List ℕ) → is_word_byte b ≡ true
+    → IsTokenAt language Word (length (take_while is_word_byte (b ∷ bs))) (b ∷ bs)
 word_is_next language b bs w = record {
   text = take_while is_word_byte (b ∷ bs);
   rest = drop (length (take_while is_word_byte (b ∷ bs))) (b ∷ bs);

@@ -131,7 +131,8 @@ module _ (exprs : Exprs) (last : ℕ) (before : List Bool) (old : List ℕ) wher
     found_before node p l w m = h.found node p (omega (arith, l)) (sym (set_there node (λ e. absurd (omega (arith, l, e)))) ∙ w) m
 
     -- a walk ends at a node whose names are all appended to those found before
-    pub walk_visited : (more : List ℕ) → ((p : List ℕ → Bool) → passes_some_name exprs p more ≡ (passes_some_name exprs p ids || mentions p (node_expr exprs at)))
+    pub walk_visited : (more : List ℕ)
+        → ((p : List ℕ → Bool) → passes_some_name exprs p more ≡ (passes_some_name exprs p ids || mentions p (node_expr exprs at)))
         → HasVisited exprs last before (slice_set walked at true) old more
     walk_visited more exact =
         let same : (p : List ℕ → Bool) → passes_some_name exprs p more ≡ whole_of p = λ p. exact p ∙ h.exact p in

@@ -211,7 +211,8 @@ pub no_text : (language : Language) (read : List Group) (number : ℕ) (help : B
 unfolding statement_on_line
 no_text language read number help text e u = rw (e, u) refl
 
-help_is_no_statement : (language : Language) (read : List Group) (number : ℕ) (text : List ℕ) → nat_lt MAX_LINE_BYTES (length text) ≡ false → is_utf8 text ≡ true
+help_is_no_statement : (language : Language) (read : List Group) (number : ℕ) (text : List ℕ)
+    → nat_lt MAX_LINE_BYTES (length text) ≡ false → is_utf8 text ≡ true
     → statement_on_line language read (record { number = number; text = text; help = true }) ≡ Ok None
 unfolding statement_on_line
 help_is_no_statement language read number text e u = rw (e, u) refl

@@ -6,14 +6,13 @@ use Rattle.std.specs.Str.{is_utf8}
 use Rattle.std.proofs.lemmas.Bool.{lt-ltb, le-ltb}
 use Rattle.std.proofs.lemmas.List.{take_all}
 use Rattle.kc_tree_model.specs.Keywords.{keyword_in_table}
-use Rattle.kc_tree_model.specs.LogicalLines.{PhysicalLine, split_at_newlines}
+use Rattle.kc_tree_model.specs.LogicalLines.{PhysicalLine, split_at_newlines, without_white_end}
 use Rattle.kc_macros_model.specs.declared.fault.AnswersKind.{AnswersKind}
 use Rattle.kc_macros_model.specs.declared.fault.AnswersKind.TheVariants.{Malformed, TwoAnswers, NotUtf8, LineTooLong, TooManyLines, TooLarge, Read, OutOfMemory}
 use Rattle.kc_macros_model.specs.declared.fault.AnswersFault.{AnswersFault}
 use Rattle.std.specs.Option.{option_or}
 use Rattle.kc_value.specs.declared.limits.TheConstants.{MAX_ANSWER_BYTES, MAX_ANSWER_LINES, MAX_ANSWER_LINE_BYTES}
 use Rattle.kc_macros_model.specs.Programs.{Answer}
-use Rattle.kc_macros_model.specs.Variables.{without_white_end}
 use Rattle.kc_macros_model.specs.AnswerFiles.{RecordedAnswers, AnswerLine, comment, answer, command, malformed, meaning_of_line, is_same_answer, LinesSoFar, fault_at, one_line_more, with_answer, malformed_line, with_meaning, fault_of_size, fault_of_line, with_line, FileEnd, complete, cut_by, unless_waiting, cut_line, and_then, recorded_from, first_line, answers_read}
 use Rattle.kc_macros.specs.checker.AnswerFaults.{no_memory}
 use Rattle.kc_macros.specs.ReadAnswers.{ReadsToEnd, end_of_file, AreRecorded, IsRefused}
@@ -82,7 +81,8 @@ line_has_memory lines line = by_fault (fault_of_line lines.count line) (bytes_ha
     by_fault (Some kind) other = λ e. other (ap (λ k. Some k) e)
     by_fault None other = meaning_has_memory lines (meaning_of_line lines.waiting (without_white_end line))
 
-next_has_memory : {A B : Type 0} (r : Result A AnswersFault) (f : A → Result B AnswersFault) → HasMemory r → ((x : A) → HasMemory (f x)) → HasMemory (and_then r f)
+next_has_memory : {A B : Type 0} (r : Result A AnswersFault) (f : A → Result B AnswersFault) → HasMemory r
+    → ((x : A) → HasMemory (f x)) → HasMemory (and_then r f)
 next_has_memory (Ok x) f h k = k x
 next_has_memory (Err e) f h k = h
 
@@ -107,10 +107,11 @@ cut_has_memory kind lines (l ∷ ls) other = by_test (λ more. cut_has_memory ki
     by_size (Some earlier) apart = λ e. apart (ap (λ k. Some k) e)
     by_size None apart = other
 
-    by_test : ((more : LinesSoFar) → HasMemory (recorded_from (cut_by kind) more ls)) → (b : Bool) → HasMemory (elim b as (λ z. Result RecordedAnswers AnswersFault) [
-      | true ↦ and_then (with_line lines l.text) (λ more. recorded_from (cut_by kind) more ls)
-      | false ↦ Err (cut_line kind lines l.text)
-    ])
+    by_test : ((more : LinesSoFar) → HasMemory (recorded_from (cut_by kind) more ls)) → (b : Bool)
+        → HasMemory (elim b as (λ z. Result RecordedAnswers AnswersFault) [
+          | true ↦ and_then (with_line lines l.text) (λ more. recorded_from (cut_by kind) more ls)
+          | false ↦ Err (cut_line kind lines l.text)
+        ])
     by_test ih true = next_has_memory (with_line lines l.text) (λ more. recorded_from (cut_by kind) more ls) (line_has_memory lines l.text) ih
     by_test ih false = by_size (fault_of_size lines.count l.text) (size_has_memory lines.count l.text)
 

@@ -125,6 +125,7 @@ pub piece_front : (expand : List ℕ → Program Value) (first s : RunState) (wh
     → Leads first whole s (pieces_left expand vs (texts_of_slices (drop i ps)))
     → Leads first whole s (pieces_left expand vs ((get_or ps i d).now ∷ texts_of_slices (drop (i + 1) ps)))
 piece_front expand first s whole vs ps i d h a =
-    leads_then first s s whole (pieces_left expand vs (texts_of_slices (drop i ps))) (pieces_left expand vs ((get_or ps i d).now ∷ texts_of_slices (drop (i + 1) ps))) a
+    leads_then first s s whole (pieces_left expand vs (texts_of_slices (drop i ps)))
+    (pieces_left expand vs ((get_or ps i d).now ∷ texts_of_slices (drop (i + 1) ps))) a
     (leads_same s (pieces_left expand vs (texts_of_slices (drop i ps))) (pieces_left expand vs ((get_or ps i d).now ∷ texts_of_slices (drop (i + 1) ps)))
     (ap (pieces_left expand vs) (at_drop_more texts_of_slices ps i d h)))

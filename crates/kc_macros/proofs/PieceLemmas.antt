@@ -196,7 +196,8 @@ pieces_kept before after piece rest n whole h text pushed same cut next is =
     pieces_more (texts_of_slices before) rest n whole h same cut
     ∙ ap (λ t. (texts_of_slices before ++ t ∷ []) ++ pieces 0 (drop (n + 1) rest)) (sym text)
     ∙ ap (λ ts. ts ++ pieces 0 (drop (n + 1) rest)) (sym (ap texts_of_slices pushed ∙ texts_push before piece))
-    ∙ ap (λ s. texts_of_slices after ++ pieces 0 s) (sym (is ∙ rest_is (take (length rest - n) (drop n rest)) 1 ∙ ap (drop 1) (rest_is rest n) ∙ drop_one rest n))
+    ∙ ap (λ s. texts_of_slices after ++ pieces 0 s) (sym (is ∙ rest_is (take (length rest - n) (drop n rest)) 1
+    ∙ ap (drop 1) (rest_is rest n) ∙ drop_one rest n))
 
 -- the code's slice of the last piece, appended to those of the pieces so far, makes them all pieces of the reference
 pub pieces_done : (before after : List (Bor (List ℕ))) (piece : Bor (List ℕ)) (rest : List ℕ) (n : ℕ) (whole : List (List ℕ)) → n ≡ length rest

@@ -5,9 +5,8 @@ use Rattle.std.specs.Str.{is_utf8, IsUtf8}
 use Rattle.std.proofs.lemmas.Grind.{common_steps}
 use Rattle.std.proofs.lemmas.Str.{is_utf8-from_IsUtf8, IsUtf8-from_is_utf8}
 use Rattle.bstr.specs.Find.{IsFirstByte, is_byte}
-use Rattle.kc_tree_model.specs.LogicalLines.{PhysicalLine, with_first_byte, split_at_newlines}
+use Rattle.kc_tree_model.specs.LogicalLines.{PhysicalLine, with_first_byte, split_at_newlines, without_white_end}
 use Rattle.kc_macros_model.specs.declared.fault.AnswersFault.{AnswersFault}
-use Rattle.kc_macros_model.specs.Variables.{without_white_end}
 use Rattle.kc_macros_model.specs.AnswerFiles.{RecordedAnswers, LinesSoFar, fault_at, fault_of_line, meaning_of_line, with_meaning, with_line, FileEnd, complete, cut_by, and_then, recorded_from}
 use Rattle.kc_macros.specs.checker.LinesView.{last_line}
 

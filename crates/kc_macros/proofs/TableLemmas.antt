@@ -82,7 +82,8 @@ is_some_map f None = refl
 is_some_map f (Some x) = refl
 
 -- the questions of a table of answers after noting one: the same if the table has it, otherwise those and the new one
-pub noted : {A : Type 0} (es : RecordedAnswers) (question : List ℕ) (f : A → Answer) (found : Option A) (b : Bool) → option_map f found ≡ keyword_in_table es question
+pub noted : {A : Type 0} (es : RecordedAnswers) (question : List ℕ) (f : A → Answer) (found : Option A) (b : Bool)
+    → option_map f found ≡ keyword_in_table es question
     → is_some found ≡ b
     → with_question (questions_of es) question ≡ cond b (questions_of es) (questions_of es ++ question ∷ [])
 noted es question f found b e h = ap (λ t. cond t (questions_of es) (questions_of es ++ question ∷ []))

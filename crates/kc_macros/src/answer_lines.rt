@@ -3,7 +3,8 @@ ghost use Rattle.std.specs.Prelude.{◌≡◌, ◌+◌, ◌<◌, ◌==◌, Some,
 ghost use Rattle.std.specs.List.{list_all};
 ghost use Rattle.kc_expr.specs.Token.{is_white_byte};
 ghost use Rattle.kc_tree_model.specs.TreeLookup.{is_name_byte};
-ghost use Rattle.kc_macros_model.specs.Variables.{without_white_end, is_environment_name};
+ghost use Rattle.kc_macros_model.specs.Variables.{is_environment_name};
+ghost use Rattle.kc_tree_model.specs.LogicalLines.{without_white_end};
 ghost use Rattle.kc_macros_model.specs.AnswerFiles.{line_after_command, name_not_set, name_with_text, line_alone, meaning_of_line};
 ghost use Rattle.kc_macros.specs.checker.LineView.{line_view};
 

@@ -7,7 +7,7 @@ use Rattle.std.specs.List.{onto_first}
 use mathlib.Core.List.{reverse-cons}
 use Rattle.std.proofs.lemmas.Bool.{eqb-true}
 use Rattle.kc_tree_model.specs.Keywords.{keyword_in_table}
-use Rattle.kc_tree_model.specs.TreeLookup.{has_newline}
+use Rattle.kc_value.specs.Lines.{has_newline}
 use Rattle.kc_macros_model.specs.declared.fault.MacroKind.TheVariants.{Undefined, Error}
 use Rattle.kc_macros_model.specs.declared.fault.MacroNoticeKind.TheVariants.{Info, Warning}
 use Rattle.kc_macros_model.specs.Programs.{Place, Answer, Program, returns, fails, stops, does}

@@ -6,7 +6,6 @@ use Rattle.std.specs.Str.{is_utf8}
 use Rattle.std.specs.Cmp.{first_so, second_so}
 use Rattle.std.proofs.lemmas.List.{take-append-drop}
 use Rattle.std.proofs.lemmas.List.Elements.{All-append, All-cons, All-nil}
-use Rattle.kc_tree_model.specs.TreeLookup.{has_newline}
 use Rattle.kc_tree_model.specs.Limits.{is_in_list}
 use Rattle.kc_tree_model.specs.LogicalLines.{PhysicalLine, split_at_newlines, without_return, is_continued, joined_bytes, continuation_count, begins_help}
 use Rattle.kc_macros_model.specs.declared.fault.MacroKind.{MacroKind}
@@ -24,7 +23,8 @@ use Rattle.kc_macros_model.specs.PathPatterns.{is_pattern, is_writable_name, mat
 use Rattle.kc_macros_model.specs.ReadingStates.{ExpandedFile, ReadingState, initial_state, Progress, progress, WrittenLine, written_line, bound, with_choice, with_listed, counted, has_key, is_taken, free_key, key_of, stored_file}
 use Rattle.kc_macros_model.specs.TreeExpansion.{place, SourceTarget, one_file, file_list, SourceReader, folder_of, begins_with_slash, path_meant, list_name, source_line, pattern_read, path_read, source_followed, form_written, short_line, tokens_written, content_written, line_written, bytes_of_lines, lines_written, help_after, lines_read, list_read, source_fault, contents_read, sourced_read, source_read, root_read, tree_read}
 use Rattle.kc_macros_model.specs.Worlds.{World}
-use Rattle.kc_macros_model.specs.TreeLaws.{newline_count, HasItsLines, of_file, of_list}
+use Rattle.kc_value.specs.Lines.{newline_count, has_newline}
+use Rattle.kc_macros_model.specs.TreeLaws.{HasItsLines, of_file, of_list}
 use Rattle.kc_macros_model.proofs.RunInvariants.{Along, along_then}
 use Rattle.kc_macros_model.proofs.CleanTexts.{IsClean, clean, clean_none, clean_cons, clean_first, clean_rest, clean_append, clean_drop, clean_reverse, clean_decimal, IsCleanValue, text_clean, IsCleanVariable, CleanBindings, CleanAnswers, AreClean, no_texts, next_text, unknown_clean}
 use Rattle.kc_macros_model.proofs.CleanLines.{tokens_clean, in_quotes_clean, IsCleanToken, AreCleanWritten, none_written, next_written, IsCleanContent, clean_assignment, clean_tokens, content_clean, variable_clean}

@@ -280,7 +280,8 @@ module _ (w : World) where
     contents_go_on at (file_list name paths) None s g = list_goes_on at paths (counted 0 s) g
     contents_go_on at (file_list name paths) (Some bytes) s g = list_goes_on at paths (counted 0 s) g
 
-    sourced_goes_on : (root : List ℕ) (open_files : List (List ℕ)) (at : Place) (what : SourceTarget) (s : ReadingState) → KnownState s → (bytes : Option (List ℕ))
+    sourced_goes_on : (root : List ℕ) (open_files : List (List ℕ)) (at : Place) (what : SourceTarget) (s : ReadingState)
+        → KnownState s → (bytes : Option (List ℕ))
         → Gives KnownProgress (sourced_read sub root open_files at what s bytes)
     sourced_goes_on root open_files at what s g bytes = by_fault (source_fault open_files s (sourced_path what) bytes)
       where

@@ -6,7 +6,7 @@ use Rattle.std.proofs.lemmas.Bool.{eqb-true}
 use Rattle.std.proofs.lemmas.List.Sums.{sum_by-append}
 use Rattle.kc_tree_model.specs.LogicalLines.{PhysicalLine, with_first_byte, split_at_newlines, last_byte, without_last, without_return, is_continued, joined_bytes}
 use Rattle.kc_macros_model.specs.TreeExpansion.{bytes_of_lines, newlines_of, lines_written}
-use Rattle.kc_macros_model.specs.TreeLaws.{newline_count}
+use Rattle.kc_value.specs.Lines.{newline_count}
 use Rattle.kc_macros_model.proofs.CleanTexts.{IsClean, clean_none, clean_cons, clean_first, clean_rest, clean_append, clean_take}
 
 pub count_both : (x y : List ℕ) → newline_count (x ++ y) ≡ newline_count x + newline_count y

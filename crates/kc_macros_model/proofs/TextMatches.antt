@@ -137,13 +137,16 @@ module _ (w more : World) (ext : Extends w more) (question : List ℕ) (unanswer
     built_in_matches name functions.Lineno (next {v = v} {vs = vs} r rs) = refused at Arguments name (built_in_value at name functions.Lineno (v ∷ vs))
     built_in_matches name functions.Shell none = refused at Arguments name (built_in_value at name functions.Shell [])
     built_in_matches name functions.Shell (next r none) = shell_matches r
-    built_in_matches name functions.Shell (next {v = v} r (next {v = u} {vs = vs} s rs)) = refused at Arguments name (built_in_value at name functions.Shell (v ∷ u ∷ vs))
+    built_in_matches name functions.Shell (next {v = v} r (next {v = u} {vs = vs} s rs)) =
+        refused at Arguments name (built_in_value at name functions.Shell (v ∷ u ∷ vs))
     built_in_matches name functions.Info none = refused at Arguments name (built_in_value at name functions.Info [])
     built_in_matches name functions.Info (next r none) = message_matches (reported at Info) (reported_empty Info) (report_matches Info) (same {s = codes "y"}) r
-    built_in_matches name functions.Info (next {v = v} r (next {v = u} {vs = vs} s rs)) = refused at Arguments name (built_in_value at name functions.Info (v ∷ u ∷ vs))
+    built_in_matches name functions.Info (next {v = v} r (next {v = u} {vs = vs} s rs)) =
+        refused at Arguments name (built_in_value at name functions.Info (v ∷ u ∷ vs))
     built_in_matches name functions.WarningIf none = refused at Arguments name (built_in_value at name functions.WarningIf [])
     built_in_matches name functions.WarningIf (next {v = v} r none) = refused at Arguments name (built_in_value at name functions.WarningIf (v ∷ []))
-    built_in_matches name functions.WarningIf (next r (next s none)) = message_matches (reported at Warning) (reported_empty Warning) (report_matches Warning) r s
+    built_in_matches name functions.WarningIf (next r (next s none)) =
+        message_matches (reported at Warning) (reported_empty Warning) (report_matches Warning) r s
     built_in_matches name functions.WarningIf (next {v = v} r (next {v = u} s (next {v = t} {vs = vs} q rs))) =
         refused at Arguments name (built_in_value at name functions.WarningIf (v ∷ u ∷ t ∷ vs))
     built_in_matches name functions.ErrorIf none = refused at Arguments name (built_in_value at name functions.ErrorIf [])

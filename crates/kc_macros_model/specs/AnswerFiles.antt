@@ -3,13 +3,13 @@ use Rattle.std.specs.Prelude.{ℕ, ◌+◌, Bool, true, false, ◌&&◌, ◌||�
 use Rattle.std.specs.Str.{is_utf8}
 use Rattle.std.specs.Option.{option_or}
 use Rattle.kc_tree_model.specs.Keywords.{keyword_in_table}
-use Rattle.kc_tree_model.specs.LogicalLines.{PhysicalLine, split_at_newlines}
+use Rattle.kc_tree_model.specs.LogicalLines.{PhysicalLine, split_at_newlines, without_white_end}
 use Rattle.kc_macros_model.specs.declared.fault.AnswersKind.{AnswersKind}
 use Rattle.kc_macros_model.specs.declared.fault.AnswersKind.TheVariants.{Malformed, TwoAnswers, NotUtf8, LineTooLong, TooManyLines, TooLarge}
 use Rattle.kc_macros_model.specs.declared.fault.AnswersFault.{AnswersFault}
 use Rattle.kc_value.specs.declared.limits.TheConstants.{MAX_ANSWER_BYTES, MAX_ANSWER_LINES, MAX_ANSWER_LINE_BYTES}
 use Rattle.kc_macros_model.specs.Programs.{Answer}
-use Rattle.kc_macros_model.specs.Variables.{is_environment_name, without_white_end}
+use Rattle.kc_macros_model.specs.Variables.{is_environment_name}
 
 -- recorded answers to macro questions: the questions with their answers, in order of their first lines
 abbrev pub RecordedAnswers : Type 0

@@ -2,7 +2,7 @@
 use Rattle.std.specs.Prelude.{ℕ, ◌+◌, Bool, true, false, not, ◌&&◌, ◌||◌, ◌==◌, nat_lt, nat_le, List, [], ◌∷◌, ◌++◌, length, map, filter, is_some, slice_index, if◌then◌else◌}
 use Rattle.std.specs.List.{list_any, onto_first}
 use Rattle.std.specs.Str.{is_utf8}
-use Rattle.kc_tree_model.specs.TreeLookup.{has_newline}
+use Rattle.kc_value.specs.Lines.{has_newline}
 use Rattle.kc_macros_model.specs.declared.fault.MacroKind.TheVariants.{TooMany}
 use Rattle.kc_value.specs.declared.limits.TheConstants.{MAX_LISTED_NAMES}
 use Rattle.kc_macros_model.specs.Programs.{Place, read_file, list_folder, Program, returns, does, ◌>>=◌}

@@ -1,13 +1,13 @@
 -- Laws of the expansion of a tree.
-use Rattle.std.specs.Prelude.{◌≡◌, ℕ, true, false, ◌==◌, List, [], Some, None, Ok}
-use Rattle.std.specs.List.{All, count_by}
+use Rattle.std.specs.Prelude.{◌≡◌, ℕ, true, false, List, [], Some, None, Ok}
+use Rattle.std.specs.List.{All}
 use Rattle.kc_tree_model.specs.Limits.{is_in_list}
-use Rattle.kc_tree_model.specs.TreeLookup.{has_newline}
 use Rattle.kc_macros_model.specs.Programs.{Place, Fault}
 use Rattle.kc_macros_model.specs.ReadingStates.{ExpandedFile}
 use Rattle.kc_macros_model.specs.TreeExpansion.{list_name}
 use Rattle.kc_macros_model.specs.Worlds.{World, returned, failed, stopped, expansion, wanted}
 use Rattle.kc_macros_model.specs.ProgramLaws.{Extends, is_unanswered}
+use Rattle.kc_value.specs.Lines.{newline_count, has_newline}
 
 -- more answers than an expansion needs change nothing of its files, fault, notices and work
 abbrev pub AnswersNotAskedChangeNothing : Type 0
@@ -29,10 +29,6 @@ NothingWantedReturnsFiles = (w : World) (root : List ℕ) → wanted w root ≡ 
 abbrev pub WantedIsNeeded : Type 0
 WantedIsNeeded = (w more : World) (root question : List ℕ) (questions : List (List ℕ)) (files : List ExpandedFile) → wanted w root ≡ Ok questions → is_in_list question questions ≡ true
     → Extends w more → more.answer question ≡ None → (expansion more root).ending ≡ returned files → ⊥
-
--- the number of newlines in a text
-abbrev pub newline_count : List ℕ → ℕ
-newline_count bytes = count_by (λ c. c == 10) bytes
 
 -- an expanded file has as many newlines as the file that was read for its path, or is the list of files of a `source` line
 pub data HasItsLines (w : World) (f : ExpandedFile) : Type 0 where

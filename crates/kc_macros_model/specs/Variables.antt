@@ -1,13 +1,13 @@
 -- Variables, built-in functions, and the names that questions may have.
-use Rattle.std.specs.Prelude.{ℕ, ◌-◌, Bool, false, not, ◌&&◌, nat_lt, List, [], ◌∷◌, ◌++◌, length, take, slice_get, Option, Some, None, bytes_eq, codes, if◌then◌else◌}
-use Rattle.std.specs.List.{list_all, suffix_len}
+use Rattle.std.specs.Prelude.{ℕ, ◌-◌, Bool, false, not, ◌&&◌, nat_lt, List, [], ◌∷◌, ◌++◌, length, slice_get, Option, Some, None, bytes_eq, codes, if◌then◌else◌}
+use Rattle.std.specs.List.{list_all}
 use Rattle.std.specs.Char.{is_digit}
 use Rattle.std.specs.Str.Parse.{digits_value}
-use Rattle.kc_expr.specs.Token.{is_white_byte}
 use Rattle.kc_tree_model.specs.TreeLookup.{is_name_byte}
 use Rattle.kc_macros_model.specs.declared.built_in.BuiltIn.{BuiltIn}
 use Rattle.kc_macros_model.specs.declared.built_in.BuiltIn.TheVariants.{Filename, Lineno, Shell, Info, WarningIf, ErrorIf}
 use Rattle.kc_macros_model.specs.Programs.{Answer}
+use Rattle.kc_tree_model.specs.LogicalLines.{without_white_end}
 
 -- the value of an expanded text: its bytes, or `None` where it depends on a question without an answer
 abbrev pub Value : Type 0
@@ -49,10 +49,6 @@ is_number s = nat_lt 0 (length s) && list_all (λ c. is_digit c 10) s
 abbrev pub is_environment_name : List ℕ → Bool
 is_environment_name [] = false
 is_environment_name (c ∷ s) = not (is_digit c 10) && list_all is_name_byte (c ∷ s)
-
--- a text without the white bytes at its end
-abbrev pub without_white_end : List ℕ → List ℕ
-without_white_end s = take (length s - suffix_len is_white_byte s) s
 
 -- the question that a shell command asks: `$ ` and the command without white at its end
 abbrev pub command_question : List ℕ → List ℕ

@@ -16,7 +16,8 @@ use Rattle.kc_rules_model.specs.Rule.{rule}
 use Rattle.kc_rules_model.specs.Shapes.{user_fits}
 use Rattle.kc_dotconfig_model.specs.Formats.{FileFormat}
 use Rattle.kc_dotconfig_model.specs.PrefixGrammar.{is_prefix}
-use Rattle.kc_dotconfig_model.specs.ConfigLines.{LineMeaning, Means, without_white_end}
+use Rattle.kc_dotconfig_model.specs.ConfigLines.{LineMeaning, Means}
+use Rattle.kc_tree_model.specs.LogicalLines.{without_white_end}
 use Rattle.kc_dotconfig_model.specs.ConfigFiles.{FileMeans, file_lines, has_utf8_lines}
 use Rattle.kc_value.specs.declared.limits.TheConstants.{MAX_CONFIG_BYTES, MAX_CONFIG_LINES, MAX_LINE_BYTES}
 use Rattle.kc_dotconfig_model.specs.LoadFaults.{IsAccepted}
@@ -60,7 +61,8 @@ accepted_within format tree bytes meanings utf8 has_meaning small few short = ac
     })
 
 pub read_accepted : ReadFilesAreAccepted
-read_accepted format profile tree bytes values reads small few short = accepted_within format tree bytes reads.meanings reads.utf8 reads.has_meaning small few short
+read_accepted format profile tree bytes values reads small few short =
+    accepted_within format tree bytes reads.meanings reads.utf8 reads.has_meaning small few short
 
 all_of_map : {X Y : Type 0} (p : Y → Bool) (f : X → Y) (xs : List X) → list_all p (map f xs) ≡ list_all (λ x. p (f x)) xs
 all_of_map p f [] = refl

@@ -10,7 +10,7 @@ use Rattle.kc_dotconfig_model.specs.Formats.{FileFormat}
 use Rattle.kc_dotconfig_model.proofs.TrimmedLines.{low_utf8}
 use Rattle.std.proofs.lemmas.Bool.{cases_Bool, false≢true, and_parts, and_from, or_left, or_right, or_parts, not-true, eq-eqb, eqb-true}
 use Rattle.kc_tree_model.specs.Trees.{Tree, Symbol, Entry, definition, choice_begins, menu_begins, menu_ends, comment}
-use Rattle.kc_tree_model.specs.TreeLookup.{has_newline, unit_of, title_of_entry}
+use Rattle.kc_tree_model.specs.TreeLookup.{unit_of, title_of_entry}
 use Rattle.kc_system.specs.Solutions.{Solves, FitsUsers, FitsValues}
 use Rattle.kc_rules_model.specs.declared.profile.Profile.{Profile}
 use Rattle.kc_rules_model.specs.declared.values.UnitValue.{UnitValue}
@@ -18,8 +18,10 @@ use Rattle.kc_rules_model.specs.declared.values.UserValue.{UserValue}
 use Rattle.kc_rules_model.specs.Rule.{rule, as_user}
 use Rattle.kc_rules_model.specs.Shapes.{user_fits, value_fits, is_line}
 use Rattle.kc_rules_model.specs.Reports.{is_written, is_written_symbol}
-use Rattle.kc_dotconfig_model.specs.PrefixGrammar.{is_prefix, lacks}
-use Rattle.kc_dotconfig_model.specs.ConfigLines.{LineMeaning, assigns, notice, silent, Means, without_white_end}
+use Rattle.kc_value.specs.Lines.{has_no_byte, has_newline}
+use Rattle.kc_dotconfig_model.specs.PrefixGrammar.{is_prefix}
+use Rattle.kc_dotconfig_model.specs.ConfigLines.{LineMeaning, assigns, notice, silent, Means}
+use Rattle.kc_tree_model.specs.LogicalLines.{without_white_end}
 use Rattle.kc_dotconfig_model.specs.ConfigFiles.{FileMeans, file_lines, has_utf8_lines}
 use Rattle.kc_minimal_model.specs.SymbolLine.{symbol_line, ended_line}
 use Rattle.kc_minimal_model.specs.MinimalFile.{has_line}
@@ -46,10 +48,10 @@ pub record HasOwnLines (format : FileFormat) (tree : Tree) (values : List UnitVa
   pub own : AllByRecursion (IsOwn values) meanings
   pub covers : (s : ℕ) → covered s → list_any (is_for (unit_of tree s)) meanings ≡ true
 
-one_line : (title : List ℕ) → has_newline title ≡ false → lacks 10 title ≡ true
+one_line : (title : List ℕ) → has_newline title ≡ false → has_no_byte 10 title ≡ true
 one_line [] e = refl
 one_line (b ∷ title) e =
-    let parts = or_parts (b == 10) (has_newline title) e in and_from (not (b == 10)) (lacks 10 title) (ap not parts.0) (one_line title parts.1)
+    let parts = or_parts (b == 10) (has_newline title) e in and_from (not (b == 10)) (has_no_byte 10 title) (ap not parts.0) (one_line title parts.1)
 
 -- each title is one line of UTF-8
 abbrev HasPlainTitles : List Entry → Type 0
@@ -57,7 +59,7 @@ HasPlainTitles entries = (k : ℕ) (entry : Entry) (title : List ℕ) → slice_
 
 -- a title without a newline, as bytes and as text
 record IsTitle (title : List ℕ) : Type 0 where
-  one : lacks 10 title ≡ true
+  one : has_no_byte 10 title ≡ true
   utf8 : IsUtf8 title
 
 plain_title : (title : List ℕ) → is_line title ≡ true → IsTitle title
@@ -67,12 +69,13 @@ plain_title title e =
 
 module _ (format : FileFormat) (valid : is_prefix format.prefix ≡ true) (tree : Tree) (values : List UnitValue) where
   -- one more line
-  own_lines_line : (C D : ℕ → Type 0) (line rest : List ℕ) (meaning : LineMeaning) → lacks 10 line ≡ true → IsUtf8 line
+  own_lines_line : (C D : ℕ → Type 0) (line rest : List ℕ) (meaning : LineMeaning) → has_no_byte 10 line ≡ true → IsUtf8 line
       → Means format tree (without_white_end line) meaning → IsOwn values meaning → HasOwnLines format tree values C rest
       → ((s : ℕ) → D s → (is_for (unit_of tree s) meaning ≡ true) ⊎ C s) → HasOwnLines format tree values D (line ++ 10 ∷ rest)
   own_lines_line C D line rest meaning one utf8 has_meaning own t covers = record {
     meanings = meaning ∷ t.meanings;
-    has_meaning = subst (λ ls. AllZip (λ l x. Means format tree (without_white_end l) x) ls (meaning ∷ t.meanings)) (sym (first_line line rest one)) (has_meaning, t.has_meaning);
+    has_meaning = subst (λ ls. AllZip (λ l x. Means format tree (without_white_end l) x) ls (meaning ∷ t.meanings))
+        (sym (first_line line rest one)) (has_meaning, t.has_meaning);
     utf8 = ap (list_all is_utf8) (first_line line rest one) ∙ and_from (is_utf8 line) (list_all is_utf8 (file_lines rest)) (is_utf8-from_IsUtf8 line utf8)
         t.utf8;
     own = (own, t.own);
@@ -83,18 +86,19 @@ module _ (format : FileFormat) (valid : is_prefix format.prefix ≡ true) (tree 
   }
 
   -- one more line without an assignment
-  silent_line : (C : ℕ → Type 0) (line rest : List ℕ) → lacks 10 line ≡ true → IsUtf8 line → Means format tree (without_white_end line) silent
+  silent_line : (C : ℕ → Type 0) (line rest : List ℕ) → has_no_byte 10 line ≡ true → IsUtf8 line → Means format tree (without_white_end line) silent
       → HasOwnLines format tree values C rest → HasOwnLines format tree values C (line ++ 10 ∷ rest)
   silent_line C line rest one utf8 has_meaning t = own_lines_line C C line rest silent one utf8 has_meaning tt t (λ s c. inr c)
 
   -- of fewer symbols
   own_lines_fewer : (C D : ℕ → Type 0) (bytes : List ℕ) → ((s : ℕ) → D s → C s) → HasOwnLines format tree values C bytes
       → HasOwnLines format tree values D bytes
-  own_lines_fewer C D bytes fewer t = record { meanings = t.meanings; has_meaning = t.has_meaning; utf8 = t.utf8; own = t.own; covers = λ s d. t.covers s (fewer s d) }
+  own_lines_fewer C D bytes fewer t =
+      record { meanings = t.meanings; has_meaning = t.has_meaning; utf8 = t.utf8; own = t.own; covers = λ s d. t.covers s (fewer s d) }
 
-  title_lacks : (title : List ℕ) → lacks 10 title ≡ true → lacks 10 (heading_title format.prefix title) ≡ true
+  title_lacks : (title : List ℕ) → has_no_byte 10 title ≡ true → has_no_byte 10 (heading_title format.prefix title) ≡ true
   title_lacks title one = go (starts_with nat_eq title format.prefix) where
-    go : (t : Bool) → lacks 10 (cond t (32 ∷ title) title) ≡ true
+    go : (t : Bool) → has_no_byte 10 (cond t (32 ∷ title) title) ≡ true
     go true = one
     go false = one
 

@@ -8,9 +8,11 @@ use Rattle.kc_expr.specs.Token.{is_white_byte}
 use Rattle.kc_tree_model.specs.Trees.{Tree}
 use Rattle.kc_tree_model.specs.TreeLookup.{is_name_byte}
 use Rattle.kc_dotconfig_model.specs.Formats.{FileFormat}
-use Rattle.kc_dotconfig_model.specs.PrefixGrammar.{is_prefix, lacks}
+use Rattle.kc_value.specs.Lines.{has_no_byte}
+use Rattle.kc_dotconfig_model.specs.PrefixGrammar.{is_prefix}
 use Rattle.kc_dotconfig_model.proofs.LineLaws.{line_read}
-use Rattle.kc_dotconfig_model.specs.ConfigLines.{LineMeaning, silent, Means, empty, comment, IsUnsetLine, without_white_end}
+use Rattle.kc_dotconfig_model.specs.ConfigLines.{LineMeaning, silent, Means, empty, comment, IsUnsetLine}
+use Rattle.kc_tree_model.specs.LogicalLines.{without_white_end}
 use Rattle.kc_minimal_model.specs.FullFile.{heading_title}
 use Rattle.kc_minimal_model.proofs.Bytes.{name_lacks, all_of_both}
 use Rattle.kc_dotconfig_model.proofs.TrimmedLines.{white_suffix_begins}
@@ -39,7 +41,8 @@ front_of : (line : List ℕ) → (rest : List ℕ) × (line ≡ without_white_en
 front_of line = (drop (length line - suffix_len is_white_byte line) line, sym (take-append-drop (length line - suffix_len is_white_byte line) line))
 
 -- a line that begins with `#` is a comment, which assigns nothing, if it isn't a line `# CONFIG_NAME is not set`
-pub comment_is_silent : (format : FileFormat) (tree : Tree) (line : List ℕ) → ((name : List ℕ) → IsUnsetLine format.prefix (without_white_end (35 ∷ line)) name → ⊥)
+pub comment_is_silent : (format : FileFormat) (tree : Tree) (line : List ℕ)
+    → ((name : List ℕ) → IsUnsetLine format.prefix (without_white_end (35 ∷ line)) name → ⊥)
     → Means format tree (without_white_end (35 ∷ line)) silent
 comment_is_silent format tree line none =
     let h = hash_stays line in
@@ -93,15 +96,15 @@ heading_is_silent format tree title valid = comment_is_silent format tree (32 �
           begins (x ++ rest) (tail ∙ append_assoc format.prefix x rest)
 
 -- the bytes after the first space
-rest_after_space : (a b x y : List ℕ) → lacks 32 a ≡ true → lacks 32 b ≡ true → a ++ 32 ∷ x ≡ b ++ 32 ∷ y → x ≡ y
+rest_after_space : (a b x y : List ℕ) → has_no_byte 32 a ≡ true → has_no_byte 32 b ≡ true → a ++ 32 ∷ x ≡ b ++ 32 ∷ y → x ≡ y
 rest_after_space [] [] x y p q e = cc
 rest_after_space [] (b ∷ bs) x y p q e =
-    let same : b ≡ 32 = cc in absurd (false≢true (ap (λ c. not (c == 32)) (sym same) ∙ (and_parts (not (b == 32)) (lacks 32 bs) q).0))
+    let same : b ≡ 32 = cc in absurd (false≢true (ap (λ c. not (c == 32)) (sym same) ∙ (and_parts (not (b == 32)) (has_no_byte 32 bs) q).0))
 rest_after_space (a ∷ aa) [] x y p q e =
-    let same : a ≡ 32 = cc in absurd (false≢true (ap (λ c. not (c == 32)) (sym same) ∙ (and_parts (not (a == 32)) (lacks 32 aa) p).0))
+    let same : a ≡ 32 = cc in absurd (false≢true (ap (λ c. not (c == 32)) (sym same) ∙ (and_parts (not (a == 32)) (has_no_byte 32 aa) p).0))
 rest_after_space (a ∷ aa) (b ∷ bs) x y p q e =
     let tail : aa ++ 32 ∷ x ≡ bs ++ 32 ∷ y = cc in
-    rest_after_space aa bs x y (and_parts (not (a == 32)) (lacks 32 aa) p).1 (and_parts (not (b == 32)) (lacks 32 bs) q).1 tail
+    rest_after_space aa bs x y (and_parts (not (a == 32)) (has_no_byte 32 aa) p).1 (and_parts (not (b == 32)) (has_no_byte 32 bs) q).1 tail
 
 first_same : (a b : ℕ) (x y : List ℕ) → a ∷ x ≡ b ∷ y → a ≡ b
 first_same a b x y e = cc
@@ -117,7 +120,7 @@ end_is_silent format tree title valid = comment_is_silent format tree (32 ∷ 10
     let front = front_of line in
     let e = unset.2 in
     no_end name (without_white_end line) front.0 unset.1 front.1 e) where
-      no_end : (name w rest : List ℕ) → lacks 32 name ≡ true → 35 ∷ 32 ∷ 101 ∷ 110 ∷ 100 ∷ 32 ∷ 111 ∷ 102 ∷ 32 ∷ title ≡ w ++ rest
+      no_end : (name w rest : List ℕ) → has_no_byte 32 name ≡ true → 35 ∷ 32 ∷ 101 ∷ 110 ∷ 100 ∷ 32 ∷ 111 ∷ 102 ∷ 32 ∷ title ≡ w ++ rest
           → w ≡ 35 ∷ 32 ∷ (format.prefix ++ (name ++ codes " is not set")) → ⊥
       no_end name w rest one whole e =
           let set = 105 ∷ 115 ∷ 32 ∷ 110 ∷ 111 ∷ 116 ∷ 32 ∷ 115 ∷ 101 ∷ 116 ∷ [] in

@@ -24,7 +24,8 @@ use Rattle.kc_rules_model.specs.Shapes.{user_fits, unit_user_fits, choice_user_f
 use Rattle.kc_rules_model.specs.Reports.{symbol_numbers}
 use Rattle.kc_dotconfig_model.specs.Formats.{FileFormat}
 use Rattle.kc_dotconfig_model.specs.PrefixGrammar.{is_prefix}
-use Rattle.kc_dotconfig_model.specs.ConfigLines.{LineMeaning, Means, without_white_end}
+use Rattle.kc_dotconfig_model.specs.ConfigLines.{LineMeaning, Means}
+use Rattle.kc_tree_model.specs.LogicalLines.{without_white_end}
 use Rattle.kc_dotconfig_model.specs.ConfigFiles.{file_lines, assigned, assigned_over, file_assignment, empty_assignment}
 use Rattle.kc_minimal_model.specs.SymbolLine.{symbol_line, ended_line}
 use Rattle.kc_minimal_model.specs.MinimalFile.{is_kept, has_line, may_have_line, is_line_of_its_unit, minimal_symbols}

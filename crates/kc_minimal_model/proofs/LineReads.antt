@@ -10,7 +10,7 @@ use Rattle.kc_value.specs.declared.value.Kind.TheVariants.{Bool as Boolean, Tris
 use Rattle.kc_value.specs.QuotedTexts.{quoted, escaped_byte, IsBody, none, plain, pair, IsQuoted}
 use Rattle.kc_expr.specs.Expr.{SymbolValue, letter}
 use Rattle.kc_tree_model.specs.Trees.{Tree, Symbol}
-use Rattle.kc_tree_model.specs.TreeLookup.{has_newline, IsConsistent, is_name_byte, unit_of}
+use Rattle.kc_tree_model.specs.TreeLookup.{IsConsistent, is_name_byte, unit_of}
 use Rattle.kc_rules_model.specs.declared.values.UserValue.TheVariants.{Tri as TriUser, Text as TextUser, Member as MemberUser}
 use Rattle.kc_value.specs.Kinds.{is_tri_kind}
 use Rattle.kc_value.specs.Number.{number_of_text}
@@ -18,8 +18,10 @@ use Rattle.kc_rules_model.specs.Shapes.{tri_fits, user_text_fits}
 use Rattle.kc_dotconfig_model.specs.declared.format.Strings.{Strings}
 use Rattle.kc_dotconfig_model.specs.declared.format.Strings.TheVariants.{Escaped, Raw}
 use Rattle.kc_dotconfig_model.specs.Formats.{FileFormat, string_spelling, IsStringSpelling}
-use Rattle.kc_dotconfig_model.specs.PrefixGrammar.{is_prefix, lacks}
-use Rattle.kc_dotconfig_model.specs.ConfigLines.{LineMeaning, assigns, silent, Means, value, unset, unset_meaning, ValueMeans, tri as says_tri, chosen, quoted as says_quoted, number, tri_of_text, without_white_end}
+use Rattle.kc_value.specs.Lines.{has_no_byte, has_newline}
+use Rattle.kc_dotconfig_model.specs.PrefixGrammar.{is_prefix}
+use Rattle.kc_dotconfig_model.specs.ConfigLines.{LineMeaning, assigns, silent, Means, value, unset, unset_meaning, ValueMeans, tri as says_tri, chosen, quoted as says_quoted, number, tri_of_text}
+use Rattle.kc_tree_model.specs.LogicalLines.{without_white_end}
 use Rattle.kc_dotconfig_model.specs.ConfigFiles.{file_lines}
 use Rattle.kc_minimal_model.specs.MinimalFileLaws.{StringsAreReadBack}
 use Rattle.kc_minimal_model.specs.SymbolLine.{line_with, value_line, unset_line}
@@ -46,12 +48,12 @@ body_of (c ∷ text) = go (c == 34 || (c == 92)) refl (body_of text) where
 pub quoted_means : (text : List ℕ) → IsQuoted (quoted text) text
 quoted_means text = (flat_map escaped_byte text, refl, body_of text)
 
-escaped_lacks : (text : List ℕ) → has_newline text ≡ false → lacks 10 (flat_map escaped_byte text) ≡ true
+escaped_lacks : (text : List ℕ) → has_newline text ≡ false → has_no_byte 10 (flat_map escaped_byte text) ≡ true
 escaped_lacks [] e = refl
 escaped_lacks (c ∷ text) e =
     let parts = or_parts (c == 10) (has_newline text) e in
     all_of_both (λ b. not (b == 10)) (escaped_byte c) (flat_map escaped_byte text) (go (c == 34 || (c == 92))) (escaped_lacks text parts.1) where
-      go : (t : Bool) → lacks 10 (cond t (92 ∷ c ∷ []) (c ∷ [])) ≡ true
+      go : (t : Bool) → has_no_byte 10 (cond t (92 ∷ c ∷ []) (c ∷ [])) ≡ true
       go true = and_from (not (c == 10)) true (ap not (or_parts (c == 10) (has_newline text) e).0) refl
       go false = and_from (not (c == 10)) true (ap not (or_parts (c == 10) (has_newline text) e).0) refl
 
@@ -68,12 +70,12 @@ spelling_quoted : (strings : Strings) (text : List ℕ) → string_spelling stri
 spelling_quoted Escaped text = refl
 spelling_quoted Raw text = refl
 
-text_lacks : (text : List ℕ) → has_newline text ≡ false → lacks 10 text ≡ true
+text_lacks : (text : List ℕ) → has_newline text ≡ false → has_no_byte 10 text ≡ true
 text_lacks [] e = refl
 text_lacks (c ∷ text) e =
-    let parts = or_parts (c == 10) (has_newline text) e in and_from (not (c == 10)) (lacks 10 text) (ap not parts.0) (text_lacks text parts.1)
+    let parts = or_parts (c == 10) (has_newline text) e in and_from (not (c == 10)) (has_no_byte 10 text) (ap not parts.0) (text_lacks text parts.1)
 
-spelling_lacks : (strings : Strings) (text : List ℕ) → has_newline text ≡ false → lacks 10 (string_spelling strings text) ≡ true
+spelling_lacks : (strings : Strings) (text : List ℕ) → has_newline text ≡ false → has_no_byte 10 (string_spelling strings text) ≡ true
 spelling_lacks Escaped text one = all_of_both (λ c. not (c == 10)) (flat_map escaped_byte text) (34 ∷ []) (escaped_lacks text one) refl
 spelling_lacks Raw text one = all_of_both (λ c. not (c == 10)) text (34 ∷ []) (text_lacks text one) refl
 
@@ -85,7 +87,7 @@ spelling_utf8 Raw text utf8 = ascii_then 34 (text ++ 34 ∷ []) (omega arith) (I
 pub record IsLine (format : FileFormat) (tree : Tree) (line : List ℕ) (meaning : LineMeaning) : Type 0 where
   pub has_meaning : Means format tree line meaning
   pub whole : without_white_end line ≡ line
-  pub one : lacks 10 line ≡ true
+  pub one : has_no_byte 10 line ≡ true
   pub utf8 : IsUtf8 line
 
 prefix_bytes : (prefix : List ℕ) → is_prefix prefix ≡ true → list_all is_name_byte prefix ≡ true
@@ -93,7 +95,7 @@ prefix_bytes prefix e = (and_parts _ (list_all is_name_byte prefix) e).1
 
 module _ (format : FileFormat) (valid : is_prefix format.prefix ≡ true) (tree : Tree) (sound : IsConsistent tree) (s : ℕ) (symbol : Symbol)
     (at : slice_get tree.symbols s ≡ Some symbol) where
-  one_value_line : (text : List ℕ) → lacks 10 text ≡ true → lacks 10 (value_line format.prefix symbol.name text) ≡ true
+  one_value_line : (text : List ℕ) → has_no_byte 10 text ≡ true → has_no_byte 10 (value_line format.prefix symbol.name text) ≡ true
   one_value_line text one =
       all_of_both (λ c. not (c == 10)) format.prefix (symbol.name ++ (61 ∷ text)) (name_lacks 10 refl format.prefix (prefix_bytes format.prefix valid))
       (all_of_both (λ c. not (c == 10)) symbol.name (61 ∷ text) (name_lacks 10 refl symbol.name (sound.words s symbol at).1) one)
@@ -145,7 +147,7 @@ module _ (format : FileFormat) (valid : is_prefix format.prefix ≡ true) (tree 
       ap (value_line format.prefix symbol.name) (spelling_quoted format.strings text) ∙ parted in
       ap without_white_end same ∙ ends_in_ink front 34 refl ∙ sym same
 
-  string_one : (text : List ℕ) → has_newline text ≡ false → lacks 10 (value_line format.prefix symbol.name (spelling text)) ≡ true
+  string_one : (text : List ℕ) → has_newline text ≡ false → has_no_byte 10 (value_line format.prefix symbol.name (spelling text)) ≡ true
   string_one text one = one_value_line (spelling text) (spelling_lacks format.strings text one)
 
   string_line : (text : List ℕ) → symbol.kind ≡ Text → has_newline text ≡ false → IsUtf8 text

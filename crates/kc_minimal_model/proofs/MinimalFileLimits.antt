@@ -30,7 +30,7 @@ use Rattle.kc_dotconfig_model.specs.declared.format.Strings.{Strings}
 use Rattle.kc_dotconfig_model.specs.declared.format.Strings.TheVariants.{Escaped, Raw}
 use Rattle.kc_dotconfig_model.specs.Formats.{FileFormat, string_spelling, IsStringSpelling}
 use Rattle.kc_dotconfig_model.specs.PrefixGrammar.{is_prefix}
-use Rattle.kc_dotconfig_model.specs.ConfigLines.{without_white_end}
+use Rattle.kc_tree_model.specs.LogicalLines.{without_white_end}
 use Rattle.kc_dotconfig_model.specs.ConfigFiles.{file_lines, file_assignment, empty_assignment}
 use Rattle.kc_value.specs.declared.limits.TheConstants.{MAX_CONFIG_LINES, MAX_LINE_BYTES}
 use Rattle.kc_dotconfig_model.specs.LoadFaults.{IsAccepted}

@@ -26,7 +26,8 @@ use Rattle.kc_rules_model.specs.Shapes.{value_fits, unit_value_fits, symbol_valu
 use Rattle.kc_tree_model.proofs.Lookups.{inside, found_by_name, place_is, unit_is}
 use Rattle.kc_dotconfig_model.specs.Formats.{FileFormat}
 use Rattle.kc_dotconfig_model.specs.PrefixGrammar.{is_prefix}
-use Rattle.kc_dotconfig_model.specs.ConfigLines.{LineMeaning, assigns, notice, silent, value, unset_meaning, ValueMeans, no_int, no_hex, without_white_end}
+use Rattle.kc_dotconfig_model.specs.ConfigLines.{LineMeaning, assigns, notice, silent, value, unset_meaning, ValueMeans, no_int, no_hex}
+use Rattle.kc_tree_model.specs.LogicalLines.{without_white_end}
 use Rattle.kc_minimal_model.specs.SymbolLine.{symbol_line, line_of_value, line_with, value_line, unset_line}
 use Rattle.kc_minimal_model.proofs.Bytes.{name_lacks, all_of_both, ends_in_ink}
 use Rattle.kc_minimal_model.proofs.DifferenceLaws.{text_kind}
@@ -70,7 +71,8 @@ module _ (format : FileFormat) (valid : is_prefix format.prefix ≡ true) (tree 
   abbrev of_text : Kind → List ℕ → SymbolValue
   of_text kind text = record { kind = kind; tri = N; text = text }
 
-  text_is_own_line : (s : ℕ) (symbol : Symbol) → slice_get tree.symbols s ≡ Some symbol → (text : List ℕ) → user_meant values (unit_of tree s) ≡ Some (TextUser text)
+  text_is_own_line : (s : ℕ) (symbol : Symbol) → slice_get tree.symbols s ≡ Some symbol → (text : List ℕ)
+      → user_meant values (unit_of tree s) ≡ Some (TextUser text)
       → user_text_fits symbol.kind text ≡ true
       → IsOwnLine format tree values (line_with format symbol.name (of_text symbol.kind text))
   text_is_own_line s symbol at text held good =
@@ -80,7 +82,8 @@ module _ (format : FileFormat) (valid : is_prefix format.prefix ≡ true) (tree 
         own = held;
       }
 
-  number_is_own_line : (s : ℕ) (symbol : Symbol) → slice_get tree.symbols s ≡ Some symbol → (text : List ℕ) → user_meant values (unit_of tree s) ≡ Some (TextUser text)
+  number_is_own_line : (s : ℕ) (symbol : Symbol) → slice_get tree.symbols s ≡ Some symbol → (text : List ℕ)
+      → user_meant values (unit_of tree s) ≡ Some (TextUser text)
       → (kind : Kind) → symbol.kind ≡ kind
       → ((length text == 0) || is_some (number_of_text kind text)) ≡ true → (is_some (number_of_text kind text) ≡ true → user_text_fits kind text ≡ true)
       → (value_line format.prefix symbol.name [] ≡ line_with format symbol.name (of_text kind [])) → ValueMeans format.strings tree s symbol [] silent

@@ -46,7 +46,8 @@ unfolding next_token is_utf8 chars read_expr lines_of source_fault statement_on_
 one_unit = refl
 
 no_needs : dependencies tree 0 ≡ []
-unfolding dependencies next_token is_utf8 chars read_expr lines_of source_fault statement_on_line reading lib.Utf8.encode tree_of_groups tree_of_files index_of_name
+unfolding dependencies next_token is_utf8 chars read_expr lines_of source_fault statement_on_line reading lib.Utf8.encode
+    tree_of_groups tree_of_files index_of_name
 no_needs = refl
 
 empty_holds : (d : ℕ) (xs : List ℕ) → xs ≡ [] → Contains xs d → ⊥
@@ -74,7 +75,8 @@ abbrev file : List ℕ
 file = codes "CONFIG_A=y\n"
 
 meaning : file_meanings plain tree file ≡ Some (assigns 0 (TriUser Y) ∷ [])
-unfolding line_meaning next_token is_utf8 chars read_expr lines_of source_fault statement_on_line reading lib.Utf8.encode tree_of_groups tree_of_files index_of_name
+unfolding line_meaning next_token is_utf8 chars read_expr lines_of source_fault statement_on_line reading lib.Utf8.encode
+    tree_of_groups tree_of_files index_of_name
 meaning = refl
 
 is_text : has_utf8_lines file ≡ true

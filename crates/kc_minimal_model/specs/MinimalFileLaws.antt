@@ -2,7 +2,8 @@
 use Rattle.std.specs.Prelude.{◌≡◌, ◌↔◌, [], ◌∷◌, ◌++◌, ℕ, true, false, List, Option, Some, length, slice_get, IsTrue}
 use Rattle.kc_value.specs.declared.value.Kind.TheVariants.{Text}
 use Rattle.kc_tree_model.specs.Trees.{Tree, Symbol}
-use Rattle.kc_tree_model.specs.TreeLookup.{has_newline, IsConsistent, unit_of}
+use Rattle.kc_value.specs.Lines.{has_newline}
+use Rattle.kc_tree_model.specs.TreeLookup.{IsConsistent, unit_of}
 use Rattle.kc_system.specs.Solutions.{Solves, FitsUsers, FitsValues}
 use Rattle.kc_system.specs.LeastAssignments.{IsLeastAssignment}
 use Rattle.kc_rules_model.specs.declared.profile.Profile.{Profile}
@@ -13,7 +14,8 @@ use Rattle.kc_rules_model.specs.Rule.{rule, as_user}
 use Rattle.kc_rules_model.specs.Shapes.{user_fits, value_fits}
 use Rattle.kc_dotconfig_model.specs.Formats.{FileFormat, string_spelling}
 use Rattle.kc_dotconfig_model.specs.PrefixGrammar.{is_prefix}
-use Rattle.kc_dotconfig_model.specs.ConfigLines.{LineMeaning, assigns, Means, without_white_end}
+use Rattle.kc_dotconfig_model.specs.ConfigLines.{LineMeaning, assigns, Means}
+use Rattle.kc_tree_model.specs.LogicalLines.{without_white_end}
 use Rattle.kc_dotconfig_model.specs.ConfigFiles.{FileMeans, file_assignment}
 use Rattle.kc_minimal_model.specs.SymbolLine.{value_line, symbol_line}
 use Rattle.kc_minimal_model.specs.Differences.{differences}

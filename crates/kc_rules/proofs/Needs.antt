@@ -185,7 +185,8 @@ module _ (tree : Tree) (exprs : Exprs) (d : ℕ) where
       (map (default_view exprs) k.defaults.now) ++ flat_map (λ (r : Range). operand_names r.low ++ operand_names r.high ++ names_in r.condition)
       (map (range_view exprs) k.ranges.now) ++ flat_map names_in (map (node_expr exprs) k.direct.now) ++ cond (is_tristate k.kind) (modules ∷ []) [] in
       let w : Bool = in_exprs exprs p k.prompts.now || in_defaults exprs p k.defaults.now || in_ranges exprs p k.ranges.now || in_exprs exprs p k.direct.now in
-      needs_reordered w (by_modules tree d k.kind (symbol_named tree modules)) (depends_on_reverse tree d k.selectors.now) (depends_on_reverse tree d k.impliers.now)
+      needs_reordered w (by_modules tree d k.kind (symbol_named tree modules)) (depends_on_reverse tree d k.selectors.now)
+      (depends_on_reverse tree d k.impliers.now)
       (in_reverse_dependencies exprs p k.selectors.now) (in_reverse_dependencies exprs p k.impliers.now)
       ∙ sym (list_any-append (λ m. m == d) (units_named tree own ++ sel) imp
       ∙ ap (λ t. t || has imp d) (list_any-append (λ m. m == d) (units_named tree own) sel)

@@ -1,7 +1,6 @@
 //! Tests of whether a user value fits a unit.
 ghost use Rattle.std.specs.Prelude.{◌≡◌, ◌<◌, ◌==◌, length};
 ghost use Rattle.std.specs.List.{list_any};
-ghost use Rattle.kc_tree_model.specs.TreeLookup.{has_newline};
 ghost use Rattle.kc_rules_model.specs.Shapes.{tri_fits, user_text_fits, user_fits};
 ghost use Rattle.kc_rules.specs.between.SettledViews.{tree_of_settled};
 ghost use Rattle.kc_rules.specs.checker.Fits.{kind_user_fits, member_user_fits};
@@ -10,7 +9,7 @@ use super::rules::Settled;
 use super::text_rules::number_of;
 use kc_rules_model::UserValue;
 use kc_tree::{Sym, Unit};
-use kc_value::{Kind, Text, Tri};
+use kc_value::{Kind, Text, Tri, has_newline};
 
 /// Whether a tristate fits a type: any fits a tristate, all but `m` a bool, none another type.
 fn is_tri_fit(kind: Kind, value: Tri) -> bool
@@ -21,18 +20,6 @@ fn is_tri_fit(kind: Kind, value: Tri) -> bool
         Kind::Tristate => true,
         _ => false,
     }
-}
-
-/// Whether a text has a newline.
-fn has_newline(text: &[u8]) -> bool
-    ensures { result ≡ has_newline text.now }
-{
-    for byte in text {
-        if *byte == b'\n' {
-            return true;
-        }
-    }
-    false
 }
 
 /// A string is of one line, and an int or hex is a number of its type.

@@ -18,7 +18,8 @@ use Rattle.kc_expr.specs.Expr.{Expr, alone, related, negated, both, either, show
 use Rattle.kc_tree_model.specs.Trees.{Tree, Symbol, Choice, Default, Range, MemberDefault}
 use Rattle.kc_tree_model.specs.declared.ids.Unit.{Unit as TreeUnit}
 use Rattle.kc_tree_model.specs.declared.ids.Unit.TheVariants.{Symbol as of_symbol, Choice as of_choice}
-use Rattle.kc_tree_model.specs.TreeLookup.{IsConsistent, has_newline, own_text, unit_of, symbol_named}
+use Rattle.kc_value.specs.Lines.{has_newline}
+use Rattle.kc_tree_model.specs.TreeLookup.{IsConsistent, own_text, unit_of, symbol_named}
 use Rattle.kc_system.specs.Solutions.{FitsValues}
 use Rattle.kc_rules_model.specs.declared.profile.Profile.{Profile}
 use Rattle.kc_rules_model.specs.declared.values.UnitValue.{UnitValue}

@@ -100,7 +100,8 @@ hex_text_ink : (text : List ℕ) → is_some (hex_text text) ≡ true → IsInk 
 unfolding hex_text
 hex_text_ink text e =
     let some = some_then (nat_le (length text) 64) (option_map pos (magnitude 16 (2 ^ 64) (without_prefix text))) e in
-    ink_with_prefix text (digits_ink 16 (2 ^ 64) (without_prefix text) (omega arith) hex_ink (some_before pos (magnitude 16 (2 ^ 64) (without_prefix text)) some))
+    ink_with_prefix text (digits_ink 16 (2 ^ 64) (without_prefix text) (omega arith) hex_ink
+    (some_before pos (magnitude 16 (2 ^ 64) (without_prefix text)) some))
 
 -- the text of a number has one byte or more, all below 128, and none of them is white or a newline
 pub number_ink : (kind : Kind) (text : List ℕ) → is_some (number_of_text kind text) ≡ true → IsInk text

@@ -154,7 +154,8 @@ nothing_eliminated size dependencies eliminated flags none unset =
     }
 
 -- if `next` is 0 for each unit, no dependency need have its flag set
-pub nothing_passed : (size : ℕ) (dependencies : ℕ → List ℕ) (flags : List Bool) (next : List ℕ) → next ≡ replicate size 0 → ArePassed size dependencies flags next
+pub nothing_passed : (size : ℕ) (dependencies : ℕ → List ℕ) (flags : List Bool) (next : List ℕ) → next ≡ replicate size 0
+    → ArePassed size dependencies flags next
 nothing_passed size dependencies flags next is =
     let at : (u : ℕ) → u < size → get_or next u 0 ≡ 0 = λ u h. ap (λ xs. get_or xs u 0) is ∙ get_or-replicate size u 0 0 h in
     record {

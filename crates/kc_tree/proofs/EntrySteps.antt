@@ -219,7 +219,8 @@ module _ (e e2 : Exprs) (texts : List (List ℕ)) (C : Contents) (d : Differ C.n
   text_is : (t : ℕ) (title : List ℕ) → slice_get texts t ≡ Some title → slice_index_or texts t [] ≡ title
   text_is t title h = get_or_from_slice_get texts t title [] h
 
-  represented_unless_closing : (id : ℕ) (x : Expr) → side_of p.group.head ≡ closing ⊎ Represents e2 id x → (side_of p.group.head ≡ closing → ⊥) → Represents e2 id x
+  represented_unless_closing : (id : ℕ) (x : Expr) → side_of p.group.head ≡ closing ⊎ Represents e2 id x
+      → (side_of p.group.head ≡ closing → ⊥) → Represents e2 id x
   represented_unless_closing id x (inl a) away = absurd (away a)
   represented_unless_closing id x (inr s) away = s
 
@@ -285,7 +286,8 @@ module _ (e e2 : Exprs) (texts : List (List ℕ)) (C : Contents) (d : Differ C.n
   entry_fits (codes.Condition id) c own h k o = All-nil Fits
   entry_fits (codes.Comment t) c own h k o =
       let away : side_of p.group.head ≡ closing → ⊥ = λ q. let z = sym (ap side_of h.2) ∙ q in cc in
-      one_fits (Comment t c.dependency) (get_below texts t h.0 h.1, (represented_unless_closing c.dependency (dependency_of p.enclosing p.group) k.dependency_is away).within)
+      one_fits (Comment t c.dependency)
+      (get_below texts t h.0 h.1, (represented_unless_closing c.dependency (dependency_of p.enclosing p.group) k.dependency_is away).within)
   entry_fits (codes.Source t) c own h k o = All-nil Fits
   entry_fits codes.Mainmenu c own h k o = All-nil Fits
   entry_fits (codes.Ends blocks.Menu) c own h k o = end_fits c.ended c.dependency c.visible (menu_end_of p.opened) (k.ended_is (ap side_of h))

@@ -32,7 +32,7 @@ use Rattle.kc_tree.specs.checker.FaultSearch.{AreSmall, HasMembers, choices_befo
 use Rattle.kc_tree.specs.checker.Summaries.{IsSummaryOf, summary_in, attributes_end, enclosing_choice, first_is, first_in_definitions, group_at, member_keys_at, number_at, read_before}
 use Rattle.kc_tree.specs.declared.summary.SymbolSummary.{SymbolSummary}
 use Rattle.kc_tree.specs.declared.summary.Summary.{Summary}
-use Rattle.kc_tree.proofs.SymbolSummaries.{first_of_both}
+use Rattle.kc_tree.proofs.SymbolSummaries.{first_of_both, first_number_is}
 use Rattle.kc_tree.proofs.GroupPlaces.{all_before, are_numbers, count_is, none_before, numbers_before, place_numbered, placed_before, placed_count, shown_at}
 use Rattle.kc_tree.proofs.FaultKinds.{definition_is, fault_of, first_mapped}
 use Rattle.kc_tree.proofs.Rounds.{begins_is, number_counts, enclosing_numbered}
@@ -108,16 +108,9 @@ pub enclosing_some : (read : List Group) (p : GroupInContext) → Has p (groups_
     → is_some (enclosing_choice (contents_of read) p) ≡ is_some p.enclosing.choice
 enclosing_some read p h = enclosing_by (contents_of read) p.enclosing.choice (λ n e. enclosing_numbered read p n h e)
 
--- whether a place is the first definition
-first_by : (ds : List GroupInContext) (n : ℕ)
-    → first_is (slice_get (flat_map number_at ds) 0) n ≡ elim (option_map (λ (q : GroupInContext). q.group) (slice_get ds 0)) as (λ _. Bool)
-    [ None ↦ false | Some g ↦ g.number == n ]
-first_by [] n = refl
-first_by (d ∷ ds) n = refl
-
 pub first_reported : (c : Contents) (name : List ℕ) (p : GroupInContext) (i : ℕ) → p.group.number ≡ i
     → first_is (first_in_definitions number_at c.places name) i ≡ is_first_definition c name p
-first_reported c name p i e = ap (first_is (first_in_definitions number_at c.places name)) (sym e) ∙ first_by (definitions_of c name) p.group.number
+first_reported c name p i e = ap (first_is (first_in_definitions number_at c.places name)) (sym e) ∙ first_number_is (definitions_of c name) p.group.number
 
 -- the kind of fault found in a definition that was read is the first of the model's faults of the definition
 pub definition_reported : (language : Language) (read : List Group) (p : GroupInContext) (name : List ℕ) (i : ℕ) (about : SymbolSummary)

@@ -1,6 +1,6 @@
 -- The summaries of symbols.
 use Rattle.std.proofs.Common.{◌≡◌, ℕ, zero, suc, ◌+◌, ◌<◌, ◌≤◌, Bool, true, false, cond, List, [], ◌∷◌, ◌++◌, length, get_or, set, drop, map, filter, Option, Some, None, refl, ap, sym, ◌∙◌, arith, append-nil}
-use Rattle.std.specs.Prelude.{slice_get, filter_map, flat_map, bytes_eq, option_to_list}
+use Rattle.std.specs.Prelude.{slice_get, filter_map, flat_map, option_map, bytes_eq, option_to_list, ◌==◌}
 use Rattle.std.specs.List.{cons_option}
 use Rattle.std.specs.Option.{option_or}
 use Rattle.std.proofs.Math.Seq.{drop-cons}
@@ -16,7 +16,7 @@ use Rattle.kc_tree_model.specs.Conditions.{GroupInContext, attribute_values}
 use Rattle.kc_tree_model.specs.Contents.{Contents, defines}
 use Rattle.kc_tree_model.proofs.Consistency.Lists.{same_text, text_same, Differ, at_most_once}
 use Rattle.kc_listing.specs.declared.listing.Line.{Line as CodeLine}
-use Rattle.kc_tree.specs.checker.Summaries.{first_in_definitions, number_at, choices_at, enclosing_choice, summary_in, first_summary, symbol_summaries, type_in}
+use Rattle.kc_tree.specs.checker.Summaries.{first_in_definitions, first_is, number_at, choices_at, enclosing_choice, summary_in, first_summary, symbol_summaries, type_in}
 use Rattle.kc_tree.specs.declared.summary.SymbolSummary.{SymbolSummary}
 
 -- the first element of two joined lists is the first of the front list, or if that is empty, of the back list
@@ -31,6 +31,13 @@ or_nothing (Some x) = refl
 pub first_of_option : {A : Type 0} (o : Option A) → slice_get (option_to_list o) 0 ≡ o
 first_of_option None = refl
 first_of_option (Some x) = refl
+
+-- whether the number of the first of these definitions is a given number
+pub first_number_is : (ds : List GroupInContext) (n : ℕ)
+    → first_is (slice_get (flat_map number_at ds) 0) n ≡ elim (option_map (λ (p : GroupInContext). p.group) (slice_get ds 0)) as (λ _. Bool)
+    [ None ↦ false | Some g ↦ g.number == n ]
+first_number_is [] n = refl
+first_number_is (d ∷ ds) n = refl
 
 one_place : {A : Type 0} (f : GroupInContext → List A) (b : Bool) (p : GroupInContext)
     → slice_get (flat_map f (cond b (p ∷ []) [])) 0 ≡ cond b (slice_get (f p) 0) None

@@ -1,6 +1,6 @@
 -- The units of what was read, group by group.
 use Rattle.std.proofs.Common.{◌≡◌, ℕ, ◌+◌, ◌-◌, ◌<◌, Bool, true, false, cond, ◌&&◌, List, [], ◌∷◌, ◌++◌, length, reverse, Option, Some, None, refl, ap, sym, subst, ◌∙◌}
-use Rattle.std.specs.Prelude.{slice_get, filter_map, flat_map, option_map, option_to_list, is_none, ◌==◌}
+use Rattle.std.specs.Prelude.{slice_get, filter_map, option_map, option_to_list, is_none}
 use Rattle.std.specs.List.{cons_option}
 use Rattle.kc_expr.specs.between.Arena.{Exprs}
 use Rattle.kc_expr.specs.Lookup.{index_of_name}
@@ -17,26 +17,20 @@ use Rattle.kc_listing.specs.declared.listing.Line.{Line as CodeLine}
 use Rattle.kc_listing.specs.declared.listing.GroupHead.{GroupHead as CodeHead}
 use Rattle.kc_listing.specs.declared.listing.GroupHead.TheVariants as codes
 use Rattle.kc_listing.specs.between.ListingView.{RepresentsHead, RepresentsGroups}
-use Rattle.kc_tree.specs.checker.Summaries.{read_before, first_is, group_at, is_choice_code, summary_in, symbol_summaries, number_at}
+use Rattle.kc_tree.specs.checker.Summaries.{read_before, group_at, is_choice_code, summary_in, symbol_summaries}
 use Rattle.kc_tree.specs.checker.UnitList.{is_unit_at, first_unit, unit_of_group, unit_read, units_read}
 use Rattle.kc_tree.specs.declared.summary.SymbolSummary.{SymbolSummary}
 use Rattle.kc_tree.proofs.GroupPlaces.{all_before, are_numbers, none_before, numbers_before, placed_more, shown_at}
 use Rattle.kc_tree.proofs.Rounds.{numbers_of_choices, begins_is, number_counts, choices_same, count_more}
+use Rattle.kc_tree.proofs.SymbolSummaries.{first_number_is}
 use Rattle.kc_tree.proofs.Symbols.{choice_is, place_is}
-
--- whether a group is the first definition of a name
-first_by : (ds : List GroupInContext) (n : ℕ)
-    → first_is (slice_get (flat_map number_at ds) 0) n ≡ elim (option_map (λ (p : GroupInContext). p.group) (slice_get ds 0)) as (λ _. Bool)
-    [ None ↦ false | Some g ↦ g.number == n ]
-first_by [] n = refl
-first_by (p ∷ ds) n = refl
 
 unit_at : (read : List Group) (name : List ℕ) (p : GroupInContext)
     → is_unit_at p.group.number (summary_in (contents_of read) (groups_in_context read) name)
     ≡ (is_first_definition (contents_of read) name p && is_none (choice_of_symbol (contents_of read) name))
 unit_at read name p =
     ap (λ b. b && is_none (summary_in (contents_of read) (groups_in_context read) name).choice)
-    (first_by (definitions_of (contents_of read) name) p.group.number)
+    (first_number_is (definitions_of (contents_of read) name) p.group.number)
     ∙ ap (λ o. is_first_definition (contents_of read) name p && is_none o) (choice_is read name)
 
 reported_by : (b : Bool) (s : ℕ) (o : Option ℕ) → o ≡ Some s → cond b (Some (of_symbol s)) None ≡ cond b (option_map of_symbol o) None

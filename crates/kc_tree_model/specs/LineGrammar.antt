@@ -4,7 +4,7 @@ use Rattle.std.specs.List.{list_all}
 use Rattle.kc_expr.specs.declared.language.Language.TheVariants.{Strict}
 use Rattle.kc_expr.specs.Token.{Lexeme}
 use Rattle.kc_expr.specs.TokenGrammar.{IsCut}
-use Rattle.kc_tree_model.specs.TreeLookup.{has_newline}
+use Rattle.kc_value.specs.Lines.{has_newline}
 use Rattle.kc_tree_model.specs.Keywords.{keyword_of}
 use Rattle.kc_tree_model.specs.declared.keyword.Keyword.TheVariants as words
 use Rattle.kc_tree_model.specs.LogicalLines.{PhysicalLine, LogicalLine, without_last, without_return, is_continued, is_blank, indentation, first_indentation}

@@ -1,6 +1,6 @@
 -- From the bytes of a file to its logical lines: a backslash joins lines, and a help text is left out by indentation.
 use Rattle.std.specs.Prelude.{ℕ, zero, suc, ◌+◌, ◌-◌, ◌*◌, ◌/◌, Bool, true, false, ◌&&◌, ◌||◌, ◌==◌, nat_le, List, [], ◌∷◌, ◌++◌, length, map, take, drop, take_while, slice_index, Option, Some, None, Result, Ok, Err, if◌then◌else◌}
-use Rattle.std.specs.List.{list_all}
+use Rattle.std.specs.List.{list_all, suffix_len}
 use Rattle.kc_expr.specs.Token.{is_white_byte, lexemes_from, Lexeme}
 use Rattle.kc_expr.specs.declared.fault.ExprFault.{ExprFault}
 use Rattle.kc_expr.specs.declared.language.Language.{Language}
@@ -71,6 +71,10 @@ indentation l = column_from 0 l.text
 -- whether a physical line has white bytes alone
 abbrev pub is_blank : PhysicalLine → Bool
 is_blank l = list_all is_white_byte l.text
+
+-- a text without the white bytes at its end
+abbrev pub without_white_end : List ℕ → List ℕ
+without_white_end text = take (length text - suffix_len is_white_byte text) text
 
 -- the indentation of the first of these lines that isn't blank, or 0 if all are blank
 abbrev pub first_indentation : List PhysicalLine → ℕ

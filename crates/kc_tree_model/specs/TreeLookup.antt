@@ -8,6 +8,7 @@ use Rattle.kc_tree_model.specs.Trees.{Tree, Symbol, Choice, Default, ReverseDepe
 use Rattle.kc_tree_model.specs.declared.ids.Unit.{Unit as TreeUnit}
 use Rattle.kc_tree_model.specs.declared.ids.Unit.TheVariants.{Symbol as of_symbol, Choice as of_choice}
 use Rattle.kc_value.specs.declared.limits.TheConstants.{MAX_SYMBOLS, MAX_NAME_BYTES}
+use Rattle.kc_value.specs.Lines.{has_newline}
 
 -- whether two units are the same
 abbrev pub is_same_unit : TreeUnit → TreeUnit → Bool
@@ -48,10 +49,6 @@ abbrev pub own_text : Expr → List ℕ
 own_text (alone (named x)) = x
 own_text (alone (quoted x)) = x
 own_text _ = []
-
--- whether a text has a newline
-abbrev pub has_newline : List ℕ → Bool
-has_newline text = list_any (λ b. b == 10) text
 
 -- the title of a menu's beginning or end or of a comment; None of any other entry
 abbrev pub title_of_entry : Entry → Option (List ℕ)

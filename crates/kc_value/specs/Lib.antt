@@ -1,4 +1,5 @@
 pub mod Kinds
+pub mod Lines
 pub mod Number
 pub mod NumberGrammar
 pub mod Streams

@@ -1,7 +1,8 @@
-//! Values of symbols, number texts and quoted texts, limits, and the readers and writers that the other crates use.
+//! Values of symbols, number texts and quoted texts, limits, newlines, and the readers and writers that the other crates use.
 #![tactic(auto)]
 
 mod limits;
+mod newlines;
 mod number;
 mod quoted_texts;
 mod reader_bytes;
@@ -19,6 +20,7 @@ pub use limits::{
     MAX_PIECES, MAX_PREFIX_BYTES, MAX_ROUNDS, MAX_SYMBOLS, MAX_TEXT_BYTES, MAX_TREE_BYTES,
     MAX_VARIABLE_BYTES, MAX_WORK,
 };
+pub use newlines::has_newline;
 pub use number::{hex_of, int_of, loose_number_of, number_text, number_texts_are_the_grammars};
 pub use quoted_texts::{
     closing_quote, push_escaped, quoted_texts_read_back, read_quoted, unescape,

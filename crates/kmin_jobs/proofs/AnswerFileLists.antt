@@ -88,7 +88,8 @@ module _ (content : FileContent) (path : List ℕ) (before after : Option (List 
   )
 
 -- a job that ends at an answer file, after others that were accepted, ends among its answer files
-path_stops : (content_of : List ℕ → FileContent) (front back all : List (List ℕ)) (path : List ℕ) (earlier : RecordedAnswers) (status : ℕ) (lines : List (List ℕ))
+path_stops : (content_of : List ℕ → FileContent) (front back all : List (List ℕ))
+    (path : List ℕ) (earlier : RecordedAnswers) (status : ℕ) (lines : List (List ℕ))
     → all ≡ front ++ (path ∷ back) → FilesRecord content_of front [] earlier → StopsAtAnswersPath (content_of path) earlier path status lines
     → StopsAmongAnswers content_of all status lines
 path_stops content_of front back all path earlier status lines e r (steps.at_file line s l) = stops.at_file front back path line earlier e r s l
@@ -106,7 +107,8 @@ reports_fault left left_after failed failed_after earlier fault (inl e) = steps.
 reports_fault left left_after failed failed_after earlier fault (inr r) = steps.refused r
 
 -- a job that ends at an answer file, after others that were accepted without a report, ends among its answer files
-pub stopped_later : (content_of others : List ℕ → FileContent) → others ≡ content_of → (front back all : List (List ℕ)) (path : List ℕ) (earlier : RecordedAnswers)
+pub stopped_later : (content_of others : List ℕ → FileContent) → others ≡ content_of
+    → (front back all : List (List ℕ)) (path : List ℕ) (earlier : RecordedAnswers)
     (status : ℕ) (taken middle taken_after : Option (List ℕ)) (failed failed_middle failed_after : ℕ)
     → all ≡ front ++ (path ∷ back) → FilesRecord content_of front [] earlier → TakesLines taken failed [] middle failed_middle
     → (lines : List (List ℕ)) × StopsAtAnswersPath (others path) earlier path status lines × TakesLines middle failed_middle lines taken_after failed_after

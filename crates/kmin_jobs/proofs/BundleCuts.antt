@@ -1,25 +1,17 @@
 -- A bundle cut at its marker.
-use Rattle.std.proofs.Common.{◌≡◌, ℕ, Bool, true, false, ◌&&◌, ◌-◌, ◌<◌, ◌==◌, ◌⊎◌, inl, inr, List, [], ◌∷◌, ◌++◌, IsTrue, refl, sym, ap, ◌∙◌, append_assoc, append-nil, cond, length, length-append, take, arith, bytes_eq}
+use Rattle.std.proofs.Common.{◌≡◌, ℕ, Bool, true, false, ◌&&◌, ◌-◌, ◌<◌, ◌==◌, ◌⊎◌, inl, inr, List, [], ◌∷◌, ◌++◌, IsTrue, refl, sym, ◌∙◌, append_assoc, append-nil, cond, length, length-append, take, arith, bytes_eq}
 use Rattle.std.specs.List.{list_all, onto_first}
 use Rattle.std.proofs.Math.Seq.{take-append_seam}
 use Rattle.std.proofs.lemmas.Slice.Eq.{bytes_eq-Decides}
 use Rattle.kc_dotconfig_model.specs.ConfigFiles.{file_lines}
-use Rattle.kmin_lines.specs.Lines.{pieces, has_no_byte, BeginsWithPiece}
+use Rattle.kc_value.specs.Lines.{has_no_byte, HasWholeLines}
+use Rattle.kmin_lines.specs.Lines.{BeginsWithPiece}
 use Rattle.kmin_lines.proofs.PieceLemmas.{pieces_parted}
-use Rattle.kmin_jobs.specs.Bundles.{marker, HasWholeLines, has_no_marker, IsBundle, parted}
-
--- the lines of a configuration file are its pieces that newlines end
-lines_are_pieces : (text : List ℕ) → file_lines text ≡ pieces 10 text
-lines_are_pieces [] = refl
-lines_are_pieces (c ∷ cs) = ap (λ ls. cond (c == 10) ([] ∷ ls) (onto_first c ls)) (lines_are_pieces cs)
-
--- a line and the lines after it
-pub line_and_rest : (text line rest : List ℕ) → pieces 10 text ≡ line ∷ pieces 10 rest → file_lines text ≡ line ∷ file_lines rest
-line_and_rest text line rest parts = lines_are_pieces text ∙ parts ∙ ap (λ ls. line ∷ ls) (sym (lines_are_pieces rest))
+use Rattle.kmin_jobs.specs.Bundles.{marker, has_no_marker, IsBundle, parted}
 
 -- a line with its newline is one line
 line_alone : (line : List ℕ) → has_no_byte 10 line ≡ true → file_lines (line ++ 10 ∷ []) ≡ line ∷ []
-line_alone line alone = lines_are_pieces (line ++ 10 ∷ []) ∙ pieces_parted 10 line [] alone
+line_alone line alone = pieces_parted 10 line [] alone
 
 -- lines after a newline are lines of their own
 append_cases : (c : ℕ) (b : Bool) (ls ms ns : List (List ℕ)) → ls ≡ ms ++ ns → 0 < length ms

@@ -33,7 +33,8 @@ no_fault_lacks_no_file o e = λ fault h. (let z : Some fault ≡ None = sym h �
 known_reading : (bytes : List ℕ → Option (List ℕ)) (texts : Files) (first : List ℕ) → AreAmong (file_at texts) bytes → (reading texts first).fault ≡ None
     → reading_from (record { language = texts.language; bytes = bytes; number = index_of_file texts; root = first }) ≡ reading texts first
 unfolding reading
-known_reading bytes texts first among e = more_files texts.language (file_at texts) bytes (index_of_file texts) first among (no_fault_lacks_no_file (reading texts first) e)
+known_reading bytes texts first among e =
+    more_files texts.language (file_at texts) bytes (index_of_file texts) first among (no_fault_lacks_no_file (reading texts first) e)
 
 pub known_tree : KnownFilesDetermineTheTree
 unfolding tree_of_files

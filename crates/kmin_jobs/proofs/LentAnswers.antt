@@ -147,7 +147,8 @@ module _ (variable_of : List ℕ → VariableContent) (xs ys : List (List ℕ)) 
   }
 
 -- the answers of a job's answer files, with those of its definitions and its environment, are the answers of the job
-pub answers_of_job : (content_of : List ℕ → FileContent) (variable_of : List ℕ → VariableContent) (expansion : Expansion) (recorded defined answers : RecordedAnswers)
+pub answers_of_job : (content_of : List ℕ → FileContent) (variable_of : List ℕ → VariableContent)
+    (expansion : Expansion) (recorded defined answers : RecordedAnswers)
     → FilesRecord content_of expansion.answers [] recorded
     → ((question : List ℕ) → keyword_in_table defined question ≡ option_or (defined_answer expansion.definitions question) (keyword_in_table recorded question))
     → AreLent variable_of expansion.environment defined answers → AreJobAnswers content_of variable_of expansion answers

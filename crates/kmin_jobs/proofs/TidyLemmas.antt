@@ -25,7 +25,7 @@ use Rattle.kmin_lines.specs.Lists.{paths_in}
 use Rattle.kmin_tidy.specs.declared.options.TidyOptions.{TidyOptions}
 use Rattle.kmin_words.specs.declared.job.TidyFlags.{TidyFlags}
 use Rattle.kmin_words.specs.Jobs as jobs
-use Rattle.kmin_words.specs.Jobs.{Tidying}
+use Rattle.kmin_words.specs.Jobs.{TidyJob}
 use Rattle.kc_rules.specs.declared.rules.Settled.{Settled}
 use Rattle.kc_rules.specs.between.SettledViews.{tree_of_settled, profile_of}
 use Rattle.kc_dotconfig_model.specs.declared.format.Format.{Format}
@@ -144,7 +144,7 @@ module _ (taken middle taken_after : Option (List ℕ)) (failed failed_middle fa
       )
 
   -- a run of `tidy` that ended at its list, and then reported its last line, ends as `TidyEnds` defines
-  pub list_ends : (known : Surroundings) (left : Option (List ℕ)) (t : Tidying) (old : Outputs) (stop : RunError)
+  pub list_ends : (known : Surroundings) (left : Option (List ℕ)) (t : TidyJob) (old : Outputs) (stop : RunError)
       → status ≡ errors.status_of stop
       → (lines : List (List ℕ)) × StopsAtList known.content left t.list (errors.status_of stop) lines × TakesLines taken failed lines middle failed_middle
       → TakesLines middle failed_middle (last_lines status) taken_after failed_after
@@ -156,7 +156,7 @@ module _ (taken middle taken_after : Option (List ℕ)) (failed failed_middle fa
   )
 
   -- a run of `tidy` that read its list without a report ends as the rest of the run does
-  pub read_before : (known others : Surroundings) (left : Option (List ℕ)) (t : Tidying) (bytes : List ℕ) (old new : Outputs) → others ≡ known
+  pub read_before : (known others : Surroundings) (left : Option (List ℕ)) (t : TidyJob) (bytes : List ℕ) (old new : Outputs) → others ≡ known
       → AreListBytes known.content left t.list bytes → TakesLines taken failed [] middle failed_middle
       → (AreListBytes others.content left t.list bytes
       → (lines : List (List ℕ)) × TidyEnds others left t old new lines status × TakesLines middle failed_middle lines taken_after failed_after)
@@ -169,7 +169,7 @@ module _ (taken middle taken_after : Option (List ℕ)) (failed failed_middle fa
       )
 
 -- a run of `tidy` that reported a malformed path in its list, and ended with the status 2, ends as `TidyEnds` defines
-pub malformed_ends : (taken taken_after : Option (List ℕ)) (failed failed_after status : ℕ) (known : Surroundings) (left : Option (List ℕ)) (t : Tidying)
+pub malformed_ends : (taken taken_after : Option (List ℕ)) (failed failed_after status : ℕ) (known : Surroundings) (left : Option (List ℕ)) (t : TidyJob)
     (bytes : List ℕ) (old : Outputs) → AreListBytes known.content left t.list bytes → AreMalformed (listed_paths t.list bytes) → status ≡ 2
     → TakesLine taken failed malformed_line taken_after failed_after
     → (lines : List (List ℕ)) × TidyEnds known left t old old lines status × TakesLines taken failed lines taken_after failed_after
@@ -180,7 +180,7 @@ malformed_ends taken taken_after failed failed_after status known left t bytes o
 )
 
 -- a run of `tidy` over its files and the paths in its list, as one list of paths, ends as `TidyEnds` defines
-pub over_all : (known : Surroundings) (left : Option (List ℕ)) (t : Tidying) (bytes : List ℕ) (old new : Outputs) (lines : List (List ℕ)) (status : ℕ)
+pub over_all : (known : Surroundings) (left : Option (List ℕ)) (t : TidyJob) (bytes : List ℕ) (old new : Outputs) (lines : List (List ℕ)) (status : ℕ)
     (ended_by_nul : Bool) (files paths : List (List ℕ)) → ended_by_nul ≡ is_ended_by_nul t.list → files ≡ t.files
     → AreListBytes known.content left t.list bytes → AreNamed (paths_in ended_by_nul bytes) → paths ≡ files ++ paths_in ended_by_nul bytes
     → PathsEnd known t.settings t.flags paths old new lines status → TidyEnds known left t old new lines status

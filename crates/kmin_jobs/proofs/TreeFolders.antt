@@ -67,7 +67,8 @@ world_below : (reference : ℕ) (known : Surroundings) (root : List ℕ) (w : Wo
     → IsWorldOf (contents_below known root) w
 world_below reference known root w h = record { files = h.files; folders = h.folders }
 
-through_any : (reference : ℕ) (known : Surroundings) (root first : List ℕ) (answers : RecordedAnswers) (notices : List Notice) (r : Result (List ExpandedFile) Fault)
+through_any : (reference : ℕ) (known : Surroundings) (root first : List ℕ) (answers : RecordedAnswers) (notices : List Notice)
+    (r : Result (List ExpandedFile) Fault)
     → IsExpansion (contents_through reference known root) answers first notices r → IsExpansion (contents_below known root) answers first notices r
 through_any reference known root first answers notices r h = record {
   world = h.world;
@@ -93,7 +94,8 @@ wanted_any reference known root first answers asked h = record {
   are_wanted = h.are_wanted;
 }
 
-pub wanted_below : (reference : ℕ) (known : Surroundings) (root first path : List ℕ) (answers : RecordedAnswers) (asked : Result (List (List ℕ)) Fault) → path ≡ first
+pub wanted_below : (reference : ℕ) (known : Surroundings) (root first path : List ℕ) (answers : RecordedAnswers)
+    (asked : Result (List (List ℕ)) Fault) → path ≡ first
     → AreWanted (contents_through reference known root) answers path asked → AreWanted (contents_below known root) answers first asked
 wanted_below reference known root first path answers asked e h =
     subst (λ p. AreWanted (contents_below known root) answers p asked) e (wanted_any reference known root path answers asked h)

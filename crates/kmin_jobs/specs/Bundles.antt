@@ -1,17 +1,14 @@
 -- Bundles: a tree, a line of just `%%` and a configuration.
-use Rattle.std.specs.Prelude.{◌≡◌, ℕ, Bool, not, List, [], ◌∷◌, ◌++◌, Option, IsTrue, ◌⊎◌, bytes_eq}
+use Rattle.std.specs.Prelude.{◌≡◌, ℕ, Bool, not, List, [], ◌∷◌, ◌++◌, Option, IsTrue, bytes_eq}
 use Rattle.std.specs.List.{list_all}
 use Rattle.std.specs.Io.KnownBytes.{Consumes, IsAtEnd}
 use Rattle.kc_dotconfig_model.specs.ConfigFiles.{file_lines}
 use Rattle.kmin_lines.specs.Lines.{BeginsWithPiece}
+use Rattle.kc_value.specs.Lines.{HasWholeLines}
 
 -- the line between the tree and the configuration of a bundle: `%%`
 abbrev pub marker : List ℕ
 marker = 37 ∷ 37 ∷ []
-
--- a text consists of whole lines: it is empty, or has a newline at its end
-abbrev pub HasWholeLines : List ℕ → Type 0
-HasWholeLines text = (text ≡ []) ⊎ ((front : List ℕ) × (text ≡ front ++ 10 ∷ []))
 
 -- whether no line of a text is the line `%%`
 abbrev pub has_no_marker : List ℕ → Bool

@@ -4,7 +4,7 @@ use Rattle.std.specs.Option.{option_or}
 use Rattle.kc_value.specs.declared.limits.TheConstants.{MAX_VARIABLE_BYTES}
 use Rattle.kc_tree_model.specs.Keywords.{keyword_in_table}
 use Rattle.kc_tree_model.specs.Limits.{is_in_list}
-use Rattle.kc_tree_model.specs.TreeLookup.{has_newline}
+use Rattle.kc_value.specs.Lines.{has_newline}
 use Rattle.kc_macros_model.specs.Programs.{Answer}
 use Rattle.kc_macros_model.specs.AnswerFiles.{RecordedAnswers, complete, answers_read}
 use Rattle.kc_expansion.specs.TreeContents.{FileContent}

@@ -17,7 +17,7 @@ use Rattle.kmin_jobs.specs.JobTexts.{TreeTexts, AreTextsOfJob}
 use Rattle.kmin_jobs.specs.Answers.{Answer}
 use Rattle.kmin_jobs.specs.Reports.{last_lines}
 use Rattle.kmin_jobs.specs.Stops.{StopsBefore}
-use Rattle.kmin_jobs.specs.TidyRuns.{Outputs, EndsWriting}
+use Rattle.kmin_jobs.specs.TidyRuns.{Outputs, SomeWriteEnds}
 
 -- the lines of standard error for an output file that wasn't replaced, or not for good; none where memory ran out
 abbrev pub replace_lines : (path : List ℕ) → ReplaceFault → List (List ℕ)
@@ -64,16 +64,16 @@ pub data SaveEnds (known : Surroundings) (settings : Settings) (task : Task) (pa
       → SaveEnds known settings task path old new lines status
   before_answer : (own : List (List ℕ)) → StopsBefore known settings task status own → new ≡ old → lines ≡ own ++ last_lines status
       → SaveEnds known settings task path old new lines status
-  at_file : (t : TreeTexts) (text : List ℕ) (made : ℕ) (notices : List (List ℕ)) (fault : UpdateFault) → AreTextsOfJob known settings t
-      → Answer known.content settings t.texts task text made notices → IsUnsaved old new path text fault → status ≡ update_status fault
+  at_file : (t : TreeTexts) (text : List ℕ) (answer_status : ℕ) (notices : List (List ℕ)) (fault : UpdateFault) → AreTextsOfJob known settings t
+      → Answer known.content settings t.texts task text answer_status notices → IsUnsaved old new path text fault → status ≡ update_status fault
       → lines ≡ ((t.lines ++ notices) ++ update_lines path fault) ++ last_lines status
       → SaveEnds known settings task path old new lines status
 
 -- some command with an output file ended with this status, and standard output took nothing
-abbrev pub EndsSaving : Surroundings → (old new : Outputs) → (status : ℕ) → Type 0
-EndsSaving known old new status = (settings : Settings) × (task : Task) × (path : List ℕ) × (lines : List (List ℕ))
+abbrev pub SomeSaveEnds : Surroundings → (old new : Outputs) → (status : ℕ) → Type 0
+SomeSaveEnds known old new status = (settings : Settings) × (task : Task) × (path : List ℕ) × (lines : List (List ℕ))
     × SaveEnds known settings task path old.disk new.disk lines status × (new.taken ≡ old.taken) × (new.failures ≡ old.failures)
 
 -- a command that may change files ended with this status: `tidy --write`, or one with an output file
-abbrev pub EndsChanging : Surroundings → (left : Option (List ℕ)) → (old new : Outputs) → (status : ℕ) → Type 0
-EndsChanging known left old new status = EndsWriting known left old new status ⊎ EndsSaving known old new status
+abbrev pub SomeChangeEnds : Surroundings → (left : Option (List ℕ)) → (old new : Outputs) → (status : ℕ) → Type 0
+SomeChangeEnds known left old new status = SomeWriteEnds known left old new status ⊎ SomeSaveEnds known old new status

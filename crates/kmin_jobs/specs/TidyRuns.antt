@@ -14,7 +14,7 @@ use Rattle.kmin_tidy.specs.Steps.{Disk}
 use Rattle.kmin_tidy.specs.Ends.{Ends}
 use Rattle.kmin_tidy.specs.Promises.{IsKeptOrLeft, AreTidy}
 use Rattle.kmin_words.specs.declared.job.TidyFlags.{TidyFlags}
-use Rattle.kmin_words.specs.Jobs.{Settings, PathList, Tidying}
+use Rattle.kmin_words.specs.Jobs.{Settings, PathList, TidyJob}
 use Rattle.kmin_jobs.specs.FileContents.{Surroundings}
 use Rattle.kmin_tidy.specs.KnownBytes.{AreKnownBytes}
 use Rattle.kmin_jobs.specs.JobTexts.{TreeTexts, AreTextsOfJob}
@@ -113,7 +113,7 @@ pub data PathsEnd (known : Surroundings) (settings : Settings) (flags : TidyFlag
 
 -- The command `tidy` ends: its files are tidied, and then those that its list names; or the list or the tree is refused or memory
 -- ran out, and nothing changes.
-pub data TidyEnds (known : Surroundings) (left : Option (List ℕ)) (t : Tidying) (old new : Outputs) (lines : List (List ℕ)) (status : ℕ) : Type 0 where
+pub data TidyEnds (known : Surroundings) (left : Option (List ℕ)) (t : TidyJob) (old new : Outputs) (lines : List (List ℕ)) (status : ℕ) : Type 0 where
   at_list : (own : List (List ℕ)) → StopsAtList known.content left t.list status own → lines ≡ own ++ last_lines status → new ≡ old
       → TidyEnds known left t old new lines status
   over_paths : (bytes : List ℕ) → AreListBytes known.content left t.list bytes → AreNamed (listed_paths t.list bytes)
@@ -121,9 +121,9 @@ pub data TidyEnds (known : Surroundings) (left : Option (List ℕ)) (t : Tidying
       → TidyEnds known left t old new lines status
 
 -- some command `tidy` ended with this status
-abbrev pub EndsTidying : Surroundings → (left : Option (List ℕ)) → (old new : Outputs) → (status : ℕ) → Type 0
-EndsTidying known left old new status = (t : Tidying) × (lines : List (List ℕ)) × TidyEnds known left t old new lines status
+abbrev pub SomeTidyEnds : Surroundings → (left : Option (List ℕ)) → (old new : Outputs) → (status : ℕ) → Type 0
+SomeTidyEnds known left old new status = (t : TidyJob) × (lines : List (List ℕ)) × TidyEnds known left t old new lines status
 
 -- some command `tidy --write` ended with this status
-abbrev pub EndsWriting : Surroundings → (left : Option (List ℕ)) → (old new : Outputs) → (status : ℕ) → Type 0
-EndsWriting known left old new status = (t : Tidying) × (t.flags.write ≡ true) × (lines : List (List ℕ)) × TidyEnds known left t old new lines status
+abbrev pub SomeWriteEnds : Surroundings → (left : Option (List ℕ)) → (old new : Outputs) → (status : ℕ) → Type 0
+SomeWriteEnds known left old new status = (t : TidyJob) × (t.flags.write ≡ true) × (lines : List (List ℕ)) × TidyEnds known left t old new lines status

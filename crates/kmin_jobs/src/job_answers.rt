@@ -3,7 +3,6 @@ ghost use Rattle.std.specs.Prelude.{◌≡◌, ◌∷◌, [], ℕ, List, Some, N
 ghost use Rattle.std.specs.Borrow.{Bor};
 ghost use Rattle.std.specs.Option.{option_or};
 ghost use Rattle.kc_tree_model.specs.Keywords.{keyword_in_table};
-ghost use Rattle.kc_tree_model.specs.TreeLookup.{has_newline};
 ghost use Rattle.kmin_words.specs.Jobs.{definition_view, expansion_view};
 ghost use Rattle.kmin_jobs.specs.FileContents.{known_by};
 ghost use Rattle.kmin_jobs.specs.JobAnswers.{FilesRecord, AreJobAnswers, defined_answer, answer_of_variable};
@@ -17,7 +16,7 @@ use crate::files::Files;
 use crate::report::{Report, write_report};
 use crate::run_error::RunError;
 use kc_macros::{Answers, AnswersFault, AnswersKind};
-use kc_value::{MAX_VARIABLE_BYTES, Sink, Source};
+use kc_value::{MAX_VARIABLE_BYTES, Sink, Source, has_newline};
 use kmin_words::{Definition, Expansion};
 use std::alloc::{AllocError, Global};
 
@@ -172,11 +171,4 @@ fn usable_value(value: &Option<String>) -> Option<&[u8]>
     } else {
         Some(bytes)
     }
-}
-
-/// Whether a text has a newline.
-fn has_newline(text: &[u8]) -> bool
-    ensures { result ≡ has_newline text.now }
-{
-    text.iter().any(|byte| *byte == b'\n')
 }

@@ -16,7 +16,7 @@ use crate::report::{Report, write_report};
 use crate::run_error::RunError;
 use kc_value::Sink;
 use kmin_disk::{ReplaceFault, UpdateFault, WriteDisk, update};
-use kmin_words::Saving;
+use kmin_words::OutputJob;
 use std::alloc::Global;
 
 /// Runs a command over configuration files, writes its output to a file of the disk, and returns the exit status: 0 done or
@@ -27,7 +27,7 @@ use std::alloc::Global;
 /// by [`update`], so it may be one of the files that were read.
 pub fn save<F: Files, D: WriteDisk, E: Sink>(
     alloc: Global,
-    saving: &Saving<'_>,
+    output_job: &OutputJob<'_>,
     files: &mut F,
     disk: &mut D,
     err: &mut E,
@@ -37,11 +37,11 @@ pub fn save<F: Files, D: WriteDisk, E: Sink>(
 
     // The file has exactly the output, or there is no output, or the file can't be written; and the reason is reported,
     // after the notices of the files that were accepted.
-    ensures ends { (lines : List (List ℕ)) × SaveEnds (known_by (F.content_of files.old) (F.regular_content_of files.old) (F.names_of files.old) (F.variable_of files.old)) (settings_view saving.now.job.settings) (task_view saving.now.job.task) saving.now.output.now
+    ensures ends { (lines : List (List ℕ)) × SaveEnds (known_by (F.content_of files.old) (F.regular_content_of files.old) (F.names_of files.old) (F.variable_of files.old)) (settings_view output_job.now.job.settings) (task_view output_job.now.job.task) output_job.now.output.now
         (disk_of (D.state disk.old) (D.failures disk.old)) (disk_of (D.state disk.new) (D.failures disk.new)) lines result × TakesLines (E.taken err.old) (E.failures err.old) lines (E.taken err.new) (E.failures err.new) }
 {
-    match answer_job(alloc, &saving.job, files, err) {
-        Ok(answer) => match save_text(alloc, saving.output, &answer.text, disk, err) {
+    match answer_job(alloc, &output_job.job, files, err) {
+        Ok(answer) => match save_text(alloc, output_job.output, &answer.text, disk, err) {
             Ok(()) => answer.status,
             Err(stop) => exit_status(stop, err),
         },

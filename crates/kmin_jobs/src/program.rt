@@ -7,9 +7,9 @@ ghost use Rattle.kmin_jobs.specs.BundleAnswers.{AnswersBundle, StopsOnBundle, Wr
 ghost use Rattle.kmin_tidy.specs.Steps.{disk_of};
 ghost use Rattle.kmin_jobs.specs.FileContents.{known_by};
 ghost use Rattle.kmin_jobs.specs.Reports.{last_lines};
-ghost use Rattle.kmin_jobs.specs.Saves.{EndsChanging};
+ghost use Rattle.kmin_jobs.specs.Saves.{SomeChangeEnds};
 ghost use Rattle.kmin_tidy.specs.StandardError.{HasRisen, TakesLines};
-ghost use Rattle.kmin_jobs.specs.TidyRuns.{EndsTidying, outputs_of};
+ghost use Rattle.kmin_jobs.specs.TidyRuns.{SomeTidyEnds, outputs_of};
 
 use crate::bundle_answer::run_bundle;
 use crate::files::Files;
@@ -61,12 +61,12 @@ pub fn run<F: Files, D: WriteDisk, I: Source, O: Sink, E: Sink>(
     ensures unwritten { result ≢ 0 → result ≢ 1 → result ≢ 4 → result ≢ 5 → O.taken out.new ≡ O.taken out.old }
 
     // On status 4 something was written only by a run of `tidy`, of which a file is refused.
-    ensures refused { result ≡ 4 → (O.taken out.new ≡ O.taken out.old) ⊎ EndsTidying (known_by (F.content_of files.old) (F.regular_content_of files.old) (F.names_of files.old) (F.variable_of files.old)) (I.left input.old)
+    ensures refused { result ≡ 4 → (O.taken out.new ≡ O.taken out.old) ⊎ SomeTidyEnds (known_by (F.content_of files.old) (F.regular_content_of files.old) (F.names_of files.old) (F.variable_of files.old)) (I.left input.old)
         (outputs_of (disk_of (D.state disk.old) (D.failures disk.old)) (O.taken out.old) (O.failures out.old))
         (outputs_of (disk_of (D.state disk.new) (D.failures disk.new)) (O.taken out.new) (O.failures out.new)) result }
 
     // The disk changes only by a run of `tidy` that may write files, and by a command with an output file.
-    ensures unasked { (D.state disk.new ≡ D.state disk.old) ⊎ EndsChanging (known_by (F.content_of files.old) (F.regular_content_of files.old) (F.names_of files.old) (F.variable_of files.old)) (I.left input.old)
+    ensures unasked { (D.state disk.new ≡ D.state disk.old) ⊎ SomeChangeEnds (known_by (F.content_of files.old) (F.regular_content_of files.old) (F.names_of files.old) (F.variable_of files.old)) (I.left input.old)
         (outputs_of (disk_of (D.state disk.old) (D.failures disk.old)) (O.taken out.old) (O.failures out.old))
         (outputs_of (disk_of (D.state disk.new) (D.failures disk.new)) (O.taken out.new) (O.failures out.new)) result }
 {
@@ -91,18 +91,18 @@ fn run_words<F: Files, D: WriteDisk, I: Source, O: Sink, E: Sink>(
 ) -> u8
     ensures status { result ≤ 6 }
     ensures unwritten { result ≢ 0 → result ≢ 1 → result ≢ 4 → result ≢ 5 → O.taken out.new ≡ O.taken out.old }
-    ensures refused { result ≡ 4 → (O.taken out.new ≡ O.taken out.old) ⊎ EndsTidying (known_by (F.content_of files.old) (F.regular_content_of files.old) (F.names_of files.old) (F.variable_of files.old)) (I.left input.old)
+    ensures refused { result ≡ 4 → (O.taken out.new ≡ O.taken out.old) ⊎ SomeTidyEnds (known_by (F.content_of files.old) (F.regular_content_of files.old) (F.names_of files.old) (F.variable_of files.old)) (I.left input.old)
         (outputs_of (disk_of (D.state disk.old) (D.failures disk.old)) (O.taken out.old) (O.failures out.old))
         (outputs_of (disk_of (D.state disk.new) (D.failures disk.new)) (O.taken out.new) (O.failures out.new)) result }
-    ensures unasked { (D.state disk.new ≡ D.state disk.old) ⊎ EndsChanging (known_by (F.content_of files.old) (F.regular_content_of files.old) (F.names_of files.old) (F.variable_of files.old)) (I.left input.old)
+    ensures unasked { (D.state disk.new ≡ D.state disk.old) ⊎ SomeChangeEnds (known_by (F.content_of files.old) (F.regular_content_of files.old) (F.names_of files.old) (F.variable_of files.old)) (I.left input.old)
         (outputs_of (disk_of (D.state disk.old) (D.failures disk.old)) (O.taken out.old) (O.failures out.old))
         (outputs_of (disk_of (D.state disk.new) (D.failures disk.new)) (O.taken out.new) (O.failures out.new)) result }
 {
     match read_words(alloc, words) {
         Ok(ParsedWords::Job(job)) => serve(alloc, &job, files, out, err),
-        Ok(ParsedWords::Save(saving)) => save(alloc, &saving, files, disk, err),
+        Ok(ParsedWords::Save(output_job)) => save(alloc, &output_job, files, disk, err),
         Ok(ParsedWords::Questions(questions)) => list_questions(alloc, &questions, files, out, err),
-        Ok(ParsedWords::Tidy(tidying)) => tidy(alloc, &tidying, files, disk, input, out, err),
+        Ok(ParsedWords::Tidy(tidy_job)) => tidy(alloc, &tidy_job, files, disk, input, out, err),
         Ok(ParsedWords::Help(text)) => write_help(&text, out, err),
         Ok(ParsedWords::Refused(text)) => {
             write_report(Report::RefusedWords(text.as_str()), err);

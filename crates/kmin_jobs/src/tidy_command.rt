@@ -6,7 +6,7 @@ ghost use Rattle.std.specs.Borrow.{Bor};
 ghost use Rattle.kc_expansion.specs.TreeContents.{FileContent};
 ghost use Rattle.kmin_lines.specs.Lists.{paths_in, is_one_line};
 ghost use Rattle.kmin_tidy.specs.Steps.{disk_of};
-ghost use Rattle.kmin_words.specs.Jobs.{list_view, settings_view, tidying_view};
+ghost use Rattle.kmin_words.specs.Jobs.{list_view, settings_view, tidy_job_view};
 ghost use Rattle.kmin_jobs.specs.FileContents.{known_by};
 ghost use Rattle.kmin_tidy.specs.KnownBytes.{AreKnownBytes};
 ghost use Rattle.kmin_disk.specs.Contents.{OpensAs};
@@ -25,7 +25,7 @@ use kc_value::{MAX_LIST_BYTES, ReadBytes, ReadEnd, Sink, Source, read_up_to};
 use kmin_disk::WriteDisk;
 use kmin_lines::{ListFault, listed_paths};
 use kmin_tidy::{TidyOptions, tidy_files};
-use kmin_words::{PathList, TidyFlags, Tidying};
+use kmin_words::{PathList, TidyFlags, TidyJob};
 use std::alloc::{AllocError, Global};
 
 /// Tidies the files of the command on the disk, and then those that its list names, and returns the exit status: 2 a
@@ -35,7 +35,7 @@ use std::alloc::{AllocError, Global};
 /// The list is read from `files`, or if its path is `-`, from `input`.
 pub fn tidy<F: Files, D: WriteDisk, I: Source, O: Sink, E: Sink>(
     alloc: Global,
-    tidying: &Tidying<'_>,
+    tidy_job: &TidyJob<'_>,
     files: &mut F,
     disk: &mut D,
     input: &mut I,
@@ -46,18 +46,18 @@ pub fn tidy<F: Files, D: WriteDisk, I: Source, O: Sink, E: Sink>(
 
     // The files are tidied as by `tidy_files`; or the list or the tree is refused, which is reported, and nothing
     // changes.
-    ensures ends { (lines : List (List ℕ)) × TidyEnds (known_by (F.content_of files.old) (F.regular_content_of files.old) (F.names_of files.old) (F.variable_of files.old)) (I.left input.old) (tidying_view tidying.now)
+    ensures ends { (lines : List (List ℕ)) × TidyEnds (known_by (F.content_of files.old) (F.regular_content_of files.old) (F.names_of files.old) (F.variable_of files.old)) (I.left input.old) (tidy_job_view tidy_job.now)
         (outputs_of (disk_of (D.state disk.old) (D.failures disk.old)) (O.taken out.old) (O.failures out.old))
         (outputs_of (disk_of (D.state disk.new) (D.failures disk.new)) (O.taken out.new) (O.failures out.new)) lines result × TakesLines (E.taken err.old) (E.failures err.old) lines (E.taken err.new) (E.failures err.new) }
 
     // Without `--write` the disk doesn't change.
-    ensures unasked { tidying.now.flags.write ≡ false → D.state disk.new ≡ D.state disk.old }
+    ensures unasked { tidy_job.now.flags.write ≡ false → D.state disk.new ≡ D.state disk.old }
 
     // Where the list or the tree is refused, or memory runs out, nothing is written.
     ensures unwritten { result ≢ 0 → result ≢ 1 → result ≢ 4 → result ≢ 5 → O.taken out.new ≡ O.taken out.old }
 {
-    match list_bytes(alloc, tidying.list, files, input, err) {
-        Ok(list) => tidy_listed(alloc, tidying, &list, files, disk, out, err),
+    match list_bytes(alloc, tidy_job.list, files, input, err) {
+        Ok(list) => tidy_listed(alloc, tidy_job, &list, files, disk, out, err),
         Err(stop) => exit_status(stop, err),
     }
 }
@@ -65,7 +65,7 @@ pub fn tidy<F: Files, D: WriteDisk, I: Source, O: Sink, E: Sink>(
 /// Tidies the files of the command, and then those that a list of these bytes names.
 fn tidy_listed<F: Files, D: WriteDisk, O: Sink, E: Sink>(
     alloc: Global,
-    tidying: &Tidying<'_>,
+    tidy_job: &TidyJob<'_>,
     list: &[u8],
     files: &mut F,
     disk: &mut D,
@@ -73,15 +73,15 @@ fn tidy_listed<F: Files, D: WriteDisk, O: Sink, E: Sink>(
     err: &mut E,
 ) -> u8
     ensures status { result ≤ 6 }
-    ensures ends { (left : Option (List ℕ)) → AreListBytes (F.content_of files.old) left (tidying_view tidying.now).list list.now
-        → (lines : List (List ℕ)) × TidyEnds (known_by (F.content_of files.old) (F.regular_content_of files.old) (F.names_of files.old) (F.variable_of files.old)) left (tidying_view tidying.now)
+    ensures ends { (left : Option (List ℕ)) → AreListBytes (F.content_of files.old) left (tidy_job_view tidy_job.now).list list.now
+        → (lines : List (List ℕ)) × TidyEnds (known_by (F.content_of files.old) (F.regular_content_of files.old) (F.names_of files.old) (F.variable_of files.old)) left (tidy_job_view tidy_job.now)
         (outputs_of (disk_of (D.state disk.old) (D.failures disk.old)) (O.taken out.old) (O.failures out.old))
         (outputs_of (disk_of (D.state disk.new) (D.failures disk.new)) (O.taken out.new) (O.failures out.new)) lines result × TakesLines (E.taken err.old) (E.failures err.old) lines (E.taken err.new) (E.failures err.new) }
-    ensures unasked { tidying.now.flags.write ≡ false → D.state disk.new ≡ D.state disk.old }
+    ensures unasked { tidy_job.now.flags.write ≡ false → D.state disk.new ≡ D.state disk.old }
     ensures unwritten { result ≢ 0 → result ≢ 1 → result ≢ 4 → result ≢ 5 → O.taken out.new ≡ O.taken out.old }
 {
-    match all_paths(alloc, &tidying.files, list, is_ended_by_nul(tidying.list)) {
-        Ok(paths) => tidy_paths(alloc, tidying, &paths, files, disk, out, err),
+    match all_paths(alloc, &tidy_job.files, list, is_ended_by_nul(tidy_job.list)) {
+        Ok(paths) => tidy_paths(alloc, tidy_job, &paths, files, disk, out, err),
         Err(ListFault::OutOfMemory) => exit_status(RunError::Memory, err),
         Err(ListFault::NotUtf8) => refuse_list(err),
         Err(ListFault::HasNewline) => refuse_list(err),
@@ -100,7 +100,7 @@ fn refuse_list<E: Sink>(err: &mut E) -> u8
 /// Tidies the files of these paths over the tree of the command.
 fn tidy_paths<F: Files, D: WriteDisk, O: Sink, E: Sink>(
     alloc: Global,
-    tidying: &Tidying<'_>,
+    tidy_job: &TidyJob<'_>,
     paths: &[&str],
     files: &mut F,
     disk: &mut D,
@@ -108,16 +108,16 @@ fn tidy_paths<F: Files, D: WriteDisk, O: Sink, E: Sink>(
     err: &mut E,
 ) -> u8
     ensures status { result ≤ 6 }
-    ensures ends { (lines : List (List ℕ)) × PathsEnd (known_by (F.content_of files.old) (F.regular_content_of files.old) (F.names_of files.old) (F.variable_of files.old)) (settings_view tidying.now.settings) tidying.now.flags (map (λ (path : Bor (List ℕ)). path.now) paths.now)
+    ensures ends { (lines : List (List ℕ)) × PathsEnd (known_by (F.content_of files.old) (F.regular_content_of files.old) (F.names_of files.old) (F.variable_of files.old)) (settings_view tidy_job.now.settings) tidy_job.now.flags (map (λ (path : Bor (List ℕ)). path.now) paths.now)
         (outputs_of (disk_of (D.state disk.old) (D.failures disk.old)) (O.taken out.old) (O.failures out.old))
         (outputs_of (disk_of (D.state disk.new) (D.failures disk.new)) (O.taken out.new) (O.failures out.new)) lines result × TakesLines (E.taken err.old) (E.failures err.old) lines (E.taken err.new) (E.failures err.new) }
-    ensures unasked { tidying.now.flags.write ≡ false → D.state disk.new ≡ D.state disk.old }
+    ensures unasked { tidy_job.now.flags.write ≡ false → D.state disk.new ≡ D.state disk.old }
     ensures unwritten { result ≢ 0 → result ≢ 1 → result ≢ 4 → result ≢ 5 → O.taken out.new ≡ O.taken out.old }
 {
-    match job_tree(alloc, &tidying.settings, files, err) {
+    match job_tree(alloc, &tidy_job.settings, files, err) {
         Ok(settled) => {
-            let options = options_of(tidying.settings.strict, tidying.flags);
-            let format = &tidying.settings.format;
+            let options = options_of(tidy_job.settings.strict, tidy_job.flags);
+            let format = &tidy_job.settings.format;
             let status = tidy_files(alloc, &settled, format, options, paths, disk, out, err);
             drop(settled);
             status

@@ -5,7 +5,8 @@ use Rattle.std.specs.Str.{bytes_eq}
 use Rattle.std.specs.List.{onto_first}
 use Rattle.std.proofs.lemmas.Slice.Eq.{bytes_eq-Decides}
 use Rattle.std.proofs.lemmas.List.{length-map}
-use Rattle.kmin_lines.specs.Lines.{without_one, pieces, lines_of, without_carriage_return}
+use Rattle.kc_value.specs.Lines.{pieces}
+use Rattle.kmin_lines.specs.Lines.{without_one, lines_of, without_carriage_return}
 use Rattle.kmin_lines.specs.checker.Bags.{times_among}
 
 -- 1 if a line equals another one, else 0

@@ -4,7 +4,8 @@ use Rattle.std.specs.List.{onto_first}
 use Rattle.std.proofs.Math.Seq.{take-suc}
 use Rattle.std.proofs.lemmas.Grind.{common_steps}
 use Rattle.std.proofs.lemmas.Bool.{false_from_ne_true, eqb-true, eq-eqb}
-use Rattle.kmin_lines.specs.Lines.{pieces, has_no_byte, without_carriage_return}
+use Rattle.kc_value.specs.Lines.{pieces, has_no_byte}
+use Rattle.kmin_lines.specs.Lines.{without_carriage_return}
 
 -- a text with a byte `ender` at `at` consists of the bytes before it, that byte, and the bytes after it
 pub parted_at : (ender : ℕ) (text : List ℕ) (at : ℕ) → at < length text → (get_or text at 0 == ender) ≡ true

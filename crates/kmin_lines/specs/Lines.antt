@@ -1,16 +1,7 @@
 -- The lines of a text, and those of them that aren't in another text.
-use Rattle.std.specs.Prelude.{◌≡◌, ℕ, Bool, not, List, [], ◌∷◌, ◌++◌, ◌⊎◌, ◌==◌, length, map, if◌then◌else◌}
-use Rattle.std.specs.List.{list_all, onto_first}
+use Rattle.std.specs.Prelude.{◌≡◌, ℕ, List, [], ◌∷◌, ◌++◌, ◌⊎◌, ◌==◌, length, map, if◌then◌else◌}
 use Rattle.std.specs.Str.{bytes_eq}
-
--- the pieces of a text, each ended by the byte `ender`, which isn't part of the piece; the last piece may lack that byte
-abbrev pub pieces : (ender : ℕ) → List ℕ → List (List ℕ)
-pieces ender [] = []
-pieces ender (b ∷ bytes) = if b == ender then [] ∷ pieces ender bytes else onto_first b (pieces ender bytes)
-
--- whether a text has no byte `byte`
-abbrev pub has_no_byte : (byte : ℕ) → List ℕ → Bool
-has_no_byte byte text = list_all (λ b. not (b == byte)) text
+use Rattle.kc_value.specs.Lines.{pieces}
 
 -- a text consists of this piece, the byte `ender` and this rest; or of this piece alone, and the rest is empty
 abbrev pub BeginsWithPiece : (ender : ℕ) → (text piece rest : List ℕ) → Type 0

@@ -1,7 +1,6 @@
 -- The paths in the bytes of a list of paths.
-use Rattle.std.specs.Prelude.{ℕ, Bool, not, List, [], ◌∷◌, ◌==◌, true, false, filter}
-use Rattle.std.specs.List.{list_all}
-use Rattle.kmin_lines.specs.Lines.{pieces}
+use Rattle.std.specs.Prelude.{ℕ, Bool, List, [], ◌∷◌, true, false, filter}
+use Rattle.kc_value.specs.Lines.{pieces, has_no_byte}
 
 -- the byte that ends each path in a list of paths: NUL if `ended_by_nul`, else a newline
 abbrev pub ender_of : (ended_by_nul : Bool) → ℕ
@@ -19,4 +18,4 @@ paths_in ended_by_nul list = filter has_bytes (pieces (ender_of ended_by_nul) li
 
 -- whether a path has no newline
 abbrev pub is_one_line : List ℕ → Bool
-is_one_line path = list_all (λ b. not (b == 10)) path
+is_one_line path = has_no_byte 10 path

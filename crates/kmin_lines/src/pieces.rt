@@ -1,6 +1,7 @@
 //! Texts cut into pieces, each ended by a byte.
 ghost use Rattle.std.specs.Prelude.{◌≡◌, ◌∷◌, [], ◌<◌, length, true, IfSome, IfNone};
-ghost use Rattle.kmin_lines.specs.Lines.{pieces, BeginsWithPiece, has_no_byte, without_carriage_return};
+ghost use Rattle.kc_value.specs.Lines.{pieces, has_no_byte};
+ghost use Rattle.kmin_lines.specs.Lines.{BeginsWithPiece, without_carriage_return};
 
 use bstr::ByteSlice;
 

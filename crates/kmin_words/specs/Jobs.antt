@@ -11,7 +11,7 @@ use Rattle.kmin_words.specs.declared.job.Expansion.{Expansion as DeclaredExpansi
 use Rattle.kmin_words.specs.declared.job.Settings.{Settings as DeclaredSettings}
 use Rattle.kmin_words.specs.declared.job.TidyFlags.{TidyFlags}
 use Rattle.kmin_words.specs.declared.job.PathList.{PathList as DeclaredPathList}
-use Rattle.kmin_words.specs.declared.job.Tidying.{Tidying as DeclaredTidying}
+use Rattle.kmin_words.specs.declared.job.TidyJob.{TidyJob as DeclaredTidyJob}
 use Rattle.kmin_words.specs.declared.job.Questions.{Questions as DeclaredQuestions}
 use Rattle.kmin_words.specs.declared.job.Task.{Task as DeclaredTask}
 use Rattle.kmin_words.specs.declared.job.Task.TheVariants.{Over, Compare}
@@ -45,7 +45,7 @@ pub record PathList : Type 0 where
   pub ended_by_nul : Bool
 
 -- the command `tidy`: its options, its flags, the list of further paths, and the files, in order
-pub record Tidying : Type 0 where
+pub record TidyJob : Type 0 where
   pub settings : Settings
   pub flags : TidyFlags
   pub list : Option PathList
@@ -91,9 +91,9 @@ settings_view s = record {
 abbrev pub list_view : DeclaredPathList → PathList
 list_view l = record { path = l.path.now; ended_by_nul = l.ended_by_nul }
 
--- a `Tidying` of the code, as contracts see it
-abbrev pub tidying_view : DeclaredTidying → Tidying
-tidying_view t = record {
+-- a `TidyJob` of the code, as contracts see it
+abbrev pub tidy_job_view : DeclaredTidyJob → TidyJob
+tidy_job_view t = record {
   settings = settings_view t.settings;
   flags = t.flags;
   list = option_map list_view t.list;

@@ -9,13 +9,13 @@ ghost use Rattle.kmin_words.specs.checker.Refusals.{Agrees};
 
 use crate::commands::{command_names, explained_names, program};
 use crate::expansion_words::{check_inputs, expansion_if_given, expansion_of};
-use crate::job::{Job, Questions, Saving, Settings, Task, Tidying, Verb};
+use crate::job::{Job, OutputJob, Questions, Settings, Task, TidyJob, Verb};
 use crate::kinds::kind_asked;
 use crate::messages::message_tables;
 use crate::names::{nearest, with_tip};
 use crate::output_words::job_and_output;
 use crate::refusal::Refusal;
-use crate::tidy_words::tidying_of;
+use crate::tidy_words::tidy_job_of;
 use crate::values::{is_given, value_of, values_of};
 use clap::error::ErrorKind;
 use clap::{ArgMatches, Error};
@@ -30,11 +30,11 @@ pub enum ParsedWords<'a> {
     /// A command over configuration files whose output goes to standard output.
     Job(Job<'a>),
     /// A command over configuration files whose output goes to a file.
-    Save(Saving<'a>),
+    Save(OutputJob<'a>),
     /// `kmin wants`, which lists the open questions of a tree's macros.
     Questions(Questions<'a>),
     /// `kmin tidy`, which compares each file with its minimal file, or replaces it.
-    Tidy(Tidying<'a>),
+    Tidy(TidyJob<'a>),
     /// The text of the help or of the version, if the words request it.
     Help(String),
     /// The message for words that are refused.
@@ -109,7 +109,7 @@ fn named_job<'a>(
 {
     match name {
         "wants" => parsed_questions(alloc, matches),
-        "tidy" => parsed_tidying(alloc, matches),
+        "tidy" => parsed_tidy_job(alloc, matches),
         _ => parsed_job(alloc, name, matches),
     }
 }
@@ -129,14 +129,14 @@ fn parsed_questions<'a>(
 }
 
 /// The command `tidy`, or the message for a value that isn't allowed.
-fn parsed_tidying<'a>(
+fn parsed_tidy_job<'a>(
     alloc: Global,
     matches: &ArgMatches<'a>,
 ) -> Result<ParsedWords<'a>, AllocError>
-    ensures { IfOk result (parsed.IsTidying (parsed.tidying_of (found_of matches.now))) }
+    ensures { IfOk result (parsed.IsTidyJob (parsed.tidy_job_of (found_of matches.now))) }
 {
-    match tidying_of(alloc, matches) {
-        Ok(tidying) => Ok(ParsedWords::Tidy(tidying)),
+    match tidy_job_of(alloc, matches) {
+        Ok(tidy_job) => Ok(ParsedWords::Tidy(tidy_job)),
         Err(Refusal::Words(line)) => Ok(ParsedWords::Refused(String::from_str(alloc, line)?)),
         Err(Refusal::OutOfMemory) => Err(AllocError),
     }
@@ -162,7 +162,7 @@ fn with_output<'a>(job: Job<'a>, output: Option<&'a str>) -> ParsedWords<'a>
     ensures { parsed.AreJob (Ok ((settings_view job.entry.settings, task_view job.entry.task), option_map (λ path. path.now) output.entry)) result }
 {
     match output {
-        Some(output) => ParsedWords::Save(Saving { job, output }),
+        Some(output) => ParsedWords::Save(OutputJob { job, output }),
         None => ParsedWords::Job(job),
     }
 }

@@ -4,8 +4,9 @@ ghost use Rattle.std.specs.List.{list_all, filter_map, suffix_len};
 ghost use Rattle.std.specs.Borrow.{Bor};
 ghost use Rattle.clap.specs.Words.{found_of};
 ghost use Rattle.kc_expr.specs.Token.{is_white_byte};
-ghost use Rattle.kc_tree_model.specs.TreeLookup.{has_newline, is_name_byte};
-ghost use Rattle.kc_macros_model.specs.Variables.{is_environment_name, without_white_end};
+ghost use Rattle.kc_tree_model.specs.TreeLookup.{is_name_byte};
+ghost use Rattle.kc_macros_model.specs.Variables.{is_environment_name};
+ghost use Rattle.kc_tree_model.specs.LogicalLines.{without_white_end};
 ghost use Rattle.kmin_words.specs.Jobs.{definition_view, expansion_view};
 ghost use Rattle.kmin_words.specs.between.WordValues as parsed;
 ghost use Rattle.kmin_words.specs.checker.Refusals.{Agrees};
@@ -14,7 +15,7 @@ use crate::job::{Definition, Expansion};
 use crate::refusal::Refusal;
 use crate::values::{has_values, is_given, value_of, values_of};
 use clap::ArgMatches;
-use kc_value::MAX_VARIABLE_BYTES;
+use kc_value::{MAX_VARIABLE_BYTES, has_newline};
 use std::alloc::{AllocError, Global};
 
 /// A white byte: a tab, a vertical tab, a form feed, a carriage return or a space.
@@ -69,19 +70,15 @@ fn is_environment_name(name: &str) -> bool
     !first.is_ascii_digit() && are_name_bytes(bytes)
 }
 
-/// Whether a text has a newline.
-pub(crate) fn has_newline(text: &str) -> bool
-    ensures { result ≡ has_newline text.now }
-{
-    text.as_bytes().iter().any(|&byte| byte == b'\n')
-}
-
 /// The definition of a name by a value, whose white bytes at the end are dropped. `None` for a name that no environment
 /// may have, and for a value with a newline or more than `MAX_VARIABLE_BYTES` bytes.
 fn named_value<'a>(name: &'a str, value: &'a str) -> Option<Definition<'a>>
     ensures { option_map definition_view result ≡ parsed.named_value name.now value.now }
 {
-    if !is_environment_name(name) || value.len() > MAX_VARIABLE_BYTES || has_newline(value) {
+    if !is_environment_name(name)
+        || value.len() > MAX_VARIABLE_BYTES
+        || has_newline(value.as_bytes())
+    {
         return None;
     }
     Some(Definition {
@@ -154,7 +151,7 @@ fn environment_of(names: Vec<&str>) -> Result<Vec<&str>, Refusal>
 fn check_tree(path: &str) -> Result<(), Refusal>
     ensures { Agrees (λ _. path.now) (parsed.expanded_tree_of path.now) result }
 {
-    if has_newline(path) {
+    if has_newline(path.as_bytes()) {
         return Err(Refusal::Words("tree: Malformed\n"));
     }
     Ok(())

@@ -77,7 +77,7 @@ pub struct Job<'a> {
 
 /// A command over configuration files whose output goes to the file of `--output`.
 #[derive(Drop)]
-pub struct Saving<'a> {
+pub struct OutputJob<'a> {
     pub job: Job<'a>,
     /// The path of the output file.
     pub output: &'a str,
@@ -103,7 +103,7 @@ pub struct PathList<'a> {
 
 /// The command `kmin tidy`, with its options, flags and files.
 #[derive(Drop)]
-pub struct Tidying<'a> {
+pub struct TidyJob<'a> {
     pub settings: Settings<'a>,
     pub flags: TidyFlags,
     /// The list of further paths, which come after `files`.

@@ -6,10 +6,10 @@ ghost use Rattle.kmin_words.specs.between.WordValues as parsed;
 ghost use Rattle.kmin_words.specs.checker.Refusals.{Agrees};
 
 use crate::command_line::job_with;
-use crate::expansion_words::has_newline;
 use crate::job::Job;
 use crate::refusal::Refusal;
 use clap::ArgMatches;
+use kc_value::has_newline;
 use std::alloc::Global;
 
 /// The command with this name over configuration files, and the path of its output file, if one is given.
@@ -30,7 +30,7 @@ fn output_of<'a>(matches: &ArgMatches<'a>) -> Result<Option<&'a str>, Refusal>
     ensures { Agrees (option_map (λ path. path.now)) (parsed.output_of (found_of matches.now)) result }
 {
     match matches.get_str("output") {
-        Some(path) if has_newline(path) => Err(Refusal::Words("file: Malformed\n")),
+        Some(path) if has_newline(path.as_bytes()) => Err(Refusal::Words("file: Malformed\n")),
         output => Ok(output),
     }
 }

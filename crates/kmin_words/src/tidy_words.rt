@@ -3,29 +3,29 @@ ghost use Rattle.std.specs.Prelude.{◌≡◌, List, ℕ, map, option_map, IfOk}
 ghost use Rattle.std.specs.List.{list_all};
 ghost use Rattle.std.specs.Borrow.{Bor};
 ghost use Rattle.clap.specs.Words.{found_of};
-ghost use Rattle.kmin_words.specs.Jobs.{settings_view, tidying_view, list_view};
+ghost use Rattle.kmin_words.specs.Jobs.{settings_view, tidy_job_view, list_view};
 ghost use Rattle.kmin_words.specs.between.WordValues as parsed;
 ghost use Rattle.kmin_words.specs.checker.Refusals.{Agrees};
 
 use crate::command_line::settings_of;
-use crate::expansion_words::has_newline;
-use crate::job::{PathList, Settings, TidyFlags, Tidying};
+use crate::job::{PathList, Settings, TidyFlags, TidyJob};
 use crate::refusal::Refusal;
 use crate::values::{is_given, values_of};
 use clap::ArgMatches;
+use kc_value::has_newline;
 use std::alloc::{AllocError, Global};
 
 /// The command `kmin tidy`, with its options, flags and files.
-pub(crate) fn tidying_of<'a>(
+pub(crate) fn tidy_job_of<'a>(
     alloc: Global,
     matches: &ArgMatches<'a>,
-) -> Result<Tidying<'a>, Refusal>
-    ensures { Agrees tidying_view (parsed.tidying_of (found_of matches.now)) result }
+) -> Result<TidyJob<'a>, Refusal>
+    ensures { Agrees tidy_job_view (parsed.tidy_job_of (found_of matches.now)) result }
 {
     let files = one_line_paths(values_of(alloc, matches, "FILE")?)?;
     let list = list_of(matches);
     let settings = settings_beside(alloc, matches, &files, &list)?;
-    Ok(Tidying {
+    Ok(TidyJob {
         settings,
         flags: flags_of(matches),
         list,
@@ -62,7 +62,7 @@ fn one_line_paths(paths: Vec<&str>) -> Result<Vec<&str>, Refusal>
 fn are_one_line(paths: &[&str]) -> bool
     ensures { result ≡ list_all (λ (path : Bor (List ℕ)). parsed.is_one_line path.now) paths.now }
 {
-    paths.iter().all(|path| !has_newline(path))
+    paths.iter().all(|path| !has_newline(path.as_bytes()))
 }
 
 /// The list of further paths of `--from`, if it is given.

@@ -11,7 +11,8 @@ use Rattle.kc_tree_model.specs.declared.fault.TreeFault.{TreeFault}
 use Rattle.kc_tree_model.specs.Trees.{Symbol, Choice, Default, MemberDefault}
 use Rattle.kc_tree_model.specs.declared.ids.Unit.{Unit as TreeUnit}
 use Rattle.kc_tree_model.specs.declared.ids.Unit.TheVariants.{Symbol as of_symbol, Choice as of_choice}
-use Rattle.kc_tree_model.specs.TreeLookup.{IsConsistent, is_name_byte, has_newline, own_text}
+use Rattle.kc_value.specs.Lines.{has_newline}
+use Rattle.kc_tree_model.specs.TreeLookup.{IsConsistent, is_name_byte, own_text}
 use Rattle.kc_tree_model.specs.TreeFiles.{Files}
 use Rattle.kc_tree_model.specs.Blocks.{defined_name, Line}
 use Rattle.kc_tree_model.specs.Conditions.{GroupInContext, attribute_condition, attribute_values}

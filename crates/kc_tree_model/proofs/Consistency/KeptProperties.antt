@@ -11,7 +11,7 @@ use Rattle.kc_tree_model.specs.declared.keyword.Block.{Block}
 use Rattle.kc_tree_model.specs.Blocks.{Group, Position, file_end, innermost}
 use Rattle.kc_tree_model.specs.Limits.{FileSource, bytes_in, source_fault}
 use Rattle.kc_value.specs.declared.limits.TheConstants.{MAX_TREE_BYTES, MAX_OPEN_FILES}
-use Rattle.kc_tree_model.specs.TreeLookup.{has_newline}
+use Rattle.kc_value.specs.Lines.{has_newline}
 use Rattle.kc_tree_model.proofs.Consistency.OneLine.{AreOneLine, lines_are_one}
 use Rattle.kc_tree_model.specs.TreeReading.{statement_on_line, with_statement, with_group, path_to_read, Outcome, at_file_end, continue_after_file, continue_after_source, continue_after_statement, continue_after_line, read_lines, read_file, read_root, reading}
 

@@ -4,7 +4,8 @@ use Rattle.std.specs.Prelude.{nat_lt}
 use Rattle.std.specs.List.{list_all}
 use Rattle.kc_expr.specs.Token.{Lexeme}
 use Rattle.kc_expr.specs.declared.language.Language.{Language}
-use Rattle.kc_tree_model.specs.TreeLookup.{is_name_byte, own_text, has_newline}
+use Rattle.kc_value.specs.Lines.{has_newline}
+use Rattle.kc_tree_model.specs.TreeLookup.{is_name_byte, own_text}
 use Rattle.kc_tree_model.specs.TreeFiles.{Files}
 use Rattle.kc_tree_model.specs.LogicalLines.{LogicalLine}
 use Rattle.kc_tree_model.specs.Statements.{Head, config, choice, menu, condition, comment, source, mainmenu, ends, Statement, head, attribute, Attribute, DefaultAttribute, default_of, name_of_head, block_of_head}

@@ -6,7 +6,8 @@ use Rattle.kc_expr.specs.Grammar.{quoted_text}
 use Rattle.kc_expr.specs.Token.{Lexeme, lexemes_from}
 use Rattle.kc_expr.proofs.TokenTexts.{AllTexts}
 use Rattle.kc_expr.specs.declared.language.Language.{Language}
-use Rattle.kc_tree_model.specs.TreeLookup.{own_text, has_newline}
+use Rattle.kc_value.specs.Lines.{has_newline}
+use Rattle.kc_tree_model.specs.TreeLookup.{own_text}
 use Rattle.kc_tree_model.proofs.NestedTrees.LineFits.{IsValueOf}
 use Rattle.kc_tree_model.proofs.Consistency.OneLine.{one_lexed, one_quoted, OneText}
 use Rattle.kc_tree_model.proofs.Consistency.OwnTexts.{own_text_of_value}

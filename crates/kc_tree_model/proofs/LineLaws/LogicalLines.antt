@@ -63,7 +63,8 @@ logical_only {n = n} (with_help {front = front} {help = help} {rest = rest} {tex
 abbrev Lines : ℕ → List PhysicalLine → Type 0
 Lines n ps = (ls : List LogicalLine) × AreLogical n ps ls
 
-lines_after_front : (n : ℕ) (f : PhysicalLine) (ps : List PhysicalLine) → ((m : ℕ) (qs : List PhysicalLine) → length qs ≤ length ps → Lines m qs) → Front (f ∷ ps)
+lines_after_front : (n : ℕ) (f : PhysicalLine) (ps : List PhysicalLine)
+    → ((m : ℕ) (qs : List PhysicalLine) → length qs ≤ length ps → Lines m qs) → Front (f ∷ ps)
     → Lines n (f ∷ ps)
 lines_after_front n f ps rec x = by_help (begins_help x.text) refl
   where

@@ -214,7 +214,8 @@ in_a_member : map (kind_of (codes "choice\nconfig X\n")) lines
     ∷ Some Misplaced ∷ Some Malformed ∷ Some Malformed ∷ Some Malformed ∷ Some Malformed ∷ Some Malformed ∷ Some Malformed ∷ Some Malformed ∷ Some Malformed
     ∷ Some Malformed ∷ Some Malformed ∷ Some Malformed ∷ Some Malformed ∷ Some Malformed ∷ Some Malformed ∷ Some Malformed ∷ Some Malformed ∷ Some Malformed
     ∷ Some Malformed ∷ Some Malformed ∷ Some Malformed ∷ Some Malformed ∷ Some Malformed ∷ Some Malformed ∷ Some Malformed ∷ Some Misplaced ∷ []
-unfolding next_token is_utf8 chars read_expr lines_of source_fault statement_on_line reading tree_faults first_tree_fault lib.Utf8.encode index_of_name index_of_number
+unfolding next_token is_utf8 chars read_expr lines_of source_fault statement_on_line reading tree_faults first_tree_fault
+    lib.Utf8.encode index_of_name index_of_number
 in_a_member = refl
 
 in_an_if_of_a_choice : map (kind_of (codes "choice\nif X\n")) lines

@@ -12,14 +12,15 @@ use Rattle.kc_rules_model.specs.declared.profile.Profile.TheVariants.{Present, C
 use Rattle.kc_dotconfig_model.specs.declared.format.Strings.{Strings}
 use Rattle.kc_dotconfig_model.specs.declared.format.Strings.TheVariants.{Escaped, Raw}
 use Rattle.kc_dotconfig_model.specs.PrefixGrammar.{is_prefix}
-use Rattle.kc_tree_model.specs.TreeLookup.{has_newline}
-use Rattle.kc_macros_model.specs.Variables.{is_environment_name, without_white_end}
+use Rattle.kc_value.specs.Lines.{has_newline}
+use Rattle.kc_macros_model.specs.Variables.{is_environment_name}
+use Rattle.kc_tree_model.specs.LogicalLines.{without_white_end}
 use Rattle.kmin_words.specs.declared.job.TidyFlags.{TidyFlags}
 use Rattle.kmin_words.specs.declared.job.Verb.{Verb}
 use Rattle.kmin_words.specs.declared.job.Verb.TheVariants.{Min, Full, Missed, Check}
 use Rattle.kmin_words.specs.declared.command_line.ParsedWords.{ParsedWords}
 use Rattle.kmin_words.specs.declared.command_line.ParsedWords.TheVariants.{Job, Save, Questions as TheQuestions, Tidy, Help, Refused}
-use Rattle.kmin_words.specs.Jobs.{Definition, Expansion, Settings, Questions, PathList, Tidying, Task, over, compare, paths_of, settings_view, questions_view, tidying_view, task_view}
+use Rattle.kmin_words.specs.Jobs.{Definition, Expansion, Settings, Questions, PathList, TidyJob, Task, over, compare, paths_of, settings_view, questions_view, tidy_job_view, task_view}
 
 -- the one value that was found for an option or a word of the command line; empty if there is none
 abbrev pub value_of : Found → List ℕ → List ℕ
@@ -202,8 +203,8 @@ paths_read files None = files
 paths_read files (Some list) = files ++ path_read list.path ∷ []
 
 -- the values of the command `tidy`: its options, flags, list and files
-abbrev pub tidying_of : Found → ValueResult Tidying
-tidying_of found =
+abbrev pub tidy_job_of : Found → ValueResult TidyJob
+tidy_job_of found =
     and_then (one_line_paths (values_of found (codes "FILE"))) (λ files.
     and_then (settings_of found (paths_read files (list_of found))) (λ settings.
     Ok (record { settings = settings; flags = flags_of found; list = list_of found; files = files })))
@@ -218,28 +219,28 @@ AreQuestions found words = ⊥
 -- refused
 abbrev pub AreJob : ValueResult ((Settings × Task) × Option (List ℕ)) → ParsedWords → Type 0
 AreJob found (Job job) = found ≡ Ok ((settings_view job.settings, task_view job.task), None)
-AreJob found (Save saving) = found ≡ Ok ((settings_view saving.job.settings, task_view saving.job.task), Some saving.output.now)
+AreJob found (Save output_job) = found ≡ Ok ((settings_view output_job.job.settings, task_view output_job.job.task), Some output_job.output.now)
 AreJob found (Refused text) = found ≡ Err text.bytes.items
 AreJob found words = ⊥
 
 -- parsed words are the command `tidy` with these values, or the message with which a value is refused
-abbrev pub IsTidying : ValueResult Tidying → ParsedWords → Type 0
-IsTidying found (Tidy tidying) = found ≡ Ok (tidying_view tidying)
-IsTidying found (Refused text) = found ≡ Err text.bytes.items
-IsTidying found words = ⊥
+abbrev pub IsTidyJob : ValueResult TidyJob → ParsedWords → Type 0
+IsTidyJob found (Tidy tidy_job) = found ≡ Ok (tidy_job_view tidy_job)
+IsTidyJob found (Refused text) = found ≡ Err text.bytes.items
+IsTidyJob found words = ⊥
 
 -- parsed words are the command of this name with the values that were found, or the message with which one is refused
 abbrev pub HasValues : (name : List ℕ) → Found → ParsedWords → Type 0
 HasValues name found words = elim (bytes_eq name (codes "wants")) [
   | true ↦ AreQuestions (questions_of found) words
-  | false ↦ elim (bytes_eq name (codes "tidy")) [ true ↦ IsTidying (tidying_of found) words | false ↦ AreJob (job_and_output_of name found) words ]
+  | false ↦ elim (bytes_eq name (codes "tidy")) [ true ↦ IsTidyJob (tidy_job_of found) words | false ↦ AreJob (job_and_output_of name found) words ]
 ]
 
 -- a parsed command has the values that were found for a command of some name, none of them refused
 abbrev pub HasFoundValues : ParsedWords → Type 0
 HasFoundValues (Job job) = (found : Found) × (name : List ℕ) × AreJob (job_and_output_of name found) (Job job)
-HasFoundValues (Save saving) = (found : Found) × (name : List ℕ) × AreJob (job_and_output_of name found) (Save saving)
+HasFoundValues (Save output_job) = (found : Found) × (name : List ℕ) × AreJob (job_and_output_of name found) (Save output_job)
 HasFoundValues (TheQuestions questions) = (found : Found) × AreQuestions (questions_of found) (TheQuestions questions)
-HasFoundValues (Tidy tidying) = (found : Found) × IsTidying (tidying_of found) (Tidy tidying)
+HasFoundValues (Tidy tidy_job) = (found : Found) × IsTidyJob (tidy_job_of found) (Tidy tidy_job)
 HasFoundValues (Help text) = Unit {0}
 HasFoundValues (Refused text) = Unit {0}

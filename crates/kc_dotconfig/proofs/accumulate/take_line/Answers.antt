@@ -11,7 +11,8 @@ returns-in-Ok-take-clause-ok c = (
   c.in-Ok.ensures.cases.1,
   (
     meaning_view c.in-Ok-Some.meaning,
-    means_of_view (file_format c.args.format.now) (tree_of_settled c.args.settled.now) c.args.line.now c.in-Ok.text.now c.in-Ok-Some.field-0 c.in-Ok-Some.meaning
+    means_of_view (file_format c.args.format.now) (tree_of_settled c.args.settled.now) c.args.line.now
+        c.in-Ok.text.now c.in-Ok-Some.field-0 c.in-Ok-Some.meaning
         c.args.format.now.prefix.valid c.in-Ok.ensures.cases.0 c.in-Ok-Some.ensures.meaning c.in-Ok-Some.field-0-is,
     λ meanings. c.in-Ok-take.ensures.ok (tree_of_settled c.args.settled.now) meanings
         (within_of _ c.in-Ok-Some.field-0 c.in-Ok-Some.meaning c.in-Ok-Some.ensures.within c.in-Ok-Some.field-0-is),

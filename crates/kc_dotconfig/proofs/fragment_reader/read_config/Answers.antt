@@ -21,9 +21,11 @@ loop-size-init g c =
 
 pub returns-in_default-clause-fault : goal.returns-in_default-clause-fault
 returns-in_default-clause-fault g c =
-    reports_cut_short (file_format c.args.format.now) (tree_of_settled c.args.settled.now) _ _ _ _ c.fault_on_next_line.result.kind c.fault_on_next_line.result.line
+    reports_cut_short (file_format c.args.format.now) (tree_of_settled c.args.settled.now) _ _ _ _
+    c.fault_on_next_line.result.kind c.fault_on_next_line.result.line
     c.fault_on_next_line.ensures.kind
-    (read_cut_short (file_format c.args.format.now) (tree_of_settled c.args.settled.now) (g.R.Source.left c.args.source.now) (g.R.Source.left c.loop-size.source)
+    (read_cut_short (file_format c.args.format.now) (tree_of_settled c.args.settled.now) (g.R.Source.left c.args.source.now)
+    (g.R.Source.left c.loop-size.source)
     (g.R.Source.left c.read_some.new.self) c.loop-size.cutter c.loop-size.gathered c.loop-size.size c.fault_on_next_line.result.line
     c.loop-size.invariant.read c.in_default.ensures.bytes c.fault_on_next_line.ensures.line)
     (rises (g.R.Source.failures c.args.source.now) (g.R.Source.failures c.loop-size.source) (g.R.Source.failures c.read_some.new.self)

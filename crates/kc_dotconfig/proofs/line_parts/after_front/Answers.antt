@@ -8,7 +8,8 @@ use Rattle.kc_dotconfig.proofs.line_parts.after_front.Goals as goal
 pub returns-then-not-starts_with-clause-none : goal.returns-then-not-starts_with-clause-none
 returns-then-not-starts_with-clause-none c =
     let s = starts_is Decides-eqb c.as_bytes.result.now c.args.front.now c.starts_with.result c.starts_with.ensures.value in
-    after_front_none c.args.front.now c.args.line.now (λ rest is. let e = s.1 rest (c.as_bytes.ensures.value ∙ is) in let f = c.if-not-starts_with.true in cc (e, f))
+    after_front_none c.args.front.now c.args.line.now (λ rest is. let e = s.1 rest (c.as_bytes.ensures.value ∙ is) in
+    let f = c.if-not-starts_with.true in cc (e, f))
 
 pub range_from-requires : goal.range_from-requires
 range_from-requires c some =

@@ -75,7 +75,8 @@ down-preserved t c =
     let f = fits_at c.args.store.now c.down.at _ _ c.requires.sound (omega arith) c.node.ensures.value c.in-Either.is in
     record {
       below = omega (arith, f);
-      words = names_of_both (map (λ i. slice_index_or (stored_names c.args.store.now) i []) c.down.found.items) _ _ _ _ c.in_ok-push_names-in-Either.ensures.words
+      words = names_of_both (map (λ i. slice_index_or (stored_names c.args.store.now) i []) c.down.found.items) _ _ _ _
+          c.in_ok-push_names-in-Either.ensures.words
           (ap (λ ws. map (λ i. slice_index_or (stored_names c.args.store.now) i []) c.down.found.items ++ ws) (sym e) ∙ c.down.invariant.words);
       held = λ all. c.in_ok-push_names-in-Either.ensures.held (c.down.invariant.held all);
       kept = kept_through c.args.found.now.items c.down.found.items _ c.down.invariant.kept c.in_ok-push_names-in-Either.ensures.kept;

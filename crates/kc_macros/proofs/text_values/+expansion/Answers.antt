@@ -153,7 +153,8 @@ piece_values-returns-in_err-push t c =
 pub piece_values-pieces-preserved : goal.piece_values-pieces-preserved
 piece_values-pieces-preserved t c =
     let f = c.args.frame.now in
-    piece_found (frame_value f) c.args.run.now c.pieces.run (piece_values (frame_value f) (texts_of_slices c.args.pieces.now)) c.pieces.values.items c.expanded.new.run
+    piece_found (frame_value f) c.args.run.now c.pieces.run
+    (piece_values (frame_value f) (texts_of_slices c.args.pieces.now)) c.pieces.values.items c.expanded.new.run
     _ _ c.in_ok-value.value _ c.in_ok-push.ensures.items (piece_front (frame_value f) c.args.run.now c.pieces.run
     (piece_values (frame_value f) (texts_of_slices c.args.pieces.now)) c.pieces.values.items c.args.pieces.now c.pieces.piece-index
     (record { ref_ptr = (0, 0); now = [] }) (omega arith) c.pieces.invariant) c.in_ok-value.ensures
@@ -211,7 +212,8 @@ reference_value-returns-in_err-values t c =
     (stops_early s u (piece_values (frame_value f) (pieces 0 c.args.inside.now))
     (call_value (frame_expander f) (frame_place f) (frame_bindings f) (frame_names f)) stop
     (runs_same s u (piece_values (frame_value f) (pieces 0 c.args.inside.now)) (piece_values (frame_value f) (texts_of_slices c.as_slice.result.now))
-    (end_of_stop stop) (ap (piece_values (frame_value f)) (sym (ap texts_of_slices c.as_slice.ensures.value ∙ c.in_ok-pieces.ensures))) c.in_err-values.ensures)))
+    (end_of_stop stop)
+    (ap (piece_values (frame_value f)) (sym (ap texts_of_slices c.as_slice.ensures.value ∙ c.in_ok-pieces.ensures))) c.in_err-values.ensures)))
 
 pub reference_value-returns : goal.reference_value-returns
 reference_value-returns t c =
@@ -227,7 +229,8 @@ reference_value-returns t c =
     (then_runs s u (piece_values (frame_value f) (pieces 0 c.args.inside.now))
     (call_value (frame_expander f) (frame_place f) (frame_bindings f) (frame_names f)) vs v _
     (runs_same s u (piece_values (frame_value f) (pieces 0 c.args.inside.now)) (piece_values (frame_value f) (texts_of_slices c.as_slice.result.now))
-    (ends (returned vs)) (ap (piece_values (frame_value f)) (sym (ap texts_of_slices c.as_slice.ensures.value ∙ c.in_ok-pieces.ensures))) c.in_ok-values.ensures)
+    (ends (returned vs))
+    (ap (piece_values (frame_value f)) (sym (ap texts_of_slices c.as_slice.ensures.value ∙ c.in_ok-pieces.ensures))) c.in_ok-values.ensures)
     (runs_same u v ((call_value (frame_expander f) (frame_place f) (frame_bindings f) (frame_names f)) vs)
     ((call_value (frame_expander f) (frame_place f) (frame_bindings f) (frame_names f)) c.as_slice-2.result.now) _
     (ap (call_value (frame_expander f) (frame_place f) (frame_bindings f) (frame_names f)) (sym c.as_slice-2.ensures.value)) c.call_value.ensures))

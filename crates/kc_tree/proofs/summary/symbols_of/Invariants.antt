@@ -8,4 +8,5 @@ use Rattle.kc_tree.proofs.summary.symbols_of.Given as goal
 
 abbrev pub invariant-loop-i : goal.invariant-loop-i
 invariant-loop-i l =
-    (read : List ModelGroup) → RepresentsListing l.listing read → l.symbols.items ≡ symbol_summaries (contents_of read) (groups_in_context (read_before l.i read))
+    (read : List ModelGroup) → RepresentsListing l.listing read
+    → l.symbols.items ≡ symbol_summaries (contents_of read) (groups_in_context (read_before l.i read))

@@ -1,4 +1,4 @@
-use Rattle.kmin_jobs.proofs.BundleCuts.{found, line_and_rest, passed}
+use Rattle.kmin_jobs.proofs.BundleCuts.{found, passed}
 use Rattle.kmin_jobs.proofs.bundle.cut.Goals as goal
 use Rattle.std.proofs.Common.{◌∙◌, sym, arith}
 use Rattle.std.proofs.lemmas.Grind.{common_steps}
@@ -13,7 +13,7 @@ pub loop-line-preserved : goal.loop-line-preserved
 loop-line-preserved c =
     let i = c.loop-line.invariant in
     passed c.args.bundle.now i.0 c.loop-line.rest.now c.in-Some.line.now c.in-Some.after.now i.1 i.2 i.3 c.in-Some.ensures.bytes c.in-Some.ensures.shorter
-    c.in-Some.ensures.alone (line_and_rest c.loop-line.rest.now c.in-Some.line.now c.in-Some.after.now c.in-Some.ensures.piece)
+    c.in-Some.ensures.alone c.in-Some.ensures.piece
     (sym c.eq.ensures ∙ c.if-eq.false)
 
 pub overflow_sub-bundle : goal.overflow_sub-bundle

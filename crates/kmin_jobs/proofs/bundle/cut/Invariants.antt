@@ -1,5 +1,6 @@
 use Rattle.std.proofs.Common.{◌≡◌, ◌++◌, ◌⊎◌, List, [], ℕ, IsTrue, length}
-use Rattle.kmin_jobs.specs.Bundles.{HasWholeLines, has_no_marker}
+use Rattle.kc_value.specs.Lines.{HasWholeLines}
+use Rattle.kmin_jobs.specs.Bundles.{has_no_marker}
 use Rattle.kmin_jobs.proofs.bundle.cut.Given as goal
 
 -- the bundle is `rest` after lines none of which is `%%`

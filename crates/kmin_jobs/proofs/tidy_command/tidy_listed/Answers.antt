@@ -1,6 +1,6 @@
 use Rattle.std.proofs.Common.{ℕ, List, [], map, inl, inr, refl, rules}
 use Rattle.std.specs.Borrow.{Bor}
-use Rattle.kmin_words.specs.Jobs.{tidying_view}
+use Rattle.kmin_words.specs.Jobs.{tidy_job_view}
 use Rattle.kmin_jobs.specs.FileContents.{known_by}
 use Rattle.kmin_jobs.specs.Reports.{last_lines}
 use Rattle.kmin_jobs.specs.TidyRuns.{at_list, for_memory}
@@ -14,8 +14,8 @@ returns-in-Ok-clause-ends g c = λ left bytes.
       over_all
           (known_by (g.F.Files.content_of c.args.files.now) (g.F.Files.regular_content_of c.args.files.now) (g.F.Files.names_of c.args.files.now)
           (g.F.Files.variable_of c.args.files.now))
-          left (tidying_view c.args.tidying.now) c.args.list.now _ _ ended.0 c.tidy_paths.result c.is_ended_by_nul.result
-          (map (λ (path : Bor (List ℕ)). path.now) c.args.tidying.now.files.items) (map (λ (path : Bor (List ℕ)). path.now) c.deref-in-Ok.result.now)
+          left (tidy_job_view c.args.tidy_job.now) c.args.list.now _ _ ended.0 c.tidy_paths.result c.is_ended_by_nul.result
+          (map (λ (path : Bor (List ℕ)). path.now) c.args.tidy_job.now.files.items) (map (λ (path : Bor (List ℕ)). path.now) c.deref-in-Ok.result.now)
           c.is_ended_by_nul.ensures refl bytes c.in-Ok.ensures.named (search rules) ended.1,
       ended.2,
     )
@@ -29,12 +29,12 @@ returns-in-Err-NotUtf8-clause-ends g c = λ left bytes.
     malformed_ends _ _ _ _ _
     (known_by (g.F.Files.content_of c.args.files.now) (g.F.Files.regular_content_of c.args.files.now) (g.F.Files.names_of c.args.files.now)
     (g.F.Files.variable_of c.args.files.now))
-    left (tidying_view c.args.tidying.now) c.args.list.now _ bytes (inl (search rules)) c.refuse_list.ensures.status c.refuse_list.ensures.reported
+    left (tidy_job_view c.args.tidy_job.now) c.args.list.now _ bytes (inl (search rules)) c.refuse_list.ensures.status c.refuse_list.ensures.reported
 
 pub returns-in-Err-HasNewline-clause-ends : goal.returns-in-Err-HasNewline-clause-ends
 returns-in-Err-HasNewline-clause-ends g c = λ left bytes.
     malformed_ends _ _ _ _ _
     (known_by (g.F.Files.content_of c.args.files.now) (g.F.Files.regular_content_of c.args.files.now) (g.F.Files.names_of c.args.files.now)
     (g.F.Files.variable_of c.args.files.now))
-    left (tidying_view c.args.tidying.now) c.args.list.now _ bytes (inr (search rules)) c.refuse_list-in-Err-HasNewline.ensures.status
+    left (tidy_job_view c.args.tidy_job.now) c.args.list.now _ bytes (inr (search rules)) c.refuse_list-in-Err-HasNewline.ensures.status
     c.refuse_list-in-Err-HasNewline.ensures.reported

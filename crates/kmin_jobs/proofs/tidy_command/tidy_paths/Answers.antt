@@ -16,7 +16,7 @@ returns-in-Ok-clause-ends g c =
     went_over _ _ _ _ _ _ c.tidy_files-status.result
     (known_by (g.F.Files.content_of c.args.files.now) (g.F.Files.regular_content_of c.args.files.now) (g.F.Files.names_of c.args.files.now)
     (g.F.Files.variable_of c.args.files.now))
-    (settings_view c.args.tidying.now.settings) c.args.tidying.now.flags c.in-Ok.settled c.args.tidying.now.settings.format c.options_of-options.result _ _ _
+    (settings_view c.args.tidy_job.now.settings) c.args.tidy_job.now.flags c.in-Ok.settled c.args.tidy_job.now.settings.format c.options_of-options.result _ _ _
     c.in-Ok.ensures.profile refl c.options_of-options.ensures c.in-Ok.ensures.accepted run.ends run.became run.again run.silent
 
 pub returns-in-Err-clause-ends : goal.returns-in-Err-clause-ends
@@ -24,5 +24,5 @@ returns-in-Err-clause-ends g c =
     tree_ends _ _ _ _ _ _ c.exit_status.result
     (known_by (g.F.Files.content_of c.args.files.now) (g.F.Files.regular_content_of c.args.files.now) (g.F.Files.names_of c.args.files.now)
     (g.F.Files.variable_of c.args.files.now))
-    (settings_view c.args.tidying.now.settings) c.args.tidying.now.flags _ _ c.in-Err.stop c.exit_status.ensures.status c.in-Err.ensures.stopped
+    (settings_view c.args.tidy_job.now.settings) c.args.tidy_job.now.flags _ _ c.in-Err.stop c.exit_status.ensures.status c.in-Err.ensures.stopped
     c.exit_status.ensures.reported

@@ -1,7 +1,7 @@
 use Rattle.std.proofs.Common.{◌≡◌, true, ◌++◌, length, map, filter}
 use Rattle.std.specs.List.{list_all}
 use Rattle.std.specs.Str.{is_utf8}
-use Rattle.kmin_lines.specs.Lines.{pieces}
+use Rattle.kc_value.specs.Lines.{pieces}
 use Rattle.kmin_lines.specs.Lists.{paths_in, is_one_line, ender_of, has_bytes}
 use Rattle.kmin_lines.proofs.list.listed_paths.Given as goal
 

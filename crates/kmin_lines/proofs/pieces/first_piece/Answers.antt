@@ -1,5 +1,5 @@
 use Rattle.std.proofs.Common.{◌≡◌, ◌+◌, ◌<◌, ◌∷◌, ◌++◌, inl, inr, refl, suc, length, take, drop, ap, ◌∙◌, sym, arith}
-use Rattle.kmin_lines.specs.Lines.{pieces}
+use Rattle.kc_value.specs.Lines.{pieces}
 use Rattle.kmin_lines.proofs.PieceLemmas.{parted_at, none_in, none_before, pieces_parted, one_piece, rest_from, rest_from_end}
 use Rattle.kmin_lines.proofs.pieces.first_piece.Goals as goal
 

@@ -91,7 +91,8 @@ returns-then-ends-clause-walked c = λ names texts before m walked what attribut
     let f = rw c.enclosing-enclosing.ensures at c.in_ok-entry.ensures.joined in
     let j = entry_is w new texts before m mid far c.in_ok-entry.entry c.args.lines.now walked c.requires.lines attributes_are c.entry_conditions.ensures.grows
     c.push_conditions.ensures.grows f in
-    let b = c.in_ok-push_conditions.ensures.appended _ _ _ j (represents_on w.arena mid w.yes (conjunction_of []) c.entry_conditions.ensures.grows here.yes_is) in
+    let b = c.in_ok-push_conditions.ensures.appended _ _ _ j
+    (represents_on w.arena mid w.yes (conjunction_of []) c.entry_conditions.ensures.grows here.yes_is) in
     let b2 = subst (λ xs. AreAppended mid far w.conditions.items xs (dependencies_of (context (open_blocks 0 before)) m)
     (context (open_blocks 0 before)).visibles c.args.lines.now) (sym c.end.ensures.conditions) b in
     let g : Grows far new.arena = subst (λ e. Grows far e) (sym c.end.ensures.arena) (grows_same far) in

@@ -3,7 +3,7 @@ use Rattle.std.specs.Borrow.{Bor}
 use Rattle.clap.specs.Words.{found_of}
 use Rattle.kmin_words.specs.Jobs.{list_view}
 use Rattle.kmin_words.proofs.TidyRefusals.{refused_beside}
-use Rattle.kmin_words.proofs.tidy_words.tidying_of.Goals as goal
+use Rattle.kmin_words.proofs.tidy_words.tidy_job_of.Goals as goal
 
 pub returns-in_err-settings : goal.returns-in_err-settings
 returns-in_err-settings c =
