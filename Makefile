@@ -1,9 +1,10 @@
 SOURCES := crates.txt $(shell find crates -type f \( -path '*/src/*' -o -path '*/specs/*' -o -path '*/proofs/*' \) | sort)
 BUNDLE := crates/kmin/stdin
+PROGRAM ?= build/kmin
 PREFIX ?= /usr/local
 DESTDIR ?=
 
-.PHONY: help run check test bench install clean
+.PHONY: help run check edits test bench install dist clean
 
 help:            # lists the targets
 	@sed -n 's/^\([a-z/]*\):[^#]*# \(.*\)$$/make \1|\2/p' Makefile | awk -F '|' '{ printf "%-18s%s\n", $$1, $$2 }'
@@ -22,10 +23,14 @@ build/kmin: $(SOURCES) # proves and builds the program
 	mkdir -p build
 	cp crates/kmin/out/kmin build/kmin
 
-check:           # proves the crates that changed since the last commit and those above them, and runs the rows
+check:           # proves the crates that changed since they last passed it, with their tests, and runs the rows
 	tests/check_changed_crates
 
-test:            # the gate: proves all, tries the wrong bodies, runs every test; leaves the program in build/kmin
+edits:           # tries all wrong bodies, or with CRATE=NAME those of a crate
+	tests/try_edits $(CRATE)
+
+test:            # the gate: tries the wrong bodies that changed, proves all, runs every test; leaves the program in build/kmin
+	tests/try_edits --changed
 	rt ci
 	mkdir -p build
 	cp crates/kmin/out/kmin build/kmin
@@ -42,18 +47,24 @@ test:            # the gate: proves all, tries the wrong bodies, runs every test
 	tests/random_macros
 	tests/cut_expansions
 	tests/answer_questions
+	tests/check_dist
 	tests/refuse_allocations
 
 bench:           # time, memory and instructions of the libraries and the program, beside other programs
 	bench/run
 
-install: build/kmin # program, script of answers, manual page and completions, below DESTDIR and PREFIX
-	install -D -m 755 build/kmin $(DESTDIR)$(PREFIX)/bin/kmin
+install: $(PROGRAM) # program, script of answers, manual page, completions and two documents, below DESTDIR and PREFIX
+	install -D -m 755 $(PROGRAM) $(DESTDIR)$(PREFIX)/bin/kmin
 	install -D -m 755 kmin-answer $(DESTDIR)$(PREFIX)/bin/kmin-answer
 	install -D -m 644 man/kmin.1 $(DESTDIR)$(PREFIX)/share/man/man1/kmin.1
 	install -D -m 644 completions/kmin.bash $(DESTDIR)$(PREFIX)/share/bash-completion/completions/kmin
 	install -D -m 644 completions/kmin.zsh $(DESTDIR)$(PREFIX)/share/zsh/site-functions/_kmin
 	install -D -m 644 completions/kmin.fish $(DESTDIR)$(PREFIX)/share/fish/vendor_completions.d/kmin.fish
+	install -D -m 644 docs/FAULTS.md $(DESTDIR)$(PREFIX)/share/doc/kmin/FAULTS.md
+	install -D -m 644 docs/RULES.md $(DESTDIR)$(PREFIX)/share/doc/kmin/RULES.md
+
+dist: $(PROGRAM) # an archive and a Debian package, in build/dist
+	packaging/make_dist $(PROGRAM)
 
 clean:           # removes what was built
 	rm -rf build crates/*/out

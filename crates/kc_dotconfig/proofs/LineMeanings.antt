@@ -3,7 +3,7 @@ use Rattle.std.proofs.Common.{◌≡◌, ◌<◌, ℕ, Bool, true, false, not, �
 use Rattle.std.specs.Prelude.{IfSome, IfNone, IfOk, Result, Ok, Err, slice_get, is_some, option_map, bytes_eq}
 use Rattle.std.proofs.lemmas.Bool.{eqb-true}
 use Rattle.std.proofs.lemmas.Slice.Eq.{bytes_eq-Decides}
-use Rattle.kc_expr.specs.Token.{is_white_byte}
+use Rattle.kc_tokens.specs.Token.{is_white_byte}
 use Rattle.kc_value.specs.declared.tri.Tri.{Tri}
 use Rattle.kc_value.specs.declared.value.Kind.{Kind}
 use Rattle.kc_value.specs.declared.value.Kind.TheVariants.{Bool as Boolean, Tristate, Text, Int, Hex}

@@ -1,7 +1,7 @@
 //! The parts of a line of a configuration file.
 ghost use Rattle.std.specs.Prelude.{◌≡◌, ◌≢◌, ◌<◌, ℕ, List, not, Some, None, IfSome, IfNone, IsAscii};
 ghost use Rattle.std.specs.List.{find};
-ghost use Rattle.kc_expr.specs.Token.{is_white_byte};
+ghost use Rattle.kc_tokens.specs.Token.{is_white_byte};
 ghost use Rattle.kc_tree_model.specs.LogicalLines.{without_white_end};
 ghost use Rattle.kc_dotconfig_model.specs.Formats.{between_quotes};
 ghost use Rattle.kc_dotconfig_model.specs.between.Prefixes.{prefix_bytes};

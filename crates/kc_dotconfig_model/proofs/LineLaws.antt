@@ -5,7 +5,7 @@ use Rattle.std.specs.Option.{option_and_then}
 use Rattle.std.specs.List.{AllZip, list_all}
 use Rattle.std.proofs.lemmas.Bool.{cases_Bool, false≢true, eqb-true, and_parts, ltb-true}
 use Rattle.std.proofs.lemmas.Option.{slice_get_cases}
-use Rattle.kc_expr.specs.Token.{is_white_byte}
+use Rattle.kc_tokens.specs.Token.{is_white_byte}
 use Rattle.kc_tree_model.specs.Trees.{Tree, Symbol}
 use Rattle.kc_tree_model.specs.TreeLookup.{is_name_byte, symbol_named}
 use Rattle.kc_dotconfig_model.specs.Formats.{FileFormat}

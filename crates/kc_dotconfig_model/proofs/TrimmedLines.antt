@@ -8,7 +8,7 @@ use Rattle.std.proofs.lemmas.Bool.Decides.{nat_tests}
 use Rattle.std.proofs.lemmas.List.{get_or-reverse, length-take-le}
 use Rattle.std.proofs.lemmas.List.Sums.{prefix_len_passes, suffix_len-le-length}
 use Rattle.std.proofs.lemmas.Str.{IsUtf8-take, IsUtf8-nil, IsCharBoundary-end, IsCharBoundary-before_ascii}
-use Rattle.kc_expr.specs.Token.{is_white_byte}
+use Rattle.kc_tokens.specs.Token.{is_white_byte}
 use Rattle.kc_tree_model.specs.TreeLookup.{is_name_byte}
 use Rattle.kc_rules_model.proofs.Ink.{all_weaker}
 use Rattle.kc_tree_model.specs.LogicalLines.{without_white_end}

@@ -12,7 +12,7 @@ use Rattle.kc_macros_model.specs.LineForms.{line_bytes, with_nth_token}
 use Rattle.kc_macros_model.specs.ReadingStates.{ReadingState, progress, with_choice}
 use Rattle.kc_macros_model.specs.TreeExpansion.{choice_written}
 use Rattle.kc_expansion.specs.checker.ChoiceViews.{name_of_entry}
-use Rattle.kc_expansion.proofs.TableLemmas.{bytes_eq_turned}
+use Rattle.kc_files.proofs.TableLemmas.{bytes_eq_turned}
 use Rattle.kc_expansion.proofs.SourceFaultLemmas.{in_reverse}
 
 abbrev Entry : Type 0

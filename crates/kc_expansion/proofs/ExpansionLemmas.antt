@@ -11,7 +11,7 @@ use Rattle.kc_macros_model.specs.Programs.{Fault, Notice, Program, returns, fail
 use Rattle.kc_macros_model.specs.ReadingStates.{ExpandedFile, ReadingState, initial_state, Progress, progress, counted}
 use Rattle.kc_macros_model.specs.TreeExpansion.{place, lines_read, root_read, tree_read}
 use Rattle.kc_macros_model.specs.Worlds.{World, Ending, returned, failed, stopped, outcome, questions_or_fault, expansion, wanted}
-use Rattle.kc_macros.specs.RunStates.{RunState, run_at_start}
+use Rattle.kc_answers.specs.RunStates.{RunState, run_at_start}
 use Rattle.kc_macros.specs.declared.stop.MacroFault.{MacroFault}
 use Rattle.kc_macros.specs.declared.stop.Stop.{Stop}
 use Rattle.kc_macros.specs.declared.stop.Stop.TheVariants as kinds
@@ -19,8 +19,8 @@ use Rattle.kc_macros.specs.Runs.{RunEnd, ends, end_of, fault_of}
 use Rattle.kc_macros_model.proofs.BoundedReadings.{files_are_bounded}
 use Rattle.kc_macros_model.proofs.KnownTrees.{expansion_never_stops}
 use Rattle.kc_expansion.specs.Expansions.{ending_of, tree_of, IsExpansion, AreWanted}
-use Rattle.kc_expansion.specs.TreeContents.{TreeContents}
-use Rattle.kc_expansion.specs.between.KnownFiles.{FileRead, missing, KnownFiles, AreBytes, AreAsKnown, Grows}
+use Rattle.kc_files.specs.TreeContents.{TreeContents}
+use Rattle.kc_files.specs.between.KnownFiles.{FileRead, missing, KnownFiles, AreBytes, AreAsKnown, Grows}
 use Rattle.kc_expansion.specs.between.Reads.{FileRun, Reaches, Reads}
 use Rattle.kc_expansion.specs.checker.ExpansionViews.{nothing_known, with_root, GoesOn, HasEnded}
 use Rattle.kc_expansion.specs.checker.ProgramSteps.{Leads}

@@ -8,18 +8,18 @@ use Rattle.kc_macros_model.specs.Worlds.{World, Ending, returned, failed, stoppe
 use Rattle.kc_macros_model.specs.AnswerFiles.{RecordedAnswers}
 use Rattle.kc_macros.specs.declared.stop.Stop.{Stop}
 use Rattle.kc_macros.specs.declared.stop.Stop.TheVariants as kinds
-use Rattle.kc_macros.specs.RunStates.{RunState, after_outcome}
+use Rattle.kc_answers.specs.RunStates.{RunState, after_outcome}
 use Rattle.kc_macros.specs.between.Stops.{FailsWith}
 use Rattle.kc_macros.specs.Runs.{RunEnd, ends, out_of_memory, end_of_stop, end_of, HasAnswers, Runs, fault_of}
 use Rattle.kc_macros.proofs.RunLemmas.{RunsIn, in_world, same_answers}
 use Rattle.kc_expansion.proofs.JoinedRuns.{in_world_then, in_world_failed, in_world_stopped}
-use Rattle.kc_expansion.specs.TreeContents.{TreeContents}
-use Rattle.kc_expansion.specs.between.KnownFiles.{FileRead, KnownFiles, AreBytes, Agrees, Grows}
-use Rattle.kc_expansion.specs.between.FileRuns.{Comes}
+use Rattle.kc_files.specs.TreeContents.{TreeContents}
+use Rattle.kc_files.specs.between.KnownFiles.{FileRead, KnownFiles, AreBytes, Agrees, Grows}
+use Rattle.kc_files.specs.between.FileRuns.{Comes}
 use Rattle.kc_expansion.specs.between.Reads.{FileRun, file_run, Reaches, reached, cut_short, Reads}
 use Rattle.kc_expansion.specs.checker.ProgramSteps.{outcome_in, MeetIn, Leads, Steps}
-use Rattle.kc_expansion.proofs.ProgramLemmas.{nothing_after}
-use Rattle.kc_expansion.proofs.StoreLemmas.{grows_same}
+use Rattle.kc_files.proofs.ProgramLemmas.{nothing_after}
+use Rattle.kc_files.proofs.StoreLemmas.{grows_same}
 
 -- a program that comes to its end at once
 at_end : {A : Type 0} (w : World) (s : RunState) (p : Program A) (e : Ending A) → outcome_in w s p ≡ ended s.left e → RunsIn w s s p e

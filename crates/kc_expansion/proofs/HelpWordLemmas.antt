@@ -6,15 +6,15 @@ use Rattle.std.proofs.lemmas.Slice.Eq.{bytes_eq-Decides}
 use Rattle.std.proofs.lemmas.Bool.{eqb-true, and_parts}
 use Rattle.std.proofs.lemmas.List.Sums.{take_while-cons}
 use Rattle.std.proofs.Math.Seq.{take-append_seam}
-use Rattle.kc_expr.specs.Token.{Lexeme, is_white_byte, is_word_byte, lexemes_from}
-use Rattle.kc_expr.specs.TokenGrammar.{IsToken, IsLongest, IsCut, ends, comment, white, token}
-use Rattle.kc_expr.specs.declared.fault.ExprFault.{ExprFault}
-use Rattle.kc_expr.specs.declared.language.Language.TheVariants.{Strict}
-use Rattle.kc_expr.specs.declared.token.Relop.TheVariants.{Equal, NotEqual, Less, Greater, LessEqual, GreaterEqual}
-use Rattle.kc_expr.specs.declared.token.TokenKind.{TokenKind}
-use Rattle.kc_expr.specs.declared.token.TokenKind.TheVariants.{Word, Quoted, Relation, Not, And, Or, Open, Close}
-use Rattle.kc_expr.proofs.CutLaws.{read_cut}
-use Rattle.kc_expr.proofs.TokenLaws.{cut_read, front_run, run_all, run_front, quote_facts}
+use Rattle.kc_tokens.specs.Token.{Lexeme, is_white_byte, is_word_byte, lexemes_from}
+use Rattle.kc_tokens.specs.TokenGrammar.{IsToken, IsLongest, IsCut, ends, comment, white, token}
+use Rattle.kc_tokens.specs.declared.fault.ExprFault.{ExprFault}
+use Rattle.kc_tokens.specs.declared.language.Language.TheVariants.{Strict}
+use Rattle.kc_tokens.specs.declared.token.Relop.TheVariants.{Equal, NotEqual, Less, Greater, LessEqual, GreaterEqual}
+use Rattle.kc_tokens.specs.declared.token.TokenKind.{TokenKind}
+use Rattle.kc_tokens.specs.declared.token.TokenKind.TheVariants.{Word, Quoted, Relation, Not, And, Or, Open, Close}
+use Rattle.kc_tokens.proofs.CutLaws.{read_cut}
+use Rattle.kc_tokens.proofs.TokenLaws.{cut_read, front_run, run_all, run_front, quote_facts}
 use Rattle.kc_tree_model.specs.Keywords.{keywords, keyword_in_table, is_word_kind, keyword_of}
 use Rattle.kc_tree_model.specs.LogicalLines.{is_help_word, is_help, is_help_or_fault, begins_help}
 use Rattle.kc_tree_model.specs.declared.keyword.Keyword.{Keyword}

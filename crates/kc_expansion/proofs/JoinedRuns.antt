@@ -3,7 +3,7 @@ use Rattle.std.proofs.Common.{◌≡◌, ℕ, List, [], ◌∷◌, ◌++◌, ref
 use Rattle.kc_macros_model.specs.Programs.{Fault, Program, ◌>>=◌}
 use Rattle.kc_macros_model.specs.Worlds.{World, Ending, returned, failed, stopped, Outcome, outcome}
 use Rattle.kc_macros_model.proofs.Outcomes.{continued_by, composed}
-use Rattle.kc_macros.specs.RunStates.{RunState, with_question, with_questions, after_outcome}
+use Rattle.kc_answers.specs.RunStates.{RunState, with_question, with_questions, after_outcome}
 use Rattle.kc_macros.proofs.RunLemmas.{RunsIn}
 
 with_questions_append : (seen xs ys : List (List ℕ)) → with_questions seen (xs ++ ys) ≡ with_questions (with_questions seen xs) ys

@@ -9,7 +9,7 @@ use Rattle.indexmap.specs.IndexMap.{insert_entry}
 use Rattle.kc_macros_model.specs.ReadingStates.{ExpandedFile, has_key, is_taken, free_key, key_of}
 use Rattle.kc_expansion.specs.declared.expanded_files.FileOfKey.{FileOfKey}
 use Rattle.kc_expansion.specs.checker.ExpandedViews.{expanded_file, HasDistinctKeys, with_file}
-use Rattle.kc_expansion.proofs.TableLemmas.{bytes_eq_turned}
+use Rattle.kc_files.proofs.TableLemmas.{bytes_eq_turned}
 use Rattle.std.proofs.lemmas.Slice.Eq.{bytes_eq-Decides}
 use Rattle.std.proofs.lemmas.List.{length-append}
 use Rattle.std.proofs.lemmas.Bool.Decides.{nat_tests}

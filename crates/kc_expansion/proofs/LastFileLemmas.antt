@@ -3,7 +3,7 @@ use Rattle.std.proofs.Common.{◌≡◌, ℕ, Bool, true, false, cond, List, [],
 use Rattle.std.specs.Prelude.{bytes_eq}
 use Rattle.kc_macros_model.specs.ReadingStates.{ExpandedFile}
 use Rattle.kc_expansion.specs.PathsOfKeys.{path_of_key}
-use Rattle.kc_expansion.proofs.TableLemmas.{bytes_eq_turned}
+use Rattle.kc_files.proofs.TableLemmas.{bytes_eq_turned}
 
 -- the path of a key in the first of two lists of expanded files is its path in both lists together
 pub path_in_front : (fs gs : List ExpandedFile) (key path : List ℕ) → path_of_key fs key ≡ Some path → path_of_key (fs ++ gs) key ≡ Some path

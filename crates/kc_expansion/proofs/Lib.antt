@@ -1,13 +1,6 @@
-pub mod PathLemmas
-pub mod MatchLemmas
-pub mod TableLemmas
-pub mod StoreLemmas
-pub mod ProgramLemmas
-pub mod PatternLemmas
 pub mod KeyLemmas
 pub mod PathOfKeyLemmas
 pub mod LastFileLemmas
-pub mod SortLemmas
 pub mod WrittenFileLemmas
 pub mod SourceFaultLemmas
 pub mod FileProgramLemmas
@@ -26,3 +19,6 @@ pub mod AcceptedLines
 pub mod AcceptedTrees
 pub mod SecondExpansions
 pub mod SameReadings
+pub mod StepResultLemmas
+pub mod FileLineLemmas
+pub mod SourceOpenLemmas

@@ -11,7 +11,7 @@ use Rattle.kc_macros_model.proofs.LineCounts.{count_both, count_clean, AreCleanL
 use Rattle.kc_expansion.specs.checker.LineViews.{is_first_continued}
 use Rattle.kc_expansion.specs.checker.WrittenViews.{text_up_to}
 use Rattle.kc_expansion.specs.declared.written_file.WrittenFile.{WrittenFile}
-use Rattle.kc_expansion.proofs.ProgramLemmas.{same_rest}
+use Rattle.kc_files.proofs.ProgramLemmas.{same_rest}
 
 -- the bytes between two places, followed by those from the second place on, are the bytes from the first place on
 pub range_before_rest : (bytes : List ℕ) (at next : ℕ) → at ≤ next → slice_range bytes at next ++ drop next bytes ≡ drop at bytes

@@ -23,9 +23,9 @@ use Rattle.kc_expansion.specs.checker.ProgramSteps.{Leads}
 use Rattle.kc_macros.specs.declared.assignments.Assignment.{Assignment}
 use Rattle.kc_expansion.specs.checker.SameLines.{Stays}
 use Rattle.kc_expansion.specs.checker.ReadingViews.{fault_at, assigned_or_fault, IsNoPath}
-use Rattle.kc_macros.proofs.QuietLemmas.{narrow_is_utf8}
-use Rattle.kc_expansion.proofs.ProgramLemmas.{grouped}
-use Rattle.kc_expansion.proofs.StoreLemmas.{grows_same}
+use Rattle.kc_macro_lines.proofs.QuietLemmas.{narrow_is_utf8}
+use Rattle.kc_files.proofs.ProgramLemmas.{grouped}
+use Rattle.kc_files.proofs.StoreLemmas.{grows_same}
 use Rattle.kc_expansion.proofs.FileProgramLemmas.{leads_same, reads_on, reads_stop}
 
 module _ (at : Place) (help : Bool) (text : List ℕ) (s : ReadingState) where

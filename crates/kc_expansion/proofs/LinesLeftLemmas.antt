@@ -16,9 +16,9 @@ use Rattle.kc_expansion.specs.checker.ReadingViews.{after_text, lines_left, IsWr
 use Rattle.kc_expansion.specs.checker.WrittenViews.{text_up_to}
 use Rattle.kc_expansion.specs.declared.line_places.LineStart.{LineStart}
 use Rattle.kc_expansion.specs.declared.written_file.WrittenFile.{WrittenFile}
-use Rattle.kc_expansion.proofs.ProgramLemmas.{grouped, same_rest}
+use Rattle.kc_files.proofs.ProgramLemmas.{grouped, same_rest}
 use Rattle.kc_expansion.proofs.FileProgramLemmas.{leads_same, leads_then, leads_on, reads_on, reads_early}
-use Rattle.kc_expansion.proofs.TableLemmas.{bytes_eq_same}
+use Rattle.kc_files.proofs.TableLemmas.{bytes_eq_same}
 use Rattle.kc_expansion.proofs.LinePlaceLemmas.{text_further, lines_between, lines_stay, lines_after, line_in_front, some_lines}
 
 module _ (sub : SourceReader) (file bytes : List ℕ) (start : LineStart) (there : start.at < length bytes) (text : List ℕ) (next lines : ℕ)

@@ -6,7 +6,7 @@ use Rattle.std.specs.declared.alloc.Global.{Global}
 use Rattle.kc_expansion.specs.declared.expanded_files.FileOfKey.{FileOfKey}
 use Rattle.kc_expansion.specs.checker.ExpandedViews.{expanded_file}
 use Rattle.kc_expansion.specs.PathsOfKeys.{path_of_key}
-use Rattle.kc_expansion.proofs.TableLemmas.{bytes_eq_turned}
+use Rattle.kc_files.proofs.TableLemmas.{bytes_eq_turned}
 
 abbrev pub path_items : Option FileOfKey → Option (List ℕ)
 path_items o = option_map (λ (f : FileOfKey). f.path.items) o

@@ -8,14 +8,14 @@ use Rattle.std.proofs.lemmas.Bool.{eqb-true, lt-ltb, le-leb}
 use Rattle.std.proofs.lemmas.List.{append-nil}
 use Rattle.kc_value.specs.QuotedTexts.{IsBody, none, plain, pair, unescaped}
 use Rattle.kc_value.proofs.QuotedLaws.{body_means}
-use Rattle.kc_expr.specs.declared.language.Language.{Language}
-use Rattle.kc_expr.specs.declared.language.Language.TheVariants.{Strict, Linux}
-use Rattle.kc_expr.specs.declared.token.Relop.TheVariants.{Equal, NotEqual, Less, Greater, LessEqual, GreaterEqual}
-use Rattle.kc_expr.specs.declared.token.TokenKind.{TokenKind}
-use Rattle.kc_expr.specs.declared.token.TokenKind.TheVariants.{Word, Quoted, Relation, Not, And, Or, Open, Close}
-use Rattle.kc_expr.specs.Grammar.{is_quote, between_quotes, quoted_text, is_operand_kind}
-use Rattle.kc_expr.specs.Token.{Lexeme, is_white_byte, is_word_byte}
-use Rattle.kc_expr.specs.TokenGrammar.{HasDollarsInPairs, other as unpaired, paired, HasDollarsOf, IsToken, IsLongest, IsCut, ends, comment, white, token}
+use Rattle.kc_tokens.specs.declared.language.Language.{Language}
+use Rattle.kc_tokens.specs.declared.language.Language.TheVariants.{Strict, Linux}
+use Rattle.kc_tokens.specs.declared.token.Relop.TheVariants.{Equal, NotEqual, Less, Greater, LessEqual, GreaterEqual}
+use Rattle.kc_tokens.specs.declared.token.TokenKind.{TokenKind}
+use Rattle.kc_tokens.specs.declared.token.TokenKind.TheVariants.{Word, Quoted, Relation, Not, And, Or, Open, Close}
+use Rattle.kc_expr.specs.Grammar.{between_quotes, quoted_text, is_operand_kind}
+use Rattle.kc_tokens.specs.Token.{is_quote, Lexeme, is_white_byte, is_word_byte}
+use Rattle.kc_tokens.specs.TokenGrammar.{HasDollarsInPairs, other as unpaired, paired, HasDollarsOf, IsToken, IsLongest, IsCut, ends, comment, white, token}
 use Rattle.kc_macros_model.specs.References.{item_bytes, first_item, items, is_unterminated}
 use Rattle.kc_macros_model.specs.LineTokens.{LineToken, gap, run, quoted, other, broken, token_bytes, extent, is_run_byte, run_token, quoted_token, first_token, line_tokens}
 use Rattle.kc_macros_model.specs.PlainLines.{is_kept_item, has_dollar, text_of_items}

@@ -4,7 +4,7 @@ use Rattle.std.specs.Prelude.{bytes_eq, filter_map, is_some, nat_le, nat_lt, sum
 use Rattle.std.specs.List.{cons_option, fold, AllByRecursion}
 use Rattle.std.proofs.lemmas.Cmp.{nat_list_eq_equiv}
 use Rattle.kc_value.specs.declared.limits.TheConstants.{MAX_FILES, MAX_TREE_BYTES, MAX_OPEN_FILES}
-use Rattle.kc_expr.specs.declared.language.Language.{Language}
+use Rattle.kc_tokens.specs.declared.language.Language.{Language}
 use Rattle.kc_tree_model.specs.declared.fault.TreeKind.{TreeKind}
 use Rattle.kc_tree_model.specs.declared.fault.TreeKind.TheVariants.{SourceLoop, MissingFile, TooDeep, TooMany}
 use Rattle.kc_tree_model.specs.declared.fault.TreeFault.{TreeFault}

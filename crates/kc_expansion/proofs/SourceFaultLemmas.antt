@@ -12,7 +12,7 @@ use Rattle.kc_macros_model.specs.ReadingStates.{ReadingState}
 use Rattle.kc_macros_model.specs.TreeExpansion.{source_fault}
 use Rattle.kc_macros_model.specs.declared.fault.MacroKind.{MacroKind}
 use Rattle.kc_expansion.specs.declared.source_faults.ReadCounts.{ReadCounts}
-use Rattle.kc_expansion.specs.between.KnownFiles.{FileRead, missing, whole, too_long, AreBytes}
+use Rattle.kc_files.specs.between.KnownFiles.{FileRead, missing, whole, too_long, AreBytes}
 use Rattle.kc_expansion.specs.checker.Sizes.{size_fault}
 use Rattle.kc_macros.specs.between.SliceTexts.{texts_of_slices}
 use Rattle.kc_expansion.specs.checker.ReadingViews.{MayBeRead, MayNotBeRead}

@@ -15,7 +15,7 @@ use Rattle.kc_macros_model.specs.ReadingStates.{ExpandedFile, ReadingState, Prog
 use Rattle.kc_macros_model.specs.TreeExpansion.{SourceTarget, one_file, file_list, sourced_path, SourceReader, path_meant, list_name, source_line, pattern_read, path_read, source_followed, lines_read, list_read, source_fault, contents_read, sourced_read, source_read}
 use Rattle.kc_macros.specs.declared.stop.Stop.{Stop}
 use Rattle.kc_macros.specs.Runs.{RunEnd, ends, end_of_stop}
-use Rattle.kc_expansion.specs.between.KnownFiles.{FileRead, whole, AreBytes, Grows}
+use Rattle.kc_files.specs.between.KnownFiles.{FileRead, whole, AreBytes, Grows}
 use Rattle.kc_expansion.specs.between.Reads.{FileRun, Reads}
 use Rattle.kc_expansion.specs.checker.ProgramSteps.{Leads}
 use Rattle.kc_expansion.specs.checker.ReadingViews.{reader_for, fault_at, after_text, lists_left, pattern_followed, AreCounts, MayBeRead, MayNotBeRead}
@@ -25,7 +25,7 @@ use Rattle.kc_value.specs.declared.limits.TheConstants.{MAX_OPEN_FILES}
 use Rattle.kc_expansion.specs.checker.ExpandedViews.{with_file}
 use Rattle.kc_macros.specs.between.SliceTexts.{texts_of_slices}
 use Rattle.kc_expansion.specs.declared.source_faults.ReadCounts.{ReadCounts}
-use Rattle.kc_expansion.proofs.ProgramLemmas.{grouped, same_rest, nothing_after}
+use Rattle.kc_files.proofs.ProgramLemmas.{grouped, same_rest, nothing_after}
 use Rattle.kc_expansion.proofs.FileProgramLemmas.{leads_same, leads_then, leads_on, leads_read, reads_on, reads_early}
 
 module _ (root : List ℕ) (open_files : List (List ℕ)) (at : Place) (what : SourceTarget) (s : ReadingState) where

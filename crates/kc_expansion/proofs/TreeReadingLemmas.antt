@@ -17,8 +17,8 @@ use Rattle.kc_macros_model.specs.TreeExpansion.{one_file, file_list, SourceReade
 use Rattle.kc_macros.specs.declared.stop.Stop.{Stop}
 use Rattle.kc_macros.specs.Runs.{RunEnd, ends, end_of_stop, end_of}
 use Rattle.kc_lines.specs.between.LinePlaces.{IsLogicalAt}
-use Rattle.kc_expansion.specs.TextViews.{items_of}
-use Rattle.kc_expansion.specs.between.KnownFiles.{FileRead, whole, Grows}
+use Rattle.kc_files.specs.TextViews.{items_of}
+use Rattle.kc_files.specs.between.KnownFiles.{FileRead, whole, Grows}
 use Rattle.kc_expansion.specs.between.Reads.{FileRun, Reads}
 use Rattle.kc_expansion.specs.checker.ExpandedViews.{with_file}
 use Rattle.kc_expansion.specs.checker.SameLines.{Stays}

@@ -8,10 +8,10 @@ use Rattle.kc_tree_model.specs.Limits.{is_in_list, without_repeats}
 use Rattle.kc_macros_model.specs.AnswerFiles.{RecordedAnswers}
 use Rattle.kc_value.specs.declared.limits.TheConstants.{MAX_TREE_BYTES, MAX_LISTED_NAMES}
 use Rattle.kc_macros_model.specs.Worlds.{World}
-use Rattle.kc_macros.specs.RunStates.{with_questions}
+use Rattle.kc_answers.specs.RunStates.{with_questions}
 use Rattle.kc_macros.specs.Runs.{HasAnswers}
-use Rattle.kc_expansion.specs.TreeContents.{FileContent, FolderContent, TreeContents, IsContentRead, IsFolderRead, IsWorldOf}
-use Rattle.kc_expansion.specs.between.KnownFiles.{FileRead, missing, whole, too_long, FolderRead, names, too_many, KnownFiles, AreBytes, AreNames, Agrees, MatchFile, MatchFolder, AreAsKnown}
+use Rattle.kc_files.specs.TreeContents.{FileContent, FolderContent, TreeContents, IsContentRead, IsFolderRead, IsWorldOf}
+use Rattle.kc_files.specs.between.KnownFiles.{FileRead, missing, whole, too_long, FolderRead, names, too_many, KnownFiles, AreBytes, AreNames, Agrees, MatchFile, MatchFolder, AreAsKnown}
 
 -- a list that is longer than this
 longer : {A : Type 0} (x : A) (n : ℕ) → (xs : List A) × (n < length xs)

@@ -7,8 +7,8 @@ use Rattle.kc_macros_model.specs.ReadingStates.{ExpandedFile}
 use Rattle.kc_macros_model.specs.Worlds.{World, Ending, returned, failed, expansion, wanted}
 use Rattle.kc_macros.specs.declared.stop.MacroFault.{MacroFault}
 use Rattle.kc_macros.specs.Runs.{HasAnswers, fault_of}
-use Rattle.kc_expansion.specs.TextViews.{texts_of}
-use Rattle.kc_expansion.specs.TreeContents.{TreeContents, IsWorldOf}
+use Rattle.kc_files.specs.TextViews.{texts_of}
+use Rattle.kc_files.specs.TreeContents.{TreeContents, IsWorldOf}
 
 -- what an expansion by the code ends with: the expanded files, or the fault as one of `kc_macros_model`
 abbrev pub tree_of : Result (List ExpandedFile) MacroFault → Result (List ExpandedFile) Fault

@@ -1,7 +1,5 @@
 pub mod between
 pub mod checker
-pub mod TextViews
-pub mod TreeContents
 pub mod Expansions
 pub mod ExpandedTexts
 pub mod PathsOfKeys

@@ -1,7 +1,7 @@
 -- Laws of the expansion of trees that the reader accepts: they stay as they are.
 use Rattle.std.specs.Prelude.{◌≡◌, ℕ, Bool, true, false, List, [], ◌∷◌, map, filter_map, Option, Some, None, Ok, bytes_eq, if◌then◌else◌}
 use Rattle.std.specs.List.{All}
-use Rattle.kc_expr.specs.declared.language.Language.{Language}
+use Rattle.kc_tokens.specs.declared.language.Language.{Language}
 use Rattle.kc_tree_model.specs.TreeFiles.{Files, linux_files, file_at, index_of_file}
 use Rattle.kc_tree_model.specs.LogicalLines.{LogicalLine, begins_help}
 use Rattle.kc_tree_model.specs.Statements.{Statement}

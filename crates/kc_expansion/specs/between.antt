@@ -1,3 +1,1 @@
-pub mod KnownFiles
-pub mod FileRuns
 pub mod Reads

@@ -1,7 +1,3 @@
-pub mod PathViews
-pub mod EndMatches
-pub mod FileViews
-pub mod PatternRuns
 pub mod ExpandedViews
 pub mod WrittenViews
 pub mod Sizes
@@ -12,3 +8,6 @@ pub mod SameLines
 pub mod LineViews
 pub mod ExpansionViews
 pub mod HelpWords
+pub mod StepResults
+pub mod FileLines
+pub mod SourceReads

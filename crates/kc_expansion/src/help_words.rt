@@ -1,6 +1,6 @@
 //! Lines that begin help texts.
 ghost use Rattle.std.specs.Prelude.{◌≡◌, ◌||◌, bytes_eq, codes, length, take_while};
-ghost use Rattle.kc_expr.specs.Token.{is_white_byte, is_word_byte};
+ghost use Rattle.kc_tokens.specs.Token.{is_white_byte, is_word_byte};
 ghost use Rattle.kc_tree_model.specs.LogicalLines.{begins_help};
 ghost use Rattle.kc_expansion.specs.checker.HelpWords.{is_end};
 

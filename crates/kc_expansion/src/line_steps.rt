@@ -7,21 +7,22 @@ ghost use Rattle.kc_macros_model.specs.ReadingStates.{ReadingState, progress, wr
 ghost use Rattle.kc_macros_model.specs.TreeExpansion.{SourceReader, choice_written, form_written, short_line, tokens_written, line_written};
 ghost use Rattle.kc_macros.specs.between.Variables.{bindings_of};
 ghost use Rattle.kc_macros.specs.Runs.{place_of, Runs, end_of};
-ghost use Rattle.kc_macros.specs.between.LineContents.{tokens_of};
-ghost use Rattle.kc_macros.specs.between.LineFormViews.{form_view};
-ghost use Rattle.kc_expansion.specs.TreeContents.{TreeContents};
-ghost use Rattle.kc_expansion.specs.between.KnownFiles.{KnownFiles};
+ghost use Rattle.kc_macro_forms.specs.between.WrittenTokens.{tokens_of};
+ghost use Rattle.kc_macro_forms.specs.between.LineFormViews.{form_view};
+ghost use Rattle.kc_files.specs.TreeContents.{TreeContents};
+ghost use Rattle.kc_files.specs.between.KnownFiles.{KnownFiles};
 ghost use Rattle.kc_expansion.specs.between.Reads.{FileRun, file_run, Reads};
 ghost use Rattle.kc_expansion.specs.checker.ProgramSteps.{Steps};
 ghost use Rattle.kc_expansion.specs.checker.ReadingViews.{with_lines, step_left, IsNoPath, IsNoSource, assigned_or_fault};
 
 use super::choice_names::ChoiceNames;
 use super::faults::fault;
-use kc_macros::{
-    Assignment, Bindings, LineContent, LineForm, MacroKind, Place, Run, SourceSort, Stop,
-    WrittenToken, assign, is_help_line, is_undecided, line_bytes, line_form, read_line,
+use kc_macro_forms::{
+    LineForm, SourceSort, WrittenToken, is_help_line, is_undecided, line_bytes, line_form,
     with_bare_prompt, with_replacement, without_choice_name,
 };
+use kc_macro_lines::{LineContent, read_line};
+use kc_macros::{Assignment, Bindings, MacroKind, Place, Run, Stop, assign};
 use kc_value::MAX_TEXT_BYTES;
 use std::alloc::{AllocError, Global};
 

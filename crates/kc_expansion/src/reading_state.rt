@@ -2,7 +2,7 @@
 use super::expanded_files::ExpandedFiles;
 use super::line_steps::LineState;
 use super::source_faults::ReadCounts;
-use super::store::Store;
+use kc_files::Store;
 use std::alloc::Global;
 
 /// A reading of a tree: the state that its lines change, the files and folders that were read, the expanded files, and how

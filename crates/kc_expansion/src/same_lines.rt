@@ -4,8 +4,8 @@ ghost use Rattle.std.specs.Str.{is_utf8};
 ghost use Rattle.kc_expansion.specs.checker.SameLines.{MayStay};
 
 use super::help_words::begins_help;
-use super::name_matches::is_utf8;
-use kc_macros::is_copied;
+use kc_files::is_utf8;
+use kc_macro_lines::is_copied;
 use kc_value::MAX_TEXT_BYTES;
 
 /// The line after which most help texts begin.

@@ -1,12 +1,12 @@
 //! Faults of `source` lines.
 ghost use Rattle.std.specs.Prelude.{◌≡◌, ◌+◌, ◌<◌, ◌≤◌, ◌||◌, nat_le, nat_lt, bytes_eq, IfOk, IfErr};
 ghost use Rattle.std.specs.List.{list_any};
-ghost use Rattle.kc_expansion.specs.checker.FileViews.{file_of};
+ghost use Rattle.kc_files.specs.checker.FileViews.{file_of};
 ghost use Rattle.kc_macros.specs.between.SliceTexts.{texts_of_slices};
 ghost use Rattle.kc_expansion.specs.checker.ReadingViews.{MayBeRead, MayNotBeRead};
 ghost use Rattle.kc_expansion.specs.checker.Sizes.{size_fault};
 
-use super::file_bytes::FileRead;
+use kc_files::FileRead;
 use kc_macros_model::MacroKind;
 use kc_value::{MAX_FILES, MAX_OPEN_FILES, MAX_TREE_BYTES};
 use std::rc::Rc;

@@ -4,21 +4,21 @@ ghost use Rattle.kc_macros_model.specs.Worlds.{returned};
 ghost use Rattle.kc_macros_model.specs.PathPatterns.{readable_paths};
 ghost use Rattle.kc_macros_model.specs.TreeExpansion.{SourceReader, path_read};
 ghost use Rattle.kc_macros.specs.Runs.{place_of};
-ghost use Rattle.kc_macros.specs.between.LineFormViews.{source_sort_of};
-ghost use Rattle.kc_expansion.specs.TextViews.{items_of, texts_of};
-ghost use Rattle.kc_expansion.specs.between.FileRuns.{Comes};
-ghost use Rattle.kc_expansion.specs.between.KnownFiles.{Grows};
-ghost use Rattle.kc_expansion.specs.checker.FileViews.{known_of};
+ghost use Rattle.kc_macro_forms.specs.between.LineFormViews.{source_sort_of};
+ghost use Rattle.kc_files.specs.TextViews.{items_of, texts_of};
+ghost use Rattle.kc_files.specs.between.FileRuns.{Comes};
+ghost use Rattle.kc_files.specs.between.KnownFiles.{Grows};
+ghost use Rattle.kc_files.specs.checker.FileViews.{known_of};
 ghost use Rattle.kc_expansion.specs.checker.ProgramSteps.{Steps};
 ghost use Rattle.kc_expansion.specs.checker.ReadingViews.{state_of, file_run_of, paths_left, pattern_followed};
 
 use super::faults::fault;
-use super::files::TreeFiles;
-use super::paths::is_pattern;
-use super::patterns::{FoundPaths, PatternStop, files_of_pattern, readable_paths};
 use super::reading_state::Reading;
-use super::store::Store;
-use kc_macros::{MacroKind, Place, SourceSort, Stop};
+use kc_files::{
+    FoundPaths, PatternStop, Store, TreeFiles, files_of_pattern, is_pattern, readable_paths,
+};
+use kc_macro_forms::SourceSort;
+use kc_macros::{MacroKind, Place, Stop};
 use std::alloc::{AllocError, Global};
 
 /// Whether a pattern must have files and has none.

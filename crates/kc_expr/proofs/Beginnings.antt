@@ -1,8 +1,8 @@
 -- Tokens that begin an expression of a level.
 use Rattle.std.proofs.Common.{◌≡◌, ℕ, suc, zero, ◌≤◌, ◌⊎◌, inl, inr, List, [], ◌∷◌, ◌++◌, Some, refl, ap, sym, subst, append_assoc, append-nil, arith}
-use Rattle.kc_expr.specs.declared.token.TokenKind.TheVariants.{Word, Relation, Not, Open, Close}
-use Rattle.kc_expr.specs.declared.token.Relop.{Relop}
-use Rattle.kc_expr.specs.Token.{Lexeme}
+use Rattle.kc_tokens.specs.declared.token.TokenKind.TheVariants.{Word, Relation, Not, Open, Close}
+use Rattle.kc_tokens.specs.declared.token.Relop.{Relop}
+use Rattle.kc_tokens.specs.Token.{Lexeme}
 use Rattle.kc_expr.specs.Expr.{Expr, Operand, named, alone, related, negated}
 use Rattle.kc_expr.specs.Grammar.{Level, ors, ands, factor, IsExpr, one_and, more_ors, one_factor, more_ands, operand, relation, negation, parentheses, operand_of_lexeme}
 

@@ -1,11 +1,11 @@
 -- What the reader of factors gives.
 use Rattle.std.proofs.Common.{◌≡◌, ℕ, suc, zero, ◌≤◌, inl, inr, Bool, true, false, cond, List, [], ◌∷◌, ◌++◌, length, length-append, Option, Some, None, Ok, Err, refl, ap, sym, ◌∙◌, subst, append_assoc, arith}
-use Rattle.kc_expr.specs.declared.fault.ExprKind.{ExprKind}
-use Rattle.kc_expr.specs.declared.fault.ExprKind.TheVariants.{Malformed, TooDeep}
-use Rattle.kc_expr.specs.declared.token.TokenKind.{TokenKind}
-use Rattle.kc_expr.specs.declared.token.TokenKind.TheVariants.{Word, Quoted, Relation, Not, And, Or, Open, Close}
-use Rattle.kc_expr.specs.declared.token.Relop.{Relop}
-use Rattle.kc_expr.specs.Token.{Lexeme}
+use Rattle.kc_tokens.specs.declared.fault.ExprKind.{ExprKind}
+use Rattle.kc_tokens.specs.declared.fault.ExprKind.TheVariants.{Malformed, TooDeep}
+use Rattle.kc_tokens.specs.declared.token.TokenKind.{TokenKind}
+use Rattle.kc_tokens.specs.declared.token.TokenKind.TheVariants.{Word, Quoted, Relation, Not, And, Or, Open, Close}
+use Rattle.kc_tokens.specs.declared.token.Relop.{Relop}
+use Rattle.kc_tokens.specs.Token.{Lexeme}
 use Rattle.kc_expr.specs.Expr.{Expr, Operand, named, quoted, alone, related, negated, both, either}
 use Rattle.kc_expr.specs.Grammar.{ors, ands, factor, one_and, more_ors, one_factor, more_ands, operand, relation, negation, parentheses, Read, on_read, chain, closed, is_and, is_or, is_close, past_depth_limit, after_operand, right_operand, operand_of_lexeme, constant_or, quoted_text, is_operand_kind, read_factor, read_ands, read_ors}
 use Rattle.kc_expr.proofs.Beginnings.{IsPrefix, ArePrefixes, whole_begins, front_begins, ands_begin, ors_begin, word_begins, none_begins, operand_begins, relation_begins, negation_begins, parentheses_begin, prefix_last, prefixes_begin, some_word}

@@ -4,19 +4,18 @@ use Rattle.std.proofs.lemmas.Bool.{both_ways, eq-eqb}
 use Rattle.std.proofs.Math.Seq.{take-append_seam}
 use Rattle.kc_value.specs.QuotedTexts.{IsBody, closing}
 use Rattle.kc_value.proofs.QuotedLaws.{body_closes, closed}
-use Rattle.kc_expr.specs.declared.fault.ExprFault.{ExprFault}
-use Rattle.kc_expr.specs.declared.fault.ExprKind.TheVariants.{BadToken, UnclosedQuote, LeftOut}
-use Rattle.kc_expr.specs.declared.language.Language.{Language}
-use Rattle.kc_expr.specs.declared.token.NextToken.{NextToken}
-use Rattle.kc_expr.specs.declared.token.NextToken.TheVariants.{White, Comment, Token, Fault}
-use Rattle.kc_expr.specs.Grammar.{is_quote}
-use Rattle.kc_expr.specs.Token.{Lexeme, with_front, is_white_byte, next_token, dollar_left_out, quoted_up_to, quoted_or_left_out, lexemes_from}
-use Rattle.kc_expr.specs.TokenGrammar.{HasDollarsOf, NothingBegins, IsFaultAt, dollar, unclosed, dollar_between, other_byte, IsCut, IsFirstTokenFault, here, after_white, after_token}
-use Rattle.kc_expr.proofs.CutLaws.{IsReading, read_is}
-use Rattle.kc_expr.proofs.Dollars.{left_out_first}
-use Rattle.kc_expr.proofs.TokenSteps.{lexemes_white, lexemes_fault}
-use Rattle.kc_expr.proofs.TokenFronts.{IsNextToken, next_token_is}
-use Rattle.kc_expr.proofs.TokenLaws.{cut_read, white_lead, lead_quoted, quote_facts, quote_no_slash, token_at, token_read}
+use Rattle.kc_tokens.specs.declared.fault.ExprFault.{ExprFault}
+use Rattle.kc_tokens.specs.declared.fault.ExprKind.TheVariants.{BadToken, UnclosedQuote, LeftOut}
+use Rattle.kc_tokens.specs.declared.language.Language.{Language}
+use Rattle.kc_tokens.specs.declared.token.NextToken.{NextToken}
+use Rattle.kc_tokens.specs.declared.token.NextToken.TheVariants.{White, Comment, Token, Fault}
+use Rattle.kc_tokens.specs.Token.{is_quote, Lexeme, with_front, is_white_byte, next_token, dollar_left_out, quoted_up_to, quoted_or_left_out, lexemes_from}
+use Rattle.kc_tokens.specs.TokenGrammar.{HasDollarsOf, NothingBegins, IsFaultAt, dollar, unclosed, dollar_between, other_byte, IsCut, IsFirstTokenFault, here, after_white, after_token}
+use Rattle.kc_tokens.proofs.CutLaws.{IsReading, read_is}
+use Rattle.kc_tokens.proofs.Dollars.{left_out_first}
+use Rattle.kc_tokens.proofs.TokenSteps.{lexemes_white, lexemes_fault}
+use Rattle.kc_tokens.proofs.TokenFronts.{IsNextToken, next_token_is}
+use Rattle.kc_tokens.proofs.TokenLaws.{cut_read, white_lead, lead_quoted, quote_facts, quote_no_slash, token_at, token_read}
 
 -- the fault of a byte, as it is read
 abbrev IsRead : Language → ℕ → List ℕ → ExprFault → Type 0

@@ -1,17 +1,16 @@
 -- Lines that two languages read alike.
 use Rattle.std.proofs.Common.{◌≡◌, ℕ, zero, suc, ◌+◌, pred, Bool, true, false, List, [], ◌∷◌, take, Option, Some, None, Result, Ok, Err, refl, ap, sym, ◌∙◌, subst}
 use Rattle.kc_value.specs.QuotedTexts.{closing}
-use Rattle.kc_expr.specs.declared.fault.ExprFault.{ExprFault}
-use Rattle.kc_expr.specs.declared.language.Language.{Language}
-use Rattle.kc_expr.specs.declared.language.Language.TheVariants.{Strict, Linux}
-use Rattle.kc_expr.specs.declared.token.NextToken.{NextToken}
-use Rattle.kc_expr.specs.declared.token.NextToken.TheVariants.{White, Comment, Token, Fault}
-use Rattle.kc_expr.specs.declared.token.TokenKind.{TokenKind}
-use Rattle.kc_expr.specs.declared.token.TokenKind.TheVariants.{Quoted}
-use Rattle.kc_expr.specs.Grammar.{is_quote}
-use Rattle.kc_expr.specs.Token.{Lexeme, with_front, next_token, quoted_up_to, quoted_or_left_out, dollar_left_out, lexemes_from}
-use Rattle.kc_expr.proofs.Dollars.{bare_of_none}
-use Rattle.kc_expr.proofs.TokenLaws.{lead_quoted}
+use Rattle.kc_tokens.specs.declared.fault.ExprFault.{ExprFault}
+use Rattle.kc_tokens.specs.declared.language.Language.{Language}
+use Rattle.kc_tokens.specs.declared.language.Language.TheVariants.{Strict, Linux}
+use Rattle.kc_tokens.specs.declared.token.NextToken.{NextToken}
+use Rattle.kc_tokens.specs.declared.token.NextToken.TheVariants.{White, Comment, Token, Fault}
+use Rattle.kc_tokens.specs.declared.token.TokenKind.{TokenKind}
+use Rattle.kc_tokens.specs.declared.token.TokenKind.TheVariants.{Quoted}
+use Rattle.kc_tokens.specs.Token.{is_quote, Lexeme, with_front, next_token, quoted_up_to, quoted_or_left_out, dollar_left_out, lexemes_from}
+use Rattle.kc_tokens.proofs.Dollars.{bare_of_none}
+use Rattle.kc_tokens.proofs.TokenLaws.{lead_quoted}
 use Rattle.kc_expr.proofs.TokenTexts.{front_ok}
 
 -- what comes of the token at the front

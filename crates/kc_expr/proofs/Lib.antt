@@ -1,15 +1,11 @@
 pub mod Beginnings
-pub mod CutLaws
-pub mod Dollars
 pub mod FactorOutcomes
 pub mod FaultLaws
 pub mod FirstFaults
 pub mod GrammarComplete
 pub mod GrammarLaws
-pub mod KeptLists
 pub mod Languages
 pub mod LeafLemmas
-pub mod TokenSteps
 pub mod ExpressionNameLemmas
 pub mod NameLemmas
 pub mod ParserNames
@@ -20,11 +16,8 @@ pub mod Places
 pub mod ReaderSteps
 pub mod ReadingLemmas
 pub mod StoreLemmas
-pub mod TokenFronts
-pub mod TokenLaws
 pub mod TokenPlaces
 pub mod TokenTexts
 mod Vectors
 pub mod VisitLemmas
 pub mod SingleWords
-pub mod WordBytes

@@ -4,7 +4,7 @@ use Rattle.kc_value.specs.declared.tri.Tri.TheVariants.{N, M, Y}
 use Rattle.kc_expr.specs.declared.node.Leaf.{Leaf}
 use Rattle.kc_expr.specs.declared.node.Leaf.TheVariants.{Constant, Name, Quoted as Text}
 use Rattle.kc_expr.specs.declared.store.Store.{Store}
-use Rattle.kc_expr.specs.declared.token.Relop.{Relop}
+use Rattle.kc_tokens.specs.declared.token.Relop.{Relop}
 use Rattle.kc_expr.specs.between.Arena.{Represents, node_expr}
 use Rattle.kc_expr.specs.Expr.{Expr, Operand, alone, related, negated}
 use Rattle.kc_expr.specs.checker.Conditions.{as_condition}

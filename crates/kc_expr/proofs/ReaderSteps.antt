@@ -1,14 +1,14 @@
 -- Steps of reading an expression.
 use Rattle.std.proofs.Common.{◌≡◌, ℕ, suc, zero, ◌+◌, ◌<◌, ◌⊎◌, inl, inr, false, List, [], ◌∷◌, length, drop, Some, None, Ok, Err, refl, ap, sym, ◌∙◌, arith, drop-drop}
-use Rattle.kc_expr.specs.declared.fault.ExprKind.{ExprKind}
-use Rattle.kc_expr.specs.declared.fault.ExprKind.TheVariants.{Malformed, TooDeep}
-use Rattle.kc_expr.specs.declared.token.Relop.{Relop}
-use Rattle.kc_expr.specs.declared.token.TokenKind.{TokenKind}
-use Rattle.kc_expr.specs.declared.token.TokenKind.TheVariants.{Word, Quoted, Relation, Not, And, Or, Open, Close}
+use Rattle.kc_tokens.specs.declared.fault.ExprKind.{ExprKind}
+use Rattle.kc_tokens.specs.declared.fault.ExprKind.TheVariants.{Malformed, TooDeep}
+use Rattle.kc_tokens.specs.declared.token.Relop.{Relop}
+use Rattle.kc_tokens.specs.declared.token.TokenKind.{TokenKind}
+use Rattle.kc_tokens.specs.declared.token.TokenKind.TheVariants.{Word, Quoted, Relation, Not, And, Or, Open, Close}
 use Rattle.kc_expr.specs.Expr.{Expr, Operand, named, quoted, alone, related, negated, both, either}
 use Rattle.kc_expr.specs.Grammar.{Read, on_read, past_depth_limit, chain, is_and, is_or, is_close, closed, after_operand, right_operand, constant_or, quoted_text, operand_of_kind, read_factor, read_ands, read_ors, read_to_end, read_expr}
 use Rattle.kc_expr.specs.checker.ParserResults.{first_kind, first_operand, first_relation, relation_of, operand_else, operand_read, factor_read, ands_read, ors_read, read_all_tokens}
-use Rattle.kc_expr.specs.Token.{Lexeme}
+use Rattle.kc_tokens.specs.Token.{Lexeme}
 use Rattle.kc_expr.proofs.GrammarComplete.{Stops, chain_same, chain_stops, factor_short, ands_short}
 
 pub drop_one : {X : Type 0} (at : ℕ) (xs : List X) → drop (at + 1) xs ≡ drop 1 (drop at xs)

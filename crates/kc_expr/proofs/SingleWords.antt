@@ -1,10 +1,10 @@
 -- How a word alone is read.
 use Rattle.std.proofs.Common.{◌≡◌, ℕ, List, drop, [], Some, None, Ok, ap, sym, ◌∙◌}
-use Rattle.kc_expr.specs.declared.token.TokenKind.{TokenKind}
-use Rattle.kc_expr.specs.declared.token.TokenKind.TheVariants.{Word, Not, And, Or, Open}
+use Rattle.kc_tokens.specs.declared.token.TokenKind.{TokenKind}
+use Rattle.kc_tokens.specs.declared.token.TokenKind.TheVariants.{Word, Not, And, Or, Open}
 use Rattle.kc_expr.specs.Expr.{Operand, alone}
 use Rattle.kc_expr.specs.checker.ParserResults.{first_kind, first_operand, first_relation, factor_read, ands_read, ors_read, read_all_tokens}
-use Rattle.kc_expr.specs.Token.{Lexeme}
+use Rattle.kc_tokens.specs.Token.{Lexeme}
 use Rattle.kc_expr.proofs.ReaderSteps.{operand_alone, factor_operand, ands_first, ands_end, ors_first, ors_end, whole_ok}
 
 module _ (us : List Lexeme) (a : Operand) (k : first_kind us ≡ Some Word) (o : first_operand us ≡ Some a) (last : drop 1 us ≡ []) where

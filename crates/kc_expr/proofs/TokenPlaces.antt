@@ -1,14 +1,14 @@
 -- Tokens by their places.
 use Rattle.std.proofs.Common.{◌≡◌, ℕ, suc, zero, ◌+◌, ◌-◌, ◌<◌, ◌≤◌, ◌&&◌, ◌||◌, ◌⊎◌, inl, inr, Bool, true, false, List, [], ◌∷◌, length, get_or, drop, eqb, Some, None, refl, ap, sym, ◌∙◌, arith, cond}
 use Rattle.std.proofs.lemmas.Bool.{cases_lt}
-use Rattle.kc_expr.specs.declared.fault.ExprKind.{ExprKind}
-use Rattle.kc_expr.specs.declared.token.Relop.{Relop}
-use Rattle.kc_expr.specs.declared.token.Token.{Token as CodeToken}
-use Rattle.kc_expr.specs.declared.token.TokenKind.{TokenKind}
-use Rattle.kc_expr.specs.declared.token.TokenKind.TheVariants.{Word, Quoted, Relation, Not, And, Or, Open, Close}
+use Rattle.kc_tokens.specs.declared.fault.ExprKind.{ExprKind}
+use Rattle.kc_tokens.specs.declared.token.Relop.{Relop}
+use Rattle.kc_tokens.specs.declared.token.Token.{Token as CodeToken}
+use Rattle.kc_tokens.specs.declared.token.TokenKind.{TokenKind}
+use Rattle.kc_tokens.specs.declared.token.TokenKind.TheVariants.{Word, Quoted, Relation, Not, And, Or, Open, Close}
 use Rattle.kc_expr.specs.Grammar.{end_of, fault_of, extent, is_operand_kind, is_close}
 use Rattle.kc_expr.specs.checker.ParserResults.{first_kind, first_relation, relation_of}
-use Rattle.kc_expr.specs.Token.{Lexeme, lexemes_of, lexeme_of}
+use Rattle.kc_tokens.specs.Token.{Lexeme, lexemes_of, lexeme_of}
 use Rattle.kc_expr.proofs.LeafLemmas.{lexeme_at, nothing_at}
 
 module _ (ts : List CodeToken) (at : ℕ) where

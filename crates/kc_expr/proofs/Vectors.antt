@@ -4,18 +4,18 @@ use Rattle.std.specs.Prelude.{codes, bytes_eq}
 use Rattle.kc_value.specs.declared.tri.Tri.TheVariants.{N, M, Y}
 use Rattle.kc_value.specs.declared.value.Kind.TheVariants.{Tristate, Text, Int, Hex}
 use Rattle.kc_value.specs.Number.{int_text, hex_text, loose_number}
-use Rattle.kc_expr.specs.declared.token.Relop.TheVariants.{Equal}
-use Rattle.kc_expr.specs.declared.token.TokenKind.TheVariants.{Word, Quoted}
-use Rattle.kc_expr.specs.declared.fault.ExprKind.TheVariants.{UnclosedQuote, LeftOut}
-use Rattle.kc_expr.specs.declared.language.Language.TheVariants.{Strict, Linux}
-use Rattle.kc_expr.specs.Token.{lexemes_from, next_token, Lexeme}
-use Rattle.kc_expr.specs.TokenGrammar.{IsFirstTokenFault}
-use Rattle.kc_expr.specs.declared.fault.ExprFault.{ExprFault}
-use Rattle.kc_expr.proofs.CutLaws.{read_fault}
+use Rattle.kc_tokens.specs.declared.token.Relop.TheVariants.{Equal}
+use Rattle.kc_tokens.specs.declared.token.TokenKind.TheVariants.{Word, Quoted}
+use Rattle.kc_tokens.specs.declared.fault.ExprKind.TheVariants.{UnclosedQuote, LeftOut}
+use Rattle.kc_tokens.specs.declared.language.Language.TheVariants.{Strict, Linux}
+use Rattle.kc_tokens.specs.Token.{lexemes_from, next_token, Lexeme}
+use Rattle.kc_tokens.specs.TokenGrammar.{IsFirstTokenFault}
+use Rattle.kc_tokens.specs.declared.fault.ExprFault.{ExprFault}
+use Rattle.kc_tokens.proofs.CutLaws.{read_fault}
 use Rattle.kc_expr.proofs.FaultLaws.{one_fault}
 use Rattle.std.proofs.Common.{length}
-use Rattle.kc_expr.specs.declared.fault.ExprKind.{ExprKind}
-use Rattle.kc_expr.specs.declared.fault.ExprKind.TheVariants.{Malformed}
+use Rattle.kc_tokens.specs.declared.fault.ExprKind.{ExprKind}
+use Rattle.kc_tokens.specs.declared.fault.ExprKind.TheVariants.{Malformed}
 use Rattle.kc_expr.specs.Grammar.{read_expr, extent}
 use Rattle.kc_expr.specs.Expr.{Expr, alone, related, negated, both, either, named, value, Environment}
 

@@ -11,8 +11,8 @@ use Rattle.kc_value.specs.declared.value.Kind.TheVariants.{Text, Int, Hex}
 use Rattle.kc_value.specs.Kinds.{is_tri_kind, is_text_kind}
 use Rattle.kc_value.specs.Tri.{rank, tri_and, tri_or, tri_not, y_for_m}
 use Rattle.kc_value.specs.Number.{int_text, hex_text, loose_number}
-use Rattle.kc_expr.specs.declared.token.Relop.{Relop}
-use Rattle.kc_expr.specs.declared.token.Relop.TheVariants.{Equal, NotEqual, Less, Greater, LessEqual, GreaterEqual}
+use Rattle.kc_tokens.specs.declared.token.Relop.{Relop}
+use Rattle.kc_tokens.specs.declared.token.Relop.TheVariants.{Equal, NotEqual, Less, Greater, LessEqual, GreaterEqual}
 
 -- an operand: one of the three constants, a name, or another quoted text ("Menu dependencies")
 pub data Operand : Type 0 where

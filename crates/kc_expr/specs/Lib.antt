@@ -1,10 +1,7 @@
 pub mod Expr
 pub mod ExprFaults
-pub mod FaultNames
 pub mod Grammar
 pub mod Lookup
 pub mod ExpressionNames
-pub mod Token
-pub mod TokenGrammar
 pub mod between
 pub mod checker

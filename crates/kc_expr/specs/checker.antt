@@ -2,7 +2,6 @@ pub mod ArenaCode
 pub mod ArenaView
 pub mod Conditions
 pub mod ExprCode
-pub mod TokenEnds
 pub mod Nodes
 pub mod ParserResults
 pub mod Store

@@ -1,10 +1,9 @@
 //! Arenas of expressions that share their parts.
 ghost use Rattle.std.specs.Prelude.{◌≡◌, ◌<◌, ◌≤◌, ◌⊎◌, ◌↔◌, ◌++◌, ◌||◌, ◌^◌, ℕ, Bool, List, false, true, length, map, [], All, Contains, IfOk, IfErr, IfSome, OnOk, OnErr, Some, option_map, slice_index_or};
 ghost use Rattle.std.specs.List.Sorted.{IsStrictlyIncreasing};
-ghost use Rattle.kc_expr.specs.declared.fault.ExprKind.TheVariants.{OutOfMemory};
+ghost use Rattle.kc_tokens.specs.declared.fault.ExprKind.TheVariants.{OutOfMemory};
 
 use super::evaluate::value_of;
-use super::fault::ExprFault;
 use super::ids::{ExprId, NameId};
 use super::lookup::Lookup;
 use super::names::{push_names, push_unvisited};
@@ -12,8 +11,8 @@ use super::node::{Leaf, Node};
 use super::operand::Operand;
 use super::parse::extent_len;
 use super::store::Store;
-use super::token::Token;
 use super::visited_set::VisitedSet;
+use kc_tokens::{ExprFault, Token};
 use kc_value::{MAX_EXPR_DEPTH, Seed, Tri};
 use std::alloc::{AllocError, Global};
 use std::marker::Model;
@@ -48,7 +47,7 @@ impl Arena {
     ghost use Rattle.kc_expr.specs.between.Names.{name_alone, with_name, with_names};
     ghost use Rattle.kc_expr.specs.between.Operand.{operand_alone, operand_of_ref, HasKnownName};
     ghost use Rattle.kc_expr.specs.between.ParseResults.{expr_tokens, expr_end, ReadsExpr, RefusesExpr};
-    ghost use Rattle.kc_expr.specs.Token.{lexemes_of};
+    ghost use Rattle.kc_tokens.specs.Token.{lexemes_of};
     ghost use Rattle.kc_expr.specs.between.ReverseNames.{names_in_reverse};
     ghost use Rattle.kc_expr.specs.between.Visits.{is_visited, mentions, passes_some_name, HasFound};
 

@@ -16,7 +16,7 @@ use super::ids::NameId;
 use super::lookup::Lookup;
 use super::node::{Leaf, Node};
 use super::store::Store;
-use super::token::Relop;
+use kc_tokens::Relop;
 use kc_value::{Kind, Tri, hex_of, int_of, loose_number_of};
 use std::cmp::Ordering;
 

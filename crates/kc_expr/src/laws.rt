@@ -1,12 +1,12 @@
 //! Laws of how lines are read as tokens, and tokens as expressions.
 ghost use Rattle.std.specs.Prelude.{◌≡◌, ◌↔◌, ◌⊎◌, ℕ, List, Ok, Err};
 ghost use Rattle.kc_value.specs.declared.limits.TheConstants.{MAX_EXPR_DEPTH};
-ghost use Rattle.kc_expr.specs.declared.fault.ExprFault.{ExprFault};
-ghost use Rattle.kc_expr.specs.declared.language.Language.{Language};
-ghost use Rattle.kc_expr.specs.declared.language.Language.TheVariants.{Strict, Linux};
-ghost use Rattle.kc_expr.specs.Token.{Lexeme, lexemes_from};
-ghost use Rattle.kc_expr.specs.TokenGrammar.{IsCut, IsFirstTokenFault};
-ghost use Rattle.kc_expr.specs.declared.fault.ExprKind.{ExprKind};
+ghost use Rattle.kc_tokens.specs.declared.fault.ExprFault.{ExprFault};
+ghost use Rattle.kc_tokens.specs.declared.language.Language.{Language};
+ghost use Rattle.kc_tokens.specs.declared.language.Language.TheVariants.{Strict, Linux};
+ghost use Rattle.kc_tokens.specs.Token.{Lexeme, lexemes_from};
+ghost use Rattle.kc_tokens.specs.TokenGrammar.{IsCut, IsFirstTokenFault};
+ghost use Rattle.kc_tokens.specs.declared.fault.ExprKind.{ExprKind};
 ghost use Rattle.kc_expr.specs.Expr.{Expr};
 ghost use Rattle.kc_expr.specs.ExprFaults.{IsFirstExprFault};
 ghost use Rattle.kc_expr.specs.Grammar.{read_expr, IsExpr, ors};

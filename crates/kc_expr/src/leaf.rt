@@ -1,6 +1,6 @@
 //! Operands, and the nodes of those that are whole expressions.
 ghost use Rattle.std.specs.Prelude.{◌≡◌, ◌<◌, length, drop, IfOk, IfErr, IfSome, option_map, Some};
-ghost use Rattle.kc_expr.specs.declared.fault.ExprKind.TheVariants.{OutOfMemory};
+ghost use Rattle.kc_tokens.specs.declared.fault.ExprKind.TheVariants.{OutOfMemory};
 ghost use Rattle.kc_expr.specs.between.Arena.{Represents};
 ghost use Rattle.kc_expr.specs.Expr.{alone, named, quoted};
 ghost use Rattle.kc_expr.specs.Grammar.{constant_or, letter_value, quoted_text};
@@ -9,13 +9,12 @@ ghost use Rattle.kc_expr.specs.ExpressionNames.{operand_names};
 ghost use Rattle.kc_expr.specs.between.Names.{with_names};
 ghost use Rattle.kc_expr.specs.checker.Nodes.{LeafFits, operand_of};
 ghost use Rattle.kc_expr.specs.checker.ParserResults.{first_operand, is_m, names_of_leaf, names_of_m};
-ghost use Rattle.kc_expr.specs.Token.{lexemes_of};
+ghost use Rattle.kc_tokens.specs.Token.{lexemes_of};
 
-use super::fault::ExprFault;
 use super::node::{Leaf, Node};
 use super::quoted_texts::quoted_text as text_of;
 use super::store::Store;
-use super::token::{Token, TokenKind};
+use kc_tokens::{ExprFault, Token, TokenKind};
 use kc_value::{Text, Tri};
 
 /// The constant that a text is, if it is one.

@@ -3,9 +3,7 @@
 
 mod arena;
 mod evaluate;
-mod fault;
 mod ids;
-mod language;
 mod laws;
 mod leaf;
 mod lookup;
@@ -15,13 +13,10 @@ mod operand;
 mod parse;
 mod quoted_texts;
 mod store;
-mod token;
 mod visited_set;
 
 pub use arena::Arena;
-pub use fault::{ExprFault, ExprKind};
 pub use ids::{ExprId, NameId};
-pub use language::Language;
 pub use laws::{
     each_line_has_one_reading, linux_reads_strict_lines, reading_is_the_grammar,
     token_faults_are_first_faults, tokens_are_the_language,
@@ -29,5 +24,4 @@ pub use laws::{
 pub use lookup::{Looked, Lookup};
 pub use operand::Operand;
 pub use quoted_texts::quoted_text;
-pub use token::{Relop, Token, TokenKind, push_tokens, tokens};
 pub use visited_set::VisitedSet;

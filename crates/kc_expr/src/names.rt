@@ -14,7 +14,7 @@ use super::visited_set::VisitedSet;
 use std::alloc::AllocError;
 
 /// Appends the name of a leaf, if it is one.
-#[tactic(auto, using(crate::proofs::KeptLists::kept_after))]
+#[tactic(auto, using(kc_tokens::proofs::KeptLists::kept_after))]
 fn push_name(store: &Store, leaf: Leaf, found: &mut Vec<NameId>) -> Result<(), AllocError>
     requires fits { LeafFits (length (stored_names store.now)) (length store.now.texts.items) leaf }
     ensures words { OnOk result (map (λ i. slice_index_or (stored_names store.now) i []) found.new.items
@@ -93,7 +93,7 @@ pub(crate) fn push_unvisited(
 /// Appends the names in the expression of a node, skipping visited nodes, and marks the node as visited. It is
 /// stamped before its names are pushed: a node below can't reach it.
 #[inline(never)]
-#[tactic(auto, using(crate::proofs::KeptLists::kept_through))]
+#[tactic(auto, using(kc_tokens::proofs::KeptLists::kept_through))]
 fn push_new_names(
     store: &Store,
     index: usize,

@@ -1,15 +1,14 @@
 //! The parser of expressions.
 ghost use Rattle.std.specs.Prelude.{◌≡◌, ◌↔◌, ◌≤◌, Some, length, drop, ◌&&◌, ◌||◌, ◌⊎◌, IsTrue, IfSome, IfOk, IfErr, ◌+◌, []};
-ghost use Rattle.kc_expr.specs.declared.token.TokenKind.TheVariants.{Word, Quoted, Not, Open};
+ghost use Rattle.kc_tokens.specs.declared.token.TokenKind.TheVariants.{Word, Quoted, Not, Open};
 ghost use Rattle.kc_expr.specs.Expr.{named};
 ghost use Rattle.kc_expr.specs.Grammar.{past_depth_limit, constant_or, extent, fault_of, is_close, is_operand_kind};
 ghost use Rattle.kc_expr.specs.checker.ParserResults.{first_kind, first_operand, first_relation, operand_read, factor_read, ands_read, ors_read, read_all_tokens, Parses, IsParsedToEnd, IsRefusedToEnd, MeetsFault};
-ghost use Rattle.kc_expr.specs.Token.{lexemes_of};
+ghost use Rattle.kc_tokens.specs.Token.{lexemes_of};
 
-use super::fault::{ExprFault, ExprKind};
 use super::node::Node;
 use super::store::Store;
-use super::token::{Relop, Token, TokenKind};
+use kc_tokens::{ExprFault, ExprKind, Relop, Token, TokenKind};
 
 /// Whether the token at an index is of this kind.
 fn is_kind_at(tokens: &[Token<'_>], at: usize, kind: TokenKind) -> bool

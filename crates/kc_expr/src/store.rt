@@ -1,14 +1,14 @@
 //! The lists that an arena holds.
 ghost use Rattle.std.specs.Prelude.{◌≡◌, ◌<◌, ◌^◌, [], length, take, Some, IsTrue, IfSome, IfOk, IfErr, OnOk, OnErr, slice_index_or};
-ghost use Rattle.kc_expr.specs.declared.fault.ExprKind.TheVariants.{OutOfMemory};
+ghost use Rattle.kc_tokens.specs.declared.fault.ExprKind.TheVariants.{OutOfMemory};
 ghost use Rattle.kc_expr.specs.between.Arena.{Represents};
 ghost use Rattle.kc_expr.specs.Lookup.{index_of_name};
 ghost use Rattle.kc_expr.specs.between.Names.{with_name};
 ghost use Rattle.kc_expr.specs.checker.Nodes.{NodeFits, expr_of, some_node};
 
-use super::fault::ExprFault;
 use super::node::Node;
 use indexmap::IndexSet;
+use kc_tokens::ExprFault;
 use kc_value::{Seed, Text};
 use std::alloc::{AllocError, Global};
 

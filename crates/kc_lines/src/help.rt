@@ -2,7 +2,7 @@
 ghost use Rattle.std.specs.Prelude.{◌≡◌, ◌<◌, ◌≤◌, ◌^◌, ◌||◌, nat_le, length, drop};
 ghost use Rattle.std.specs.List.{list_all};
 ghost use Rattle.kc_tree_model.specs.LogicalLines.{physical_lines, first_indentation, column_from};
-ghost use Rattle.kc_expr.specs.Token.{is_white_byte};
+ghost use Rattle.kc_tokens.specs.Token.{is_white_byte};
 ghost use Rattle.kc_lines.specs.between.LinePlaces.{IsHelpAt, AreIndented};
 
 use super::lines::physical_at;

@@ -1,7 +1,7 @@
 //! Reads a line.
 ghost use Rattle.std.specs.Cow.{cow_slice_items};
 ghost use Rattle.std.specs.Prelude.{◌≡◌, List, Some};
-ghost use Rattle.kc_expr.specs.Token.{lexemes_of};
+ghost use Rattle.kc_tokens.specs.Token.{lexemes_of};
 ghost use Rattle.kc_tree_model.specs.Blocks.{Group};
 ghost use Rattle.kc_tree_model.specs.Limits.{FileSource};
 ghost use Rattle.kc_tree_model.specs.LogicalLines.{is_help, is_help_word};
@@ -14,8 +14,8 @@ use super::placement::fault_before_form;
 use super::state::{ReaderState, SourceFiles, Step};
 use super::statements::push_statement;
 use super::text::text_of;
-use kc_expr::{Language, Token, push_tokens};
 use kc_statements::{keyword_of, statement_of, tree_kind_of};
+use kc_tokens::{Language, Token, push_tokens};
 use kc_tree_model::{Keyword, TreeKind};
 use std::borrow::CowSlice;
 

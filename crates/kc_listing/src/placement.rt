@@ -1,6 +1,6 @@
 //! Checks before the form of a line.
 ghost use Rattle.std.specs.Prelude.{◌≡◌, List};
-ghost use Rattle.kc_expr.specs.Token.{lexemes_of};
+ghost use Rattle.kc_tokens.specs.Token.{lexemes_of};
 ghost use Rattle.kc_tree_model.specs.Blocks.{Group as Placed};
 ghost use Rattle.kc_tree_model.specs.Limits.{FileSource};
 ghost use Rattle.kc_tree_model.specs.Placement.{is_allowed as allowed, is_stray_end, is_choice_open};
@@ -11,8 +11,8 @@ ghost use Rattle.kc_listing.specs.checker.StateViews.{Describes};
 use super::listing::{Group, GroupHead};
 use super::open_blocks::{in_choice, innermost, open_block_count};
 use super::state::ReaderState;
-use kc_expr::{Language, Token};
 use kc_statements::{allows_attribute, is_left_out};
+use kc_tokens::{Language, Token};
 use kc_tree_model::{Block, Keyword, OpenEntry, TreeKind};
 
 /// The place in a file where a line is allowed, by its keyword.

@@ -11,8 +11,8 @@ use super::line::read_logical;
 use super::sources::{close_source, end_of_file, open_source};
 use super::state::{ReaderState, SourceFile, SourceFiles, Step};
 use super::text::text_of;
-use kc_expr::Token;
 use kc_lines::{first_columns, is_of_help, logical_at, physical_at};
+use kc_tokens::Token;
 use kc_tree_model::TreeFault;
 use kc_value::Text;
 

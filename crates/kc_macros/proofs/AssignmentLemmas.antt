@@ -9,7 +9,7 @@ use Rattle.kc_macros_model.specs.declared.operator.Operator.TheVariants.{SetsNow
 use Rattle.kc_macros_model.specs.Assignments.{stored, stored_simple, variable_assigned}
 use Rattle.kc_macros_model.specs.Worlds.{returned}
 use Rattle.kc_macros.specs.declared.stop.Stop.{Stop}
-use Rattle.kc_macros.specs.RunStates.{RunState}
+use Rattle.kc_answers.specs.RunStates.{RunState}
 use Rattle.kc_macros.specs.Runs.{RunEnd, ends, end_of_stop, Runs}
 use Rattle.kc_macros.specs.between.AssignmentViews.{bindings_assigned}
 use Rattle.kc_macros.specs.checker.Events.{spent}

@@ -10,8 +10,8 @@ use Rattle.std.specs.Map.{lookup}
 use Rattle.kc_macros_model.specs.Variables.{with_variable}
 use Rattle.kc_macros.specs.declared.variable.Variable.{Variable as CodeVariable}
 use Rattle.kc_macros.specs.between.Variables.{variable_of, entry_of, bindings_of}
-use Rattle.kc_macros.proofs.TableLemmas.{bytes_eq_turned}
-use Rattle.kc_macros.proofs.EntryLemmas.{inserted_at}
+use Rattle.kc_answers.proofs.TableLemmas.{bytes_eq_turned}
+use Rattle.kc_answers.proofs.EntryLemmas.{inserted_at}
 
 abbrev pub Entry : Type 0
 Entry = Vec ℕ Global × CodeVariable

@@ -15,7 +15,7 @@ use Rattle.kc_macros_model.specs.Expansion.{Expander, item_value, piece_values, 
 use Rattle.kc_macros.specs.checker.Pieces.{pieces_left}
 use Rattle.kc_macros_model.specs.Worlds.{returned}
 use Rattle.kc_macros.specs.declared.stop.Stop.{Stop}
-use Rattle.kc_macros.specs.RunStates.{RunState}
+use Rattle.kc_answers.specs.RunStates.{RunState}
 use Rattle.kc_macros.specs.Runs.{ends, end_of_stop, Runs}
 use Rattle.kc_macros.specs.checker.ProgramSteps.{Leads}
 use Rattle.kc_macros.proofs.RunLemmas.{stops_early, runs_nothing}

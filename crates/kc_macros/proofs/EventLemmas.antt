@@ -12,7 +12,7 @@ use Rattle.kc_macros_model.specs.Expansion.{asked_value, reported}
 use Rattle.kc_macros_model.specs.Worlds.{World, if_unanswered, unless_unanswered, unless_fault, Ending, returned, failed, Outcome, outcome, after_event}
 use Rattle.kc_macros.specs.declared.stop.Stop.{Stop}
 use Rattle.kc_macros.specs.declared.stop.Stop.TheVariants as kinds
-use Rattle.kc_macros.specs.RunStates.{RunState, with_question, after_outcome}
+use Rattle.kc_answers.specs.RunStates.{RunState, with_question, after_outcome}
 use Rattle.kc_macros.specs.Runs.{ends, end_of_stop, HasAnswers, Runs, cut_short}
 use Rattle.kc_macros.specs.between.Stops.{FailsWith}
 use Rattle.kc_macros.specs.checker.Events.{spent}

@@ -1,25 +1,26 @@
 -- The steps of an expansion.
-use Rattle.std.proofs.Common.{◌≡◌, ℕ, suc, ◌+◌, ◌-◌, ◌<◌, ◌≤◌, Bool, true, false, ◌&&◌, List, [], ◌∷◌, ◌++◌, length, map, Some, sym, ap, ◌∙◌, subst, arith}
-use Rattle.std.specs.Prelude.{is_some}
+use Rattle.std.proofs.Common.{◌≡◌, ℕ, suc, ◌+◌, ◌-◌, ◌<◌, ◌≤◌, Result, Ok, Err, Bool, true, false, ◌&&◌, List, [], ◌∷◌, ◌++◌, length, map, Some, sym, ap, ◌∙◌, subst, arith, length-append}
+use Rattle.std.specs.Prelude.{is_some, OnOk, IfErr}
 use Rattle.kc_macros_model.specs.declared.fault.MacroKind.TheVariants.{TooDeep}
 use Rattle.kc_value.specs.declared.limits.TheConstants.{MAX_TEXT_BYTES}
 use Rattle.kc_macros_model.specs.Programs.{Place, Fault, Program, returns, fails, ◌>>=◌}
 use Rattle.kc_macros_model.specs.References.{Item, byte, items}
 use Rattle.kc_macros_model.specs.Variables.{Value, value_length, Bindings}
-use Rattle.kc_macros_model.specs.Expansion.{spends, unless_too_long, item_value, item_values, expanded}
+use Rattle.kc_macros_model.specs.Expansion.{unless_too_long, item_value, item_values, expanded}
 use Rattle.kc_macros_model.specs.Worlds.{returned}
 use Rattle.kc_macros.specs.declared.stop.Stop.{Stop}
 use Rattle.kc_macros.specs.declared.stop.Stop.TheVariants as kinds
-use Rattle.kc_macros.specs.RunStates.{RunState}
-use Rattle.kc_macros.specs.Runs.{RunEnd, ends, end_of_stop, Runs, cut_short}
+use Rattle.kc_answers.specs.RunStates.{RunState}
+use Rattle.kc_macros.specs.Runs.{ends, end_of_stop, Runs, cut_short}
 use Rattle.kc_macros.specs.between.Stops.{FailsWith}
 use Rattle.kc_macros.specs.checker.Events.{FailsIf, spent}
+use Rattle.kc_macros.specs.checker.Frames.{paid}
 use Rattle.kc_macros.specs.checker.PartialValues.{known_bytes, value_if_known, too_long, values_left}
-use Rattle.kc_macros.specs.checker.ProgramSteps.{Leads}
+use Rattle.kc_macros.specs.checker.ProgramSteps.{Leads, Steps}
 use Rattle.kc_macros.proofs.RunLemmas.{then_runs, stops_early, runs_nothing}
 use Rattle.kc_macros.proofs.EventLemmas.{runs_failed}
 use Rattle.kc_macros.proofs.ProgramLemmas.{runs_same, leads_same, leads_then, leads_on}
-use Rattle.kc_macros.proofs.PartialValueLemmas.{fits, fits_not, all_left, none_left, one_left, text_left, text_left_out}
+use Rattle.kc_macros.proofs.PartialValueLemmas.{fits, fits_not, known_length, all_left, none_left, one_left, text_left, text_left_out}
 
 -- a program that equals a failing one ends with a stop of the code that is its fault, or means that memory ran out
 pub fails_so : {A : Type 0} (s : RunState) (p : Program A) (f : Fault) (stop : Stop) → p ≡ fails f → FailsWith f stop → Runs s s p (end_of_stop stop)
@@ -36,9 +37,10 @@ fails_where s p P f kinds.OutOfMemory h k = cut_short
 pub returns_so : {A : Type 0} (s : RunState) (p : Program A) (x : A) → p ≡ returns x → Runs s s p (ends (returned x))
 returns_so s p x h = runs_same s s p (returns x) (ends (returned x)) h (runs_nothing s x)
 
--- the program that spends the length of a value as work, and then returns the value
-abbrev pub paid : Place → Value → Program Value
-paid at v = spends at (value_length v) (returns v)
+-- what is appended to a short text stays short
+pub short_after : (before added after : List ℕ) (n : ℕ) → after ≡ before ++ added → length added ≡ n → length before + n ≤ MAX_TEXT_BYTES
+    → length after ≤ MAX_TEXT_BYTES
+short_after before added after n h k l = omega (arith, ap length h, length-append before added, k, l)
 
 module _ (at : Place) (more : ℕ) (b : Bindings) (names : List (List ℕ)) (args : List Value) (text : List ℕ) where
   abbrev whole : Program Value
@@ -53,32 +55,29 @@ module _ (at : Place) (more : ℕ) (b : Bindings) (names : List (List ℕ)) (arg
   whole_is : (0 < more) → whole ≡ spent at (length text + 1) >>= (λ u. inner >>= paid at)
   whole_is h = ap (λ m. expanded m at b names args text) (let e : more ≡ suc (more - 1) = omega (arith, h) in e)
 
-  module _ (h : 0 < more) (s t u v : RunState) where
+  module _ (h : 0 < more) (s t : RunState) where
+    -- if the work for a text is too much, the program for its value stops with that fault
     pub whole_unpaid : (stop : Stop) → Runs s t (spent at (length text + 1)) (end_of_stop stop) → Runs s t whole (end_of_stop stop)
     whole_unpaid stop a = runs_same s t whole (spent at (length text + 1) >>= (λ u. inner >>= paid at)) (end_of_stop stop) (whole_is h)
         (stops_early s t (spent at (length text + 1)) (λ u. inner >>= paid at) stop a)
 
-    paid_first : (e : RunEnd Value) → Runs s t (spent at (length text + 1)) (ends (returned (tt {0}))) → Runs t v (inner >>= paid at) e → Runs s v whole e
-    paid_first e a b = runs_same s v whole (spent at (length text + 1) >>= (λ u. inner >>= paid at)) e (whole_is h)
-        (then_runs s t (spent at (length text + 1)) (λ u. inner >>= paid at) (tt {0}) v e a b)
+    -- the work for a text leads to the values of its items and the work for the value
+    pub whole_leads : Runs s t (spent at (length text + 1)) (ends (returned (tt {0}))) → Leads s whole t (inner >>= paid at)
+    whole_leads a =
+        leads_then s s t whole (spent at (length text + 1) >>= (λ u. inner >>= paid at)) (inner >>= paid at)
+        (leads_same s whole (spent at (length text + 1) >>= (λ u. inner >>= paid at)) (whole_is h))
+        (leads_on s t (spent at (length text + 1)) (λ u. inner >>= paid at) (tt {0}) a)
 
-    pub whole_stopped : (stop : Stop) → Runs s t (spent at (length text + 1)) (ends (returned (tt {0}))) → Runs t v inner (end_of_stop stop)
-        → Runs s v whole (end_of_stop stop)
-    whole_stopped stop a b = paid_first (end_of_stop stop) a (stops_early t v inner (paid at) stop b)
+module _ (at : Place) (x : Value) (n : ℕ) (s t : RunState) (is : n ≡ value_length x) where
+  -- if the work for a value is too much, the program that pays for it stops with that fault
+  pub value_unpaid : (stop : Stop) → Runs s t (spent at n) (end_of_stop stop) → Runs s t (paid at x) (end_of_stop stop)
+  value_unpaid stop a = stops_early s t (spent at (value_length x)) (λ u. returns x) stop (subst (λ k. Runs s t (spent at k) (end_of_stop stop)) is a)
 
-    pub whole_unpaid_value : (x : Value) (n : ℕ) (stop : Stop) → n ≡ value_length x → Runs s t (spent at (length text + 1)) (ends (returned (tt {0})))
-        → Runs t u inner (ends (returned x)) → Runs u v (spent at n) (end_of_stop stop) → Runs s v whole (end_of_stop stop)
-    whole_unpaid_value x n stop e a b c =
-        let paid_so : Runs u v (spent at (value_length x)) (end_of_stop stop) = subst (λ k. Runs u v (spent at k) (end_of_stop stop)) e c in
-        paid_first (end_of_stop stop) a (then_runs t u inner (paid at) x v (end_of_stop stop) b
-        (stops_early u v (spent at (value_length x)) (λ w. returns x) stop paid_so))
-
-    pub whole_returned : (x : Value) (n : ℕ) → n ≡ value_length x → Runs s t (spent at (length text + 1)) (ends (returned (tt {0})))
-        → Runs t u inner (ends (returned x)) → Runs u v (spent at n) (ends (returned (tt {0}))) → Runs s v whole (ends (returned x))
-    whole_returned x n e a b c =
-        let paid_so : Runs u v (spent at (value_length x)) (ends (returned (tt {0}))) = subst (λ k. Runs u v (spent at k) (ends (returned (tt {0})))) e c in
-        paid_first (ends (returned x)) a (then_runs t u inner (paid at) x v (ends (returned x)) b
-        (then_runs u v (spent at (value_length x)) (λ w. returns x) (tt {0}) v (ends (returned x)) paid_so (runs_nothing v x)))
+  -- the program that pays for a value returns it after the work
+  pub value_paid : Runs s t (spent at n) (ends (returned (tt {0}))) → Runs s t (paid at x) (ends (returned x))
+  value_paid a =
+      then_runs s t (spent at (value_length x)) (λ u. returns x) (tt {0}) t (ends (returned x))
+      (subst (λ k. Runs s t (spent at k) (ends (returned (tt {0})))) is a) (runs_nothing t x)
 
 module _ (at : Place) (value : Item → Program Value) (s : RunState) (known : Bool) (bytes : List ℕ) where
   -- the program for the values of all items of a text leads to the one for the items left, if none is expanded yet
@@ -93,6 +92,15 @@ module _ (at : Place) (value : Item → Program Value) (s : RunState) (known : B
   ends_all first p is v h k a =
       a.leads s (ends (returned v)) (returns_so s (values_left at value known bytes is) v (ap (values_left at value known bytes) h
       ∙ none_left at value known bytes ∙ ap returns (sym k)))
+
+-- a program that leads to the value of a text from an item on leads to what the value of that item leads to
+pub item_after : (at : Place) (value : Item → Program Value) (first s t : RunState) (p q : Program Value) (known : Bool) (bytes : List ℕ) (is js : List Item)
+    (r : Program Value) → is ≡ js → Leads first p s q → Leads s q s (values_left at value known bytes is) → Leads s (values_left at value known bytes js) t r
+    → Leads first p t r
+item_after at value first s t p q known bytes is js r h a b c =
+    leads_then first s t p q r a (leads_then s s t q (values_left at value known bytes is) r b
+    (leads_then s s t (values_left at value known bytes is) (values_left at value known bytes js) r
+    (leads_same s (values_left at value known bytes is) (values_left at value known bytes js) (ap (values_left at value known bytes) h)) c))
 
 module _ (at : Place) (value : Item → Program Value) (bytes_stay : (c : ℕ) → value (byte c) ≡ returns (Some (c ∷ []))) (s : RunState) (known : Bool)
     (bytes text plain : List ℕ) (later : List Item)
@@ -126,33 +134,50 @@ module _ (at : Place) (value : Item → Program Value) (bytes_stay : (c : ℕ) �
         ∙ ap (λ p. p >>= (λ v. unless_too_long at (length bytes2 + value_length v)
         (values_left at value (known2 && is_some v) (bytes2 ++ known_bytes v) more))) k) w
 
-    module _ (i : Item) (more : List Item) (front : later ≡ i ∷ more) where
-      abbrev rest_after : Value → Program Value
-      rest_after v = unless_too_long at (length bytes2 + value_length v) (values_left at value (known2 && is_some v) (bytes2 ++ known_bytes v) more)
+module _ (at : Place) (value : Item → Program Value) (s : RunState) (known : Bool) (bytes : List ℕ) (i : Item) (more : List Item) where
+  abbrev of_items : Program Value
+  of_items = values_left at value known bytes (i ∷ more)
 
-      to_item : at_first ≡ value i >>= rest_after
-      to_item = after_plain ∙ ap (values_left at value known2 bytes2) front ∙ one_left at value known2 bytes2 i more
+  abbrev rest_after : Value → Program Value
+  rest_after v = unless_too_long at (length bytes + value_length v) (values_left at value (known && is_some v) (bytes ++ known_bytes v) more)
 
-      -- if the program for the value of an item stops, so does the program for the value of the text
-      pub item_stopped : (t : RunState) (stop : Stop) → Runs s t (value i) (end_of_stop stop) → Runs s t at_first (end_of_stop stop)
-      item_stopped t stop a = runs_same s t at_first (value i >>= rest_after) (end_of_stop stop) to_item (stops_early s t (value i) rest_after stop a)
+  to_item : of_items ≡ value i >>= rest_after
+  to_item = one_left at value known bytes i more
 
-      -- if the value of an item makes the value of a text too long, the program for that value stops with this fault
-      pub item_too_long : (t : RunState) (v : Value) (stop : Stop) → Runs s t (value i) (ends (returned v))
-          → FailsIf (MAX_TEXT_BYTES < length bytes2 + value_length v) (too_long at) stop → Runs s t at_first (end_of_stop stop)
-      item_too_long t v stop a h =
-          runs_same s t at_first (value i >>= rest_after) (end_of_stop stop) to_item
-          (then_runs s t (value i) rest_after v t (end_of_stop stop) a
-          (fails_where t (rest_after v) (MAX_TEXT_BYTES < length bytes2 + value_length v) (too_long at) stop
-          (λ l. fits_not at (length bytes2 + value_length v) (values_left at value (known2 && is_some v) (bytes2 ++ known_bytes v) more) l) h))
+  -- if the program for the value of an item stops, so does the program for the value of the text
+  pub item_stopped : (t : RunState) (stop : Stop) → Runs s t (value i) (end_of_stop stop) → Runs s t of_items (end_of_stop stop)
+  item_stopped t stop a = runs_same s t of_items (value i >>= rest_after) (end_of_stop stop) to_item (stops_early s t (value i) rest_after stop a)
 
-      -- the value of an item that doesn't make the value of a text too long leads to the items after it
-      pub item_leads : (t : RunState) (v : Value) (known3 : Bool) (bytes3 : List ℕ) → Runs s t (value i) (ends (returned v))
-          → length bytes2 + value_length v ≤ MAX_TEXT_BYTES
-          → known3 ≡ (known2 && is_some v) → bytes3 ≡ bytes2 ++ known_bytes v → Leads s at_first t (values_left at value known3 bytes3 more)
-      item_leads t v known3 bytes3 a l k b =
-          leads_then s s t at_first (value i >>= rest_after) (values_left at value known3 bytes3 more) (leads_same s at_first (value i >>= rest_after) to_item)
-          (leads_then s t t (value i >>= rest_after) (rest_after v) (values_left at value known3 bytes3 more) (leads_on s t (value i) rest_after v a)
-          (leads_same t (rest_after v) (values_left at value known3 bytes3 more)
-          (fits at (length bytes2 + value_length v) (values_left at value (known2 && is_some v) (bytes2 ++ known_bytes v) more) l
-          ∙ ap (λ c. values_left at value c (bytes2 ++ known_bytes v) more) (sym k) ∙ ap (λ c. values_left at value known3 c more) (sym b))))
+  -- if the value of an item makes the value of a text too long, the program for that value stops with this fault
+  item_too_long : (t : RunState) (v : Value) (stop : Stop) → Runs s t (value i) (ends (returned v))
+      → FailsIf (MAX_TEXT_BYTES < length bytes + value_length v) (too_long at) stop → Runs s t of_items (end_of_stop stop)
+  item_too_long t v stop a h =
+      runs_same s t of_items (value i >>= rest_after) (end_of_stop stop) to_item
+      (then_runs s t (value i) rest_after v t (end_of_stop stop) a
+      (fails_where t (rest_after v) (MAX_TEXT_BYTES < length bytes + value_length v) (too_long at) stop
+      (λ l. fits_not at (length bytes + value_length v) (values_left at value (known && is_some v) (bytes ++ known_bytes v) more) l) h))
+
+  -- the value of an item that doesn't make the value of a text too long leads to the items after it
+  item_leads : (t : RunState) (v : Value) (known2 : Bool) (bytes2 : List ℕ) → Runs s t (value i) (ends (returned v))
+      → length bytes + value_length v ≤ MAX_TEXT_BYTES
+      → known2 ≡ (known && is_some v) → bytes2 ≡ bytes ++ known_bytes v → Leads s of_items t (values_left at value known2 bytes2 more)
+  item_leads t v known2 bytes2 a l k b =
+      leads_then s s t of_items (value i >>= rest_after) (values_left at value known2 bytes2 more) (leads_same s of_items (value i >>= rest_after) to_item)
+      (leads_then s t t (value i >>= rest_after) (rest_after v) (values_left at value known2 bytes2 more) (leads_on s t (value i) rest_after v a)
+      (leads_same t (rest_after v) (values_left at value known2 bytes2 more)
+      (fits at (length bytes + value_length v) (values_left at value (known && is_some v) (bytes ++ known_bytes v) more) l
+      ∙ ap (λ c. values_left at value c (bytes ++ known_bytes v) more) (sym k) ∙ ap (λ c. values_left at value known2 c more) (sym b))))
+
+  -- the value of an item, appended to the value of the text so far, is a step to the items after it
+  pub item_step : (t : RunState) (v : Value) (known2 : Bool) (bytes2 : List ℕ) (r : Result (Unit {0}) Stop) → Runs s t (value i) (ends (returned v))
+      → OnOk r (length bytes + value_length v ≤ MAX_TEXT_BYTES) → OnOk r (known2 ≡ (known && is_some v)) → OnOk r (bytes2 ≡ bytes ++ known_bytes v)
+      → IfErr r (FailsIf (MAX_TEXT_BYTES < length bytes + value_length v) (too_long at))
+      → Steps s t of_items (λ u. values_left at value known2 bytes2 more) r
+  item_step t v known2 bytes2 (Ok x) a l k b e = item_leads t v known2 bytes2 a l k b
+  item_step t v known2 bytes2 (Err stop) a l k b e = item_too_long t v stop a e
+
+  -- the value of a text stays short where the value of an item is appended to it
+  pub item_short : (v : Value) (bytes2 : List ℕ) (r : Result (Unit {0}) Stop) → OnOk r (length bytes + value_length v ≤ MAX_TEXT_BYTES)
+      → OnOk r (bytes2 ≡ bytes ++ known_bytes v) → OnOk r (length bytes2 ≤ MAX_TEXT_BYTES)
+  item_short v bytes2 (Ok x) l b = short_after bytes (known_bytes v) bytes2 (value_length v) b (known_length v) l
+  item_short v bytes2 (Err stop) l b = tt

@@ -1,10 +1,6 @@
-pub mod TableLemmas
-pub mod RecordLemmas
-pub mod AnswerFileLemmas
 pub mod RunLemmas
 pub mod EventLemmas
 pub mod PieceLemmas
-pub mod EntryLemmas
 pub mod BindingLemmas
 pub mod ProgramLemmas
 pub mod PartialValueLemmas
@@ -13,12 +9,3 @@ pub mod ExpansionLemmas
 pub mod CallLemmas
 pub mod NameLemmas
 pub mod AssignmentLemmas
-pub mod TokenLemmas
-pub mod WrittenTokenLemmas
-pub mod BodyLemmas
-pub mod LineTokenLemmas
-pub mod FrontLemmas
-pub mod LineContentLemmas
-pub mod RealTokenLemmas
-pub mod CopiedLineLemmas
-pub mod QuietLemmas

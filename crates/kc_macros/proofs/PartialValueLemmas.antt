@@ -31,7 +31,7 @@ known_more true bytes (Some s) = refl
 known_more true bytes None = refl
 known_more false bytes v = refl
 
-known_length : (v : Value) → length (known_bytes v) ≡ value_length v
+pub known_length : (v : Value) → length (known_bytes v) ≡ value_length v
 known_length (Some s) = refl
 known_length None = refl
 

@@ -6,7 +6,7 @@ use Rattle.kc_macros_model.specs.Programs.{Program, returns, fails, stops, does,
 use Rattle.kc_macros_model.specs.Worlds.{returned}
 use Rattle.kc_macros.specs.declared.stop.Stop.{Stop}
 use Rattle.kc_macros.specs.declared.stop.Stop.TheVariants as kinds
-use Rattle.kc_macros.specs.RunStates.{RunState}
+use Rattle.kc_answers.specs.RunStates.{RunState}
 use Rattle.kc_macros.specs.Runs.{RunEnd, ends, end_of_stop, Runs, cut_short}
 use Rattle.kc_macros.specs.checker.ProgramSteps.{Leads, Steps}
 use Rattle.kc_macros.proofs.RunLemmas.{then_runs}

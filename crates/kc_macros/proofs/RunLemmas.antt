@@ -8,7 +8,7 @@ use Rattle.kc_macros_model.proofs.Outcomes.{continued_by, composed}
 use Rattle.kc_macros_model.specs.AnswerFiles.{RecordedAnswers}
 use Rattle.kc_macros.specs.declared.stop.Stop.{Stop}
 use Rattle.kc_macros.specs.declared.stop.Stop.TheVariants as kinds
-use Rattle.kc_macros.specs.RunStates.{RunState, with_question, with_questions, after_outcome}
+use Rattle.kc_answers.specs.RunStates.{RunState, with_question, with_questions, after_outcome}
 use Rattle.kc_macros.specs.Runs.{RunEnd, ends, out_of_memory, end_of_stop, end_of, HasAnswers, Runs, ran, cut_short, fault_of}
 
 with_questions_append : (seen xs ys : List (List ℕ)) → with_questions seen (xs ++ ys) ≡ with_questions (with_questions seen xs) ys

@@ -9,7 +9,7 @@ use Rattle.kc_macros.specs.declared.stop.MacroFault.{MacroFault}
 use Rattle.kc_macros.specs.declared.stop.MacroNotice.{MacroNotice}
 use Rattle.kc_macros.specs.declared.stop.Stop.{Stop}
 use Rattle.kc_macros.specs.declared.stop.Stop.TheVariants as stops
-use Rattle.kc_macros.specs.RunStates.{RunState, after_outcome}
+use Rattle.kc_answers.specs.RunStates.{RunState, after_outcome}
 
 -- a `Place` of the code (a file and a line) as a place of `kc_macros_model`
 abbrev pub place_of : LinePlace → Place

@@ -1,9 +1,3 @@
-pub mod AnswerFaults
-pub mod Bodies
-pub mod LineTexts
-pub mod LineFronts
-pub mod RealTokens
-pub mod QuietLines
 pub mod StoredBytes
 pub mod Pieces
 pub mod Frames
@@ -11,6 +5,3 @@ pub mod ProgramSteps
 pub mod PartialValues
 pub mod BuiltIns
 pub mod Events
-pub mod TableView
-pub mod LineView
-pub mod LinesView

@@ -7,7 +7,7 @@ ghost use Rattle.kc_macros.specs.checker.BuiltIns.{arity_of};
 use kc_macros_model::BuiltIn;
 
 /// Whether two texts are equal.
-pub(crate) fn is_text(text: &[u8], other: &[u8]) -> bool
+pub fn is_text(text: &[u8], other: &[u8]) -> bool
     ensures { result ≡ bytes_eq text.now other.now }
 {
     text == other

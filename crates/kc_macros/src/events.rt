@@ -31,7 +31,7 @@ fn new_fault(
 }
 
 /// The stop of an expansion by a fault, or by running out of memory where the texts of the fault can't be copied.
-pub(crate) fn fault(alloc: Global, at: Place<'_>, kind: MacroKind, text: &[u8]) -> Stop
+pub fn fault(alloc: Global, at: Place<'_>, kind: MacroKind, text: &[u8]) -> Stop
     ensures { FailsWith (record { at = place_of at.entry; kind = kind; text = text.now }) result }
 {
     match new_fault(alloc, at, kind, text) {

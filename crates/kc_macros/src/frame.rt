@@ -14,11 +14,11 @@ use std::alloc::{AllocError, Global};
 /// the call, and how many expansions may still be open within each other.
 #[derive(Clone, Copy)]
 pub(crate) struct Frame<'a> {
-    pub(crate) at: Place<'a>,
-    pub(crate) bindings: &'a Bindings,
-    pub(crate) names: &'a [&'a [u8]],
+    pub at: Place<'a>,
+    pub bindings: &'a Bindings,
+    pub names: &'a [&'a [u8]],
     pub(crate) args: &'a [Option<Bytes>],
-    pub(crate) more: u32,
+    pub more: u32,
 }
 
 /// Whether a name is among those whose values are being expanded.

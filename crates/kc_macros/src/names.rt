@@ -6,7 +6,6 @@ ghost use Rattle.kc_macros_model.specs.Expansion.{fault as fault_program, report
 ghost use Rattle.kc_macros.specs.Runs.{place_of, Runs, end_of};
 ghost use Rattle.kc_macros.specs.checker.BuiltIns.{arity_of, message_text, message_value};
 
-use super::answer_lines::{is_environment_name, without_white_end};
 use super::built_in_functions::{arity, built_in, is_text};
 use super::bytes::Bytes;
 use super::events::{ask, fault, report};
@@ -14,6 +13,7 @@ use super::parameter::is_number;
 use super::run::Run;
 use super::stop::{Place, Stop};
 use itoa::Buffer;
+use kc_answers::{is_environment_name, without_white_end};
 use kc_macros_model::{BuiltIn, MacroKind, MacroNoticeKind};
 use std::alloc::{AllocError, Global};
 

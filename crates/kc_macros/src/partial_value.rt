@@ -1,7 +1,9 @@
 //! The value of a text so far, item by item.
-ghost use Rattle.std.specs.Prelude.{◌≡◌, ◌≤◌, ◌<◌, ◌+◌, ◌&&◌, [], ◌++◌, true, length, is_some, IfOk, OnOk, IfErr};
+ghost use Rattle.std.specs.Prelude.{◌≡◌, ◌≤◌, ◌<◌, ◌+◌, ◌&&◌, [], ◌++◌, true, length, is_some, OnOk, IfErr};
+ghost use Rattle.kc_answers.specs.RunStates.{RunState};
+ghost use Rattle.kc_macros_model.specs.Programs.{returns};
 ghost use Rattle.kc_macros_model.specs.Variables.{value_length};
-ghost use Rattle.kc_macros.specs.Runs.{place_of};
+ghost use Rattle.kc_macros.specs.Runs.{place_of, Runs, end_of};
 ghost use Rattle.kc_macros.specs.checker.Events.{FailsIf};
 ghost use Rattle.kc_macros.specs.checker.PartialValues.{known_bytes, value_if_known, too_long};
 
@@ -10,7 +12,7 @@ use super::events::fault;
 use super::stop::{Place, Stop};
 use kc_macros_model::MacroKind;
 use kc_value::MAX_TEXT_BYTES;
-use std::alloc::{AllocError, Global};
+use std::alloc::Global;
 
 /// The joined values of the first items of a text, which are unknown if that of one item is.
 #[derive(Drop)]
@@ -92,11 +94,8 @@ pub(crate) fn value_if_known(out: PartialValue) -> Option<Bytes>
 }
 
 /// A copy of a value, which is `None` if it is unknown.
-pub(crate) fn copied_value(
-    alloc: Global,
-    value: &Option<Bytes>,
-) -> Result<Option<Bytes>, AllocError>
-    ensures { IfOk result (λ v. v ≡ value.now) }
+pub(crate) fn copied_value(alloc: Global, value: &Option<Bytes>) -> Result<Option<Bytes>, Stop>
+    ensures { (s : RunState) → Runs s s (returns value.now) (end_of (λ v. v) result) }
 {
     match value {
         Some(text) => Ok(Some(Bytes::copied(alloc, text.as_slice())?)),

@@ -29,7 +29,7 @@ fn is_outside(byte: u8, other: u8, depth: usize) -> bool
 
 /// How many bytes a reference has between its parentheses, given the text after its `$(`; `None` if it has no `)` of its own,
 /// which is the first one that closes no `(` of that text.
-pub(crate) fn inside_length(text: &[u8]) -> Option<usize>
+pub fn inside_length(text: &[u8]) -> Option<usize>
     ensures value { result ≡ inside_length 0 text.now }
     ensures within { IfSome result (λ n. n < length text.now) }
 {
@@ -78,7 +78,7 @@ pub(crate) fn pieces(alloc: Global, inside: &[u8]) -> Result<Vec<&[u8]>, AllocEr
 }
 
 /// Whether a macro reference, `$(`, begins at place `at` of a text, counted from 0.
-pub(crate) fn begins_reference_at(text: &[u8], at: usize) -> bool
+pub fn begins_reference_at(text: &[u8], at: usize) -> bool
     requires there { at < length text.now }
     ensures value { result ≡ begins_reference (drop at text.now) }
 {
@@ -100,7 +100,7 @@ pub(crate) fn plain_length(text: &[u8]) -> usize
 }
 
 /// The bytes between the parentheses of the reference at the front of a text, and those after it; `None` if its `)` is missing.
-pub(crate) fn reference_at_front(text: &[u8]) -> Option<(&[u8], &[u8])>
+pub fn reference_at_front(text: &[u8]) -> Option<(&[u8], &[u8])>
     requires begins { begins_reference text.now ≡ true }
     ensures reference { IfSome result (λ r. (q : Bool) → items q 0 text.now ≡ reference r.0.now ∷ items q 0 r.1.now) }
     ensures shorter { IfSome result (λ r. length r.1.now < length text.now) }

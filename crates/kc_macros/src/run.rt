@@ -2,12 +2,11 @@
 ghost use Rattle.std.specs.Prelude.{◌≡◌, ℕ, ◌-◌, ◌≤◌, [], ◌∷◌, ◌++◌, IfOk, OnOk, Vec, map, option_map};
 ghost use Rattle.std.specs.declared.alloc.Global.{Global};
 ghost use Rattle.kc_tree_model.specs.Keywords.{keyword_in_table};
-ghost use Rattle.kc_macros.specs.RunStates.{run_at_start, with_question};
+ghost use Rattle.kc_answers.specs.RunStates.{run_at_start, with_question};
 ghost use Rattle.kc_macros.specs.Runs.{notice_of};
 
-use super::answer_table::AnswerTable;
-use super::answers::Answers;
 use super::stop::MacroNotice;
+use kc_answers::{AnswerTable, Answers};
 use kc_value::{MAX_WORK, Seed};
 use std::alloc::{AllocError, Global};
 use std::marker::Model;
@@ -26,7 +25,7 @@ pub struct Run<'a> {
 
 impl<'a> Model for Run<'a> {
     ghost use Rattle.std.specs.Prelude.{map};
-    ghost use Rattle.kc_macros.specs.RunStates.{RunState, questions_of};
+    ghost use Rattle.kc_answers.specs.RunStates.{RunState, questions_of};
     ghost use Rattle.kc_macros.specs.Runs.{notice_of};
 
     ghost Value = { RunState };

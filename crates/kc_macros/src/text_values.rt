@@ -1,6 +1,6 @@
 //! The value of a text: each reference in it replaced by its value, from left to right.
-ghost use Rattle.std.specs.Prelude.{◌<◌, ◌≤◌, false, Some, length, IfOk};
-ghost use Rattle.kc_macros_model.specs.References.{reference, items};
+ghost use Rattle.std.specs.Prelude.{◌≤◌, ◌∷◌, List, Some, length, OnOk};
+ghost use Rattle.kc_macros_model.specs.References.{Item, reference};
 ghost use Rattle.kc_macros_model.specs.Variables.{recursive};
 ghost use Rattle.kc_macros_model.specs.Expansion.{piece_values, call_value, named_value, text_value};
 ghost use Rattle.kc_value.specs.declared.limits.TheConstants.{MAX_TEXT_BYTES};
@@ -13,39 +13,26 @@ ghost use Rattle.kc_macros.specs.checker.Frames.{frame_place, frame_bindings, fr
 
 use super::bindings::Bindings;
 use super::bytes::Bytes;
-use super::events::{fault, spend};
-use super::frame::{Frame, is_recursion, with_name};
+use super::events::fault;
+use super::frame::Frame;
 use super::names::unbound_value;
 use super::parameter::argument_of;
-use super::partial_value::{
-    PartialValue, copied_value, empty_value, push_text, push_value, value_if_known, value_length,
-};
-use super::references::{pieces, plain_length, reference_at_front};
+use super::partial_value::{PartialValue, copied_value, empty_value, push_value, value_if_known};
 use super::run::Run;
+use super::steps::{inner_frame, names_within, next_reference, paid_value, reference_pieces};
 use super::stop::{Place, Stop};
 use super::variable::Variable;
 use kc_macros_model::MacroKind;
-use kc_value::{MAX_OPEN_EXPANSIONS, MAX_PIECES};
+use kc_value::MAX_OPEN_EXPANSIONS;
 
 /// The value of a text in a frame; a fault where too many expansions are open within each other.
 #[cycle(expansion)]
 fn expanded(run: &mut Run<'_>, frame: &Frame<'_>, text: &[u8]) -> Result<Option<Bytes>, Stop>
     ensures { Runs run.old run.new (frame_value frame.now text.now) (end_of (λ v. v) result) }
 {
-    if frame.more == 0 {
-        return Err(fault(run.alloc(), frame.at, MacroKind::TooDeep, b""));
-    }
-    let inner = Frame {
-        at: frame.at,
-        bindings: frame.bindings,
-        names: frame.names,
-        args: frame.args,
-        more: frame.more - 1,
-    };
-    spend(run, frame.at, text.len() + 1)?;
+    let inner = inner_frame(run, frame, text)?;
     let value = text_items(run, &inner, text)?;
-    spend(run, frame.at, value_length(&value))?;
-    Ok(value)
+    paid_value(run, inner.at, value)
 }
 
 /// The values of the items of a text, one after the other.
@@ -55,38 +42,27 @@ fn text_items(run: &mut Run<'_>, frame: &Frame<'_>, text: &[u8]) -> Result<Optio
 {
     let mut out = empty_value(run.alloc());
     let mut rest = text;
-    'items: while !rest.is_empty() {
-        rest = next_items(run, frame, rest, &mut out)?;
+    'items: while let Some((inside, after)) = next_reference(run.alloc(), frame, rest, &mut out)? {
+        push_reference(run, frame, inside, &mut out)?;
+        rest = after;
     }
     Ok(value_if_known(out))
 }
 
-/// Appends the bytes before the first reference of a text, and the value of that, to `out`; returns the rest.
+/// Appends the value of a reference, by the bytes between its parentheses, to `out`.
 #[cycle(expansion)]
-fn next_items<'t>(
+fn push_reference(
     run: &mut Run<'_>,
     frame: &Frame<'_>,
-    text: &'t [u8],
+    inside: &[u8],
     out: &mut PartialValue,
-) -> Result<&'t [u8], Stop>
-    requires not_empty { 0 < length text.now }
+) -> Result<(), Stop>
     requires small { length out.old.bytes.items ≤ MAX_TEXT_BYTES }
-    ensures steps { Steps run.old run.new (values_left (frame_place frame.now) (frame_item frame.now) out.old.known out.old.bytes.items (items false 0 text.now)) (λ rest. values_left (frame_place frame.now) (frame_item frame.now) out.new.known out.new.bytes.items (items false 0 rest.now)) result }
-    ensures shorter { IfOk result (λ rest. length rest.now < length text.now) }
-    ensures small { IfOk result (λ rest. length out.new.bytes.items ≤ MAX_TEXT_BYTES) }
+    ensures steps { (is : List Item) → Steps run.old run.new (values_left (frame_place frame.now) (frame_item frame.now) out.old.known out.old.bytes.items (reference inside.now ∷ is)) (λ u. values_left (frame_place frame.now) (frame_item frame.now) out.new.known out.new.bytes.items is) result }
+    ensures small { OnOk result (length out.new.bytes.items ≤ MAX_TEXT_BYTES) }
 {
-    let plain = plain_length(text);
-    push_text(out, run.alloc(), frame.at, &text[..plain])?;
-    let rest = &text[plain..];
-    if rest.is_empty() {
-        return Ok(rest);
-    }
-    let Some((inside, after)) = reference_at_front(rest) else {
-        return Err(fault(run.alloc(), frame.at, MacroKind::Unterminated, b""));
-    };
     let value = reference_value(run, frame, inside)?;
-    push_value(out, run.alloc(), frame.at, value)?;
-    Ok(after)
+    push_value(out, run.alloc(), frame.at, value)
 }
 
 /// The value of a reference, by the bytes between its parentheses.
@@ -99,12 +75,9 @@ fn reference_value(
     ensures { Runs run.old run.new (frame_item frame.now (reference inside.now)) (end_of (λ v. v) result) }
 {
     if let Some(value) = argument_of(frame.args, inside) {
-        return Ok(copied_value(run.alloc(), value)?);
+        return copied_value(run.alloc(), value);
     }
-    let pieces = pieces(run.alloc(), inside)?;
-    if pieces.len() > MAX_PIECES {
-        return Err(fault(run.alloc(), frame.at, MacroKind::Arguments, b""));
-    }
+    let pieces = reference_pieces(run.alloc(), frame, inside)?;
     let values = piece_values(run, frame, pieces.as_slice())?;
     call_value(run, frame, values.as_slice())
 }
@@ -156,7 +129,7 @@ fn named_value(
 {
     match frame.bindings.get(name) {
         None => unbound_value(run, frame.at, name, args),
-        Some(Variable::Simple(value)) => Ok(copied_value(run.alloc(), value)?),
+        Some(Variable::Simple(value)) => copied_value(run.alloc(), value),
         Some(Variable::Recursive(text)) => {
             recursive_value(run, frame, name, args, text.as_slice())
         }
@@ -174,10 +147,7 @@ fn recursive_value(
 ) -> Result<Option<Bytes>, Stop>
     ensures { Runs run.old run.new (named_value (frame_expander frame.now) (frame_place frame.now) (frame_names frame.now) name.now args.now (Some (recursive text.now))) (end_of (λ v. v) result) }
 {
-    if is_recursion(frame.names, name, args) {
-        return Err(fault(run.alloc(), frame.at, MacroKind::Recursion, name));
-    }
-    let names = with_name(run.alloc(), name, frame.names)?;
+    let names = names_within(run.alloc(), frame.at, frame.names, name, args)?;
     let inner = Frame {
         at: frame.at,
         bindings: frame.bindings,

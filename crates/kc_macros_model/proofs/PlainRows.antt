@@ -2,7 +2,7 @@
 use Rattle.std.proofs.Common.{◌≡◌, ℕ, Bool, true, false, List, [], ◌∷◌, map, refl}
 use Rattle.std.specs.Prelude.{codes, bytes_eq}
 use Rattle.std.specs.Str.{is_utf8, chars}
-use Rattle.kc_expr.specs.Token.{next_token}
+use Rattle.kc_tokens.specs.Token.{next_token}
 use Rattle.kc_macros_model.specs.PlainLines.{is_plain_line, no_paths}
 
 -- whether each line is plain

@@ -4,7 +4,7 @@ use Rattle.std.specs.Prelude.{codes, filter, ◌==◌, not, take_while, bytes_eq
 use Rattle.std.specs.Fmt.{digits}
 use Rattle.std.specs.Str.{is_utf8, chars}
 use Rattle.std.specs.List.{starts_with}
-use Rattle.kc_expr.specs.Token.{next_token}
+use Rattle.kc_tokens.specs.Token.{next_token}
 use Rattle.std.specs.Map.{lookup}
 use Rattle.kc_tree_model.specs.Keywords.{keyword_in_table}
 use Rattle.kc_tree_model.specs.Limits.{without_repeats}

@@ -6,7 +6,7 @@ use Rattle.std.specs.List.{list_all, list_any}
 use Rattle.std.specs.Cmp.{first_so, second_so}
 use Rattle.std.proofs.lemmas.Bool.{eqb-true, lt-ltb}
 use Rattle.std.proofs.lemmas.List.{append-nil}
-use Rattle.kc_expr.specs.Token.{is_white_byte, is_word_byte}
+use Rattle.kc_tokens.specs.Token.{is_white_byte, is_word_byte}
 use Rattle.kc_macros_model.specs.Programs.{Place, Program, returns, stops, ◌>>=◌}
 use Rattle.kc_macros_model.specs.References.{Item, item_bytes, first_item, items, is_reference, is_plain_dollar, is_unterminated}
 use Rattle.kc_macros_model.specs.Variables.{Value, Bindings}

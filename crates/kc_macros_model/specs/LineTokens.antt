@@ -1,7 +1,7 @@
 -- The tokens of a logical line, as the expansion sees them.
 use Rattle.std.specs.Prelude.{ℕ, zero, suc, pred, Bool, true, false, not, ◌||◌, ◌==◌, nat_lt, List, [], ◌∷◌, ◌++◌, length, take, flat_map, if◌then◌else◌}
 use Rattle.std.specs.List.{list_any}
-use Rattle.kc_expr.specs.Token.{is_white_byte, is_word_byte}
+use Rattle.kc_tokens.specs.Token.{is_white_byte, is_word_byte}
 use Rattle.kc_macros_model.specs.References.{item_bytes, first_item, items, is_unterminated}
 
 -- a token of a logical line: white or a comment; a run of word bytes, macro references and `$`; bytes between two quotes; other

@@ -1,7 +1,7 @@
 -- How each token of a line is written once its macro references have values.
 use Rattle.std.specs.Prelude.{ℕ, Bool, true, false, not, ◌&&◌, ◌||◌, ◌==◌, List, [], ◌∷◌, ◌++◌, flat_map, Some, None, codes, bytes_eq, if◌then◌else◌}
 use Rattle.std.specs.List.{list_all, list_any}
-use Rattle.kc_expr.specs.Token.{is_word_byte}
+use Rattle.kc_tokens.specs.Token.{is_word_byte}
 use Rattle.kc_tree_model.specs.Keywords.{keywords}
 use Rattle.kc_tree_model.specs.declared.keyword.Keyword.{Keyword}
 use Rattle.kc_macros_model.specs.declared.token_sort.TokenSort.{TokenSort}

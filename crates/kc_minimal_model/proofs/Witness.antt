@@ -3,7 +3,7 @@ use Rattle.std.proofs.Common.{◌≡◌, true, ℕ, List, [], ◌∷◌, Some, N
 use Rattle.kc_system.proofs.Lists.{get-some, get_from_Contains}
 use Rattle.std.specs.Prelude.{codes}
 use Rattle.std.specs.Str.{is_utf8, chars}
-use Rattle.kc_expr.specs.Token.{next_token}
+use Rattle.kc_tokens.specs.Token.{next_token}
 use Rattle.kc_expr.specs.Grammar.{read_expr}
 use Rattle.kc_expr.specs.Lookup.{index_of_name}
 use Rattle.kc_tree_model.specs.LogicalLines.{lines_of}

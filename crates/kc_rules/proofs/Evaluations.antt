@@ -14,7 +14,7 @@ use Rattle.kc_rules_model.specs.declared.values.UnitValue.{UnitValue}
 use Rattle.kc_rules_model.specs.declared.values.UnitValue.TheVariants.{Member as MemberValue}
 use Rattle.kc_rules_model.specs.declared.values.UserValue.{UserValue}
 use Rattle.kc_rules_model.specs.declared.values.UserValue.TheVariants.{Tri as TriUser, Text as TextUser, Member as MemberUser}
-use Rattle.kc_rules.specs.checker.StoredRules.{choice_rule_of}
+use Rattle.kc_dependencies.specs.checker.StoredRules.{choice_rule_of}
 use Rattle.kc_rules_model.specs.Rule.{rule, rule_of_unit, rule_of_symbol, rule_of_choice, symbol_rule, assigned_member, is_visible, is_within, active_range, number_default}
 use Rattle.kc_rules_model.specs.Shapes.{user_fits, unit_user_fits, choice_user_fits}
 use Rattle.kc_rules.specs.checker.Texts.{number_rule_of}

@@ -1,9 +1,4 @@
-pub mod Pushes
-pub mod Needs
-pub mod OrderedLists
-pub mod Chains
 pub mod Orders
-pub mod ModulesLemmas
 pub mod Evaluations
 pub mod Blanks
 pub mod Bounds

@@ -1,7 +1,7 @@
 //! The rule of choices.
 ghost use Rattle.std.specs.Prelude.{◌≡◌, ◌<◌, ◌&&◌, length, map, find, IfSome};
 ghost use Rattle.kc_tree.specs.between.Views.{choice_view, member_default_view, ChoiceFits};
-ghost use Rattle.kc_rules.specs.checker.StoredRules.{AreMemberDefaults, AreMembers, default_member_of, is_open, selection_without_user_of, choice_rule_of};
+ghost use Rattle.kc_dependencies.specs.checker.StoredRules.{AreMemberDefaults, AreMembers, default_member_of, is_open, selection_without_user_of, choice_rule_of};
 ghost use Rattle.kc_rules_model.specs.Rule.{is_shown, is_visible_member};
 ghost use Rattle.kc_rules.specs.checker.ValuationView.{valuation_tree, valuation_exprs, valuation_values};
 

@@ -2,12 +2,9 @@
 #![tactic(auto)]
 
 mod choices;
-mod dependencies;
 mod evaluation;
 mod fault;
 mod graphs;
-mod modules;
-mod names;
 mod queries;
 mod reports;
 mod rules;

@@ -1,7 +1,7 @@
 //! A tree with what its units depend on.
 ghost use Rattle.std.specs.Prelude.{◌≡◌, length};
-ghost use Rattle.kc_rules.specs.checker.Links.{AreLinks};
-ghost use Rattle.kc_rules.specs.checker.ModulesSymbol.{modules_symbol};
+ghost use Rattle.kc_dependencies.specs.checker.Links.{AreLinks};
+ghost use Rattle.kc_dependencies.specs.checker.ModulesSymbol.{modules_symbol};
 ghost use Rattle.kc_rules_model.specs.Dependencies.{dependencies};
 ghost use Rattle.kc_tree_model.specs.TreeLookup.{IsConsistent};
 ghost use Rattle.kc_system.specs.Dependencies.{IsOrder, HasNoCycle};

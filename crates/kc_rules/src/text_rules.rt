@@ -4,7 +4,7 @@ ghost use Rattle.std.specs.Option.{option_copied};
 ghost use Rattle.kc_value.specs.Number.{number_of_text, IsPrintable};
 ghost use Rattle.kc_expr.specs.between.Arena.{node_expr};
 ghost use Rattle.kc_tree.specs.between.Views.{symbol_view, default_view, range_view, operand_or_empty, SymbolFits};
-ghost use Rattle.kc_rules.specs.checker.StoredRules.{AreDefaults, AreRanges};
+ghost use Rattle.kc_dependencies.specs.checker.StoredRules.{AreDefaults, AreRanges};
 ghost use Rattle.kc_rules_model.specs.Rule.{bound, is_within, clamped, default_text, number_default};
 ghost use Rattle.kc_rules.specs.checker.Texts.{IsNumber, active_value_of, active_range_of, string_rule_of, number_rule_of};
 ghost use Rattle.kc_rules.specs.checker.ValuationView.{valuation_tree, valuation_exprs, valuation_values};

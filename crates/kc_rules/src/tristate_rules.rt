@@ -2,7 +2,7 @@
 ghost use Rattle.std.specs.Prelude.{◌≡◌, ◌<◌, length, map, if◌then◌else◌};
 ghost use Rattle.kc_expr.specs.between.Arena.{node_expr};
 ghost use Rattle.kc_tree.specs.between.Views.{symbol_view, reverse_dependency_view as kept_force, default_view, SymbolFits};
-ghost use Rattle.kc_rules.specs.checker.StoredRules.{AreNodes, AreReverseDependencies, AreDefaults};
+ghost use Rattle.kc_dependencies.specs.checker.StoredRules.{AreNodes, AreReverseDependencies, AreDefaults};
 ghost use Rattle.kc_rules_model.specs.Kinds.{is_n, largest};
 ghost use Rattle.kc_value.specs.Tri.{y_for_m};
 ghost use Rattle.kc_rules_model.specs.Rule.{conditions, reverse_dependency_value, reverse_dependency_limit, promoted, visibility, is_visible, default_tri, implied_effect, unassigned_value, base, leaves_no_m};

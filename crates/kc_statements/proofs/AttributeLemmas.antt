@@ -1,9 +1,9 @@
 -- Types and defaults, by their parts.
 use Rattle.std.proofs.Common.{◌≡◌, ◌+◌, ◌≤◌, ◌<◌, Bool, true, false, ◌==◌, ◌||◌, ◌&&◌, cond, List, [], ◌∷◌, length, drop, refl, ap, ◌∙◌, arith, Result, Ok, Err}
 use Rattle.kc_value.specs.declared.value.Kind.{Kind}
-use Rattle.kc_expr.specs.Token.{Lexeme, lexemes_of}
-use Rattle.kc_expr.specs.declared.token.Token.{Token as CodeToken}
-use Rattle.kc_expr.specs.declared.fault.ExprKind.{ExprKind}
+use Rattle.kc_tokens.specs.Token.{Lexeme, lexemes_of}
+use Rattle.kc_tokens.specs.declared.token.Token.{Token as CodeToken}
+use Rattle.kc_tokens.specs.declared.fault.ExprKind.{ExprKind}
 use Rattle.kc_expr.specs.Expr.{Expr}
 use Rattle.kc_expr.specs.Grammar.{extent, read_expr, is_operand_kind, is_close}
 use Rattle.kc_tree_model.specs.declared.fault.TreeKind.{TreeKind}

@@ -4,15 +4,15 @@ use Rattle.std.proofs.lemmas.List.{drop-map, drop_more}
 use Rattle.std.specs.Prelude.{codes, slice_index_or, take}
 use Rattle.std.proofs.lemmas.Bool.{false≢true}
 use Rattle.std.proofs.lemmas.Bool.Decides.{nat_tests}
-use Rattle.kc_expr.specs.Token.{Lexeme, lexeme_of, lexemes_of}
+use Rattle.kc_tokens.specs.Token.{Lexeme, lexeme_of, lexemes_of}
 use Rattle.kc_expr.specs.between.ParseResults.{RefusesExpr, expr_tokens, expr_end}
-use Rattle.kc_expr.specs.declared.fault.ExprFault.{ExprFault}
-use Rattle.kc_expr.specs.declared.fault.ExprKind.TheVariants as expr_kinds
-use Rattle.kc_expr.specs.declared.token.Token.{Token as CodeToken}
-use Rattle.kc_expr.specs.declared.token.TokenKind.TheVariants.{Word}
+use Rattle.kc_tokens.specs.declared.fault.ExprFault.{ExprFault}
+use Rattle.kc_tokens.specs.declared.fault.ExprKind.TheVariants as expr_kinds
+use Rattle.kc_tokens.specs.declared.token.Token.{Token as CodeToken}
+use Rattle.kc_tokens.specs.declared.token.TokenKind.TheVariants.{Word}
 use Rattle.kc_expr.specs.Expr.{Expr, conditional}
 use Rattle.kc_expr.specs.Grammar.{extent, read_expr, fault_of}
-use Rattle.kc_expr.specs.declared.fault.ExprKind.{ExprKind}
+use Rattle.kc_tokens.specs.declared.fault.ExprKind.{ExprKind}
 use Rattle.kc_tree_model.specs.declared.fault.TreeKind.{TreeKind}
 use Rattle.kc_tree_model.specs.declared.fault.TreeKind.TheVariants.{Malformed, OutOfMemory}
 use Rattle.kc_tree_model.specs.Forms.{last_condition, optional_if, no_more, kind_of_fault, ParsedExpr, ◌>>=◌}

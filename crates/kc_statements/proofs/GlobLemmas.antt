@@ -7,10 +7,10 @@ use Rattle.std.proofs.lemmas.Bool.{false≢true}
 use Rattle.std.proofs.lemmas.Bool.Decides.{nat_tests}
 use Rattle.std.proofs.lemmas.List.Folds.{list_any_more}
 use Rattle.kc_value.specs.QuotedTexts.{unescaped}
-use Rattle.kc_expr.specs.Grammar.{between_quotes, is_quote, is_operand_kind}
-use Rattle.kc_expr.specs.Token.{Lexeme}
-use Rattle.kc_expr.specs.declared.token.TokenKind.{TokenKind}
-use Rattle.kc_expr.specs.declared.token.TokenKind.TheVariants.{Word, Quoted, Relation, Not, And, Or, Open, Close}
+use Rattle.kc_expr.specs.Grammar.{between_quotes, is_operand_kind}
+use Rattle.kc_tokens.specs.Token.{is_quote, Lexeme}
+use Rattle.kc_tokens.specs.declared.token.TokenKind.{TokenKind}
+use Rattle.kc_tokens.specs.declared.token.TokenKind.TheVariants.{Word, Quoted, Relation, Not, And, Or, Open, Close}
 use Rattle.kc_tree_model.specs.Placement.{is_glob_path}
 
 -- whether a byte makes a path a pattern: `*`, `?` or `[`

@@ -4,8 +4,8 @@ use Rattle.std.specs.Prelude.{codes, slice_index_or}
 use Rattle.std.specs.Bool.{if◌then◌else◌}
 use Rattle.kc_expr.specs.between.Arena.{Exprs, Grows}
 use Rattle.kc_expr.specs.Expr.{Expr}
-use Rattle.kc_expr.specs.Token.{Lexeme, lexeme_of, lexemes_of}
-use Rattle.kc_expr.specs.declared.token.Token.{Token as CodeToken}
+use Rattle.kc_tokens.specs.Token.{Lexeme, lexeme_of, lexemes_of}
+use Rattle.kc_tokens.specs.declared.token.Token.{Token as CodeToken}
 use Rattle.kc_tree_model.specs.declared.fault.TreeKind.{TreeKind}
 use Rattle.kc_tree_model.specs.declared.fault.TreeKind.TheVariants.{Malformed}
 use Rattle.kc_tree_model.specs.Forms.{condition_line, prompt_line, target_line, option_line, config_line, source_line, last_condition, optional_if, no_more, path_of}

@@ -1,11 +1,11 @@
 -- The line of a range, by its two operands and the tokens after them.
 use Rattle.std.proofs.Common.{◌≡◌, ℕ, ◌≤◌, false, List, [], ◌∷◌, length, drop, refl, ap, arith, Option, Some, None, Ok, Err}
 use Rattle.std.specs.Prelude.{slice_index_or}
-use Rattle.kc_expr.specs.Token.{lexeme_of, lexemes_of}
+use Rattle.kc_tokens.specs.Token.{lexeme_of, lexemes_of}
 use Rattle.kc_expr.specs.Expr.{Expr, Operand}
-use Rattle.kc_expr.specs.declared.token.Token.{Token as CodeToken}
-use Rattle.kc_expr.specs.declared.token.TokenKind.{TokenKind}
-use Rattle.kc_expr.specs.declared.token.TokenKind.TheVariants.{Word, Quoted, Relation, Not, And, Or, Open, Close}
+use Rattle.kc_tokens.specs.declared.token.Token.{Token as CodeToken}
+use Rattle.kc_tokens.specs.declared.token.TokenKind.{TokenKind}
+use Rattle.kc_tokens.specs.declared.token.TokenKind.TheVariants.{Word, Quoted, Relation, Not, And, Or, Open, Close}
 use Rattle.kc_expr.specs.Grammar.{is_operand_kind, operand_of_kind, operand_of_lexeme}
 use Rattle.kc_tree_model.specs.declared.fault.TreeKind.{TreeKind}
 use Rattle.kc_tree_model.specs.declared.fault.TreeKind.TheVariants.{Malformed}

@@ -2,7 +2,7 @@
 ghost use Rattle.std.specs.Prelude.{Option, IfOk, codes};
 ghost use Rattle.kc_expr.specs.between.Arena.{Exprs, Grows, node_expr};
 ghost use Rattle.kc_expr.specs.Expr.{Expr};
-ghost use Rattle.kc_expr.specs.Token.{lexemes_of};
+ghost use Rattle.kc_tokens.specs.Token.{lexemes_of};
 ghost use Rattle.kc_tree_model.specs.Forms.{type_line, prompt_line, default_line, target_line, condition_line, option_line, no_more};
 ghost use Rattle.kc_tree_model.specs.Statements.{Attribute as DefinedAttribute, DefaultAttribute as DefinedValued, TargetAttribute as DefinedAimed, attribute, prompt, default, typed_default, depends, visible, select, imply, help, modules, optional};
 ghost use Rattle.kc_statements.specs.between.StatementViews.{ReturnsOrFails, StatementNodesExist, NodeExists, IfNodeExists, DefaultNodesExist, TargetNodesExist, statement_in, if_in, default_in, target_in};
@@ -11,7 +11,8 @@ use super::condition::{last_condition, optional_if};
 use super::fault::tree_kind_of;
 use super::statement::{Attribute, DefaultAttribute, Statement, TargetAttribute};
 use super::token::{is_name, is_quoted, is_the_word};
-use kc_expr::{Arena, ExprId, Token};
+use kc_expr::{Arena, ExprId};
+use kc_tokens::Token;
 use kc_tree_model::TreeKind;
 use kc_value::Kind;
 

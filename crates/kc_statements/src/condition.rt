@@ -1,13 +1,14 @@
 //! Conditions at the ends of lines.
 ghost use Rattle.std.specs.Prelude.{◌≤◌, length, drop, IfOk};
 ghost use Rattle.kc_expr.specs.between.Arena.{Grows, node_expr};
-ghost use Rattle.kc_expr.specs.Token.{lexemes_of};
+ghost use Rattle.kc_tokens.specs.Token.{lexemes_of};
 ghost use Rattle.kc_tree_model.specs.Forms.{last_condition, optional_if};
 ghost use Rattle.kc_statements.specs.between.StatementViews.{ReturnsOrFails, NodeExists, IfNodeExists, if_in};
 
 use super::fault::tree_kind_of;
 use super::token::is_the_word;
-use kc_expr::{Arena, ExprId, Token};
+use kc_expr::{Arena, ExprId};
+use kc_tokens::Token;
 use kc_tree_model::TreeKind;
 
 /// Reads a condition from the token at `at` up to the end of the line.

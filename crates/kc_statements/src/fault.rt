@@ -2,7 +2,7 @@
 ghost use Rattle.std.specs.Prelude.{◌≡◌};
 ghost use Rattle.kc_tree_model.specs.Forms.{kind_of_fault};
 
-use kc_expr::ExprKind;
+use kc_tokens::ExprKind;
 use kc_tree_model::TreeKind;
 
 /// The fault of the tree that a fault of an expression becomes.

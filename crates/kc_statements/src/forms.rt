@@ -1,7 +1,7 @@
 //! The statements of lines, by their keywords and the tokens after their first words.
 ghost use Rattle.std.specs.Prelude.{IfOk};
 ghost use Rattle.kc_expr.specs.between.Arena.{Grows};
-ghost use Rattle.kc_expr.specs.Token.{lexemes_of};
+ghost use Rattle.kc_tokens.specs.Token.{lexemes_of};
 ghost use Rattle.kc_tree_model.specs.Forms.{statement_of as defined_statement};
 ghost use Rattle.kc_statements.specs.between.StatementViews.{ReturnsOrFails, StatementNodesExist, statement_in};
 
@@ -15,7 +15,8 @@ use super::heads::{
 };
 use super::range::range_line;
 use super::statement::Statement;
-use kc_expr::{Arena, Token};
+use kc_expr::Arena;
+use kc_tokens::Token;
 use kc_tree_model::{Keyword, TreeKind};
 use std::alloc::Global;
 

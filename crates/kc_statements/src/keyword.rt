@@ -1,10 +1,10 @@
 //! The keywords that the first words of lines are.
 ghost use Rattle.std.specs.Prelude.{◌≡◌, length};
-ghost use Rattle.kc_expr.specs.Token.{lexeme_of};
+ghost use Rattle.kc_tokens.specs.Token.{lexeme_of};
 ghost use Rattle.kc_tree_model.specs.Keywords.{keyword_in_table, keywords, keyword_of as defined_keyword};
 ghost use Rattle.kc_statements.specs.checker.WordLengths.{of_length};
 
-use kc_expr::{Token, TokenKind};
+use kc_tokens::{Token, TokenKind};
 use kc_tree_model::{Block, Keyword};
 use kc_value::Kind;
 

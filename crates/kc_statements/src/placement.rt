@@ -2,12 +2,12 @@
 ghost use Rattle.std.specs.Prelude.{◌≡◌, ◌&&◌, ◌||◌, ◌==◌, not, List};
 ghost use Rattle.std.specs.List.{list_any};
 ghost use Rattle.kc_value.specs.Kinds.{is_tri_kind};
-ghost use Rattle.kc_expr.specs.Token.{lexemes_of, lexeme_of};
+ghost use Rattle.kc_tokens.specs.Token.{lexemes_of, lexeme_of};
 ghost use Rattle.kc_tree_model.specs.Blocks.{Group};
 ghost use Rattle.kc_tree_model.specs.Placement.{is_strict, is_left_out, is_choice_open, open_entry, is_glob_path, allows_attribute};
 
 use super::token::{is_left_out_option, is_operand, is_word};
-use kc_expr::{Language, Token};
+use kc_tokens::{Language, Token};
 use kc_tree_model::{Keyword, OpenEntry};
 use kc_value::Kind;
 

@@ -2,7 +2,7 @@
 ghost use Rattle.std.specs.Prelude.{◌≡◌, true, Some, IfOk, IfErr};
 ghost use Rattle.kc_expr.specs.between.Arena.{Grows};
 ghost use Rattle.kc_expr.specs.Grammar.{is_operand_kind, operand_of_lexeme};
-ghost use Rattle.kc_expr.specs.Token.{lexemes_of, lexeme_of};
+ghost use Rattle.kc_tokens.specs.Token.{lexemes_of, lexeme_of};
 ghost use Rattle.kc_tree_model.specs.declared.fault.TreeKind.TheVariants.{OutOfMemory};
 ghost use Rattle.kc_tree_model.specs.Forms.{range_line};
 ghost use Rattle.kc_statements.specs.between.StatementViews.{ReturnsOrFails, StatementNodesExist, OperandNodeExists, statement_in, operand_or_n};
@@ -10,7 +10,8 @@ ghost use Rattle.kc_statements.specs.between.StatementViews.{ReturnsOrFails, Sta
 use super::condition::optional_if;
 use super::statement::{Attribute, RangeAttribute, Statement};
 use super::token::is_operand;
-use kc_expr::{Arena, ExprId, Token};
+use kc_expr::{Arena, ExprId};
+use kc_tokens::Token;
 use kc_tree_model::TreeKind;
 
 /// Adds a bare word or a quoted text to the arena, as an expression of one operand.

@@ -2,7 +2,7 @@
 ghost use Rattle.std.specs.Prelude.{◌≡◌, ◌<◌, ◌++◌, ◌+◌, [], List, All, IfOk, IfErr, IfSome, OnOk, OnErr, length};
 ghost use Rattle.kc_expr.specs.between.Arena.{Grows, Represents};
 ghost use Rattle.kc_expr.specs.Expr.{Expr};
-ghost use Rattle.kc_expr.specs.declared.fault.ExprKind.TheVariants.{OutOfMemory};
+ghost use Rattle.kc_tokens.specs.declared.fault.ExprKind.TheVariants.{OutOfMemory};
 ghost use Rattle.kc_statements.specs.between.StatementViews.{AttributeNodesExist};
 ghost use Rattle.kc_listing.specs.between.ListingView.{LineNodesExist};
 ghost use Rattle.kc_tree_model.specs.Conditions.{conjunction_of};
@@ -11,9 +11,10 @@ ghost use Rattle.kc_tree.specs.checker.Conjuncts.{if_view, conjunct_view, conjun
 ghost use Rattle.kc_tree.specs.declared.conditions.Conjuncts.TheVariants.{Dependencies, Visibles};
 
 use super::attribute::is_prompt;
-use kc_expr::{Arena, ExprFault, ExprId};
+use kc_expr::{Arena, ExprId};
 use kc_listing::Line;
 use kc_statements::Attribute;
+use kc_tokens::ExprFault;
 
 /// Which conjuncts of an entry's attributes are joined: those of `depends on`, or those of `visible if`.
 #[derive(Clone, Copy)]

@@ -15,8 +15,9 @@ use super::attribute::is_prompt;
 use super::conditions::{
     EnclosingConditions, EntryConditions, entry_conditions, join_optional, push_conditions,
 };
-use kc_expr::{Arena, ExprFault, ExprId};
+use kc_expr::{Arena, ExprId};
 use kc_listing::{GroupHead, Line};
+use kc_tokens::ExprFault;
 use kc_value::Tri;
 use std::alloc::Global;
 

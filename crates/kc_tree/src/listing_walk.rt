@@ -8,8 +8,9 @@ ghost use Rattle.kc_tree.specs.checker.Walks.{RepresentsAllConditions, HasWalked
 
 use super::group_lines::{end_of, part};
 use super::group_walk::{GroupConditions, GroupWalk};
-use kc_expr::{Arena, ExprFault, ExprId};
+use kc_expr::{Arena, ExprId};
 use kc_listing::{Group, Line, Listing, SymbolTable};
+use kc_tokens::ExprFault;
 use std::alloc::Global;
 
 /// A listing with its conditions joined with the enclosing ones: its arena also has the joined conditions, `groups` has

@@ -1,7 +1,7 @@
 //! The first fault of the checks on a listing that was read without a fault.
 ghost use Rattle.std.specs.Prelude.{◌≡◌, ◌<◌, ◌+◌, ◌^◌, ℕ, List, IfOk, Some, bytes_eq, length, slice_get, if◌then◌else◌};
 ghost use Rattle.kc_expr.specs.Expr.{modules as modules_name};
-ghost use Rattle.kc_expr.specs.declared.language.Language.{Language as AnyLanguage};
+ghost use Rattle.kc_tokens.specs.declared.language.Language.{Language as AnyLanguage};
 ghost use Rattle.std.specs.List.{list_all};
 ghost use Rattle.kc_tree_model.specs.Blocks.{Group as ModelGroup};
 ghost use Rattle.kc_tree_model.specs.Conditions.{GroupInContext, groups_in_context};
@@ -23,8 +23,8 @@ use super::group_lines::lines_of;
 use super::items_by_number::ItemsByNumber;
 use super::marks::mark_members;
 use super::summary::Summary;
-use kc_expr::Language;
 use kc_listing::{GroupHead, Line, Listing};
+use kc_tokens::Language;
 use kc_tree_model::{Sym, TreeFault};
 use std::alloc::{AllocError, Global};
 

@@ -2,7 +2,7 @@
 use Rattle.std.proofs.Common.{◌≡◌, ◌≢◌, ℕ, zero, suc, ◌+◌, Bool, true, false, not, cond, List, [], ◌∷◌, Option, Some, None, Result, Ok, Err, refl, ap, sym, ◌∙◌, subst, length}
 use Rattle.std.specs.Prelude.{filter_map, is_some, nat_lt, sum_by}
 use Rattle.std.specs.List.{cons_option, fold, AllByRecursion}
-use Rattle.kc_expr.specs.declared.language.Language.{Language}
+use Rattle.kc_tokens.specs.declared.language.Language.{Language}
 use Rattle.kc_tree_model.specs.declared.fault.TreeKind.{TreeKind}
 use Rattle.kc_tree_model.specs.declared.fault.TreeKind.TheVariants.{MissingFile, SourceLoop}
 use Rattle.kc_tree_model.specs.declared.fault.TreeFault.{TreeFault}

@@ -3,10 +3,10 @@ use Rattle.std.proofs.Common.{◌≡◌, ℕ, zero, suc, Bool, true, false, not,
 use Rattle.std.specs.Prelude.{nat_lt, slice_get, flat_map, is_some, is_none, bytes_eq}
 use Rattle.std.specs.Option.{option_or}
 use Rattle.std.specs.Str.{is_utf8}
-use Rattle.kc_expr.specs.Token.{Lexeme, lexemes_from}
-use Rattle.kc_expr.specs.declared.fault.ExprFault.{ExprFault}
-use Rattle.kc_expr.specs.declared.language.Language.{Language}
-use Rattle.kc_expr.specs.declared.language.Language.TheVariants.{Strict, Linux}
+use Rattle.kc_tokens.specs.Token.{Lexeme, lexemes_from}
+use Rattle.kc_tokens.specs.declared.fault.ExprFault.{ExprFault}
+use Rattle.kc_tokens.specs.declared.language.Language.{Language}
+use Rattle.kc_tokens.specs.declared.language.Language.TheVariants.{Strict, Linux}
 use Rattle.kc_expr.specs.Expr.{modules as modules_name}
 use Rattle.kc_expr.proofs.Languages.{strict_in_linux}
 use Rattle.kc_value.specs.declared.value.Kind.TheVariants.{Bool as Boolean, Tristate, Text, Int, Hex}

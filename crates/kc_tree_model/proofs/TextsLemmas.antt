@@ -7,7 +7,7 @@ use Rattle.std.specs.Prelude.{None, nat_lt, slice_get, String, Vec, string_bytes
 use Rattle.std.specs.declared.alloc.Global.{Global}
 use Rattle.indexmap.specs.IndexMap.{insert_entry}
 use Rattle.std.specs.Map.{lookup, keys_of}
-use Rattle.kc_expr.specs.declared.language.Language.{Language}
+use Rattle.kc_tokens.specs.declared.language.Language.{Language}
 use Rattle.kc_tree_model.specs.checker.TextsView.{file_of, files_of}
 use Rattle.kc_tree_model.specs.TreeFiles.{Files, with_path, with_file}
 

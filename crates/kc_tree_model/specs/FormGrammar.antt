@@ -2,9 +2,9 @@
 use Rattle.std.specs.Prelude.{◌≡◌, ℕ, true, ◌==◌, List, [], ◌∷◌, ◌++◌, length, Option, Some, None, codes}
 use Rattle.kc_value.specs.declared.value.Kind.{Kind}
 use Rattle.kc_value.specs.declared.limits.TheConstants.{MAX_EXPR_DEPTH}
-use Rattle.kc_expr.specs.Token.{Lexeme}
+use Rattle.kc_tokens.specs.Token.{Lexeme}
 use Rattle.kc_expr.specs.Expr.{Expr, Operand, conditional}
-use Rattle.kc_expr.specs.declared.fault.ExprKind.TheVariants.{TooDeep}
+use Rattle.kc_tokens.specs.declared.fault.ExprKind.TheVariants.{TooDeep}
 use Rattle.kc_expr.specs.ExprFaults.{IsFirstExprFault}
 use Rattle.kc_expr.specs.Grammar.{IsExpr, ors, extent, quoted_text, operand_of_lexeme}
 use Rattle.kc_tree_model.specs.Statements.{config, choice, menu, condition, comment, source, mainmenu, ends, DefaultAttribute, typed, typed_prompt, typed_default, prompt, default, depends, select, imply, range, visible, help, modules, optional, Statement, head, attribute}

@@ -3,9 +3,9 @@
 use Rattle.std.specs.Prelude.{ℕ, Bool, ◌||◌, ◌==◌, List, [], ◌∷◌, length, drop, Option, Some, None, codes, Result, Ok, Err, if◌then◌else◌}
 use Rattle.std.specs.List.{list_any}
 use Rattle.kc_value.specs.declared.value.Kind.{Kind}
-use Rattle.kc_expr.specs.Token.{Lexeme}
-use Rattle.kc_expr.specs.declared.fault.ExprKind.{ExprKind}
-use Rattle.kc_expr.specs.declared.fault.ExprKind.TheVariants as expr_kinds
+use Rattle.kc_tokens.specs.Token.{Lexeme}
+use Rattle.kc_tokens.specs.declared.fault.ExprKind.{ExprKind}
+use Rattle.kc_tokens.specs.declared.fault.ExprKind.TheVariants as expr_kinds
 use Rattle.kc_expr.specs.Expr.{Expr, Operand, conditional}
 use Rattle.kc_expr.specs.Grammar.{read_expr, extent, quoted_text, operand_of_lexeme}
 use Rattle.kc_tree_model.specs.declared.fault.TreeKind.{TreeKind}

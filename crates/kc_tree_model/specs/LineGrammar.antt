@@ -1,9 +1,9 @@
 -- The grammar of the physical and logical lines of a file.
 use Rattle.std.specs.Prelude.{◌≡◌, ℕ, ◌+◌, ◌<◌, Bool, true, false, ◌&&◌, ◌||◌, nat_lt, nat_le, List, [], ◌∷◌, ◌++◌, length, map, Some}
 use Rattle.std.specs.List.{list_all}
-use Rattle.kc_expr.specs.declared.language.Language.TheVariants.{Strict}
-use Rattle.kc_expr.specs.Token.{Lexeme}
-use Rattle.kc_expr.specs.TokenGrammar.{IsCut}
+use Rattle.kc_tokens.specs.declared.language.Language.TheVariants.{Strict}
+use Rattle.kc_tokens.specs.Token.{Lexeme}
+use Rattle.kc_tokens.specs.TokenGrammar.{IsCut}
 use Rattle.kc_value.specs.Lines.{has_newline}
 use Rattle.kc_tree_model.specs.Keywords.{keyword_of}
 use Rattle.kc_tree_model.specs.declared.keyword.Keyword.TheVariants as words

@@ -3,9 +3,9 @@ use Rattle.std.specs.Prelude.{Bool, true, false, not, ◌&&◌, List, [], ◌∷
 use Rattle.std.specs.List.{list_all}
 use Rattle.kc_value.specs.declared.value.Kind.TheVariants.{Bool as Boolean, Tristate}
 use Rattle.kc_value.specs.Kinds.{is_tri_kind}
-use Rattle.kc_expr.specs.Token.{Lexeme}
-use Rattle.kc_expr.specs.declared.language.Language.{Language}
-use Rattle.kc_expr.specs.declared.language.Language.TheVariants.{Strict, Linux}
+use Rattle.kc_tokens.specs.Token.{Lexeme}
+use Rattle.kc_tokens.specs.declared.language.Language.{Language}
+use Rattle.kc_tokens.specs.declared.language.Language.TheVariants.{Strict, Linux}
 use Rattle.kc_tree_model.specs.declared.keyword.OpenEntry.{OpenEntry}
 use Rattle.kc_tree_model.specs.declared.keyword.OpenEntry.TheVariants as entries
 use Rattle.kc_tree_model.specs.Statements.{Head, config, choice, menu, comment}

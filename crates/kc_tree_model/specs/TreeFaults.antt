@@ -5,8 +5,8 @@ use Rattle.std.specs.Option.{option_or}
 use Rattle.kc_value.specs.declared.value.Kind.{Kind}
 use Rattle.kc_value.specs.declared.value.Kind.TheVariants.{Bool as Boolean}
 use Rattle.kc_value.specs.Kinds.{is_tri_kind, is_number, same_kind}
-use Rattle.kc_expr.specs.declared.language.Language.{Language}
-use Rattle.kc_expr.specs.declared.language.Language.TheVariants.{Strict, Linux}
+use Rattle.kc_tokens.specs.declared.language.Language.{Language}
+use Rattle.kc_tokens.specs.declared.language.Language.TheVariants.{Strict, Linux}
 use Rattle.kc_expr.specs.Expr.{modules as modules_name}
 use Rattle.kc_tree_model.specs.declared.fault.TreeKind.{TreeKind}
 use Rattle.kc_tree_model.specs.declared.fault.TreeKind.TheVariants.{NoType, TypeConflict, SecondPrompt, DefaultShape, RangeType, SelectType, ChoiceMember, ChoiceDefault, ModulesType}

@@ -2,8 +2,8 @@
 use Rattle.std.specs.Prelude.{ℕ, List, [], ◌∷◌, Option, bytes_eq, map, slice_get, option_map, if◌then◌else◌}
 use Rattle.std.specs.List.{IsDistinct, position_or_len}
 use Rattle.std.specs.Map.{lookup}
-use Rattle.kc_expr.specs.declared.language.Language.{Language}
-use Rattle.kc_expr.specs.declared.language.Language.TheVariants.{Strict, Linux}
+use Rattle.kc_tokens.specs.declared.language.Language.{Language}
+use Rattle.kc_tokens.specs.declared.language.Language.TheVariants.{Strict, Linux}
 
 -- the files of a tree: the language in which they are written, and paths with their bytes, in order of insertion
 pub record Files : Type 0 where

@@ -1,6 +1,6 @@
 //! Laws of the definitions.
 ghost use Rattle.std.specs.Prelude.{◌≡◌, ◌↔◌, ◌⊎◌, ℕ, ◌+◌, List, [], None, Some, Result, Ok, Err};
-ghost use Rattle.kc_expr.specs.declared.language.Language.{Language};
+ghost use Rattle.kc_tokens.specs.declared.language.Language.{Language};
 ghost use Rattle.kc_tree_model.specs.TreeFiles.{Files, strict_files, linux_files};
 ghost use Rattle.kc_tree_model.specs.LogicalLines.{LogicalLine, lines_of, begins_help_in, begins_help};
 ghost use Rattle.kc_tree_model.specs.LineGrammar.{IsInLines};
@@ -15,7 +15,7 @@ ghost use Rattle.kc_tree_model.specs.NestedTrees.{IsReadAsOneTree};
 ghost use Rattle.kc_tree_model.specs.MoreFiles.{reading_from, MoreFilesChangeNothing};
 ghost use Rattle.kc_tree_model.specs.Blocks.{Group};
 ghost use Rattle.kc_tree_model.specs.ReadingRelation.{IsWholeReading, IsCutReading, IsOutcome};
-ghost use Rattle.kc_expr.specs.Token.{Lexeme};
+ghost use Rattle.kc_tokens.specs.Token.{Lexeme};
 ghost use Rattle.kc_tree_model.specs.declared.fault.TreeKind.{TreeKind};
 ghost use Rattle.kc_tree_model.specs.declared.fault.TreeKind.TheVariants.{Malformed, TooDeep};
 ghost use Rattle.kc_tree_model.specs.declared.keyword.Keyword.{Keyword};

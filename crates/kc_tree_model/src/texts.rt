@@ -3,7 +3,7 @@ ghost use Rattle.std.specs.Prelude.{◌≡◌, ◌↔◌, [], length, IsTrue, On
 ghost use Rattle.kc_tree_model.specs.TreeFiles.{strict_files, with_file, file_at, index_of_file, path_at, HasDistinctPaths};
 
 use indexmap::IndexMap;
-use kc_expr::Language;
+use kc_tokens::Language;
 use kc_value::Seed;
 use std::alloc::{AllocError, Global};
 use std::marker::Model;

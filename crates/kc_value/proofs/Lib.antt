@@ -6,6 +6,5 @@ pub mod HexLaws
 pub mod NumberLaws
 pub mod NumberSpelling
 pub mod QuotedLaws
-pub mod ScriptLemmas
 pub mod UnquotedUtf8
 pub mod QuotedUtf8

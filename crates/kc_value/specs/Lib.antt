@@ -5,6 +5,5 @@ pub mod NumberGrammar
 pub mod Streams
 pub mod ReaderFailures
 pub mod QuotedTexts
-pub mod TestScripts
 pub mod Tri
 pub mod checker

@@ -8,7 +8,6 @@ mod quoted_texts;
 mod reader_bytes;
 mod seed;
 mod streams;
-mod test_streams;
 mod tri;
 mod value;
 
@@ -28,6 +27,5 @@ pub use quoted_texts::{
 pub use reader_bytes::{ReadBytes, ReadEnd, read_up_to};
 pub use seed::Seed;
 pub use streams::{Failed, FromRead, Sink, Source, ToWrite};
-pub use test_streams::{Bounded, Script, Then};
 pub use tri::Tri;
 pub use value::{Kind, Text, Value, ValueRef};

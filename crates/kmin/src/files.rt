@@ -83,13 +83,7 @@ fn name_of(alloc: Global, entry: io::Result<DirEntry>) -> Result<Option<Vec<u8>>
 impl Files for Disk<'_> {
     type File = OpenFile;
 
-    ghost content_of = { λ _ _. None };
-
-    ghost regular_content_of = { λ _ _. None };
-
-    ghost names_of = { λ _ _. None };
-
-    ghost variable_of = { λ _ _. None };
+    ghost surroundings = { λ _. record { content = λ _. None; regular = λ _. None; names = λ _. None; variable = λ _. None } };
 
     fn seed(&self) -> Seed {
         self.seed

@@ -22,6 +22,11 @@ pub record DiskState : Type 0 where
   pub place : List ℕ → List ℕ
   pub history : List ℕ → History
 
+-- what is known of a disk: its state, and how many calls that change it failed, up to 2^64 - 1
+pub record Disk : Type 0 where
+  pub state : DiskState
+  pub failures : ℕ
+
 -- the present content at a path, if it is known
 abbrev pub content_at : DiskState → List ℕ → Option Content
 content_at disk path = newest (disk.history (disk.place path))

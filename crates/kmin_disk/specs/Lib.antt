@@ -4,5 +4,4 @@ pub mod NewFiles
 pub mod Failures
 pub mod Replacements
 pub mod Updates
-pub mod MemoryDisks
 pub mod SystemDisks

@@ -12,10 +12,10 @@ use kc_value::{Failed, MAX_BLOCK_BYTES, Source};
 /// Whether the file at a path is a regular one of exactly these bytes. It is read up to the first block that differs. A
 /// file that can't be opened counts as different.
 pub(crate) fn has_bytes<D: ReadDisk>(disk: &D, path: &str, bytes: &[u8]) -> Result<bool, Failed>
-    ensures equal { IfOk result (λ is. is ≡ true → MayRead (content_at (D.state disk.now) path.now) bytes.now) }
-    ensures different { IfOk result (λ is. is ≡ false → content_at (D.state disk.now) path.now ≢ Some (file bytes.now)) }
-    ensures missing { content_at (D.state disk.now) path.now ≡ Some nothing → result ≡ Ok false }
-    ensures not_regular { content_at (D.state disk.now) path.now ≡ Some special → result ≡ Ok false }
+    ensures equal { IfOk result (λ is. is ≡ true → MayRead (content_at (D.disk disk.now).state path.now) bytes.now) }
+    ensures different { IfOk result (λ is. is ≡ false → content_at (D.disk disk.now).state path.now ≢ Some (file bytes.now)) }
+    ensures missing { content_at (D.disk disk.now).state path.now ≡ Some nothing → result ≡ Ok false }
+    ensures not_regular { content_at (D.disk disk.now).state path.now ≡ Some special → result ≡ Ok false }
 {
     match disk.kind(path) {
         FileKind::Regular => opens_with_bytes(disk, path, bytes),
@@ -25,9 +25,9 @@ pub(crate) fn has_bytes<D: ReadDisk>(disk: &D, path: &str, bytes: &[u8]) -> Resu
 
 /// Whether the file at a path can be opened and has exactly these bytes.
 fn opens_with_bytes<D: ReadDisk>(disk: &D, path: &str, bytes: &[u8]) -> Result<bool, Failed>
-    ensures equal { IfOk result (λ is. is ≡ true → MayRead (content_at (D.state disk.now) path.now) bytes.now) }
-    ensures different { IfOk result (λ is. is ≡ false → content_at (D.state disk.now) path.now ≢ Some (file bytes.now)) }
-    ensures missing { content_at (D.state disk.now) path.now ≡ Some nothing → result ≡ Ok false }
+    ensures equal { IfOk result (λ is. is ≡ true → MayRead (content_at (D.disk disk.now).state path.now) bytes.now) }
+    ensures different { IfOk result (λ is. is ≡ false → content_at (D.disk disk.now).state path.now ≢ Some (file bytes.now)) }
+    ensures missing { content_at (D.disk disk.now).state path.now ≡ Some nothing → result ≡ Ok false }
 {
     match disk.open(path) {
         Some(mut file) => reads_as(&mut file, bytes),

@@ -27,20 +27,20 @@ pub fn update<D: WriteDisk>(
 ) -> Result<(), UpdateFault>
     // Nothing changed, since the file may have had the bytes; or the old bytes are at the path up to some moment, and
     // from then on the new ones.
-    ensures ok { OnOk result (Updates (D.state disk.old) (D.state disk.new) path.now bytes.now) }
-    ensures err { IfErr result (UpdateLeaves (D.state disk.old) (D.state disk.new) path.now bytes.now) }
+    ensures ok { OnOk result (Updates (D.disk disk.old).state (D.disk disk.new).state path.now bytes.now) }
+    ensures err { IfErr result (UpdateLeaves (D.disk disk.old).state (D.disk disk.new).state path.now bytes.now) }
 
     // A file of equal bytes is left alone, whatever fails.
-    ensures equal { content_at (D.state disk.old) path.now ≡ Some (file bytes.now) → D.state disk.new ≡ D.state disk.old }
+    ensures equal { content_at (D.disk disk.old).state path.now ≡ Some (file bytes.now) → (D.disk disk.new).state ≡ (D.disk disk.old).state }
 
     // No call that changes files failed where the result is `Ok`; at a fault of replacing the count is that of
     // `replace`.
-    ensures failures { D.failures disk.new ≡ failures_after_update (D.failures disk.old) result }
+    ensures failures { (D.disk disk.new).failures ≡ failures_after_update (D.disk disk.old).failures result }
 
-    ensures not_regular { result ≡ Err (UpdateFault.Replace ReplaceFault.NotRegular) → IsOfKind (content_at (D.state disk.old) path.now) FileKind.NotRegular }
-    ensures refused { content_at (D.state disk.old) path.now ≡ Some special → result ≡ Err (UpdateFault.Replace ReplaceFault.NotRegular) }
-    ensures missing { content_at (D.state disk.old) path.now ≡ Some nothing → result ≢ Err UpdateFault.Unread }
-    ensures names_taken { result ≡ Err (UpdateFault.Replace ReplaceFault.NamesTaken) → HasTakenName (D.state disk.old) path.now }
+    ensures not_regular { result ≡ Err (UpdateFault.Replace ReplaceFault.NotRegular) → IsOfKind (content_at (D.disk disk.old).state path.now) FileKind.NotRegular }
+    ensures refused { content_at (D.disk disk.old).state path.now ≡ Some special → result ≡ Err (UpdateFault.Replace ReplaceFault.NotRegular) }
+    ensures missing { content_at (D.disk disk.old).state path.now ≡ Some nothing → result ≢ Err UpdateFault.Unread }
+    ensures names_taken { result ≡ Err (UpdateFault.Replace ReplaceFault.NamesTaken) → HasTakenName (D.disk disk.old).state path.now }
 {
     match has_bytes(disk, path, bytes) {
         Ok(true) => Ok(()),

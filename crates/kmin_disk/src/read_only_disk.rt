@@ -14,7 +14,7 @@ pub struct ReadOnly<'a, D> {
 impl<'a, D: ReadDisk> ReadOnly<'a, D> {
     /// A disk that has the files of `disk` and can only be read.
     pub fn new(disk: &'a D) -> ReadOnly<'a, D>
-        ensures { ⟦<ReadOnly<'a, D> as ReadDisk>⟧.state result ≡ D.state disk.now }
+        ensures { ⟦<ReadOnly<'a, D> as ReadDisk>⟧.disk result ≡ D.disk disk.now }
     {
         ReadOnly { disk }
     }
@@ -23,7 +23,7 @@ impl<'a, D: ReadDisk> ReadOnly<'a, D> {
 impl<D: ReadDisk> ReadDisk for ReadOnly<'_, D> {
     type File = D::File;
 
-    ghost state = { λ view. D.state view.disk.now };
+    ghost disk = { λ view. D.disk view.disk.now };
 
     fn seed(&self) -> Seed {
         self.disk.seed()

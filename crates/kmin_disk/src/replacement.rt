@@ -25,15 +25,15 @@ pub fn replace<D: WriteDisk>(
     bytes: &[u8],
 ) -> Result<(), ReplaceFault>
     // The old bytes are at the path up to some moment, and from then on the new ones.
-    ensures ok { OnOk result (Replaces (D.state disk.old) (D.state disk.new) path.now bytes.now) }
-    ensures err { IfErr result (FaultLeaves (D.state disk.old) (D.state disk.new) path.now bytes.now) }
+    ensures ok { OnOk result (Replaces (D.disk disk.old).state (D.disk disk.new).state path.now bytes.now) }
+    ensures err { IfErr result (FaultLeaves (D.disk disk.old).state (D.disk disk.new).state path.now bytes.now) }
 
     // No call failed where the result is `Ok`, and one or two did at a fault of the disk.
-    ensures failures { D.failures disk.new ≡ failures_after_replace (D.failures disk.old) result }
+    ensures failures { (D.disk disk.new).failures ≡ failures_after_replace (D.disk disk.old).failures result }
 
-    ensures not_regular { IsErrOf result ReplaceFault.NotRegular → IsOfKind (content_at (D.state disk.old) path.now) FileKind.NotRegular }
-    ensures refused { content_at (D.state disk.old) path.now ≡ Some special → IsErrOf result ReplaceFault.NotRegular }
-    ensures names_taken { IsErrOf result ReplaceFault.NamesTaken → HasTakenName (D.state disk.old) path.now }
+    ensures not_regular { IsErrOf result ReplaceFault.NotRegular → IsOfKind (content_at (D.disk disk.old).state path.now) FileKind.NotRegular }
+    ensures refused { content_at (D.disk disk.old).state path.now ≡ Some special → IsErrOf result ReplaceFault.NotRegular }
+    ensures names_taken { IsErrOf result ReplaceFault.NamesTaken → HasTakenName (D.disk disk.old).state path.now }
 {
     match disk.kind(path) {
         FileKind::NotRegular => Err(ReplaceFault::NotRegular),
@@ -48,11 +48,11 @@ fn replace_regular<D: WriteDisk>(
     path: &str,
     bytes: &[u8],
 ) -> Result<(), ReplaceFault>
-    ensures ok { OnOk result (Replaces (D.state disk.old) (D.state disk.new) path.now bytes.now) }
-    ensures err { IfErr result (FaultLeaves (D.state disk.old) (D.state disk.new) path.now bytes.now) }
-    ensures failures { D.failures disk.new ≡ failures_after_replace (D.failures disk.old) result }
+    ensures ok { OnOk result (Replaces (D.disk disk.old).state (D.disk disk.new).state path.now bytes.now) }
+    ensures err { IfErr result (FaultLeaves (D.disk disk.old).state (D.disk disk.new).state path.now bytes.now) }
+    ensures failures { (D.disk disk.new).failures ≡ failures_after_replace (D.disk disk.old).failures result }
     ensures tried { result ≢ Err ReplaceFault.NotRegular }
-    ensures names_taken { IsErrOf result ReplaceFault.NamesTaken → HasTakenName (D.state disk.old) path.now }
+    ensures names_taken { IsErrOf result ReplaceFault.NamesTaken → HasTakenName (D.disk disk.old).state path.now }
 {
     let (new, new_path) = create_beside(alloc, disk, path)?;
     match fill_and_rename(disk, new, bytes) {
@@ -73,12 +73,12 @@ fn create_beside<D: WriteDisk>(
     disk: &mut D,
     path: &str,
 ) -> Result<(D::NewFile, String), ReplaceFault>
-    ensures made { IfOk result (λ new. Creates (D.state disk.old) (D.state disk.new) path.now (string_bytes new.1) (D.draft new.0)) }
+    ensures made { IfOk result (λ new. Creates (D.disk disk.old).state (D.disk disk.new).state path.now (string_bytes new.1) (D.draft new.0)) }
     ensures path { IfOk result (λ new. IsNewPath path.now (string_bytes new.1)) }
-    ensures err { OnErr result (D.state disk.new ≡ D.state disk.old) }
+    ensures err { OnErr result ((D.disk disk.new).state ≡ (D.disk disk.old).state) }
     ensures fault { IfErr result IsBeforeNewFile }
-    ensures failures { D.failures disk.new ≡ failures_after_replace (D.failures disk.old) result }
-    ensures names_taken { IsErrOf result ReplaceFault.NamesTaken → HasTakenName (D.state disk.old) path.now }
+    ensures failures { (D.disk disk.new).failures ≡ failures_after_replace (D.disk disk.old).failures result }
+    ensures names_taken { IsErrOf result ReplaceFault.NamesTaken → HasTakenName (D.disk disk.old).state path.now }
 {
     for attempt in 0..MAX_NEW_NAMES {
         let Ok(new_path) = new_path(alloc, disk.seed(), path, attempt) else {
@@ -98,8 +98,8 @@ fn fill<D: WriteDisk>(disk: &mut D, new: &mut D::NewFile, bytes: &[u8]) -> Resul
     ensures taken { OnOk result (Takes (D.draft new.old) (D.draft new.new) bytes.now) }
     ensures synced { OnOk result ((D.draft new.new).synced ≡ true) }
     ensures err { OnErr result (IsSameDraft (D.draft new.old) (D.draft new.new)) }
-    ensures same { D.state disk.new ≡ D.state disk.old }
-    ensures failures { D.failures disk.new ≡ failures_after_read (D.failures disk.old) result }
+    ensures same { (D.disk disk.new).state ≡ (D.disk disk.old).state }
+    ensures failures { (D.disk disk.new).failures ≡ failures_after_read (D.disk disk.old).failures result }
 {
     write_all(disk, new, bytes)?;
     disk.sync(new)
@@ -109,8 +109,8 @@ fn fill<D: WriteDisk>(disk: &mut D, new: &mut D::NewFile, bytes: &[u8]) -> Resul
 fn write_all<D: WriteDisk>(disk: &mut D, new: &mut D::NewFile, bytes: &[u8]) -> Result<(), Failed>
     ensures taken { OnOk result (Takes (D.draft new.old) (D.draft new.new) bytes.now) }
     ensures err { OnErr result (IsSameDraft (D.draft new.old) (D.draft new.new)) }
-    ensures same { D.state disk.new ≡ D.state disk.old }
-    ensures failures { D.failures disk.new ≡ failures_after_read (D.failures disk.old) result }
+    ensures same { (D.disk disk.new).state ≡ (D.disk disk.old).state }
+    ensures failures { (D.disk disk.new).failures ≡ failures_after_read (D.disk disk.old).failures result }
 {
     let mut written = 0;
     while written < bytes.len() {
@@ -129,10 +129,10 @@ fn fill_and_rename<D: WriteDisk>(
     mut new: D::NewFile,
     bytes: &[u8],
 ) -> Result<D::Renamed, D::NewFile>
-    ensures renamed { OnOk result (FillsAndRenames (D.state disk.old) (D.state disk.new) (D.draft new) bytes.now) }
+    ensures renamed { OnOk result (FillsAndRenames (D.disk disk.old).state (D.disk disk.new).state (D.draft new) bytes.now) }
     ensures returned { IfErr result (λ back. IsSameDraft (D.draft new) (D.draft back)) }
-    ensures err { OnErr result (D.state disk.new ≡ D.state disk.old) }
-    ensures failures { D.failures disk.new ≡ failures_after_read (D.failures disk.old) result }
+    ensures err { OnErr result ((D.disk disk.new).state ≡ (D.disk disk.old).state) }
+    ensures failures { (D.disk disk.new).failures ≡ failures_after_read (D.disk disk.old).failures result }
 {
     match fill(disk, &mut new, bytes) {
         Ok(()) => disk.rename(new),

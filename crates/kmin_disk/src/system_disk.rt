@@ -55,7 +55,7 @@ impl Source for SystemFile {
 impl<'a> SystemDisk<'a> {
     /// The disk of the system, with no failed call so far. The names of its new files depend on `seed`.
     pub fn new(runtime: &'a HostRuntime, seed: Seed) -> SystemDisk<'a>
-        ensures { ⟦<SystemDisk<'a> as WriteDisk>⟧.failures result ≡ 0 }
+        ensures { (⟦<SystemDisk<'a> as ReadDisk>⟧.disk result).failures ≡ 0 }
     {
         SystemDisk {
             runtime,
@@ -142,7 +142,7 @@ fn sync_folder_of(runtime: &HostRuntime, path: &str) -> io::Result<()> {
 impl ReadDisk for SystemDisk<'_> {
     type File = SystemFile;
 
-    ghost state = { λ _. unknown_state };
+    ghost disk = { λ disk. record { state = unknown_state; failures = disk.failed } };
 
     fn seed(&self) -> Seed {
         self.seed
@@ -174,8 +174,6 @@ impl WriteDisk for SystemDisk<'_> {
     type NewFile = SystemNewFile;
 
     type Renamed = SystemRename;
-
-    ghost failures = { λ disk. disk.failed };
 
     ghost draft = { λ new. unknown_draft (string_bytes new.path) (string_bytes new.target) };
 

@@ -5,8 +5,8 @@ use Rattle.kc_macros_model.specs.declared.fault.AnswersKind.{AnswersKind}
 use Rattle.kc_macros_model.specs.declared.fault.AnswersKind.TheVariants.{Malformed, TwoAnswers, NotUtf8, LineTooLong, TooManyLines, TooLarge, Read, OutOfMemory}
 use Rattle.kc_macros_model.specs.declared.fault.AnswersFault.{AnswersFault}
 use Rattle.kc_macros_model.specs.AnswerFiles.{RecordedAnswers, complete, cut_by, answers_read}
-use Rattle.kc_macros.specs.ReadAnswers.{AreRecorded, IsRefused, ReadsToEnd, end_of_file}
-use Rattle.kc_expansion.specs.TreeContents.{FileContent}
+use Rattle.kc_answers.specs.ReadAnswers.{AreRecorded, IsRefused, ReadsToEnd, end_of_file}
+use Rattle.kc_files.specs.TreeContents.{FileContent}
 use Rattle.kmin_tidy.specs.KnownBytes.{AreKnownBytes}
 use Rattle.kmin_disk.specs.Contents.{OpensAs}
 use Rattle.kmin_tidy.specs.StandardError.{TakesLines}

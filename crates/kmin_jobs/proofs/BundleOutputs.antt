@@ -40,7 +40,7 @@ pub memory_stops : (text : List ℕ) (left : Option (List ℕ)) (format plain : 
     failed_after
 memory_stops text left format plain tree path after f g status taken taken_after failed failed_after p e h =
     let k : StopsLoad plain tree path (Some text) after f g status taken failed taken_after failed_after = rw (p, e) at h in
-    stopped_path (bundle_content text) (bundle_content text) plain false tree status taken failed taken_after failed_after path refl
+    stopped_path (bundle_content text) plain false tree status taken failed taken_after failed_after path
     (stopped_at (Some (Some text)) plain tree path (Some text) after refl false f g status taken taken_after failed failed_after k)
 
 -- a bundle's configuration that was read and accepted is loaded as the one configuration file of the run
@@ -52,7 +52,7 @@ pub memory_loaded : (text : List ℕ) (left : Option (List ℕ)) (format plain :
     → AreLoaded (bundle_content text) plain false tree (path ∷ []) before users taken failed taken_after failed_after
 memory_loaded text left format plain tree path after before users fragment taken taken_after failed failed_after p e h t u =
     let k : IsReadAs plain tree (Some text) after fragment = rw (p, e) at h in
-    loaded_one (bundle_content text) (bundle_content text) plain false tree path before users fragment taken taken_after failed failed_after refl
+    loaded_one (bundle_content text) plain false tree path before users fragment taken taken_after failed failed_after
     (loaded_from (Some (Some text)) plain tree path (Some text) after refl taken taken_after failed failed_after fragment k t) (λ s. cc) u
 
 -- the full file of the configuration of a bundle is that of the one solution of its assignment

@@ -1,23 +1,21 @@
 -- The outputs of commands.
-use Rattle.std.proofs.Common.{◌≡◌, ◌≢◌, ℕ, Bool, true, false, zero, suc, ◌≤◌, ◌⊎◌, inl, inr, append-nil, List, [], ◌∷◌, ◌++◌, Option, Some, Result, Ok, Err, Vec, IfOk, IfErr, refl, sym, ap, ◌∙◌, subst, arith}
+use Rattle.std.proofs.Common.{◌≡◌, ◌≢◌, ℕ, Bool, true, false, zero, suc, ◌≤◌, ◌⊎◌, inl, inr, append-nil, List, [], ◌∷◌, ◌++◌, Option, Result, Ok, Err, Vec, IfOk, IfErr, refl, sym, subst, arith}
 use Rattle.std.specs.declared.alloc.AllocError.{AllocError}
 use Rattle.std.specs.declared.alloc.Global.{Global}
 use Rattle.std.specs.List.{flat_map}
-use Rattle.kc_expr.specs.declared.language.Language.{Language}
-use Rattle.kc_tree_model.specs.TreeFiles.{Files, file_at}
+use Rattle.kc_tree_model.specs.TreeFiles.{Files}
 use Rattle.kc_tree_model.specs.Trees.{Tree}
 use Rattle.kc_rules_model.specs.Reports.{unmet}
 use Rattle.kc_rules_model.specs.declared.profile.Profile.{Profile}
 use Rattle.kc_rules.specs.declared.rules.Settled.{Settled}
 use Rattle.kc_rules.specs.between.SettledViews.{tree_of_settled, profile_of}
 use Rattle.kc_dotconfig_model.specs.Formats.{FileFormat}
-use Rattle.kc_dotconfig_model.specs.ConfigLines.{LineMeaning}
 use Rattle.kc_dotconfig_model.specs.ConfigFiles.{empty_assignment}
 use Rattle.kc_dotconfig_model.specs.MissedAssignments.{missed}
 use Rattle.kc_rules_model.specs.declared.values.UnitValue.{UnitValue}
 use Rattle.kc_dotconfig.specs.ConfigStates.{Configured, IsSolved, tree_in}
 use Rattle.kc_minimal_model.specs.Differences.{differences}
-use Rattle.kc_expansion.specs.TreeContents.{FileContent}
+use Rattle.kc_files.specs.TreeContents.{FileContent}
 use Rattle.kmin_words.specs.Jobs.{Settings, Task, over, compare, paths_of}
 use Rattle.kmin_words.specs.declared.job.Verb.{Verb}
 use Rattle.kmin_words.specs.declared.job.Verb.TheVariants.{Min, Full, Missed, Check}
@@ -25,7 +23,7 @@ use Rattle.kc_minimal_model.specs.CanonicalText.{IsCanonicalText}
 use Rattle.kc_rules_model.specs.declared.values.UserValue.{UserValue}
 use Rattle.kmin_jobs.specs.declared.run_error.RunError.{RunError}
 use Rattle.kmin_jobs.specs.declared.verb_texts.AnswerText.{AnswerText}
-use Rattle.kmin_jobs.specs.FileContents.{Surroundings, AreTextsBelow}
+use Rattle.kmin_jobs.specs.FileContents.{Surroundings}
 use Rattle.kmin_jobs.specs.JobTexts.{TreeTexts, AreTextsOfJob}
 use Rattle.kmin_jobs.specs.Reports.{notice_lines, last_lines}
 use Rattle.kmin_tidy.specs.Reports.{output_line}
@@ -37,7 +35,6 @@ use Rattle.kmin_jobs.specs.Stops as stops
 use Rattle.kmin_jobs.specs.between.LoadResults.{AreLoaded}
 use Rattle.kmin_jobs.specs.between.RunErrors.{status_of}
 use Rattle.kmin_tidy.proofs.WriterLemmas.{lines_append}
-use Rattle.kmin_jobs.proofs.Sequences.{mean_again}
 
 -- a configuration that was loaded from files has the one solution of the assignment of these files
 pub resolved : (content_of : List ℕ → FileContent) (settings : Settings) (config : Configured) (settled : Settled) (paths : List (List ℕ))
@@ -99,21 +96,13 @@ status_of_verb_at_most_one tree users values Full = omega arith
 status_of_verb_at_most_one tree users values (Missed exit_code) = status_at_most_one exit_code (missed tree users values)
 status_of_verb_at_most_one tree users values (Check exit_code) = status_at_most_one exit_code (unmet tree values)
 
-resolve_again : (content_of others : List ℕ → FileContent) (settings : Settings) (tree : Tree) (paths : List (List ℕ)) (meanings : List (List LineMeaning))
-    (values : List UnitValue)
-    → ((path : List ℕ) → others path ≡ content_of path) → Resolve others settings tree paths meanings values
-    → Resolve content_of settings tree paths meanings values
-resolve_again content_of others settings tree paths meanings values same r =
-    record { mean = mean_again content_of others settings.format settings.strict tree paths meanings same r.mean; gives = r.gives }
-
-pub answers_comparison : (content_of others : List ℕ → FileContent) (settings : Settings) (left right : Configured) (settled : Settled) (a b : List ℕ)
+pub answers_comparison : (content_of : List ℕ → FileContent) (settings : Settings) (left right : Configured) (settled : Settled) (a b : List ℕ)
     (text : List ℕ) (status : ℕ) (taken middle taken_after : Option (List ℕ)) (failed failed_middle failed_after : ℕ)
-    → ((path : List ℕ) → others path ≡ content_of path)
     → left.system ≡ settled → right.system ≡ settled → profile_of settled ≡ settings.profile → IsSolved left → IsSolved right
     → AreLoaded content_of settings.format settings.strict (tree_of_settled settled) (a ∷ []) (empty_assignment (tree_of_settled settled)) left.users taken
     failed middle
     failed_middle
-    → AreLoaded others settings.format settings.strict (tree_of_settled settled) (b ∷ []) (empty_assignment (tree_of_settled settled)) right.users middle
+    → AreLoaded content_of settings.format settings.strict (tree_of_settled settled) (b ∷ []) (empty_assignment (tree_of_settled settled)) right.users middle
     failed_middle
     taken_after failed_after
     → text ≡ flat_map (difference_line settings.format.strings (tree_in left)) (differences (tree_in left) left.values right.values)
@@ -121,55 +110,23 @@ pub answers_comparison : (content_of others : List ℕ → FileContent) (setting
     → (notices : List (List ℕ)) × ((texts : Files) → AreAccepted texts settings.tree (tree_of_settled settled)
     → Answer content_of settings texts (compare a b) text status notices)
     × TakesLines taken failed notices taken_after failed_after
-answers_comparison content_of others settings left right settled a b text status taken middle taken_after failed failed_middle failed_after same l r p sl sr hl
-    hr t s = (
+answers_comparison content_of settings left right settled a b text status taken middle taken_after failed failed_middle failed_after l r p sl sr hl hr
+    t s = (
       notice_lines (a ∷ []) hl.meanings ++ notice_lines (b ∷ []) hr.meanings,
       (λ texts accepted. of_comparison (tree_of_settled settled) a b hl.meanings hr.meanings left.values right.values refl accepted
           (resolved content_of settings left settled (a ∷ []) taken middle failed failed_middle l p sl hl)
-          (resolve_again content_of others settings (tree_of_settled settled) (b ∷ []) hr.meanings right.values same
-          (resolved others settings right settled (b ∷ []) middle taken_after failed_middle failed_after r p sr hr))
+          (resolved content_of settings right settled (b ∷ []) middle taken_after failed_middle failed_after r p sr hr)
           (rw (← l) t) (rw (← l) s) refl),
       lines_append taken middle failed failed_middle _ _ taken_after failed_after hl.reported hr.reported,
     )
 
--- texts without files match what is known of the files below any root
-pub below_none : (content_of : List ℕ → FileContent) (root : List ℕ) (language : Language) (texts : Files) → texts.language ≡ language → texts.list ≡ []
-    → AreTextsBelow content_of root language texts
-below_none content_of root language texts e f = record {
-  in_language = e;
-  content = λ path bytes h. (let z : file_at (record { language = texts.language; list = [] }) path ≡ Some bytes =
-      ap (λ (fs : List (List ℕ × List ℕ)). file_at (record { language = texts.language; list = fs }) path) (sym f) ∙ h in cc);
-}
-
--- known files stay known
-among_again : (content_of others : List ℕ → FileContent) (format : FileFormat) (strict : Bool) (tree : Tree) (paths : List (List ℕ)) (status : ℕ)
-    (lines : List (List ℕ))
-    → ((path : List ℕ) → others path ≡ content_of path) → StopsAmongFiles others format strict tree paths status lines
-    → StopsAmongFiles content_of format strict tree paths status lines
-among_again content_of others format strict tree paths status lines same (stops.at_file front back path own meanings p m s e) =
-    stops.at_file front back path own meanings p (mean_again content_of others format strict tree front meanings same m)
-    (subst (λ content. stops.StopsAtFile content format strict tree path status own) (same path) s) e
-among_again content_of others format strict tree paths status lines same (stops.for_memory front back meanings p m s e) =
-    stops.for_memory front back meanings p (mean_again content_of others format strict tree front meanings same m) s e
-
-answer_again : (content_of others : List ℕ → FileContent) (settings : Settings) (texts : Files) (task : Task) (text : List ℕ) (status : ℕ)
-    (notices : List (List ℕ))
-    → ((path : List ℕ) → others path ≡ content_of path) → Answer others settings texts task text status notices
-    → Answer content_of settings texts task text status notices
-answer_again content_of others settings texts task text status notices same (of_files tree verb paths meanings values k a r t s n) =
-    of_files tree verb paths meanings values k a (resolve_again content_of others settings tree paths meanings values same r) t s n
-answer_again content_of others settings texts task text status notices same (of_comparison tree left right lm rm v w k a r q t s n) =
-    of_comparison tree left right lm rm v w k a (resolve_again content_of others settings tree (left ∷ []) lm v same r)
-    (resolve_again content_of others settings tree (right ∷ []) rm w same q) t s n
-
 -- the output of a command, or its end, over the texts of its tree
-module _ (known : Surroundings) (others : List ℕ → FileContent) (settings : Settings) (task : Task) (tree : Tree) (t : TreeTexts)
-    (same : (path : List ℕ) → others path ≡ known.content path)
+module _ (known : Surroundings) (settings : Settings) (task : Task) (tree : Tree) (t : TreeTexts)
     (are : AreTextsOfJob known settings t) (accepted : AreAccepted t.texts settings.tree tree)
     (taken middle taken_after : Option (List ℕ)) (failed failed_middle failed_after : ℕ) (before : TakesLines taken failed t.lines middle failed_middle) where
   pub job_answers : (r : Result AnswerText RunError)
       → IfOk r (λ answer. (notices : List (List ℕ)) × ((texts : Files) → AreAccepted texts settings.tree tree
-      → Answer others settings texts task answer.text.items answer.status notices) × TakesLines middle failed_middle notices taken_after failed_after)
+      → Answer known.content settings texts task answer.text.items answer.status notices) × TakesLines middle failed_middle notices taken_after failed_after)
       → IfOk r (λ answer. (t : TreeTexts) × (notices : List (List ℕ)) × AreTextsOfJob known settings t × Answer known.content settings t.texts task
       answer.text.items answer.status notices × TakesLines taken failed (t.lines ++ notices) taken_after failed_after)
   job_answers (Err stop) h = tt
@@ -177,12 +134,12 @@ module _ (known : Surroundings) (others : List ℕ → FileContent) (settings : 
     t,
     h.0,
     are,
-    answer_again known.content others settings t.texts task answer.text.items answer.status h.0 same (h.1 t.texts accepted),
+    h.1 t.texts accepted,
     lines_append taken middle failed failed_middle t.lines h.0 taken_after failed_after before h.2,
   )
 
   pub job_stops : (r : Result AnswerText RunError)
-      → IfErr r (λ stop. (lines : List (List ℕ)) × StopsAmongFiles others settings.format settings.strict tree (paths_of task) (status_of stop) lines
+      → IfErr r (λ stop. (lines : List (List ℕ)) × StopsAmongFiles known.content settings.format settings.strict tree (paths_of task) (status_of stop) lines
       × TakesLines middle
       failed_middle lines taken_after failed_after)
       → IfErr r (λ stop. (lines : List (List ℕ)) × StopsBefore known settings task (status_of stop) lines × TakesLines taken failed lines taken_after
@@ -190,8 +147,7 @@ module _ (known : Surroundings) (others : List ℕ → FileContent) (settings : 
   job_stops (Ok answer) h = tt
   job_stops (Err stop) h = (
     t.lines ++ h.0,
-    among_files t tree h.0 are accepted (among_again known.content others settings.format settings.strict tree (paths_of task)
-        (status_of stop) h.0 same h.1) refl,
+    among_files t tree h.0 are accepted h.1 refl,
     lines_append taken middle failed failed_middle t.lines h.0 taken_after failed_after before h.2,
   )
 

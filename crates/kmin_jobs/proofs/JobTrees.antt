@@ -1,6 +1,6 @@
 -- The tree of a job, as it is or expanded: what its texts are, and where a run ends at it.
 use Rattle.std.proofs.Common.{◌≡◌, ℕ, List, [], ◌++◌, Option, Some, None, Result, Ok, Err, IfOk, IfErr, map, refl, sym, ap, ◌∙◌, subst, append-nil}
-use Rattle.kc_expr.specs.declared.language.Language.{Language}
+use Rattle.kc_tokens.specs.declared.language.Language.{Language}
 use Rattle.kc_tree_model.specs.TreeFiles.{Files}
 use Rattle.kc_macros_model.specs.Programs.{Notice}
 use Rattle.kc_macros_model.specs.AnswerFiles.{RecordedAnswers}
@@ -120,11 +120,11 @@ module _ (known : Surroundings) (root first : List ℕ) (language : Language) (e
       )
 
 -- the expansion of a tree, after the answers are read
-module _ (known others : Surroundings) (root first : List ℕ) (language : Language) (expansion : Expansion) (answers : RecordedAnswers) (same : others ≡ known)
+module _ (known : Surroundings) (root first : List ℕ) (language : Language) (expansion : Expansion) (answers : RecordedAnswers)
     (answered : AreJobAnswers known.content known.variable expansion answers)
     (taken middle taken_after : Option (List ℕ)) (failed failed_middle failed_after : ℕ) (before : TakesLines taken failed [] middle failed_middle) where
   are_expanded : (files : List ExpandedFile) (texts : Files) → texts ≡ expanded_texts language files
-      → (notices : List Notice) × IsExpansion (contents_below others root) answers first notices (Ok files)
+      → (notices : List Notice) × IsExpansion (contents_below known root) answers first notices (Ok files)
       × TakesLines middle failed_middle (map macro_notice_line notices) taken_after failed_after
       → (t : TreeTexts) × AreExpandedTexts known root first language expansion t × (t.texts ≡ texts) × (t.names ≡ named_texts files texts)
       × TakesLines taken failed t.lines taken_after failed_after
@@ -135,7 +135,7 @@ module _ (known others : Surroundings) (root first : List ℕ) (language : Langu
       answered = answered;
       notices = h.0;
       files = files;
-      expanded = subst (λ (k : Surroundings). IsExpansion (contents_below k root) answers first h.0 (Ok files)) same h.1;
+      expanded = h.1;
       texts = e;
       names = refl;
       lines = refl;
@@ -146,22 +146,21 @@ module _ (known others : Surroundings) (root first : List ℕ) (language : Langu
   )
 
   pub both_expanded : (r : Result ExpandedTexts RunError) → IfOk r (λ tree. tree.texts ≡ expanded_texts language tree.tree)
-      → IfOk r (λ tree. (notices : List Notice) × IsExpansion (contents_below others root) answers first notices (Ok tree.tree)
+      → IfOk r (λ tree. (notices : List Notice) × IsExpansion (contents_below known root) answers first notices (Ok tree.tree)
       × TakesLines middle failed_middle (map macro_notice_line notices) taken_after failed_after)
       → IfOk r (λ tree. (t : TreeTexts) × AreExpandedTexts known root first language expansion t × (t.texts ≡ tree.texts)
       × (t.names ≡ named_texts tree.tree tree.texts) × TakesLines taken failed t.lines taken_after failed_after)
   both_expanded (Err stop) e h = tt
   both_expanded (Ok tree) e h = are_expanded tree.tree tree.texts e h
 
-  expanding_stops : (status : ℕ) (lines : List (List ℕ)) → StopsExpanding (contents_below others root) answers first status lines
+  expanding_stops : (status : ℕ) (lines : List (List ℕ)) → StopsExpanding (contents_below known root) answers first status lines
       → StopsInExpansion known root first expansion status lines
   expanding_stops status lines (expanding.at_fault notices fault h s l) =
-      stops.at_fault answers notices fault answered
-      (subst (λ (k : Surroundings). IsExpansion (contents_below k root) answers first notices (Err fault)) same h) s l
+      stops.at_fault answers notices fault answered h s l
   expanding_stops status lines (expanding.for_memory s l) = stops.for_memory s l
 
   pub stopped_expanding : (status : ℕ)
-      → (lines : List (List ℕ)) × StopsExpanding (contents_below others root) answers first status lines
+      → (lines : List (List ℕ)) × StopsExpanding (contents_below known root) answers first status lines
       × TakesLines middle failed_middle lines taken_after failed_after
       → (lines : List (List ℕ)) × StopsInExpansion known root first expansion status lines × TakesLines taken failed lines taken_after failed_after
   stopped_expanding status h =

@@ -1,6 +1,6 @@
 -- The tree of accepted texts is that of the known bytes.
 use Rattle.std.proofs.Common.{◌≡◌, ◌≢◌, ℕ, List, Option, Some, None, refl, sym, ap, ◌∙◌}
-use Rattle.kc_expr.specs.declared.language.Language.{Language}
+use Rattle.kc_tokens.specs.declared.language.Language.{Language}
 use Rattle.kc_tree_model.specs.TreeFiles.{Files, file_at, index_of_file}
 use Rattle.kc_tree_model.specs.declared.fault.TreeFault.{TreeFault}
 use Rattle.kc_tree_model.specs.TreeReading.{Outcome, reading}
@@ -8,7 +8,7 @@ use Rattle.kc_tree_model.specs.MoreFiles.{reading_from, LacksNoFile, AreAmong}
 use Rattle.kc_tree_model.specs.Contents.{tree_of_groups, tree_of_files}
 use Rattle.kc_tree_model.specs.TreeFaults.{first_fault_after, first_tree_fault}
 use Rattle.kc_tree_model.proofs.MoreFiles.{more_files}
-use Rattle.kc_expansion.specs.TreeContents.{FileContent}
+use Rattle.kc_files.specs.TreeContents.{FileContent}
 use Rattle.kmin_jobs.specs.FileContents.{MatchContentStart, path_below}
 use Rattle.kmin_jobs.specs.KnownTrees.{known_bytes, KnownFilesDetermineTheTree}
 

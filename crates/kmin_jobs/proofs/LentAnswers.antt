@@ -10,7 +10,7 @@ use Rattle.kc_tree_model.specs.Keywords.{keyword_in_table}
 use Rattle.kc_tree_model.specs.Limits.{is_in_list}
 use Rattle.kc_macros_model.specs.Programs.{Answer}
 use Rattle.kc_macros_model.specs.AnswerFiles.{RecordedAnswers}
-use Rattle.kc_expansion.specs.TreeContents.{FileContent}
+use Rattle.kc_files.specs.TreeContents.{FileContent}
 use Rattle.kmin_words.specs.declared.job.Definition.{Definition as DeclaredDefinition}
 use Rattle.kmin_words.specs.Jobs.{Definition, Expansion, definition_view}
 use Rattle.kmin_jobs.specs.FileContents.{VariableContent, MatchVariable}

@@ -1,9 +1,7 @@
-pub mod BundleCuts
+pub mod CycleLines
+pub mod LastLines
 pub mod TreeResults
 pub mod TextGrowth
-pub mod KnownTrees
-pub mod NamedLines
-pub mod CycleLines
 pub mod Sequences
 pub mod AnswerFileLists
 pub mod LentAnswers
@@ -11,9 +9,11 @@ pub mod TreeFolders
 pub mod ExpandedTexts
 pub mod FileNameLemmas
 pub mod JobTrees
+pub mod BundleCuts
+pub mod KnownTrees
+pub mod NamedLines
 pub mod QuestionEnds
 pub mod JobOutputs
 pub mod BundleOutputs
 pub mod TidyLemmas
 pub mod SaveLemmas
-pub mod LastLines

@@ -1,33 +1,17 @@
 -- The listing of questions: its end at a write, and its last lines.
-use Rattle.std.proofs.Common.{◌≡◌, ℕ, List, [], ◌∷◌, ◌++◌, Option, Result, Ok, Vec, refl, sym, ap, subst}
+use Rattle.std.proofs.Common.{◌≡◌, ℕ, List, [], ◌∷◌, ◌++◌, Option, Ok, Vec, refl, sym, ap, subst}
 use Rattle.std.specs.List.{flat_map}
 use Rattle.std.specs.declared.alloc.Global.{Global}
-use Rattle.kc_expansion.specs.TextViews.{items_of}
-use Rattle.kc_macros_model.specs.Programs.{Fault}
-use Rattle.kc_macros_model.specs.AnswerFiles.{RecordedAnswers}
-use Rattle.kc_expansion.specs.Expansions.{AreWanted}
+use Rattle.kc_files.specs.TextViews.{items_of}
 use Rattle.kmin_words.specs.Jobs.{Questions}
 use Rattle.kmin_jobs.specs.declared.run_error.RunError.{RunError}
 use Rattle.kmin_jobs.specs.FileContents.{Surroundings}
-use Rattle.kmin_jobs.specs.JobAnswers.{AreJobAnswers}
-use Rattle.kmin_jobs.specs.TreeFolders.{contents_below}
 use Rattle.kmin_jobs.specs.Reports.{last_lines}
 use Rattle.kmin_tidy.specs.Reports.{output_line}
 use Rattle.kmin_tidy.specs.StandardError.{TakesLines}
 use Rattle.kmin_jobs.specs.WantedQuestions.{AreAsked, StopsWanting, at_write, question_line, questions_text}
 use Rattle.kmin_jobs.specs.between.RunErrors.{status_of}
 use Rattle.kmin_tidy.proofs.WriterLemmas.{lines_append}
-
--- the result of an expansion with the answers of a job is that of the command `wants`
-pub are_asked : (known others : Surroundings) (questions : Questions) (answers : RecordedAnswers) (asked : Result (List (List ℕ)) Fault) → others ≡ known
-    → AreJobAnswers known.content known.variable questions.expansion answers → AreWanted (contents_below others questions.root) answers questions.tree asked
-    → AreAsked known questions asked
-are_asked known others questions answers asked same a w =
-    record {
-      answers = answers;
-      answered = a;
-      wanted = subst (λ (k : Surroundings). AreWanted (contents_below k questions.root) answers questions.tree asked) same w;
-    }
 
 -- a run of `wants` that failed to write its output, and reported that, ends as `StopsWanting` defines, with all these lines
 pub write_stops : (known : Surroundings) (questions : Questions) (asked : List (List ℕ)) (status : ℕ) (taken middle taken_after : Option (List ℕ))

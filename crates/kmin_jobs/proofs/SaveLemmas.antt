@@ -1,7 +1,7 @@
 -- Ends of commands with an output file.
 use Rattle.std.proofs.Common.{◌≡◌, ℕ, List, ◌++◌, Option, refl, sym, ◌∙◌, subst}
 use Rattle.kmin_disk.specs.declared.fault.UpdateFault.{UpdateFault}
-use Rattle.kmin_tidy.specs.Steps.{Disk}
+use Rattle.kmin_disk.specs.Disks.{Disk}
 use Rattle.kmin_words.specs.Jobs.{Settings, Task}
 use Rattle.kmin_jobs.specs.FileContents.{Surroundings}
 use Rattle.kmin_jobs.specs.JobTexts.{TreeTexts, AreTextsOfJob}

@@ -1,5 +1,5 @@
 -- Configuration files, one after another: what they mean, and where a run ends among them.
-use Rattle.std.proofs.Common.{◌≡◌, ◌≢◌, ℕ, Bool, true, List, [], ◌∷◌, ◌++◌, Option, Some, None, Result, Ok, Err, IfOk, IfErr, map, length, refl, sym, ap, ◌∙◌, subst, append-nil, append_assoc, ◌⊎◌, inl, inr, suc, ◌+◌, ◌<◌, get_or, take, drop}
+use Rattle.std.proofs.Common.{◌≡◌, ◌≢◌, ℕ, Bool, true, List, [], ◌∷◌, ◌++◌, Option, Some, Result, Ok, Err, IfOk, IfErr, map, length, refl, sym, ap, ◌∙◌, subst, append-nil, append_assoc, ◌⊎◌, inl, inr, suc, ◌+◌, ◌<◌, get_or, take, drop}
 use Rattle.std.specs.Borrow.{Bor}
 use Rattle.std.specs.Io.KnownBytes.{Consumes, IsAtEnd}
 use Rattle.std.proofs.lemmas.List.{nil_from_length}
@@ -16,10 +16,9 @@ use Rattle.kc_dotconfig.specs.declared.fragment.Fragment.{Fragment}
 use Rattle.kc_dotconfig.specs.ConfigStates.{Configured}
 use Rattle.kc_dotconfig.specs.Fragments.{users_of, notice_pair}
 use Rattle.kc_dotconfig.specs.ReadResults.{IsReadAs, IsRefused, ReportsFault}
-use Rattle.kc_expansion.specs.TreeContents.{FileContent}
+use Rattle.kc_files.specs.TreeContents.{FileContent}
 use Rattle.kmin_jobs.specs.declared.run_error.RunError.{RunError}
 use Rattle.kmin_jobs.specs.declared.run_error.RunError.TheVariants.{Memory}
-use Rattle.kmin_tidy.specs.KnownBytes.{AreKnownBytes}
 use Rattle.kmin_disk.specs.Contents.{OpensAs}
 use Rattle.kmin_jobs.specs.Reports.{file_notices, notice_lines}
 use Rattle.kmin_tidy.specs.Reports.{notice_line, fault_line}
@@ -27,7 +26,7 @@ use Rattle.kmin_tidy.specs.StandardError.{TakesLines}
 use Rattle.kmin_tidy.specs.StandardError as taking
 use Rattle.kmin_jobs.specs.Answers.{FilesMean, none, file, overlaid_by}
 use Rattle.kmin_jobs.specs.Stops as stops
-use Rattle.kmin_jobs.specs.Stops.{StopsAtFile, StopsAmongFiles, refused, unread, noticed}
+use Rattle.kmin_jobs.specs.Stops.{StopsAmongFiles, refused, unread, noticed}
 use Rattle.kmin_jobs.specs.Strictness.{AllowsNotices}
 use Rattle.kmin_jobs.specs.between.LoadResults.{IsLoaded, AreLoaded}
 use Rattle.kmin_jobs.specs.between.LoadStops.{StopsLoad, StopsAtPath, at_file, for_memory, fragment_notices, load_lines, load_status}
@@ -117,16 +116,6 @@ stopped_noticed content format strict tree path fragment status taken taken_afte
   l.reported,
 )
 
--- configuration files have the same meanings by all functions that give the same known contents
-pub mean_again : (content_of others : List ℕ → FileContent) (format : FileFormat) (strict : Bool) (tree : Tree) (paths : List (List ℕ))
-    (meanings : List (List LineMeaning))
-    → ((path : List ℕ) → others path ≡ content_of path) → FilesMean others format strict tree paths meanings
-    → FilesMean content_of format strict tree paths meanings
-mean_again content_of others format strict tree paths meanings same none = none
-mean_again content_of others format strict tree paths meanings same (file path bytes more own rest matches accepted means allowed h) =
-    file path bytes more own rest (subst (λ content. AreKnownBytes content bytes) (same path) matches) accepted means allowed
-    (mean_again content_of others format strict tree more rest same h)
-
 -- files after files
 mean_append : (content_of : List ℕ → FileContent) (format : FileFormat) (strict : Bool) (tree : Tree) (ys : List (List ℕ)) (ns : List (List LineMeaning))
     (xs : List (List ℕ)) (ms : List (List LineMeaning))
@@ -149,15 +138,15 @@ notices_append content_of format strict tree ys ns xs ms (file path bytes more o
     ap (λ lines. file_notices path own ++ lines) (notices_append content_of format strict tree ys ns more rest h)
     ∙ sym (append_assoc (file_notices path own) (notice_lines more rest) (notice_lines ys ns))
 
-pub loaded_one : (content_of others : List ℕ → FileContent) (format : FileFormat) (strict : Bool) (tree : Tree) (path : List ℕ)
+pub loaded_one : (content_of : List ℕ → FileContent) (format : FileFormat) (strict : Bool) (tree : Tree) (path : List ℕ)
     (before after : List (Option UserValue)) (fragment : Fragment) (taken taken_after : Option (List ℕ)) (failed failed_after : ℕ)
-    → others path ≡ content_of path → IsLoaded (others path) format tree path fragment taken failed taken_after failed_after
+    → IsLoaded (content_of path) format tree path fragment taken failed taken_after failed_after
     → AllowsNotices strict (map notice_pair fragment.notices.items)
     → after ≡ overlay (users_of tree fragment.assigns.items) before
     → AreLoaded content_of format strict tree (path ∷ []) before after taken failed taken_after failed_after
-loaded_one content_of others format strict tree path before after fragment taken taken_after failed failed_after same l a e = record {
+loaded_one content_of format strict tree path before after fragment taken taken_after failed failed_after l a e = record {
   meanings = l.meanings ∷ [];
-  mean = file path l.bytes [] l.meanings [] (subst (λ content. AreKnownBytes content l.bytes) same l.matches) l.accepted l.means (λ s. sym l.noted ∙ a s) none;
+  mean = file path l.bytes [] l.meanings [] l.matches l.accepted l.means (λ s. sym l.noted ∙ a s) none;
   users_are = e ∙ ap (λ users. overlay users before) l.users;
   reported = subst (λ lines. TakesLines taken failed lines taken_after failed_after) (sym (append-nil (file_notices path l.meanings))) l.reported;
 }
@@ -170,15 +159,14 @@ pub loaded_none : (content_of : List ℕ → FileContent) (format : FileFormat) 
 loaded_none content_of format strict tree paths before users taken failed n e =
     rw (nil_from_length paths n) (record { meanings = []; mean = none; users_are = e; reported = taking.none })
 
-pub loaded_append : (content_of others : List ℕ → FileContent) (format : FileFormat) (strict : Bool) (tree : Tree) (xs ys : List (List ℕ))
+pub loaded_append : (content_of : List ℕ → FileContent) (format : FileFormat) (strict : Bool) (tree : Tree) (xs ys : List (List ℕ))
     (before between after : List (Option UserValue)) (taken middle taken_after : Option (List ℕ)) (failed failed_middle failed_after : ℕ)
-    → ((path : List ℕ) → others path ≡ content_of path) → AreLoaded content_of format strict tree xs before between taken failed middle failed_middle
-    → AreLoaded others format strict tree ys between after middle failed_middle taken_after failed_after
+    → AreLoaded content_of format strict tree xs before between taken failed middle failed_middle
+    → AreLoaded content_of format strict tree ys between after middle failed_middle taken_after failed_after
     → AreLoaded content_of format strict tree (xs ++ ys) before after taken failed taken_after failed_after
-loaded_append content_of others format strict tree xs ys before between after taken middle taken_after failed failed_middle failed_after same h k = record {
+loaded_append content_of format strict tree xs ys before between after taken middle taken_after failed failed_middle failed_after h k = record {
   meanings = h.meanings ++ k.meanings;
-  mean = mean_append content_of format strict tree ys k.meanings xs h.meanings
-      (mean_again content_of others format strict tree ys k.meanings same k.mean) h.mean;
+  mean = mean_append content_of format strict tree ys k.meanings xs h.meanings k.mean h.mean;
   users_are = k.users_are ∙ ap (λ users. overlaid_by tree users k.meanings) h.users_are ∙ sym (overlaid_append tree before h.meanings k.meanings);
   reported =
       subst (λ lines. TakesLines taken failed lines taken_after failed_after)
@@ -186,25 +174,22 @@ loaded_append content_of others format strict tree xs ys before between after ta
       (lines_append taken middle failed failed_middle _ _ taken_after failed_after h.reported k.reported);
 }
 
-pub loaded_rest : (content_of others : List ℕ → FileContent) (format : FileFormat) (strict : Bool) (tree : Tree) (xs ys all : List (List ℕ))
+pub loaded_rest : (content_of : List ℕ → FileContent) (format : FileFormat) (strict : Bool) (tree : Tree) (xs ys all : List (List ℕ))
     (before between : List (Option UserValue)) (taken middle taken_after : Option (List ℕ)) (failed failed_middle failed_after : ℕ)
     (r : Result Configured RunError)
-    → ((path : List ℕ) → others path ≡ content_of path) → all ≡ xs ++ ys
-    → AreLoaded content_of format strict tree xs before between taken failed middle failed_middle
-    → IfOk r (λ config. AreLoaded others format strict tree ys between config.users middle failed_middle taken_after failed_after)
+    → all ≡ xs ++ ys → AreLoaded content_of format strict tree xs before between taken failed middle failed_middle
+    → IfOk r (λ config. AreLoaded content_of format strict tree ys between config.users middle failed_middle taken_after failed_after)
     → IfOk r (λ config. AreLoaded content_of format strict tree all before config.users taken failed taken_after failed_after)
-loaded_rest content_of others format strict tree xs ys all before between taken middle taken_after failed failed_middle failed_after (Err e) same s h k = tt
-loaded_rest content_of others format strict tree xs ys all before between taken middle taken_after failed failed_middle failed_after (Ok config) same s h k =
-    rw s (loaded_append content_of others format strict tree xs ys before between config.users taken middle taken_after failed failed_middle failed_after
-    same h k)
+loaded_rest content_of format strict tree xs ys all before between taken middle taken_after failed failed_middle failed_after (Err e) s h k = tt
+loaded_rest content_of format strict tree xs ys all before between taken middle taken_after failed failed_middle failed_after (Ok config) s h k =
+    rw s (loaded_append content_of format strict tree xs ys before between config.users taken middle taken_after failed failed_middle failed_after
+    h k)
 
 -- at the one file of these
-path_stops : (content_of others : List ℕ → FileContent) (format : FileFormat) (strict : Bool) (tree : Tree) (path : List ℕ) (status : ℕ) (lines : List (List ℕ))
-    → others path ≡ content_of path
-    → StopsAtPath (others path) format strict tree path status lines → StopsAmongFiles content_of format strict tree (path ∷ []) status lines
-path_stops content_of others format strict tree path status lines same (at_file s) =
-    stops.at_file [] [] path lines [] refl none (subst (λ content. StopsAtFile content format strict tree path status lines) same s) refl
-path_stops content_of others format strict tree path status lines same (for_memory s e) = stops.for_memory [] (path ∷ []) [] refl none s e
+path_stops : (content_of : List ℕ → FileContent) (format : FileFormat) (strict : Bool) (tree : Tree) (path : List ℕ) (status : ℕ) (lines : List (List ℕ))
+    → StopsAtPath (content_of path) format strict tree path status lines → StopsAmongFiles content_of format strict tree (path ∷ []) status lines
+path_stops content_of format strict tree path status lines (at_file s) = stops.at_file [] [] path lines [] refl none s refl
+path_stops content_of format strict tree path status lines (for_memory s e) = stops.for_memory [] (path ∷ []) [] refl none s e
 
 -- with more files after these
 more_stops : (content_of : List ℕ → FileContent) (format : FileFormat) (strict : Bool) (tree : Tree) (xs more : List (List ℕ)) (status : ℕ)
@@ -216,28 +201,27 @@ more_stops content_of format strict tree xs more status lines (stops.for_memory 
     stops.for_memory front (back ++ more) meanings (ap (λ ps. ps ++ more) p ∙ append_assoc front back more) m s e
 
 -- after files that were accepted
-later_stops : (content_of others : List ℕ → FileContent) (format : FileFormat) (strict : Bool) (tree : Tree) (xs ys : List (List ℕ))
+later_stops : (content_of : List ℕ → FileContent) (format : FileFormat) (strict : Bool) (tree : Tree) (xs ys : List (List ℕ))
     (ms : List (List LineMeaning)) (status : ℕ) (lines : List (List ℕ))
-    → ((path : List ℕ) → others path ≡ content_of path) → FilesMean content_of format strict tree xs ms
-    → StopsAmongFiles others format strict tree ys status lines → StopsAmongFiles content_of format strict tree (xs ++ ys) status (notice_lines xs ms ++ lines)
-later_stops content_of others format strict tree xs ys ms status lines same h (stops.at_file front back path own meanings p m s e) =
+    → FilesMean content_of format strict tree xs ms
+    → StopsAmongFiles content_of format strict tree ys status lines → StopsAmongFiles content_of format strict tree (xs ++ ys) status (notice_lines xs ms ++ lines)
+later_stops content_of format strict tree xs ys ms status lines h (stops.at_file front back path own meanings p m s e) =
     stops.at_file (xs ++ front) back path own (ms ++ meanings) (ap (λ ps. xs ++ ps) p ∙ sym (append_assoc xs front (path ∷ back)))
-    (mean_append content_of format strict tree front meanings xs ms (mean_again content_of others format strict tree front meanings same m) h)
-    (subst (λ content. StopsAtFile content format strict tree path status own) (same path) s)
+    (mean_append content_of format strict tree front meanings xs ms m h) s
     (ap (λ ls. notice_lines xs ms ++ ls) e ∙ sym (append_assoc (notice_lines xs ms) (notice_lines front meanings) own)
     ∙ ap (λ ls. ls ++ own) (sym (notices_append content_of format strict tree front meanings xs ms h)))
-later_stops content_of others format strict tree xs ys ms status lines same h (stops.for_memory front back meanings p m s e) =
+later_stops content_of format strict tree xs ys ms status lines h (stops.for_memory front back meanings p m s e) =
     stops.for_memory (xs ++ front) back (ms ++ meanings) (ap (λ ps. xs ++ ps) p ∙ sym (append_assoc xs front back))
-    (mean_append content_of format strict tree front meanings xs ms (mean_again content_of others format strict tree front meanings same m) h) s
+    (mean_append content_of format strict tree front meanings xs ms m h) s
     (ap (λ ls. notice_lines xs ms ++ ls) e ∙ sym (notices_append content_of format strict tree front meanings xs ms h))
 
-module _ (content_of others : List ℕ → FileContent) (format : FileFormat) (strict : Bool) (tree : Tree) (status : ℕ) (taken : Option (List ℕ)) (failed : ℕ)
+module _ (content_of : List ℕ → FileContent) (format : FileFormat) (strict : Bool) (tree : Tree) (status : ℕ) (taken : Option (List ℕ)) (failed : ℕ)
     (taken_after : Option (List ℕ)) (failed_after : ℕ) where
-  pub stopped_path : (path : List ℕ) → others path ≡ content_of path
-      → (lines : List (List ℕ)) × StopsAtPath (others path) format strict tree path status lines × TakesLines taken failed lines taken_after failed_after
+  pub stopped_path : (path : List ℕ)
+      → (lines : List (List ℕ)) × StopsAtPath (content_of path) format strict tree path status lines × TakesLines taken failed lines taken_after failed_after
       → (lines : List (List ℕ)) × StopsAmongFiles content_of format strict tree (path ∷ []) status lines
       × TakesLines taken failed lines taken_after failed_after
-  stopped_path path same h = (h.0, path_stops content_of others format strict tree path status h.0 same h.1, h.2)
+  stopped_path path h = (h.0, path_stops content_of format strict tree path status h.0 h.1, h.2)
 
   pub stopped_more : (xs more all : List (List ℕ)) → all ≡ xs ++ more
       → (lines : List (List ℕ)) × StopsAmongFiles content_of format strict tree xs status lines × TakesLines taken failed lines taken_after failed_after
@@ -245,12 +229,12 @@ module _ (content_of others : List ℕ → FileContent) (format : FileFormat) (s
   stopped_more xs more all e h = (h.0, rw e (more_stops content_of format strict tree xs more status h.0 h.1), h.2)
 
   pub stopped_later : (xs ys all : List (List ℕ)) (before users : List (Option UserValue)) (middle : Option (List ℕ)) (failed_middle : ℕ) → all ≡ xs ++ ys
-      → ((path : List ℕ) → others path ≡ content_of path) → AreLoaded content_of format strict tree xs before users taken failed middle failed_middle
-      → (lines : List (List ℕ)) × StopsAmongFiles others format strict tree ys status lines × TakesLines middle failed_middle lines taken_after failed_after
+      → AreLoaded content_of format strict tree xs before users taken failed middle failed_middle
+      → (lines : List (List ℕ)) × StopsAmongFiles content_of format strict tree ys status lines × TakesLines middle failed_middle lines taken_after failed_after
       → (lines : List (List ℕ)) × StopsAmongFiles content_of format strict tree all status lines × TakesLines taken failed lines taken_after failed_after
-  stopped_later xs ys all before users middle failed_middle e same l h = (
+  stopped_later xs ys all before users middle failed_middle e l h = (
     notice_lines xs l.meanings ++ h.0,
-    rw e (later_stops content_of others format strict tree xs ys l.meanings status h.0 same l.mean h.1),
+    rw e (later_stops content_of format strict tree xs ys l.meanings status h.0 l.mean h.1),
     lines_append taken middle failed failed_middle _ _ taken_after failed_after l.reported h.2,
   )
 

@@ -9,9 +9,9 @@ use Rattle.std.specs.declared.alloc.Global.{Global}
 use Rattle.std.specs.declared.alloc.AllocError.{AllocError}
 use Rattle.std.specs.Map.{lookup}
 use Rattle.kc_value.specs.declared.limits.TheConstants.{MAX_FILE_BYTES}
-use Rattle.kc_expr.specs.declared.language.Language.{Language}
+use Rattle.kc_tokens.specs.declared.language.Language.{Language}
 use Rattle.kc_tree_model.specs.TreeFiles.{Files, file_at, with_path, with_file}
-use Rattle.kc_expansion.specs.TreeContents.{FileContent}
+use Rattle.kc_files.specs.TreeContents.{FileContent}
 use Rattle.kmin_jobs.specs.FileContents.{MatchContentStart, AreTextsBelow, path_below}
 use Rattle.kmin_disk.specs.Contents.{OpensAs}
 
@@ -85,13 +85,11 @@ inserted content_of root p b texts h k = record {
       (at_inserted p b q c texts.list e);
 }
 
--- texts that match what is known of the files below a root do so by all functions that give the same known contents
-pub below_again : (content_of others : List ℕ → FileContent) (root : List ℕ) (was language : Language) (texts : Files) → was ≡ language
-    → ((path : List ℕ) → others path ≡ content_of path) → AreTextsBelow content_of root was texts → AreTextsBelow others root language texts
-below_again content_of others root was language texts e same h =
-    record { in_language = h.in_language ∙ e; content = λ path bytes f. rw (same (path_below root path)) (h.content path bytes f) }
-
-pub below_back : (content_of others : List ℕ → FileContent) (root : List ℕ) (was language : Language) (texts : Files) → was ≡ language
-    → ((path : List ℕ) → others path ≡ content_of path) → AreTextsBelow others root was texts → AreTextsBelow content_of root language texts
-below_back content_of others root was language texts e same h =
-    record { in_language = h.in_language ∙ e; content = λ path bytes f. rw (← same (path_below root path)) (h.content path bytes f) }
+-- texts without files match what is known of the files below any root
+pub below_none : (content_of : List ℕ → FileContent) (root : List ℕ) (language : Language) (texts : Files) → texts.language ≡ language → texts.list ≡ []
+    → AreTextsBelow content_of root language texts
+below_none content_of root language texts e f = record {
+  in_language = e;
+  content = λ path bytes h. (let z : file_at (record { language = texts.language; list = [] }) path ≡ Some bytes =
+      ap (λ (fs : List (List ℕ × List ℕ)). file_at (record { language = texts.language; list = fs }) path) (sym f) ∙ h in cc);
+}

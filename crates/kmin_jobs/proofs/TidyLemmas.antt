@@ -1,9 +1,9 @@
 -- Ends of runs over files: their statuses, their lines, and where nothing is written.
 use Rattle.std.proofs.Common.{◌≡◌, ◌≢◌, ℕ, ◌≤◌, ◌⊎◌, inl, inr, List, [], ◌∷◌, ◌++◌, Option, Some, None, refl, sym, ap, ◌∙◌, subst, max, arith, codes, option_map}
 use Rattle.std.specs.Prelude.{bytes_eq, Bool, true, false}
-use Rattle.kc_expansion.specs.TreeContents.{FileContent}
+use Rattle.kc_files.specs.TreeContents.{FileContent}
 use Rattle.kmin_tidy.specs.Options.{Settings, settings_of}
-use Rattle.kmin_tidy.specs.Steps.{Disk}
+use Rattle.kmin_disk.specs.Disks.{Disk}
 use Rattle.kmin_tidy.specs.Runs.{DoneFile, status_of, status_with}
 use Rattle.kmin_tidy.specs.Ends.{Ends, whole, part, stopped, Stops, before_write, at_write, at_left}
 use Rattle.kmin_tidy.specs.declared.outcome.FileOutcome.{FileOutcome}
@@ -156,17 +156,13 @@ module _ (taken middle taken_after : Option (List ℕ)) (failed failed_middle fa
   )
 
   -- a run of `tidy` that read its list without a report ends as the rest of the run does
-  pub read_before : (known others : Surroundings) (left : Option (List ℕ)) (t : TidyJob) (bytes : List ℕ) (old new : Outputs) → others ≡ known
+  pub read_before : (known : Surroundings) (left : Option (List ℕ)) (t : TidyJob) (bytes : List ℕ) (old new : Outputs)
       → AreListBytes known.content left t.list bytes → TakesLines taken failed [] middle failed_middle
-      → (AreListBytes others.content left t.list bytes
-      → (lines : List (List ℕ)) × TidyEnds others left t old new lines status × TakesLines middle failed_middle lines taken_after failed_after)
+      → (AreListBytes known.content left t.list bytes
+      → (lines : List (List ℕ)) × TidyEnds known left t old new lines status × TakesLines middle failed_middle lines taken_after failed_after)
       → (lines : List (List ℕ)) × TidyEnds known left t old new lines status × TakesLines taken failed lines taken_after failed_after
-  read_before known others left t bytes old new e b before h =
-      let ended = h (subst (λ (k : Surroundings). AreListBytes k.content left t.list bytes) (sym e) b) in (
-        ended.0,
-        subst (λ (k : Surroundings). TidyEnds k left t old new ended.0 status) e ended.1,
-        lines_append taken middle failed failed_middle [] ended.0 taken_after failed_after before ended.2,
-      )
+  read_before known left t bytes old new b before h =
+      let ended = h b in (ended.0, ended.1, lines_append taken middle failed failed_middle [] ended.0 taken_after failed_after before ended.2)
 
 -- a run of `tidy` that reported a malformed path in its list, and ended with the status 2, ends as `TidyEnds` defines
 pub malformed_ends : (taken taken_after : Option (List ℕ)) (failed failed_after status : ℕ) (known : Surroundings) (left : Option (List ℕ)) (t : TidyJob)

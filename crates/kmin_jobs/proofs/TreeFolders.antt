@@ -1,33 +1,21 @@
 -- The files and the folders of a tree below a root.
-use mathlib.Core.Path.{fun_ext}
-use Rattle.std.proofs.Common.{◌≡◌, ℕ, Bool, true, false, List, [], Option, Some, None, Result, Ok, Err, IfOk, Vec, refl, ap, ◌∙◌, subst}
+use Rattle.std.proofs.Common.{◌≡◌, ℕ, Bool, true, false, List, [], Option, Some, None, Result, Ok, Err, IfOk, Vec, refl, subst}
 use Rattle.std.specs.Prelude.{option_map}
 use Rattle.std.specs.Str.{IsUtf8, is_utf8}
 use Rattle.std.proofs.lemmas.Str.{IsUtf8-from_is_utf8}
 use Rattle.std.specs.declared.alloc.Global.{Global}
 use Rattle.std.specs.declared.alloc.AllocError.{AllocError}
-use Rattle.kc_expansion.specs.TextViews.{texts_of}
+use Rattle.kc_files.specs.TextViews.{texts_of}
 use Rattle.kc_macros_model.specs.AnswerFiles.{RecordedAnswers}
 use Rattle.kc_macros_model.specs.Programs.{Fault, Notice}
 use Rattle.kc_macros_model.specs.ReadingStates.{ExpandedFile}
 use Rattle.kc_macros_model.specs.Worlds.{World}
 use Rattle.kc_expansion.specs.Expansions.{IsExpansion, AreWanted}
-use Rattle.kc_expansion.specs.TreeContents.{FileContent, FolderContent, ListsAs, IsWorldOf}
-use Rattle.kc_expansion.specs.TreeContents as tree
-use Rattle.kmin_jobs.specs.FileContents.{VariableContent, Surroundings, known_by, path_below}
+use Rattle.kc_files.specs.TreeContents.{FileContent, FolderContent, ListsAs, IsWorldOf}
+use Rattle.kc_files.specs.TreeContents as tree
+use Rattle.kmin_jobs.specs.FileContents.{Surroundings, path_below}
 use Rattle.kmin_disk.specs.Contents.{OpensAs}
 use Rattle.kmin_jobs.specs.TreeFolders.{regular_below, names_below, contents_through, contents_below}
-
--- what is known of the surroundings of a job is the same if it is the same for each path, folder and variable
-pub known_same : (c d r s : List ℕ → FileContent) (m n : List ℕ → FolderContent) (v w : List ℕ → VariableContent)
-    → ((path : List ℕ) → d path ≡ c path) → ((path : List ℕ) → s path ≡ r path) → ((path : List ℕ) → n path ≡ m path) → ((name : List ℕ) → w name ≡ v name)
-    → known_by d s n w ≡ known_by c r m v
-known_same c d r s m n v w ec er em ev =
-    let fc : d ≡ c = fun_ext ec in
-    let fr : s ≡ r = fun_ext er in
-    let fm : n ≡ m = fun_ext em in
-    let fv : w ≡ v = fun_ext ev in
-    ap (λ x. known_by x s n w) fc ∙ ap (λ x. known_by c x n w) fr ∙ ap (λ x. known_by c r x w) fm ∙ ap (λ x. known_by c r m x) fv
 
 not_so : (b : Bool) → (b ≡ true → ⊥) → b ≡ false
 not_so true h = absurd (h refl)

@@ -5,7 +5,7 @@ use Rattle.kc_macros_model.specs.declared.fault.AnswersKind.{AnswersKind}
 use Rattle.kc_macros_model.specs.declared.fault.AnswersKind.TheVariants.{TooLarge, Read, OutOfMemory}
 use Rattle.kc_macros_model.specs.declared.fault.AnswersFault.{AnswersFault}
 use Rattle.kc_macros_model.specs.AnswerFiles.{RecordedAnswers, FileEnd, complete, cut_by, answers_read}
-use Rattle.kc_expansion.specs.TreeContents.{FileContent}
+use Rattle.kc_files.specs.TreeContents.{FileContent}
 use Rattle.kmin_tidy.specs.KnownBytes.{AreKnownBytes}
 use Rattle.kmin_disk.specs.Contents.{OpensAs}
 use Rattle.kmin_jobs.specs.JobAnswers.{FilesRecord}

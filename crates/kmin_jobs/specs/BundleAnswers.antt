@@ -2,14 +2,14 @@
 use Rattle.std.specs.Prelude.{◌≡◌, ℕ, false, ◌<◌, List, [], ◌∷◌, ◌++◌, Option, Some, None, take, length, codes}
 use Rattle.std.specs.Io.KnownBytes.{Appends, Consumes}
 use Rattle.kc_value.specs.declared.limits.TheConstants.{MAX_BUNDLE_BYTES}
-use Rattle.kc_expr.specs.declared.language.Language.TheVariants.{Strict}
+use Rattle.kc_tokens.specs.declared.language.Language.TheVariants.{Strict}
 use Rattle.kc_tree_model.specs.Trees.{Tree}
 use Rattle.kc_tree_model.specs.TreeFiles.{Files, strict_files}
 use Rattle.kc_rules_model.specs.declared.profile.Profile.TheVariants.{Present}
 use Rattle.kc_dotconfig_model.specs.Formats.{plain_format}
 use Rattle.kc_dotconfig_model.specs.declared.fault.LoadKind.{LoadKind}
 use Rattle.kc_dotconfig_model.specs.declared.fault.LoadKind.TheVariants.{Read, TooLarge}
-use Rattle.kc_expansion.specs.TreeContents.{FileContent}
+use Rattle.kc_files.specs.TreeContents.{FileContent}
 use Rattle.kmin_words.specs.Jobs.{Settings, Task, over}
 use Rattle.kmin_words.specs.declared.job.Verb.TheVariants.{Full}
 use Rattle.kmin_tidy.specs.Reports.{fault_line, output_line}

@@ -1,9 +1,9 @@
 -- Files, folders and the environment, as far as they are known.
 use Rattle.std.specs.Prelude.{◌≡◌, ℕ, List, ◌∷◌, ◌++◌, Option, Some, None, take}
 use Rattle.kc_value.specs.declared.limits.TheConstants.{MAX_FILE_BYTES}
-use Rattle.kc_expr.specs.declared.language.Language.{Language}
+use Rattle.kc_tokens.specs.declared.language.Language.{Language}
 use Rattle.kc_tree_model.specs.TreeFiles.{Files, file_at}
-use Rattle.kc_expansion.specs.TreeContents.{FileContent, FolderContent}
+use Rattle.kc_files.specs.TreeContents.{FileContent, FolderContent}
 
 -- these bytes agree with what is known of a file: they are all its bytes, but no more than the first `MAX_FILE_BYTES`
 abbrev pub MatchContentStart : FileContent → List ℕ → Type 0
@@ -36,7 +36,3 @@ pub record Surroundings : Type 0 where
   pub regular : List ℕ → FileContent
   pub names : List ℕ → FolderContent
   pub variable : List ℕ → VariableContent
-
--- all that is known of the surroundings of a job, from what is known of files, regular files, the names in folders, and variables
-abbrev pub known_by : (List ℕ → FileContent) → (List ℕ → FileContent) → (List ℕ → FolderContent) → (List ℕ → VariableContent) → Surroundings
-known_by content regular names variable = record { content = content; regular = regular; names = names; variable = variable }

@@ -7,7 +7,7 @@ use Rattle.kc_tree_model.specs.Limits.{is_in_list}
 use Rattle.kc_value.specs.Lines.{has_newline}
 use Rattle.kc_macros_model.specs.Programs.{Answer}
 use Rattle.kc_macros_model.specs.AnswerFiles.{RecordedAnswers, complete, answers_read}
-use Rattle.kc_expansion.specs.TreeContents.{FileContent}
+use Rattle.kc_files.specs.TreeContents.{FileContent}
 use Rattle.kmin_words.specs.Jobs.{Definition, Expansion}
 use Rattle.kmin_jobs.specs.FileContents.{VariableContent, MatchVariable}
 use Rattle.kmin_tidy.specs.KnownBytes.{AreKnownBytes}

@@ -1,7 +1,7 @@
 -- The texts of a job's tree, with or without the expansion of macros.
 use Rattle.std.specs.Prelude.{◌≡◌, ℕ, List, [], ◌∷◌, Some, None, Ok, map, unwrap_or, if◌then◌else◌}
 use Rattle.std.specs.Str.{is_utf8}
-use Rattle.kc_expr.specs.declared.language.Language.{Language}
+use Rattle.kc_tokens.specs.declared.language.Language.{Language}
 use Rattle.kc_tree_model.specs.TreeFiles.{Files, with_file}
 use Rattle.kc_macros_model.specs.Programs.{Notice}
 use Rattle.kc_macros_model.specs.AnswerFiles.{RecordedAnswers}

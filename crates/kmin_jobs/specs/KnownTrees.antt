@@ -1,12 +1,12 @@
 -- The tree that known files determine.
 use Rattle.std.specs.Prelude.{◌≡◌, ◌≢◌, ℕ, List, Option, Some, None, take}
 use Rattle.kc_value.specs.declared.limits.TheConstants.{MAX_FILE_BYTES}
-use Rattle.kc_expr.specs.declared.language.Language.{Language}
+use Rattle.kc_tokens.specs.declared.language.Language.{Language}
 use Rattle.kc_tree_model.specs.TreeFiles.{Files, index_of_file}
 use Rattle.kc_tree_model.specs.Trees.{Tree}
 use Rattle.kc_tree_model.specs.MoreFiles.{reading_from}
 use Rattle.kc_tree_model.specs.Contents.{tree_of_groups}
-use Rattle.kc_expansion.specs.TreeContents.{FileContent}
+use Rattle.kc_files.specs.TreeContents.{FileContent}
 use Rattle.kmin_jobs.specs.FileContents.{AreTextsBelow, path_below}
 use Rattle.kmin_jobs.specs.Answers.{AreAccepted}
 

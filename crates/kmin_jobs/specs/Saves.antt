@@ -1,7 +1,7 @@
 -- Commands whose output goes to a file.
 use Rattle.std.specs.Prelude.{◌≡◌, ◌≢◌, ◌⊎◌, ℕ, List, [], ◌∷◌, ◌++◌, Option, Some, string_bytes}
 use Rattle.kmin_disk.specs.Contents.{IsOfKind, file, special}
-use Rattle.kmin_disk.specs.Disks.{content_at}
+use Rattle.kmin_disk.specs.Disks.{Disk, content_at}
 use Rattle.kmin_disk.specs.Failures.{failures_of_update}
 use Rattle.kmin_disk.specs.Updates.{Updates, UpdateLeaves}
 use Rattle.kmin_disk.specs.declared.kind.FileKind.TheVariants.{NotRegular as is_not_regular}
@@ -10,7 +10,6 @@ use Rattle.kmin_disk.specs.declared.fault.ReplaceFault.TheVariants.{NotRegular, 
 use Rattle.kmin_disk.specs.declared.fault.UpdateFault.{UpdateFault}
 use Rattle.kmin_disk.specs.declared.fault.UpdateFault.TheVariants.{Unread, Replace}
 use Rattle.kmin_tidy.specs.Reports.{not_regular_line, write_line, left_line}
-use Rattle.kmin_tidy.specs.Steps.{Disk}
 use Rattle.kmin_words.specs.Jobs.{Settings, Task}
 use Rattle.kmin_jobs.specs.FileContents.{Surroundings}
 use Rattle.kmin_jobs.specs.JobTexts.{TreeTexts, AreTextsOfJob}

@@ -16,7 +16,7 @@ use Rattle.kc_dotconfig_model.specs.ConfigFiles.{FileMeans, notices_from}
 use Rattle.kc_macros_model.specs.Programs.{Fault, Notice}
 use Rattle.kc_macros_model.specs.AnswerFiles.{RecordedAnswers}
 use Rattle.kc_expansion.specs.Expansions.{IsExpansion}
-use Rattle.kc_expansion.specs.TreeContents.{FileContent}
+use Rattle.kc_files.specs.TreeContents.{FileContent}
 use Rattle.kmin_words.specs.Jobs.{Expansion, Settings, Task, paths_of}
 use Rattle.kmin_jobs.specs.FileContents.{Surroundings}
 use Rattle.kmin_tidy.specs.KnownBytes.{AreKnownBytes}

@@ -1,7 +1,7 @@
 -- The files and folders of a tree below its root, as far as they are known.
 use Rattle.std.specs.Prelude.{ℕ, List, [], Some, None, if◌then◌else◌}
 use Rattle.std.specs.Str.{is_utf8}
-use Rattle.kc_expansion.specs.TreeContents.{FileContent, FolderContent, TreeContents}
+use Rattle.kc_files.specs.TreeContents.{FileContent, FolderContent, TreeContents}
 use Rattle.kmin_jobs.specs.FileContents.{Surroundings, path_below}
 
 -- what is known of a file of a tree: the regular file at its path below the root; there is no file if its path isn't UTF-8

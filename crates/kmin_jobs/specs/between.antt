@@ -1,9 +1,9 @@
 pub mod Lines
-pub mod LoadResults
 pub mod LoadStops
-pub mod Readings
 pub mod ReportLines
 pub mod RunErrors
+pub mod LoadResults
+pub mod Readings
 pub mod TreeStops
 pub mod AnswerSteps
 pub mod ExpansionStops

@@ -86,11 +86,11 @@ fn load_path<F: Files, E: Sink>(
     files: &mut F,
     err: &mut E,
 ) -> Result<Fragment, RunError>
-    ensures same { (other : List ℕ) → F.content_of files.new other ≡ F.content_of files.old other }
+    ensures same { F.surroundings files.new ≡ F.surroundings files.old }
     ensures fits { IfOk result (λ f. FitsTree (tree_of_settled settled.now) f.assigns.items) }
-    ensures loaded { IfOk result (λ f. IsLoaded (F.content_of files.old path.now) (file_format settings.now.format) (tree_of_settled settled.now) path.now f (E.taken err.old) (E.failures err.old) (E.taken err.new) (E.failures err.new)) }
+    ensures loaded { IfOk result (λ f. IsLoaded ((F.surroundings files.old).content path.now) (file_format settings.now.format) (tree_of_settled settled.now) path.now f (E.taken err.old) (E.failures err.old) (E.taken err.new) (E.failures err.new)) }
     ensures allowed { IfOk result (λ f. AllowsNotices settings.now.strict (map notice_pair f.notices.items)) }
-    ensures stopped { IfErr result (λ stop. (lines : List (List ℕ)) × StopsAtPath (F.content_of files.old path.now) (file_format settings.now.format) settings.now.strict (tree_of_settled settled.now) path.now (status_of stop) lines × TakesLines (E.taken err.old) (E.failures err.old) lines (E.taken err.new) (E.failures err.new)) }
+    ensures stopped { IfErr result (λ stop. (lines : List (List ℕ)) × StopsAtPath ((F.surroundings files.old).content path.now) (file_format settings.now.format) settings.now.strict (tree_of_settled settled.now) path.now (status_of stop) lines × TakesLines (E.taken err.old) (E.failures err.old) lines (E.taken err.new) (E.failures err.new)) }
 {
     match files.reader_for(path) {
         Some(mut reader) => {
@@ -124,11 +124,11 @@ pub(crate) fn configured_by<'a, F: Files, E: Sink>(
     files: &mut F,
     err: &mut E,
 ) -> Result<Config<'a>, RunError>
-    ensures same { (other : List ℕ) → F.content_of files.new other ≡ F.content_of files.old other }
+    ensures same { F.surroundings files.new ≡ F.surroundings files.old }
     ensures settled { IfOk result (λ config. config.system ≡ settled.now) }
     ensures solved { IfOk result (λ config. IsSolved config) }
-    ensures loaded { IfOk result (λ config. AreLoaded (F.content_of files.old) (file_format settings.now.format) settings.now.strict (tree_of_settled settled.now) (path.now ∷ []) (empty_assignment (tree_of_settled settled.now)) config.users (E.taken err.old) (E.failures err.old) (E.taken err.new) (E.failures err.new)) }
-    ensures stopped { IfErr result (λ stop. (lines : List (List ℕ)) × StopsAmongFiles (F.content_of files.old) (file_format settings.now.format) settings.now.strict (tree_of_settled settled.now) (path.now ∷ []) (status_of stop) lines × TakesLines (E.taken err.old) (E.failures err.old) lines (E.taken err.new) (E.failures err.new)) }
+    ensures loaded { IfOk result (λ config. AreLoaded (F.surroundings files.old).content (file_format settings.now.format) settings.now.strict (tree_of_settled settled.now) (path.now ∷ []) (empty_assignment (tree_of_settled settled.now)) config.users (E.taken err.old) (E.failures err.old) (E.taken err.new) (E.failures err.new)) }
+    ensures stopped { IfErr result (λ stop. (lines : List (List ℕ)) × StopsAmongFiles (F.surroundings files.old).content (file_format settings.now.format) settings.now.strict (tree_of_settled settled.now) (path.now ∷ []) (status_of stop) lines × TakesLines (E.taken err.old) (E.failures err.old) lines (E.taken err.new) (E.failures err.new)) }
 {
     let fragment = load_path(alloc, settled, settings, path, files, err)?;
     let config = Config::of(alloc, settled, &fragment);
@@ -148,11 +148,11 @@ fn overlaid<'a, F: Files, E: Sink>(
 ) -> Result<Config<'a>, RunError>
     requires settled { begun.system ≡ settled.now }
     requires solved { IsSolved begun }
-    ensures same { (other : List ℕ) → F.content_of files.new other ≡ F.content_of files.old other }
+    ensures same { F.surroundings files.new ≡ F.surroundings files.old }
     ensures settled { IfOk result (λ config. config.system ≡ settled.now) }
     ensures solved { IfOk result (λ config. IsSolved config) }
-    ensures loaded { IfOk result (λ config. AreLoaded (F.content_of files.old) (file_format settings.now.format) settings.now.strict (tree_of_settled settled.now) (map (λ (path : Bor (List ℕ)). path.now) paths.now) begun.entry.users config.users (E.taken err.old) (E.failures err.old) (E.taken err.new) (E.failures err.new)) }
-    ensures stopped { IfErr result (λ stop. (lines : List (List ℕ)) × StopsAmongFiles (F.content_of files.old) (file_format settings.now.format) settings.now.strict (tree_of_settled settled.now) (map (λ (path : Bor (List ℕ)). path.now) paths.now) (status_of stop) lines × TakesLines (E.taken err.old) (E.failures err.old) lines (E.taken err.new) (E.failures err.new)) }
+    ensures loaded { IfOk result (λ config. AreLoaded (F.surroundings files.old).content (file_format settings.now.format) settings.now.strict (tree_of_settled settled.now) (map (λ (path : Bor (List ℕ)). path.now) paths.now) begun.entry.users config.users (E.taken err.old) (E.failures err.old) (E.taken err.new) (E.failures err.new)) }
+    ensures stopped { IfErr result (λ stop. (lines : List (List ℕ)) × StopsAmongFiles (F.surroundings files.old).content (file_format settings.now.format) settings.now.strict (tree_of_settled settled.now) (map (λ (path : Bor (List ℕ)). path.now) paths.now) (status_of stop) lines × TakesLines (E.taken err.old) (E.failures err.old) lines (E.taken err.new) (E.failures err.new)) }
 {
     let mut config = begun;
     for path in paths {
@@ -171,11 +171,11 @@ pub(crate) fn configured<'a, F: Files, E: Sink>(
     files: &mut F,
     err: &mut E,
 ) -> Result<Config<'a>, RunError>
-    ensures same { (other : List ℕ) → F.content_of files.new other ≡ F.content_of files.old other }
+    ensures same { F.surroundings files.new ≡ F.surroundings files.old }
     ensures settled { IfOk result (λ config. config.system ≡ settled.now) }
     ensures solved { IfOk result (λ config. IsSolved config) }
-    ensures loaded { IfOk result (λ config. AreLoaded (F.content_of files.old) (file_format settings.now.format) settings.now.strict (tree_of_settled settled.now) (map (λ (path : Bor (List ℕ)). path.now) paths.now) (empty_assignment (tree_of_settled settled.now)) config.users (E.taken err.old) (E.failures err.old) (E.taken err.new) (E.failures err.new)) }
-    ensures stopped { IfErr result (λ stop. (lines : List (List ℕ)) × StopsAmongFiles (F.content_of files.old) (file_format settings.now.format) settings.now.strict (tree_of_settled settled.now) (map (λ (path : Bor (List ℕ)). path.now) paths.now) (status_of stop) lines × TakesLines (E.taken err.old) (E.failures err.old) lines (E.taken err.new) (E.failures err.new)) }
+    ensures loaded { IfOk result (λ config. AreLoaded (F.surroundings files.old).content (file_format settings.now.format) settings.now.strict (tree_of_settled settled.now) (map (λ (path : Bor (List ℕ)). path.now) paths.now) (empty_assignment (tree_of_settled settled.now)) config.users (E.taken err.old) (E.failures err.old) (E.taken err.new) (E.failures err.new)) }
+    ensures stopped { IfErr result (λ stop. (lines : List (List ℕ)) × StopsAmongFiles (F.surroundings files.old).content (file_format settings.now.format) settings.now.strict (tree_of_settled settled.now) (map (λ (path : Bor (List ℕ)). path.now) paths.now) (status_of stop) lines × TakesLines (E.taken err.old) (E.failures err.old) lines (E.taken err.new) (E.failures err.new)) }
 {
     let Some((first, others)) = paths.split_first() else {
         return Ok(Config::new(alloc, settled)?);

@@ -5,7 +5,6 @@ ghost use Rattle.kc_macros_model.specs.Programs.{Notice};
 ghost use Rattle.kc_macros.specs.Runs.{notice_of};
 ghost use Rattle.kc_expansion.specs.Expansions.{IsExpansion, AreWanted, tree_of, questions_of};
 ghost use Rattle.kc_tree_model.specs.TreeFiles.{with_file};
-ghost use Rattle.kmin_jobs.specs.FileContents.{known_by};
 ghost use Rattle.kmin_jobs.specs.JobTexts.{expanded_texts};
 ghost use Rattle.kmin_jobs.specs.TreeFolders.{contents_below};
 ghost use Rattle.kmin_jobs.specs.MacroReports.{macro_notice_line};
@@ -18,9 +17,10 @@ use crate::files::Files;
 use crate::report::{Report, write_report};
 use crate::run_error::RunError;
 use crate::tree_folder::{TreeFolder, text_of};
+use kc_answers::Answers;
 use kc_expansion::{ExpandedTree, Expansion, expand, wants};
-use kc_expr::Language;
-use kc_macros::{Answers, MacroFault, MacroNotice};
+use kc_macros::{MacroFault, MacroNotice};
+use kc_tokens::Language;
 use kc_tree::Texts;
 use kc_value::{Seed, Sink};
 use kmin_words::Settings;
@@ -41,10 +41,10 @@ pub(crate) fn expanded_tree<F: Files, E: Sink>(
     files: &mut F,
     err: &mut E,
 ) -> Result<ExpandedTexts, RunError>
-    ensures same { (path : List ℕ) → F.content_of files.new path ≡ F.content_of files.old path }
+    ensures same { (F.surroundings files.new).content ≡ (F.surroundings files.old).content }
     ensures texts { IfOk result (λ t. t.texts ≡ expanded_texts settings.now.language t.tree) }
-    ensures expanded { IfOk result (λ t. (notices : List Notice) × IsExpansion (contents_below (known_by (F.content_of files.old) (F.regular_content_of files.old) (F.names_of files.old) (F.variable_of files.old)) settings.now.root.now) answers.now settings.now.tree.now notices (Ok t.tree) × TakesLines (E.taken err.old) (E.failures err.old) (map macro_notice_line notices) (E.taken err.new) (E.failures err.new)) }
-    ensures stopped { IfErr result (λ stop. (lines : List (List ℕ)) × StopsExpanding (contents_below (known_by (F.content_of files.old) (F.regular_content_of files.old) (F.names_of files.old) (F.variable_of files.old)) settings.now.root.now) answers.now settings.now.tree.now (status_of stop) lines × TakesLines (E.taken err.old) (E.failures err.old) lines (E.taken err.new) (E.failures err.new)) }
+    ensures expanded { IfOk result (λ t. (notices : List Notice) × IsExpansion (contents_below (F.surroundings files.old) settings.now.root.now) answers.now settings.now.tree.now notices (Ok t.tree) × TakesLines (E.taken err.old) (E.failures err.old) (map macro_notice_line notices) (E.taken err.new) (E.failures err.new)) }
+    ensures stopped { IfErr result (λ stop. (lines : List (List ℕ)) × StopsExpanding (contents_below (F.surroundings files.old) settings.now.root.now) answers.now settings.now.tree.now (status_of stop) lines × TakesLines (E.taken err.old) (E.failures err.old) lines (E.taken err.new) (E.failures err.new)) }
 {
     let seed = files.seed();
     let Expansion { notices, tree } = expansion_below(
@@ -79,8 +79,8 @@ fn expansion_below<F: Files>(
     answers: &Answers,
     files: &mut F,
 ) -> Result<Expansion, AllocError>
-    ensures same { (path : List ℕ) → F.content_of files.new path ≡ F.content_of files.old path }
-    ensures expanded { IfOk result (λ e. IsExpansion (contents_below (known_by (F.content_of files.old) (F.regular_content_of files.old) (F.names_of files.old) (F.variable_of files.old)) root.now) answers.now first.now (map notice_of e.notices.items) (tree_of e.tree)) }
+    ensures same { (F.surroundings files.new).content ≡ (F.surroundings files.old).content }
+    ensures expanded { IfOk result (λ e. IsExpansion (contents_below (F.surroundings files.old) root.now) answers.now first.now (map notice_of e.notices.items) (tree_of e.tree)) }
 {
     let mut tree = TreeFolder { files, root };
     expand(alloc, &mut tree, first.as_bytes(), answers)
@@ -94,7 +94,7 @@ pub(crate) fn wanted_below<F: Files>(
     answers: &Answers,
     files: &mut F,
 ) -> Result<Result<Vec<Vec<u8>>, MacroFault>, AllocError>
-    ensures { IfOk result (λ w. AreWanted (contents_below (known_by (F.content_of files.old) (F.regular_content_of files.old) (F.names_of files.old) (F.variable_of files.old)) root.now) answers.now first.now (questions_of w)) }
+    ensures { IfOk result (λ w. AreWanted (contents_below (F.surroundings files.old) root.now) answers.now first.now (questions_of w)) }
 {
     let mut tree = TreeFolder { files, root };
     wants(alloc, &mut tree, first.as_bytes(), answers)

@@ -4,9 +4,8 @@ ghost use Rattle.std.specs.Borrow.{Bor};
 ghost use Rattle.std.specs.Option.{option_or};
 ghost use Rattle.kc_tree_model.specs.Keywords.{keyword_in_table};
 ghost use Rattle.kmin_words.specs.Jobs.{definition_view, expansion_view};
-ghost use Rattle.kmin_jobs.specs.FileContents.{known_by};
 ghost use Rattle.kmin_jobs.specs.JobAnswers.{FilesRecord, AreJobAnswers, defined_answer, answer_of_variable};
-ghost use Rattle.kc_macros.specs.ReadAnswers.{AreRecorded};
+ghost use Rattle.kc_answers.specs.ReadAnswers.{AreRecorded};
 ghost use Rattle.kmin_jobs.specs.AnswerStops.{StopsAmongAnswers, answers_status};
 ghost use Rattle.kmin_tidy.specs.StandardError.{TakesLines};
 ghost use Rattle.kmin_jobs.specs.between.AnswerSteps.{StopsReading, StopsAtAnswersPath, AreLent, answers_lines};
@@ -15,7 +14,8 @@ ghost use Rattle.kmin_jobs.specs.between.RunErrors.{status_of};
 use crate::files::Files;
 use crate::report::{Report, write_report};
 use crate::run_error::RunError;
-use kc_macros::{Answers, AnswersFault, AnswersKind};
+use kc_answers::Answers;
+use kc_macros::{AnswersFault, AnswersKind};
 use kc_value::{MAX_VARIABLE_BYTES, Sink, Source, has_newline};
 use kmin_words::{Definition, Expansion};
 use std::alloc::{AllocError, Global};
@@ -28,10 +28,10 @@ pub(crate) fn job_answers<F: Files, E: Sink>(
     files: &mut F,
     err: &mut E,
 ) -> Result<Answers, RunError>
-    ensures same { known_by (F.content_of files.new) (F.regular_content_of files.new) (F.names_of files.new) (F.variable_of files.new) ≡ known_by (F.content_of files.old) (F.regular_content_of files.old) (F.names_of files.old) (F.variable_of files.old) }
-    ensures answers { IfOk result (AreJobAnswers (F.content_of files.old) (F.variable_of files.old) (expansion_view expansion.now)) }
+    ensures same { F.surroundings files.new ≡ F.surroundings files.old }
+    ensures answers { IfOk result (AreJobAnswers (F.surroundings files.old).content (F.surroundings files.old).variable (expansion_view expansion.now)) }
     ensures unreported { OnOk result (TakesLines (E.taken err.old) (E.failures err.old) [] (E.taken err.new) (E.failures err.new)) }
-    ensures stopped { IfErr result (λ stop. (lines : List (List ℕ)) × StopsAmongAnswers (F.content_of files.old) (expansion_view expansion.now).answers (status_of stop) lines × TakesLines (E.taken err.old) (E.failures err.old) lines (E.taken err.new) (E.failures err.new)) }
+    ensures stopped { IfErr result (λ stop. (lines : List (List ℕ)) × StopsAmongAnswers (F.surroundings files.old).content (expansion_view expansion.now).answers (status_of stop) lines × TakesLines (E.taken err.old) (E.failures err.old) lines (E.taken err.new) (E.failures err.new)) }
 {
     let mut answers = file_answers(alloc, &expansion.answers, files, err)?;
     define(&expansion.definitions, &mut answers)?;
@@ -46,10 +46,10 @@ fn file_answers<F: Files, E: Sink>(
     files: &mut F,
     err: &mut E,
 ) -> Result<Answers, RunError>
-    ensures same { known_by (F.content_of files.new) (F.regular_content_of files.new) (F.names_of files.new) (F.variable_of files.new) ≡ known_by (F.content_of files.old) (F.regular_content_of files.old) (F.names_of files.old) (F.variable_of files.old) }
-    ensures recorded { IfOk result (λ answers. FilesRecord (F.content_of files.old) (map (λ (path : Bor (List ℕ)). path.now) paths.now) [] answers) }
+    ensures same { F.surroundings files.new ≡ F.surroundings files.old }
+    ensures recorded { IfOk result (λ answers. FilesRecord (F.surroundings files.old).content (map (λ (path : Bor (List ℕ)). path.now) paths.now) [] answers) }
     ensures unreported { OnOk result (TakesLines (E.taken err.old) (E.failures err.old) [] (E.taken err.new) (E.failures err.new)) }
-    ensures stopped { IfErr result (λ stop. (lines : List (List ℕ)) × StopsAmongAnswers (F.content_of files.old) (map (λ (path : Bor (List ℕ)). path.now) paths.now) (status_of stop) lines × TakesLines (E.taken err.old) (E.failures err.old) lines (E.taken err.new) (E.failures err.new)) }
+    ensures stopped { IfErr result (λ stop. (lines : List (List ℕ)) × StopsAmongAnswers (F.surroundings files.old).content (map (λ (path : Bor (List ℕ)). path.now) paths.now) (status_of stop) lines × TakesLines (E.taken err.old) (E.failures err.old) lines (E.taken err.new) (E.failures err.new)) }
 {
     let mut answers = Answers::new(alloc, files.seed());
     for path in paths {
@@ -65,10 +65,10 @@ fn record_path<F: Files, E: Sink>(
     answers: &mut Answers,
     err: &mut E,
 ) -> Result<(), RunError>
-    ensures same { known_by (F.content_of files.new) (F.regular_content_of files.new) (F.names_of files.new) (F.variable_of files.new) ≡ known_by (F.content_of files.old) (F.regular_content_of files.old) (F.names_of files.old) (F.variable_of files.old) }
-    ensures recorded { OnOk result (FilesRecord (F.content_of files.old) (path.now ∷ []) answers.old answers.new) }
+    ensures same { F.surroundings files.new ≡ F.surroundings files.old }
+    ensures recorded { OnOk result (FilesRecord (F.surroundings files.old).content (path.now ∷ []) answers.old answers.new) }
     ensures unreported { OnOk result (TakesLines (E.taken err.old) (E.failures err.old) [] (E.taken err.new) (E.failures err.new)) }
-    ensures stopped { IfErr result (λ stop. (lines : List (List ℕ)) × StopsAtAnswersPath (F.content_of files.old path.now) answers.old path.now (status_of stop) lines × TakesLines (E.taken err.old) (E.failures err.old) lines (E.taken err.new) (E.failures err.new)) }
+    ensures stopped { IfErr result (λ stop. (lines : List (List ℕ)) × StopsAtAnswersPath ((F.surroundings files.old).content path.now) answers.old path.now (status_of stop) lines × TakesLines (E.taken err.old) (E.failures err.old) lines (E.taken err.new) (E.failures err.new)) }
 {
     match files.reader_for(path) {
         Some(mut reader) => record(path, &mut reader, answers, err),
@@ -134,8 +134,8 @@ fn lend<F: Files>(
     files: &mut F,
     answers: &mut Answers,
 ) -> Result<(), AllocError>
-    ensures same { known_by (F.content_of files.new) (F.regular_content_of files.new) (F.names_of files.new) (F.variable_of files.new) ≡ known_by (F.content_of files.old) (F.regular_content_of files.old) (F.names_of files.old) (F.variable_of files.old) }
-    ensures lent { OnOk result (AreLent (F.variable_of files.old) (map (λ (name : Bor (List ℕ)). name.now) names.now) answers.old answers.new) }
+    ensures same { F.surroundings files.new ≡ F.surroundings files.old }
+    ensures lent { OnOk result (AreLent (F.surroundings files.old).variable (map (λ (name : Bor (List ℕ)). name.now) names.now) answers.old answers.new) }
 {
     for name in names {
         lend_one(alloc, name, files, answers)?;
@@ -150,8 +150,8 @@ fn lend_one<F: Files>(
     files: &mut F,
     answers: &mut Answers,
 ) -> Result<(), AllocError>
-    ensures same { known_by (F.content_of files.new) (F.regular_content_of files.new) (F.names_of files.new) (F.variable_of files.new) ≡ known_by (F.content_of files.old) (F.regular_content_of files.old) (F.names_of files.old) (F.variable_of files.old) }
-    ensures lent { OnOk result (AreLent (F.variable_of files.old) (name.now ∷ []) answers.old answers.new) }
+    ensures same { F.surroundings files.new ≡ F.surroundings files.old }
+    ensures lent { OnOk result (AreLent (F.surroundings files.old).variable (name.now ∷ []) answers.old answers.new) }
 {
     let question = name.as_bytes();
     if answers.has(question) {

@@ -6,7 +6,6 @@ ghost use Rattle.kc_tree_model.specs.TreeFiles as trees;
 ghost use Rattle.kc_rules.specs.between.SettledViews.{tree_of_settled, profile_of};
 ghost use Rattle.kmin_words.specs.Jobs.{settings_view, task_view, over, compare, paths_of};
 ghost use Rattle.kmin_jobs.specs.Answers.{Answer, AreAccepted};
-ghost use Rattle.kmin_jobs.specs.FileContents.{known_by};
 ghost use Rattle.kmin_jobs.specs.JobTexts.{TreeTexts, AreTextsOfJob};
 ghost use Rattle.kmin_jobs.specs.PartialAnswers.{AnswersInPart};
 ghost use Rattle.kmin_jobs.specs.Reports.{last_lines};
@@ -46,15 +45,15 @@ pub fn serve<F: Files, O: Sink, E: Sink>(
 
     // The tree and the files are accepted, exactly the output is written, no write failed, and the notices of the
     // tree's expansion and of the files are reported.
-    ensures done { (result ≡ 0) ⊎ (result ≡ 1) → (t : TreeTexts) × (text : List ℕ) × (notices : List (List ℕ)) × AreTextsOfJob (known_by (F.content_of files.old) (F.regular_content_of files.old) (F.names_of files.old) (F.variable_of files.old)) (settings_view job.now.settings) t × Answer (F.content_of files.old) (settings_view job.now.settings) t.texts (task_view job.now.task) text result notices × Appends (O.taken out.old) (O.taken out.new) text × TakesLines (E.taken err.old) (E.failures err.old) (t.lines ++ notices) (E.taken err.new) (E.failures err.new) }
+    ensures done { (result ≡ 0) ⊎ (result ≡ 1) → (t : TreeTexts) × (text : List ℕ) × (notices : List (List ℕ)) × AreTextsOfJob (F.surroundings files.old) (settings_view job.now.settings) t × Answer (F.surroundings files.old).content (settings_view job.now.settings) t.texts (task_view job.now.task) text result notices × Appends (O.taken out.old) (O.taken out.new) text × TakesLines (E.taken err.old) (E.failures err.old) (t.lines ++ notices) (E.taken err.new) (E.failures err.new) }
     ensures unfailed { (result ≡ 0) ⊎ (result ≡ 1) → O.failures out.new ≡ O.failures out.old }
 
     // On every other status the fault that ended the run is reported, after the notices of the tree's expansion and of
     // the files accepted before.
-    ensures stopped { (result ≢ 0) × (result ≢ 1) → (lines : List (List ℕ)) × Stops (known_by (F.content_of files.old) (F.regular_content_of files.old) (F.names_of files.old) (F.variable_of files.old)) (settings_view job.now.settings) (task_view job.now.task) result lines × TakesLines (E.taken err.old) (E.failures err.old) (lines ++ last_lines result) (E.taken err.new) (E.failures err.new) }
+    ensures stopped { (result ≢ 0) × (result ≢ 1) → (lines : List (List ℕ)) × Stops (F.surroundings files.old) (settings_view job.now.settings) (task_view job.now.task) result lines × TakesLines (E.taken err.old) (E.failures err.old) (lines ++ last_lines result) (E.taken err.new) (E.failures err.new) }
 
     // On status 5 the writer took the first bytes of the output, or nothing.
-    ensures part { result ≡ 5 → (O.taken out.new ≡ O.taken out.old) ⊎ AnswersInPart (known_by (F.content_of files.old) (F.regular_content_of files.old) (F.names_of files.old) (F.variable_of files.old)) (settings_view job.now.settings) (task_view job.now.task) (O.taken out.old) (O.taken out.new) }
+    ensures part { result ≡ 5 → (O.taken out.new ≡ O.taken out.old) ⊎ AnswersInPart (F.surroundings files.old) (settings_view job.now.settings) (task_view job.now.task) (O.taken out.old) (O.taken out.new) }
 
     ensures unwritten { result ≢ 0 → result ≢ 1 → result ≢ 5 → O.taken out.new ≡ O.taken out.old }
 {
@@ -75,8 +74,8 @@ pub(crate) fn answer_job<F: Files, E: Sink>(
     err: &mut E,
 ) -> Result<AnswerText, RunError>
     ensures status { IfOk result (λ answer. answer.status ≤ 1) }
-    ensures answer { IfOk result (λ answer. (t : TreeTexts) × (notices : List (List ℕ)) × AreTextsOfJob (known_by (F.content_of files.old) (F.regular_content_of files.old) (F.names_of files.old) (F.variable_of files.old)) (settings_view job.now.settings) t × Answer (F.content_of files.old) (settings_view job.now.settings) t.texts (task_view job.now.task) answer.text.items answer.status notices × TakesLines (E.taken err.old) (E.failures err.old) (t.lines ++ notices) (E.taken err.new) (E.failures err.new)) }
-    ensures stopped { IfErr result (λ stop. (lines : List (List ℕ)) × StopsBefore (known_by (F.content_of files.old) (F.regular_content_of files.old) (F.names_of files.old) (F.variable_of files.old)) (settings_view job.now.settings) (task_view job.now.task) (status_of stop) lines × TakesLines (E.taken err.old) (E.failures err.old) lines (E.taken err.new) (E.failures err.new)) }
+    ensures answer { IfOk result (λ answer. (t : TreeTexts) × (notices : List (List ℕ)) × AreTextsOfJob (F.surroundings files.old) (settings_view job.now.settings) t × Answer (F.surroundings files.old).content (settings_view job.now.settings) t.texts (task_view job.now.task) answer.text.items answer.status notices × TakesLines (E.taken err.old) (E.failures err.old) (t.lines ++ notices) (E.taken err.new) (E.failures err.new)) }
+    ensures stopped { IfErr result (λ stop. (lines : List (List ℕ)) × StopsBefore (F.surroundings files.old) (settings_view job.now.settings) (task_view job.now.task) (status_of stop) lines × TakesLines (E.taken err.old) (E.failures err.old) lines (E.taken err.new) (E.failures err.new)) }
 {
     let settled = job_tree(alloc, &job.settings, files, err)?;
     let answer = answer_over(alloc, &job.settings, &job.task, &settled, files, err);
@@ -95,8 +94,8 @@ fn answer_over<F: Files, E: Sink>(
 ) -> Result<AnswerText, RunError>
     requires profile { profile_of settled.now ≡ settings.now.profile }
     ensures status { IfOk result (λ answer. answer.status ≤ 1) }
-    ensures answer { IfOk result (λ answer. (notices : List (List ℕ)) × ((texts : trees.Files) → AreAccepted texts settings.now.tree.now (tree_of_settled settled.now) → Answer (F.content_of files.old) (settings_view settings.now) texts (task_view task.now) answer.text.items answer.status notices) × TakesLines (E.taken err.old) (E.failures err.old) notices (E.taken err.new) (E.failures err.new)) }
-    ensures stopped { IfErr result (λ stop. (lines : List (List ℕ)) × StopsAmongFiles (F.content_of files.old) (settings_view settings.now).format settings.now.strict (tree_of_settled settled.now) (paths_of (task_view task.now)) (status_of stop) lines × TakesLines (E.taken err.old) (E.failures err.old) lines (E.taken err.new) (E.failures err.new)) }
+    ensures answer { IfOk result (λ answer. (notices : List (List ℕ)) × ((texts : trees.Files) → AreAccepted texts settings.now.tree.now (tree_of_settled settled.now) → Answer (F.surroundings files.old).content (settings_view settings.now) texts (task_view task.now) answer.text.items answer.status notices) × TakesLines (E.taken err.old) (E.failures err.old) notices (E.taken err.new) (E.failures err.new)) }
+    ensures stopped { IfErr result (λ stop. (lines : List (List ℕ)) × StopsAmongFiles (F.surroundings files.old).content (settings_view settings.now).format settings.now.strict (tree_of_settled settled.now) (paths_of (task_view task.now)) (status_of stop) lines × TakesLines (E.taken err.old) (E.failures err.old) lines (E.taken err.new) (E.failures err.new)) }
 {
     match task {
         Task::Over { verb, files: paths } => {
@@ -121,8 +120,8 @@ fn answer_files<F: Files, E: Sink>(
 ) -> Result<AnswerText, RunError>
     requires profile { profile_of settled.now ≡ settings.now.profile }
     ensures status { IfOk result (λ answer. answer.status ≤ 1) }
-    ensures answer { IfOk result (λ answer. (notices : List (List ℕ)) × ((texts : trees.Files) → AreAccepted texts settings.now.tree.now (tree_of_settled settled.now) → Answer (F.content_of files.old) (settings_view settings.now) texts (over verb (map (λ (path : Bor (List ℕ)). path.now) paths.now)) answer.text.items answer.status notices) × TakesLines (E.taken err.old) (E.failures err.old) notices (E.taken err.new) (E.failures err.new)) }
-    ensures stopped { IfErr result (λ stop. (lines : List (List ℕ)) × StopsAmongFiles (F.content_of files.old) (settings_view settings.now).format settings.now.strict (tree_of_settled settled.now) (map (λ (path : Bor (List ℕ)). path.now) paths.now) (status_of stop) lines × TakesLines (E.taken err.old) (E.failures err.old) lines (E.taken err.new) (E.failures err.new)) }
+    ensures answer { IfOk result (λ answer. (notices : List (List ℕ)) × ((texts : trees.Files) → AreAccepted texts settings.now.tree.now (tree_of_settled settled.now) → Answer (F.surroundings files.old).content (settings_view settings.now) texts (over verb (map (λ (path : Bor (List ℕ)). path.now) paths.now)) answer.text.items answer.status notices) × TakesLines (E.taken err.old) (E.failures err.old) notices (E.taken err.new) (E.failures err.new)) }
+    ensures stopped { IfErr result (λ stop. (lines : List (List ℕ)) × StopsAmongFiles (F.surroundings files.old).content (settings_view settings.now).format settings.now.strict (tree_of_settled settled.now) (map (λ (path : Bor (List ℕ)). path.now) paths.now) (status_of stop) lines × TakesLines (E.taken err.old) (E.failures err.old) lines (E.taken err.new) (E.failures err.new)) }
 {
     let config = configured(alloc, settled, settings, paths, files, err)?;
     let answer = answer_of(alloc, verb, &config, &settings.format);
@@ -143,8 +142,8 @@ fn answer_comparison<F: Files, E: Sink>(
 ) -> Result<AnswerText, RunError>
     requires profile { profile_of settled.now ≡ settings.now.profile }
     ensures status { IfOk result (λ answer. answer.status ≤ 1) }
-    ensures answer { IfOk result (λ answer. (notices : List (List ℕ)) × ((texts : trees.Files) → AreAccepted texts settings.now.tree.now (tree_of_settled settled.now) → Answer (F.content_of files.old) (settings_view settings.now) texts (compare left.now right.now) answer.text.items answer.status notices) × TakesLines (E.taken err.old) (E.failures err.old) notices (E.taken err.new) (E.failures err.new)) }
-    ensures stopped { IfErr result (λ stop. (lines : List (List ℕ)) × StopsAmongFiles (F.content_of files.old) (settings_view settings.now).format settings.now.strict (tree_of_settled settled.now) (left.now ∷ right.now ∷ []) (status_of stop) lines × TakesLines (E.taken err.old) (E.failures err.old) lines (E.taken err.new) (E.failures err.new)) }
+    ensures answer { IfOk result (λ answer. (notices : List (List ℕ)) × ((texts : trees.Files) → AreAccepted texts settings.now.tree.now (tree_of_settled settled.now) → Answer (F.surroundings files.old).content (settings_view settings.now) texts (compare left.now right.now) answer.text.items answer.status notices) × TakesLines (E.taken err.old) (E.failures err.old) notices (E.taken err.new) (E.failures err.new)) }
+    ensures stopped { IfErr result (λ stop. (lines : List (List ℕ)) × StopsAmongFiles (F.surroundings files.old).content (settings_view settings.now).format settings.now.strict (tree_of_settled settled.now) (left.now ∷ right.now ∷ []) (status_of stop) lines × TakesLines (E.taken err.old) (E.failures err.old) lines (E.taken err.new) (E.failures err.new)) }
 {
     let left = configured_by(alloc, settled, settings, left, files, err)?;
     let right = configured_by(alloc, settled, settings, right, files, err)?;

@@ -4,7 +4,7 @@ ghost use Rattle.kc_tree_model.specs.TreeFiles as trees;
 ghost use Rattle.kc_rules.specs.between.SettledViews.{tree_of_settled, profile_of};
 ghost use Rattle.kmin_words.specs.Jobs.{expansion_view, settings_view};
 ghost use Rattle.kmin_jobs.specs.Answers.{AreAccepted};
-ghost use Rattle.kmin_jobs.specs.FileContents.{AreTextsBelow, known_by};
+ghost use Rattle.kmin_jobs.specs.FileContents.{AreTextsBelow};
 ghost use Rattle.kmin_jobs.specs.JobTexts.{TreeTexts, AreExpandedTexts, AreTextsOfJob, named_texts};
 ghost use Rattle.kmin_tidy.specs.StandardError.{TakesLines};
 ghost use Rattle.kmin_jobs.specs.Stops.{StopsAtTree, StopsInExpansion};
@@ -31,10 +31,10 @@ pub(crate) fn job_tree<F: Files, E: Sink>(
     files: &mut F,
     err: &mut E,
 ) -> Result<Settled, RunError>
-    ensures same { (path : List ℕ) → F.content_of files.new path ≡ F.content_of files.old path }
-    ensures accepted { IfOk result (λ settled. (t : TreeTexts) × AreTextsOfJob (known_by (F.content_of files.old) (F.regular_content_of files.old) (F.names_of files.old) (F.variable_of files.old)) (settings_view settings.now) t × AreAccepted t.texts settings.now.tree.now (tree_of_settled settled) × TakesLines (E.taken err.old) (E.failures err.old) t.lines (E.taken err.new) (E.failures err.new)) }
+    ensures same { (F.surroundings files.new).content ≡ (F.surroundings files.old).content }
+    ensures accepted { IfOk result (λ settled. (t : TreeTexts) × AreTextsOfJob (F.surroundings files.old) (settings_view settings.now) t × AreAccepted t.texts settings.now.tree.now (tree_of_settled settled) × TakesLines (E.taken err.old) (E.failures err.old) t.lines (E.taken err.new) (E.failures err.new)) }
     ensures profile { IfOk result (λ settled. profile_of settled ≡ settings.now.profile) }
-    ensures stopped { IfErr result (λ stop. (lines : List (List ℕ)) × StopsAtTree (known_by (F.content_of files.old) (F.regular_content_of files.old) (F.names_of files.old) (F.variable_of files.old)) (settings_view settings.now) (status_of stop) lines × TakesLines (E.taken err.old) (E.failures err.old) lines (E.taken err.new) (E.failures err.new)) }
+    ensures stopped { IfErr result (λ stop. (lines : List (List ℕ)) × StopsAtTree (F.surroundings files.old) (settings_view settings.now) (status_of stop) lines × TakesLines (E.taken err.old) (E.failures err.old) lines (E.taken err.new) (E.failures err.new)) }
 {
     match &settings.expansion {
         Some(expansion) => expanded(alloc, settings, expansion, files, err),
@@ -49,11 +49,11 @@ fn as_it_is<F: Files, E: Sink>(
     files: &mut F,
     err: &mut E,
 ) -> Result<Settled, RunError>
-    ensures same { (path : List ℕ) → F.content_of files.new path ≡ F.content_of files.old path }
-    ensures accepted { IfOk result (λ settled. (texts : trees.Files) × AreTextsBelow (F.content_of files.old) settings.now.root.now settings.now.language texts × AreAccepted texts settings.now.tree.now (tree_of_settled settled)) }
+    ensures same { (F.surroundings files.new).content ≡ (F.surroundings files.old).content }
+    ensures accepted { IfOk result (λ settled. (texts : trees.Files) × AreTextsBelow (F.surroundings files.old).content settings.now.root.now settings.now.language texts × AreAccepted texts settings.now.tree.now (tree_of_settled settled)) }
     ensures profile { IfOk result (λ settled. profile_of settled ≡ settings.now.profile) }
     ensures unreported { IfOk result (λ settled. TakesLines (E.taken err.old) (E.failures err.old) [] (E.taken err.new) (E.failures err.new)) }
-    ensures stopped { IfErr result (λ stop. (texts : trees.Files) × (lines : List (List ℕ)) × AreTextsBelow (F.content_of files.old) settings.now.root.now settings.now.language texts × StopsAtTexts texts texts settings.now.tree.now (status_of stop) lines × TakesLines (E.taken err.old) (E.failures err.old) lines (E.taken err.new) (E.failures err.new)) }
+    ensures stopped { IfErr result (λ stop. (texts : trees.Files) × (lines : List (List ℕ)) × AreTextsBelow (F.surroundings files.old).content settings.now.root.now settings.now.language texts × StopsAtTexts texts texts settings.now.tree.now (status_of stop) lines × TakesLines (E.taken err.old) (E.failures err.old) lines (E.taken err.new) (E.failures err.new)) }
 {
     let TreeReading { texts, read } = gather(
         alloc,
@@ -82,10 +82,10 @@ fn expanded<F: Files, E: Sink>(
     files: &mut F,
     err: &mut E,
 ) -> Result<Settled, RunError>
-    ensures same { (path : List ℕ) → F.content_of files.new path ≡ F.content_of files.old path }
-    ensures accepted { IfOk result (λ settled. (t : TreeTexts) × AreExpandedTexts (known_by (F.content_of files.old) (F.regular_content_of files.old) (F.names_of files.old) (F.variable_of files.old)) settings.now.root.now settings.now.tree.now settings.now.language (expansion_view expansion.now) t × AreAccepted t.texts settings.now.tree.now (tree_of_settled settled) × TakesLines (E.taken err.old) (E.failures err.old) t.lines (E.taken err.new) (E.failures err.new)) }
+    ensures same { (F.surroundings files.new).content ≡ (F.surroundings files.old).content }
+    ensures accepted { IfOk result (λ settled. (t : TreeTexts) × AreExpandedTexts (F.surroundings files.old) settings.now.root.now settings.now.tree.now settings.now.language (expansion_view expansion.now) t × AreAccepted t.texts settings.now.tree.now (tree_of_settled settled) × TakesLines (E.taken err.old) (E.failures err.old) t.lines (E.taken err.new) (E.failures err.new)) }
     ensures profile { IfOk result (λ settled. profile_of settled ≡ settings.now.profile) }
-    ensures stopped { IfErr result (λ stop. (lines : List (List ℕ)) × StopsAtExpanded (known_by (F.content_of files.old) (F.regular_content_of files.old) (F.names_of files.old) (F.variable_of files.old)) settings.now.root.now settings.now.tree.now settings.now.language (expansion_view expansion.now) (status_of stop) lines × TakesLines (E.taken err.old) (E.failures err.old) lines (E.taken err.new) (E.failures err.new)) }
+    ensures stopped { IfErr result (λ stop. (lines : List (List ℕ)) × StopsAtExpanded (F.surroundings files.old) settings.now.root.now settings.now.tree.now settings.now.language (expansion_view expansion.now) (status_of stop) lines × TakesLines (E.taken err.old) (E.failures err.old) lines (E.taken err.new) (E.failures err.new)) }
 {
     let tree = expanded_files(alloc, settings, expansion, files, err)?;
     settled_expanded(alloc, settings.tree, &tree, settings.profile, err)
@@ -99,9 +99,9 @@ fn expanded_files<F: Files, E: Sink>(
     files: &mut F,
     err: &mut E,
 ) -> Result<ExpandedTexts, RunError>
-    ensures same { (path : List ℕ) → F.content_of files.new path ≡ F.content_of files.old path }
-    ensures expanded { IfOk result (λ tree. (t : TreeTexts) × AreExpandedTexts (known_by (F.content_of files.old) (F.regular_content_of files.old) (F.names_of files.old) (F.variable_of files.old)) settings.now.root.now settings.now.tree.now settings.now.language (expansion_view expansion.now) t × (t.texts ≡ tree.texts) × (t.names ≡ named_texts tree.tree tree.texts) × TakesLines (E.taken err.old) (E.failures err.old) t.lines (E.taken err.new) (E.failures err.new)) }
-    ensures stopped { IfErr result (λ stop. (lines : List (List ℕ)) × StopsInExpansion (known_by (F.content_of files.old) (F.regular_content_of files.old) (F.names_of files.old) (F.variable_of files.old)) settings.now.root.now settings.now.tree.now (expansion_view expansion.now) (status_of stop) lines × TakesLines (E.taken err.old) (E.failures err.old) lines (E.taken err.new) (E.failures err.new)) }
+    ensures same { (F.surroundings files.new).content ≡ (F.surroundings files.old).content }
+    ensures expanded { IfOk result (λ tree. (t : TreeTexts) × AreExpandedTexts (F.surroundings files.old) settings.now.root.now settings.now.tree.now settings.now.language (expansion_view expansion.now) t × (t.texts ≡ tree.texts) × (t.names ≡ named_texts tree.tree tree.texts) × TakesLines (E.taken err.old) (E.failures err.old) t.lines (E.taken err.new) (E.failures err.new)) }
+    ensures stopped { IfErr result (λ stop. (lines : List (List ℕ)) × StopsInExpansion (F.surroundings files.old) settings.now.root.now settings.now.tree.now (expansion_view expansion.now) (status_of stop) lines × TakesLines (E.taken err.old) (E.failures err.old) lines (E.taken err.new) (E.failures err.new)) }
 {
     let answers = job_answers(alloc, expansion, files, err)?;
     let tree = expanded_tree(alloc, settings, &answers, files, err);

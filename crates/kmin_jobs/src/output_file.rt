@@ -1,9 +1,7 @@
 //! Commands whose output goes to a file.
 ghost use Rattle.std.specs.Prelude.{◌≡◌, ◌≢◌, ◌≤◌, [], List, ℕ, IfErr, OnOk};
 ghost use Rattle.kmin_disk.specs.declared.fault.UpdateFault.{UpdateFault as TheFault};
-ghost use Rattle.kmin_tidy.specs.Steps.{disk_of};
 ghost use Rattle.kmin_words.specs.Jobs.{settings_view, task_view};
-ghost use Rattle.kmin_jobs.specs.FileContents.{known_by};
 ghost use Rattle.kmin_tidy.specs.StandardError.{TakesLine, TakesLines};
 ghost use Rattle.kmin_jobs.specs.Saves.{IsSaved, IsUnsaved, SaveEnds, replace_lines, replace_status, update_lines, update_status};
 ghost use Rattle.kmin_jobs.specs.between.ReportLines.{report_line};
@@ -37,8 +35,8 @@ pub fn save<F: Files, D: WriteDisk, E: Sink>(
 
     // The file has exactly the output, or there is no output, or the file can't be written; and the reason is reported,
     // after the notices of the files that were accepted.
-    ensures ends { (lines : List (List ℕ)) × SaveEnds (known_by (F.content_of files.old) (F.regular_content_of files.old) (F.names_of files.old) (F.variable_of files.old)) (settings_view output_job.now.job.settings) (task_view output_job.now.job.task) output_job.now.output.now
-        (disk_of (D.state disk.old) (D.failures disk.old)) (disk_of (D.state disk.new) (D.failures disk.new)) lines result × TakesLines (E.taken err.old) (E.failures err.old) lines (E.taken err.new) (E.failures err.new) }
+    ensures ends { (lines : List (List ℕ)) × SaveEnds (F.surroundings files.old) (settings_view output_job.now.job.settings) (task_view output_job.now.job.task) output_job.now.output.now
+        (D.disk disk.old) (D.disk disk.new) lines result × TakesLines (E.taken err.old) (E.failures err.old) lines (E.taken err.new) (E.failures err.new) }
 {
     match answer_job(alloc, &output_job.job, files, err) {
         Ok(answer) => match save_text(alloc, output_job.output, &answer.text, disk, err) {
@@ -57,9 +55,9 @@ fn save_text<D: WriteDisk, E: Sink>(
     disk: &mut D,
     err: &mut E,
 ) -> Result<(), RunError>
-    ensures saved { OnOk result (IsSaved (disk_of (D.state disk.old) (D.failures disk.old)) (disk_of (D.state disk.new) (D.failures disk.new)) path.now text.now) }
+    ensures saved { OnOk result (IsSaved (D.disk disk.old) (D.disk disk.new) path.now text.now) }
     ensures unreported { OnOk result (TakesLines (E.taken err.old) (E.failures err.old) [] (E.taken err.new) (E.failures err.new)) }
-    ensures unsaved { IfErr result (λ stop. (fault : TheFault) × IsUnsaved (disk_of (D.state disk.old) (D.failures disk.old)) (disk_of (D.state disk.new) (D.failures disk.new)) path.now text.now fault
+    ensures unsaved { IfErr result (λ stop. (fault : TheFault) × IsUnsaved (D.disk disk.old) (D.disk disk.new) path.now text.now fault
         × (status_of stop ≡ update_status fault) × TakesLines (E.taken err.old) (E.failures err.old) (update_lines path.now fault) (E.taken err.new) (E.failures err.new)) }
 {
     match update(alloc, disk, path, text) {

@@ -4,8 +4,6 @@ ghost use Rattle.std.specs.Io.KnownBytes.{Appends};
 ghost use Rattle.kc_value.specs.declared.limits.TheConstants.{MAX_BUNDLE_BYTES};
 ghost use Rattle.kmin_jobs.specs.Bundles.{ReadsToEnd};
 ghost use Rattle.kmin_jobs.specs.BundleAnswers.{AnswersBundle, StopsOnBundle, WritesPart};
-ghost use Rattle.kmin_tidy.specs.Steps.{disk_of};
-ghost use Rattle.kmin_jobs.specs.FileContents.{known_by};
 ghost use Rattle.kmin_jobs.specs.Reports.{last_lines};
 ghost use Rattle.kmin_jobs.specs.Saves.{SomeChangeEnds};
 ghost use Rattle.kmin_tidy.specs.StandardError.{HasRisen, TakesLines};
@@ -57,18 +55,18 @@ pub fn run<F: Files, D: WriteDisk, I: Source, O: Sink, E: Sink>(
     // On status 5 the writer took the first bytes of the full file, or nothing.
     ensures part { words.now ≡ [] → result ≡ 5 → (O.taken out.new ≡ O.taken out.old) ⊎ WritesPart (I.left input.old) (I.left input.new) (O.taken out.old) (O.taken out.new) }
     ensures bundle_unwritten { words.now ≡ [] → result ≢ 0 → result ≢ 5 → O.taken out.new ≡ O.taken out.old }
-    ensures untouched { words.now ≡ [] → D.state disk.new ≡ D.state disk.old }
+    ensures untouched { words.now ≡ [] → (D.disk disk.new).state ≡ (D.disk disk.old).state }
     ensures unwritten { result ≢ 0 → result ≢ 1 → result ≢ 4 → result ≢ 5 → O.taken out.new ≡ O.taken out.old }
 
     // On status 4 something was written only by a run of `tidy`, of which a file is refused.
-    ensures refused { result ≡ 4 → (O.taken out.new ≡ O.taken out.old) ⊎ SomeTidyEnds (known_by (F.content_of files.old) (F.regular_content_of files.old) (F.names_of files.old) (F.variable_of files.old)) (I.left input.old)
-        (outputs_of (disk_of (D.state disk.old) (D.failures disk.old)) (O.taken out.old) (O.failures out.old))
-        (outputs_of (disk_of (D.state disk.new) (D.failures disk.new)) (O.taken out.new) (O.failures out.new)) result }
+    ensures refused { result ≡ 4 → (O.taken out.new ≡ O.taken out.old) ⊎ SomeTidyEnds (F.surroundings files.old) (I.left input.old)
+        (outputs_of (D.disk disk.old) (O.taken out.old) (O.failures out.old))
+        (outputs_of (D.disk disk.new) (O.taken out.new) (O.failures out.new)) result }
 
     // The disk changes only by a run of `tidy` that may write files, and by a command with an output file.
-    ensures unasked { (D.state disk.new ≡ D.state disk.old) ⊎ SomeChangeEnds (known_by (F.content_of files.old) (F.regular_content_of files.old) (F.names_of files.old) (F.variable_of files.old)) (I.left input.old)
-        (outputs_of (disk_of (D.state disk.old) (D.failures disk.old)) (O.taken out.old) (O.failures out.old))
-        (outputs_of (disk_of (D.state disk.new) (D.failures disk.new)) (O.taken out.new) (O.failures out.new)) result }
+    ensures unasked { ((D.disk disk.new).state ≡ (D.disk disk.old).state) ⊎ SomeChangeEnds (F.surroundings files.old) (I.left input.old)
+        (outputs_of (D.disk disk.old) (O.taken out.old) (O.failures out.old))
+        (outputs_of (D.disk disk.new) (O.taken out.new) (O.failures out.new)) result }
 {
     if words.is_empty() {
         return match run_bundle(alloc, files.seed(), input, out, err) {
@@ -91,12 +89,12 @@ fn run_words<F: Files, D: WriteDisk, I: Source, O: Sink, E: Sink>(
 ) -> u8
     ensures status { result ≤ 6 }
     ensures unwritten { result ≢ 0 → result ≢ 1 → result ≢ 4 → result ≢ 5 → O.taken out.new ≡ O.taken out.old }
-    ensures refused { result ≡ 4 → (O.taken out.new ≡ O.taken out.old) ⊎ SomeTidyEnds (known_by (F.content_of files.old) (F.regular_content_of files.old) (F.names_of files.old) (F.variable_of files.old)) (I.left input.old)
-        (outputs_of (disk_of (D.state disk.old) (D.failures disk.old)) (O.taken out.old) (O.failures out.old))
-        (outputs_of (disk_of (D.state disk.new) (D.failures disk.new)) (O.taken out.new) (O.failures out.new)) result }
-    ensures unasked { (D.state disk.new ≡ D.state disk.old) ⊎ SomeChangeEnds (known_by (F.content_of files.old) (F.regular_content_of files.old) (F.names_of files.old) (F.variable_of files.old)) (I.left input.old)
-        (outputs_of (disk_of (D.state disk.old) (D.failures disk.old)) (O.taken out.old) (O.failures out.old))
-        (outputs_of (disk_of (D.state disk.new) (D.failures disk.new)) (O.taken out.new) (O.failures out.new)) result }
+    ensures refused { result ≡ 4 → (O.taken out.new ≡ O.taken out.old) ⊎ SomeTidyEnds (F.surroundings files.old) (I.left input.old)
+        (outputs_of (D.disk disk.old) (O.taken out.old) (O.failures out.old))
+        (outputs_of (D.disk disk.new) (O.taken out.new) (O.failures out.new)) result }
+    ensures unasked { ((D.disk disk.new).state ≡ (D.disk disk.old).state) ⊎ SomeChangeEnds (F.surroundings files.old) (I.left input.old)
+        (outputs_of (D.disk disk.old) (O.taken out.old) (O.failures out.old))
+        (outputs_of (D.disk disk.new) (O.taken out.new) (O.failures out.new)) result }
 {
     match read_words(alloc, words) {
         Ok(ParsedWords::Job(job)) => serve(alloc, &job, files, out, err),

@@ -3,11 +3,9 @@ ghost use Rattle.std.specs.Prelude.{◌≡◌, ◌≢◌, ◌≤◌, ◌++◌, [
 ghost use Rattle.std.specs.List.{list_all};
 ghost use Rattle.std.specs.Str.{is_utf8};
 ghost use Rattle.std.specs.Borrow.{Bor};
-ghost use Rattle.kc_expansion.specs.TreeContents.{FileContent};
+ghost use Rattle.kc_files.specs.TreeContents.{FileContent};
 ghost use Rattle.kmin_lines.specs.Lists.{paths_in, is_one_line};
-ghost use Rattle.kmin_tidy.specs.Steps.{disk_of};
 ghost use Rattle.kmin_words.specs.Jobs.{list_view, settings_view, tidy_job_view};
-ghost use Rattle.kmin_jobs.specs.FileContents.{known_by};
 ghost use Rattle.kmin_tidy.specs.KnownBytes.{AreKnownBytes};
 ghost use Rattle.kmin_disk.specs.Contents.{OpensAs};
 ghost use Rattle.kmin_tidy.specs.Reports.{fault_line};
@@ -46,12 +44,12 @@ pub fn tidy<F: Files, D: WriteDisk, I: Source, O: Sink, E: Sink>(
 
     // The files are tidied as by `tidy_files`; or the list or the tree is refused, which is reported, and nothing
     // changes.
-    ensures ends { (lines : List (List ℕ)) × TidyEnds (known_by (F.content_of files.old) (F.regular_content_of files.old) (F.names_of files.old) (F.variable_of files.old)) (I.left input.old) (tidy_job_view tidy_job.now)
-        (outputs_of (disk_of (D.state disk.old) (D.failures disk.old)) (O.taken out.old) (O.failures out.old))
-        (outputs_of (disk_of (D.state disk.new) (D.failures disk.new)) (O.taken out.new) (O.failures out.new)) lines result × TakesLines (E.taken err.old) (E.failures err.old) lines (E.taken err.new) (E.failures err.new) }
+    ensures ends { (lines : List (List ℕ)) × TidyEnds (F.surroundings files.old) (I.left input.old) (tidy_job_view tidy_job.now)
+        (outputs_of (D.disk disk.old) (O.taken out.old) (O.failures out.old))
+        (outputs_of (D.disk disk.new) (O.taken out.new) (O.failures out.new)) lines result × TakesLines (E.taken err.old) (E.failures err.old) lines (E.taken err.new) (E.failures err.new) }
 
     // Without `--write` the disk doesn't change.
-    ensures unasked { tidy_job.now.flags.write ≡ false → D.state disk.new ≡ D.state disk.old }
+    ensures unasked { tidy_job.now.flags.write ≡ false → (D.disk disk.new).state ≡ (D.disk disk.old).state }
 
     // Where the list or the tree is refused, or memory runs out, nothing is written.
     ensures unwritten { result ≢ 0 → result ≢ 1 → result ≢ 4 → result ≢ 5 → O.taken out.new ≡ O.taken out.old }
@@ -73,11 +71,11 @@ fn tidy_listed<F: Files, D: WriteDisk, O: Sink, E: Sink>(
     err: &mut E,
 ) -> u8
     ensures status { result ≤ 6 }
-    ensures ends { (left : Option (List ℕ)) → AreListBytes (F.content_of files.old) left (tidy_job_view tidy_job.now).list list.now
-        → (lines : List (List ℕ)) × TidyEnds (known_by (F.content_of files.old) (F.regular_content_of files.old) (F.names_of files.old) (F.variable_of files.old)) left (tidy_job_view tidy_job.now)
-        (outputs_of (disk_of (D.state disk.old) (D.failures disk.old)) (O.taken out.old) (O.failures out.old))
-        (outputs_of (disk_of (D.state disk.new) (D.failures disk.new)) (O.taken out.new) (O.failures out.new)) lines result × TakesLines (E.taken err.old) (E.failures err.old) lines (E.taken err.new) (E.failures err.new) }
-    ensures unasked { tidy_job.now.flags.write ≡ false → D.state disk.new ≡ D.state disk.old }
+    ensures ends { (left : Option (List ℕ)) → AreListBytes (F.surroundings files.old).content left (tidy_job_view tidy_job.now).list list.now
+        → (lines : List (List ℕ)) × TidyEnds (F.surroundings files.old) left (tidy_job_view tidy_job.now)
+        (outputs_of (D.disk disk.old) (O.taken out.old) (O.failures out.old))
+        (outputs_of (D.disk disk.new) (O.taken out.new) (O.failures out.new)) lines result × TakesLines (E.taken err.old) (E.failures err.old) lines (E.taken err.new) (E.failures err.new) }
+    ensures unasked { tidy_job.now.flags.write ≡ false → (D.disk disk.new).state ≡ (D.disk disk.old).state }
     ensures unwritten { result ≢ 0 → result ≢ 1 → result ≢ 4 → result ≢ 5 → O.taken out.new ≡ O.taken out.old }
 {
     match all_paths(alloc, &tidy_job.files, list, is_ended_by_nul(tidy_job.list)) {
@@ -108,10 +106,10 @@ fn tidy_paths<F: Files, D: WriteDisk, O: Sink, E: Sink>(
     err: &mut E,
 ) -> u8
     ensures status { result ≤ 6 }
-    ensures ends { (lines : List (List ℕ)) × PathsEnd (known_by (F.content_of files.old) (F.regular_content_of files.old) (F.names_of files.old) (F.variable_of files.old)) (settings_view tidy_job.now.settings) tidy_job.now.flags (map (λ (path : Bor (List ℕ)). path.now) paths.now)
-        (outputs_of (disk_of (D.state disk.old) (D.failures disk.old)) (O.taken out.old) (O.failures out.old))
-        (outputs_of (disk_of (D.state disk.new) (D.failures disk.new)) (O.taken out.new) (O.failures out.new)) lines result × TakesLines (E.taken err.old) (E.failures err.old) lines (E.taken err.new) (E.failures err.new) }
-    ensures unasked { tidy_job.now.flags.write ≡ false → D.state disk.new ≡ D.state disk.old }
+    ensures ends { (lines : List (List ℕ)) × PathsEnd (F.surroundings files.old) (settings_view tidy_job.now.settings) tidy_job.now.flags (map (λ (path : Bor (List ℕ)). path.now) paths.now)
+        (outputs_of (D.disk disk.old) (O.taken out.old) (O.failures out.old))
+        (outputs_of (D.disk disk.new) (O.taken out.new) (O.failures out.new)) lines result × TakesLines (E.taken err.old) (E.failures err.old) lines (E.taken err.new) (E.failures err.new) }
+    ensures unasked { tidy_job.now.flags.write ≡ false → (D.disk disk.new).state ≡ (D.disk disk.old).state }
     ensures unwritten { result ≢ 0 → result ≢ 1 → result ≢ 4 → result ≢ 5 → O.taken out.new ≡ O.taken out.old }
 {
     match job_tree(alloc, &tidy_job.settings, files, err) {
@@ -188,10 +186,10 @@ fn list_bytes<F: Files, I: Source, E: Sink>(
     input: &mut I,
     err: &mut E,
 ) -> Result<Vec<u8>, RunError>
-    ensures same { known_by (F.content_of files.new) (F.regular_content_of files.new) (F.names_of files.new) (F.variable_of files.new) ≡ known_by (F.content_of files.old) (F.regular_content_of files.old) (F.names_of files.old) (F.variable_of files.old) }
-    ensures bytes { IfOk result (λ bytes. AreListBytes (F.content_of files.old) (I.left input.old) (option_map list_view list.entry) bytes.items) }
+    ensures same { F.surroundings files.new ≡ F.surroundings files.old }
+    ensures bytes { IfOk result (λ bytes. AreListBytes (F.surroundings files.old).content (I.left input.old) (option_map list_view list.entry) bytes.items) }
     ensures unreported { IfOk result (λ bytes. TakesLines (E.taken err.old) (E.failures err.old) [] (E.taken err.new) (E.failures err.new)) }
-    ensures stopped { IfErr result (λ stop. (lines : List (List ℕ)) × StopsAtList (F.content_of files.old) (I.left input.old) (option_map list_view list.entry) (status_of stop) lines × TakesLines (E.taken err.old) (E.failures err.old) lines (E.taken err.new) (E.failures err.new)) }
+    ensures stopped { IfErr result (λ stop. (lines : List (List ℕ)) × StopsAtList (F.surroundings files.old).content (I.left input.old) (option_map list_view list.entry) (status_of stop) lines × TakesLines (E.taken err.old) (E.failures err.old) lines (E.taken err.new) (E.failures err.new)) }
 {
     match list {
         Some(list) => named_list(alloc, list.path, files, input, err),
@@ -207,11 +205,11 @@ fn named_list<F: Files, I: Source, E: Sink>(
     input: &mut I,
     err: &mut E,
 ) -> Result<Vec<u8>, RunError>
-    ensures same { known_by (F.content_of files.new) (F.regular_content_of files.new) (F.names_of files.new) (F.variable_of files.new) ≡ known_by (F.content_of files.old) (F.regular_content_of files.old) (F.names_of files.old) (F.variable_of files.old) }
+    ensures same { F.surroundings files.new ≡ F.surroundings files.old }
     ensures within { IfOk result (λ bytes. length bytes.items ≤ MAX_LIST_BYTES) }
-    ensures bytes { IfOk result (λ bytes. AreKnownBytes (list_content (F.content_of files.old) (I.left input.old) path.now) bytes.items) }
+    ensures bytes { IfOk result (λ bytes. AreKnownBytes (list_content (F.surroundings files.old).content (I.left input.old) path.now) bytes.items) }
     ensures unreported { IfOk result (λ bytes. TakesLines (E.taken err.old) (E.failures err.old) [] (E.taken err.new) (E.failures err.new)) }
-    ensures stopped { IfErr result (λ stop. (lines : List (List ℕ)) × StopsReadingList (list_content (F.content_of files.old) (I.left input.old) path.now) path.now (status_of stop) lines × TakesLines (E.taken err.old) (E.failures err.old) lines (E.taken err.new) (E.failures err.new)) }
+    ensures stopped { IfErr result (λ stop. (lines : List (List ℕ)) × StopsReadingList (list_content (F.surroundings files.old).content (I.left input.old) path.now) path.now (status_of stop) lines × TakesLines (E.taken err.old) (E.failures err.old) lines (E.taken err.new) (E.failures err.new)) }
 {
     if path == "-" {
         return read_list(alloc, path, input, err);

@@ -1,5 +1,5 @@
 //! The files of a tree that is read without the expansion of macros.
-ghost use Rattle.std.specs.Prelude.{◌≡◌, ◌≤◌, ◌⊎◌, List, ℕ, length, IfOk, IfSome};
+ghost use Rattle.std.specs.Prelude.{◌≡◌, ◌≤◌, ◌⊎◌, length, IfOk, IfSome};
 ghost use Rattle.std.specs.Io.KnownBytes.{Consumes, IsAtEnd};
 ghost use Rattle.kmin_jobs.specs.FileContents.{AreTextsBelow, MatchContentStart, path_below};
 ghost use Rattle.kmin_jobs.specs.between.Readings.{IsRead};
@@ -7,7 +7,7 @@ ghost use Rattle.kmin_jobs.specs.between.Readings.{IsRead};
 use crate::files::Files;
 use crate::prefetch::absent_paths_of_file;
 use crate::trees::read_texts;
-use kc_expr::Language;
+use kc_tokens::Language;
 use kc_tree::{Texts, Tree, TreeFault, TreeKind, wanted};
 use kc_value::{MAX_FILE_BYTES, MAX_FILES, MAX_ROUNDS, ReadBytes, ReadEnd, Source, read_up_to};
 use std::alloc::{AllocError, Global};
@@ -56,8 +56,8 @@ pub(crate) fn gather<F: Files>(
     language: Language,
     files: &mut F,
 ) -> Result<TreeReading, AllocError>
-    ensures same { (path : List ℕ) → F.content_of files.new path ≡ F.content_of files.old path }
-    ensures below { IfOk result (λ g. AreTextsBelow (F.content_of files.old) root.now language g.texts) }
+    ensures same { F.surroundings files.new ≡ F.surroundings files.old }
+    ensures below { IfOk result (λ g. AreTextsBelow (F.surroundings files.old).content root.now language g.texts) }
     ensures read { IfOk result (λ g. IsRead g.texts first.now g.read) }
 {
     let mut texts = Texts::with_language(alloc, files.seed(), language);
@@ -78,9 +78,9 @@ fn open_first<F: Files>(
     files: &mut F,
     texts: &mut Texts,
 ) -> Result<(), AllocError>
-    requires below { AreTextsBelow (F.content_of files.old) root.now texts.old.language texts.old }
-    ensures same { (path : List ℕ) → F.content_of files.new path ≡ F.content_of files.old path }
-    ensures below { AreTextsBelow (F.content_of files.old) root.now texts.old.language texts.new }
+    requires below { AreTextsBelow (F.surroundings files.old).content root.now texts.old.language texts.old }
+    ensures same { F.surroundings files.new ≡ F.surroundings files.old }
+    ensures below { AreTextsBelow (F.surroundings files.old).content root.now texts.old.language texts.new }
 {
     let mut room = Room::whole();
     insert_one(alloc, root, first, &mut room, files, texts)?;
@@ -96,9 +96,9 @@ fn gather_wanted<F: Files>(
     files: &mut F,
     mut texts: Texts,
 ) -> Result<TreeReading, AllocError>
-    requires below { AreTextsBelow (F.content_of files.old) root.now texts.language texts }
-    ensures same { (path : List ℕ) → F.content_of files.new path ≡ F.content_of files.old path }
-    ensures below { IfOk result (λ g. AreTextsBelow (F.content_of files.old) root.now texts.language g.texts) }
+    requires below { AreTextsBelow (F.surroundings files.old).content root.now texts.language texts }
+    ensures same { F.surroundings files.new ≡ F.surroundings files.old }
+    ensures below { IfOk result (λ g. AreTextsBelow (F.surroundings files.old).content root.now texts.language g.texts) }
     ensures read { IfOk result (λ g. IsRead g.texts first.now g.read) }
 {
     open_wanted(alloc, root, first, files, &mut texts)?;
@@ -123,9 +123,9 @@ fn open_ahead<F: Files>(
     files: &mut F,
     texts: &mut Texts,
 ) -> Result<(), AllocError>
-    requires below { AreTextsBelow (F.content_of files.old) root.now texts.old.language texts.old }
-    ensures same { (path : List ℕ) → F.content_of files.new path ≡ F.content_of files.old path }
-    ensures below { AreTextsBelow (F.content_of files.old) root.now texts.old.language texts.new }
+    requires below { AreTextsBelow (F.surroundings files.old).content root.now texts.old.language texts.old }
+    ensures same { F.surroundings files.new ≡ F.surroundings files.old }
+    ensures below { AreTextsBelow (F.surroundings files.old).content root.now texts.old.language texts.new }
 {
     for number in 0..MAX_FILES as u32 {
         if room.is_used() {
@@ -147,9 +147,9 @@ fn open_wanted<F: Files>(
     files: &mut F,
     texts: &mut Texts,
 ) -> Result<(), AllocError>
-    requires below { AreTextsBelow (F.content_of files.old) root.now texts.old.language texts.old }
-    ensures same { (path : List ℕ) → F.content_of files.new path ≡ F.content_of files.old path }
-    ensures below { AreTextsBelow (F.content_of files.old) root.now texts.old.language texts.new }
+    requires below { AreTextsBelow (F.surroundings files.old).content root.now texts.old.language texts.old }
+    ensures same { F.surroundings files.new ≡ F.surroundings files.old }
+    ensures below { AreTextsBelow (F.surroundings files.old).content root.now texts.old.language texts.new }
 {
     for _ in 0..MAX_ROUNDS {
         let paths = match wanted(alloc, texts, first) {
@@ -173,9 +173,9 @@ fn insert_all<F: Files>(
     files: &mut F,
     texts: &mut Texts,
 ) -> Result<bool, AllocError>
-    requires below { AreTextsBelow (F.content_of files.old) root.now texts.old.language texts.old }
-    ensures same { (path : List ℕ) → F.content_of files.new path ≡ F.content_of files.old path }
-    ensures below { AreTextsBelow (F.content_of files.old) root.now texts.old.language texts.new }
+    requires below { AreTextsBelow (F.surroundings files.old).content root.now texts.old.language texts.old }
+    ensures same { F.surroundings files.new ≡ F.surroundings files.old }
+    ensures below { AreTextsBelow (F.surroundings files.old).content root.now texts.old.language texts.new }
 {
     let mut any = false;
     for path in paths {
@@ -196,9 +196,9 @@ fn insert_one<F: Files>(
     files: &mut F,
     texts: &mut Texts,
 ) -> Result<bool, AllocError>
-    requires below { AreTextsBelow (F.content_of files.old) root.now texts.old.language texts.old }
-    ensures same { (other : List ℕ) → F.content_of files.new other ≡ F.content_of files.old other }
-    ensures below { AreTextsBelow (F.content_of files.old) root.now texts.old.language texts.new }
+    requires below { AreTextsBelow (F.surroundings files.old).content root.now texts.old.language texts.old }
+    ensures same { F.surroundings files.new ≡ F.surroundings files.old }
+    ensures below { AreTextsBelow (F.surroundings files.old).content root.now texts.old.language texts.new }
 {
     if texts.get(path).is_some() {
         return Ok(false);
@@ -219,8 +219,8 @@ fn read_below<F: Files>(
     path: &str,
     files: &mut F,
 ) -> Result<Option<Vec<u8>>, AllocError>
-    ensures same { (other : List ℕ) → F.content_of files.new other ≡ F.content_of files.old other }
-    ensures bytes { IfOk result (λ found. IfSome found (λ bytes. MatchContentStart (F.content_of files.old (path_below root.now path.now)) bytes.items)) }
+    ensures same { F.surroundings files.new ≡ F.surroundings files.old }
+    ensures bytes { IfOk result (λ found. IfSome found (λ bytes. MatchContentStart ((F.surroundings files.old).content (path_below root.now path.now)) bytes.items)) }
 {
     let mut place = String::from_str(alloc, root)?;
     place.push_str("/")?;

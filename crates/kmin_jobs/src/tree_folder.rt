@@ -1,11 +1,11 @@
 //! The files and folders of a tree below its root.
 ghost use Rattle.std.specs.Prelude.{◌≡◌, IfOk, IfSome, is_some, string_bytes};
 ghost use Rattle.std.specs.Str.{is_utf8};
-ghost use Rattle.kmin_jobs.specs.FileContents.{known_by, path_below};
+ghost use Rattle.kmin_jobs.specs.FileContents.{path_below};
 ghost use Rattle.kmin_jobs.specs.TreeFolders.{contents_through};
 
 use crate::files::Files;
-use kc_expansion::TreeFiles;
+use kc_files::TreeFiles;
 use kc_value::Seed;
 use std::alloc::{AllocError, Global};
 
@@ -40,7 +40,7 @@ pub(crate) fn text_of(bytes: &[u8]) -> Option<&str>
 impl<F: Files> TreeFiles for TreeFolder<'_, F> {
     type File = F::File;
 
-    ghost contents = { λ t. contents_through t.files.ghost_name (known_by (F.content_of t.files.now) (F.regular_content_of t.files.now) (F.names_of t.files.now) (F.variable_of t.files.now)) t.root.now };
+    ghost contents = { λ t. contents_through t.files.ghost_name (F.surroundings t.files.now) t.root.now };
 
     fn seed(&self) -> Seed {
         self.files.seed()

@@ -3,10 +3,9 @@ ghost use Rattle.std.specs.Prelude.{◌≡◌, ◌≢◌, ◌≤◌, ◌⊎◌, 
 ghost use Rattle.std.specs.declared.alloc.Global.{Global};
 ghost use Rattle.std.specs.List.{flat_map};
 ghost use Rattle.std.specs.Io.KnownBytes.{Appends};
-ghost use Rattle.kc_expansion.specs.TextViews.{items_of};
+ghost use Rattle.kc_files.specs.TextViews.{items_of};
 ghost use Rattle.kmin_words.specs.Jobs.{questions_view};
 ghost use Rattle.kc_expansion.specs.Expansions.{questions_of};
-ghost use Rattle.kmin_jobs.specs.FileContents.{known_by};
 ghost use Rattle.kmin_jobs.specs.Reports.{last_lines};
 ghost use Rattle.kmin_tidy.specs.StandardError.{TakesLines};
 ghost use Rattle.kmin_jobs.specs.WantedQuestions.{AreAsked, AsksInPart, StopsWanting, question_line, questions_text};
@@ -42,14 +41,14 @@ pub fn list_questions<F: Files, O: Sink, E: Sink>(
     ensures accepted_words { result ≢ 2 }
 
     // The answer files are accepted, exactly the open questions are written, and no write failed.
-    ensures done { (result ≡ 0) ⊎ (result ≡ 1) → (asked : List (List ℕ)) × AreAsked (known_by (F.content_of files.old) (F.regular_content_of files.old) (F.names_of files.old) (F.variable_of files.old)) (questions_view questions.now) (Ok asked) × (result ≡ status_of_list true asked) × Appends (O.taken out.old) (O.taken out.new) (questions_text asked) × TakesLines (E.taken err.old) (E.failures err.old) [] (E.taken err.new) (E.failures err.new) }
+    ensures done { (result ≡ 0) ⊎ (result ≡ 1) → (asked : List (List ℕ)) × AreAsked (F.surroundings files.old) (questions_view questions.now) (Ok asked) × (result ≡ status_of_list true asked) × Appends (O.taken out.old) (O.taken out.new) (questions_text asked) × TakesLines (E.taken err.old) (E.failures err.old) [] (E.taken err.new) (E.failures err.new) }
     ensures unfailed { (result ≡ 0) ⊎ (result ≡ 1) → O.failures out.new ≡ O.failures out.old }
 
     // On every other status the fault that ended the run is reported.
-    ensures stopped { (result ≢ 0) × (result ≢ 1) → (lines : List (List ℕ)) × StopsWanting (known_by (F.content_of files.old) (F.regular_content_of files.old) (F.names_of files.old) (F.variable_of files.old)) (questions_view questions.now) result lines × TakesLines (E.taken err.old) (E.failures err.old) (lines ++ last_lines result) (E.taken err.new) (E.failures err.new) }
+    ensures stopped { (result ≢ 0) × (result ≢ 1) → (lines : List (List ℕ)) × StopsWanting (F.surroundings files.old) (questions_view questions.now) result lines × TakesLines (E.taken err.old) (E.failures err.old) (lines ++ last_lines result) (E.taken err.new) (E.failures err.new) }
 
     // On status 5 the writer took the first bytes of the questions, or nothing.
-    ensures part { result ≡ 5 → (O.taken out.new ≡ O.taken out.old) ⊎ AsksInPart (known_by (F.content_of files.old) (F.regular_content_of files.old) (F.names_of files.old) (F.variable_of files.old)) (questions_view questions.now) (O.taken out.old) (O.taken out.new) }
+    ensures part { result ≡ 5 → (O.taken out.new ≡ O.taken out.old) ⊎ AsksInPart (F.surroundings files.old) (questions_view questions.now) (O.taken out.old) (O.taken out.new) }
 
     ensures unwritten { result ≢ 0 → result ≢ 1 → result ≢ 5 → O.taken out.new ≡ O.taken out.old }
 {
@@ -70,9 +69,9 @@ fn answer_questions<F: Files, E: Sink>(
     err: &mut E,
 ) -> Result<AnswerText, RunError>
     ensures status { IfOk result (λ answer. answer.status ≤ 1) }
-    ensures answer { IfOk result (λ answer. (asked : List (List ℕ)) × AreAsked (known_by (F.content_of files.old) (F.regular_content_of files.old) (F.names_of files.old) (F.variable_of files.old)) (questions_view questions.now) (Ok asked) × (answer.text.items ≡ questions_text asked) × (answer.status ≡ status_of_list true asked)) }
+    ensures answer { IfOk result (λ answer. (asked : List (List ℕ)) × AreAsked (F.surroundings files.old) (questions_view questions.now) (Ok asked) × (answer.text.items ≡ questions_text asked) × (answer.status ≡ status_of_list true asked)) }
     ensures unreported { IfOk result (λ answer. TakesLines (E.taken err.old) (E.failures err.old) [] (E.taken err.new) (E.failures err.new)) }
-    ensures stopped { IfErr result (λ stop. (lines : List (List ℕ)) × StopsWanting (known_by (F.content_of files.old) (F.regular_content_of files.old) (F.names_of files.old) (F.variable_of files.old)) (questions_view questions.now) (status_of stop) lines × TakesLines (E.taken err.old) (E.failures err.old) lines (E.taken err.new) (E.failures err.new)) }
+    ensures stopped { IfErr result (λ stop. (lines : List (List ℕ)) × StopsWanting (F.surroundings files.old) (questions_view questions.now) (status_of stop) lines × TakesLines (E.taken err.old) (E.failures err.old) lines (E.taken err.new) (E.failures err.new)) }
 {
     let wanted = wanted_of(alloc, questions, files, err)?;
     match wanted {
@@ -91,9 +90,9 @@ fn wanted_of<F: Files, E: Sink>(
     files: &mut F,
     err: &mut E,
 ) -> Result<Result<Vec<Vec<u8>>, MacroFault>, RunError>
-    ensures asked { IfOk result (λ wanted. AreAsked (known_by (F.content_of files.old) (F.regular_content_of files.old) (F.names_of files.old) (F.variable_of files.old)) (questions_view questions.now) (questions_of wanted)) }
+    ensures asked { IfOk result (λ wanted. AreAsked (F.surroundings files.old) (questions_view questions.now) (questions_of wanted)) }
     ensures unreported { IfOk result (λ wanted. TakesLines (E.taken err.old) (E.failures err.old) [] (E.taken err.new) (E.failures err.new)) }
-    ensures stopped { IfErr result (λ stop. (lines : List (List ℕ)) × StopsWanting (known_by (F.content_of files.old) (F.regular_content_of files.old) (F.names_of files.old) (F.variable_of files.old)) (questions_view questions.now) (status_of stop) lines × TakesLines (E.taken err.old) (E.failures err.old) lines (E.taken err.new) (E.failures err.new)) }
+    ensures stopped { IfErr result (λ stop. (lines : List (List ℕ)) × StopsWanting (F.surroundings files.old) (questions_view questions.now) (status_of stop) lines × TakesLines (E.taken err.old) (E.failures err.old) lines (E.taken err.new) (E.failures err.new)) }
 {
     let answers = job_answers(alloc, &questions.expansion, files, err)?;
     let wanted = wanted_below(alloc, questions.root, questions.tree, &answers, files);

@@ -3,10 +3,9 @@ use Rattle.std.proofs.Common.{◌≡◌, ◌≢◌, ℕ, true, false, List, [], 
 use Rattle.std.specs.Io.KnownBytes.{Appends}
 use Rattle.std.proofs.KnownBytes.{Appends-nil}
 use Rattle.kmin_disk.specs.Contents.{nothing, unfinished}
-use Rattle.kmin_disk.specs.Disks.{History, newest, with_newest, content_at}
+use Rattle.kmin_disk.specs.Disks.{Disk, History, newest, with_newest, content_at}
 use Rattle.kmin_disk.proofs.Places.{same_place_or_other}
 use Rattle.kmin_tidy.specs.Options.{Settings}
-use Rattle.kmin_tidy.specs.Steps.{Disk}
 use Rattle.kmin_tidy.specs.Runs.{Tidies}
 use Rattle.kmin_tidy.specs.Ends.{Ends, whole, part, stopped, Stops, before_write, at_write, at_left, IsToBeReplaced, LeavesNewFile}
 use Rattle.kmin_tidy.specs.Promises.{IsKeptOrLeft, IsKept, IsTidy, AreTidy}

@@ -17,7 +17,7 @@ use Rattle.kc_dotconfig.specs.declared.fragment.Fragment.{Fragment}
 use Rattle.kc_dotconfig.specs.Fragments.{notice_pair, users_of}
 use Rattle.kc_minimal_model.specs.CanonicalText.{IsCanonicalText}
 use Rattle.kmin_disk.specs.Contents.{Content, IsOfKind, special, readable}
-use Rattle.kmin_disk.specs.Disks.{content_at}
+use Rattle.kmin_disk.specs.Disks.{Disk, content_at}
 use Rattle.kmin_disk.specs.Failures.{failures_of_fault}
 use Rattle.kmin_disk.specs.Replacements.{FaultLeaves, HasTakenName}
 use Rattle.kmin_disk.specs.declared.kind.FileKind.{FileKind}
@@ -28,7 +28,7 @@ use Rattle.kmin_tidy.specs.Options.{Settings, Notices, settings_of, refuses_noti
 use Rattle.kmin_tidy.specs.MinimalFiles.{MayBeRead, IsReadAt, HasMinimalFile, Minimises}
 use Rattle.kmin_tidy.specs.Refusals as refusals
 use Rattle.kmin_tidy.specs.Reports.{fault_line, not_regular_line, notice_lines, difference_line}
-use Rattle.kmin_tidy.specs.Steps.{Disk, Step, refused, noticed, minimal, shown, replaced, unwritten, call_failed, names_taken, not_regular, unsynced}
+use Rattle.kmin_tidy.specs.Steps.{Step, refused, noticed, minimal, shown, replaced, unwritten, call_failed, names_taken, not_regular, unsynced}
 use Rattle.kmin_tidy.specs.checker.Readings.{IsFragmentOf, IsFaulty}
 use Rattle.kmin_tidy.specs.checker.FileReports.{IsRefusedAs, IsFailedBy, IsStoppedBy}
 use Rattle.kmin_tidy.specs.checker.FileResults as results

@@ -1,9 +1,8 @@
 -- Runs, one file after another.
 use Rattle.std.proofs.Common.{◌≡◌, ℕ, false, List, [], ◌∷◌, ◌++◌, inl, refl, sym, ap, ◌∙◌, subst, map}
 use Rattle.std.specs.List.{AllByRecursion}
-use Rattle.kmin_disk.specs.Disks.{DiskState, newest, content_at}
+use Rattle.kmin_disk.specs.Disks.{Disk, DiskState, newest, content_at}
 use Rattle.kmin_tidy.specs.Options.{Settings}
-use Rattle.kmin_tidy.specs.Steps.{Disk}
 use Rattle.kmin_tidy.specs.Promises.{IsKept, IsTidy, AreTidy}
 use Rattle.kmin_tidy.specs.Runs.{DoneFile, path_of, Run, none, one_more, AreMinimal, HoldsMinimalFile}
 use Rattle.kmin_tidy.specs.declared.outcome.FileOutcome.TheVariants.{Minimal}

@@ -1,11 +1,11 @@
 -- The disk after one file of a run.
 use Rattle.std.proofs.Common.{◌≡◌, ◌≢◌, ℕ, true, false, List, [], Option, Some, None, inl, inr, sym, ap, ◌∙◌, subst}
 use Rattle.kmin_disk.specs.Contents.{Content, nothing, file, unfinished, special}
-use Rattle.kmin_disk.specs.Disks.{DiskState, IsUnchanged, Replaces, content_at}
+use Rattle.kmin_disk.specs.Disks.{Disk, DiskState, IsUnchanged, Replaces, content_at}
 use Rattle.kmin_disk.proofs.Places.{same_place_or_other}
 use Rattle.kmin_tidy.specs.Options.{Settings, Notices, refuses_notices}
 use Rattle.kmin_tidy.specs.MinimalFiles.{IsReadAs, HasMinimalFile, IsNotMinimal}
-use Rattle.kmin_tidy.specs.Steps.{Disk, Step, refused, noticed, minimal, shown, replaced, unwritten, IsUnwritten, call_failed, names_taken, not_regular, unsynced}
+use Rattle.kmin_tidy.specs.Steps.{Step, refused, noticed, minimal, shown, replaced, unwritten, IsUnwritten, call_failed, names_taken, not_regular, unsynced}
 use Rattle.kmin_tidy.specs.Promises.{IsMinimised, IsKept, IsTidy}
 use Rattle.kmin_tidy.specs.Runs.{HoldsMinimalFile}
 use Rattle.kmin_tidy.specs.declared.outcome.FileOutcome.{FileOutcome}

@@ -4,7 +4,8 @@ use Rattle.std.specs.Borrow.{Bor}
 use Rattle.std.proofs.lemmas.List.{take_more, map-append}
 use Rattle.std.specs.Result.{IsErr, IsErrAnd}
 use Rattle.kmin_tidy.specs.Options.{Settings}
-use Rattle.kmin_tidy.specs.Steps.{Disk, Step}
+use Rattle.kmin_disk.specs.Disks.{Disk}
+use Rattle.kmin_tidy.specs.Steps.{Step}
 use Rattle.kmin_tidy.specs.Runs.{Run, none, one_more, Tidies, paths_of}
 use Rattle.kmin_tidy.specs.checker.Statuses.{status_after}
 use Rattle.kmin_tidy.specs.checker.FileResults.{StopsFile, StopsRun, before_write, at_write}

@@ -2,13 +2,12 @@
 use Rattle.std.specs.Prelude.{◌≡◌, ◌<◌, ℕ, true, List, [], ◌∷◌, ◌++◌, Option, length, take}
 use Rattle.std.specs.Io.KnownBytes.{Appends}
 use Rattle.kc_value.specs.Streams.{one_failure_more}
-use Rattle.kmin_disk.specs.Disks.{IsUnchanged, Leaves}
+use Rattle.kmin_disk.specs.Disks.{Disk, IsUnchanged, Leaves}
 use Rattle.kmin_disk.specs.NewFiles.{IsNewPath}
 use Rattle.kmin_tidy.specs.Options.{Settings, Notices}
 use Rattle.kmin_tidy.specs.MinimalFiles.{IsNotMinimal}
 use Rattle.kmin_tidy.specs.Reports.{left_line, output_line, memory_line}
 use Rattle.kmin_tidy.specs.StandardError.{HasRisen}
-use Rattle.kmin_tidy.specs.Steps.{Disk}
 use Rattle.kmin_tidy.specs.Runs.{Tidies}
 
 -- The option `--write` is given, and the file at this path is accepted, isn't refused for its notices, and differs from its

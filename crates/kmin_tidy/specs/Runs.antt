@@ -2,10 +2,10 @@
 use Rattle.std.specs.Prelude.{◌≡◌, ℕ, List, [], ◌∷◌, ◌++◌, map, max, Some}
 use Rattle.std.specs.Borrow.{Bor}
 use Rattle.std.specs.List.{AllByRecursion}
-use Rattle.kmin_disk.specs.Disks.{DiskState, History}
+use Rattle.kmin_disk.specs.Disks.{Disk, DiskState, History}
 use Rattle.kmin_tidy.specs.Options.{Settings}
 use Rattle.kmin_tidy.specs.MinimalFiles.{IsMinimalFile, IsReadAs}
-use Rattle.kmin_tidy.specs.Steps.{Disk, Step}
+use Rattle.kmin_tidy.specs.Steps.{Step}
 use Rattle.kmin_tidy.specs.declared.outcome.FileOutcome.{FileOutcome}
 use Rattle.kmin_tidy.specs.declared.outcome.FileOutcome.TheVariants.{Minimal, NotMinimal, Refused, Failed}
 

@@ -2,7 +2,7 @@
 use Rattle.std.specs.Prelude.{◌≡◌, ◌≢◌, ℕ, true, false, List, [], ◌∷◌, ◌++◌}
 use Rattle.kc_value.specs.Streams.{one_failure_more}
 use Rattle.kmin_disk.specs.Contents.{IsOfKind}
-use Rattle.kmin_disk.specs.Disks.{DiskState, IsUnchanged, Replaces, content_at}
+use Rattle.kmin_disk.specs.Disks.{Disk, IsUnchanged, Replaces, content_at}
 use Rattle.kmin_disk.specs.Replacements.{HasTakenName}
 use Rattle.kmin_disk.specs.declared.kind.FileKind.TheVariants.{NotRegular}
 use Rattle.kmin_tidy.specs.Options.{Settings, Notices, refuses_notices}
@@ -11,15 +11,6 @@ use Rattle.kmin_tidy.specs.Refusals.{IsRefused}
 use Rattle.kmin_tidy.specs.Reports.{difference_line, notice_lines, write_line}
 use Rattle.kmin_tidy.specs.declared.outcome.FileOutcome.{FileOutcome}
 use Rattle.kmin_tidy.specs.declared.outcome.FileOutcome.TheVariants.{Minimal, NotMinimal, Refused, Failed}
-
--- the state of a disk, as far as it is known, and how many calls to the disk failed
-pub record Disk : Type 0 where
-  pub state : DiskState
-  pub failures : ℕ
-
--- a disk of this state and this count of failed calls
-abbrev pub disk_of : DiskState → ℕ → Disk
-disk_of state failures = record { state = state; failures = failures }
 
 -- The file at a path couldn't be replaced, or not for good: a call failed, all names tried for the new file are in use, or the
 -- file isn't regular by now; or it was replaced, and its folder couldn't be synced.

@@ -32,9 +32,9 @@ pub(crate) fn read_file<D: ReadDisk>(
     path: &str,
     disk: &D,
 ) -> Result<AcceptedFile, LoadFault>
-    ensures ok { IfOk result (IsAcceptedAs (file_format format.now) (tree_of_settled settled.now) (readable (content_at (D.state disk.now) path.now))) }
+    ensures ok { IfOk result (IsAcceptedAs (file_format format.now) (tree_of_settled settled.now) (readable (content_at (D.disk disk.now).state path.now))) }
     ensures fault { IfErr result (λ fault. IsFaulty (file_format format.now) (tree_of_settled settled.now)
-        (readable (content_at (D.state disk.now) path.now)) fault.kind fault.line) }
+        (readable (content_at (D.disk disk.now).state path.now)) fault.kind fault.line) }
 {
     match disk.open(path) {
         Some(mut file) => {

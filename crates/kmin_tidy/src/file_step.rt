@@ -8,7 +8,7 @@ ghost use Rattle.kmin_disk.specs.Disks.{content_at};
 ghost use Rattle.kmin_disk.specs.declared.kind.FileKind.TheVariants.{NotRegular};
 ghost use Rattle.kmin_tidy.specs.Options.{settings_of, refuses_notices, AreAllowed};
 ghost use Rattle.kmin_tidy.specs.MinimalFiles.{HasMinimalFile, IsReadAt, MayBeRead, Minimises};
-ghost use Rattle.kmin_tidy.specs.Steps.{Step, disk_of};
+ghost use Rattle.kmin_tidy.specs.Steps.{Step};
 ghost use Rattle.kmin_tidy.specs.checker.Readings.{IsAcceptedAs, IsFragmentOf};
 ghost use Rattle.kmin_tidy.specs.checker.ReportLines.{report_lines};
 ghost use Rattle.kmin_tidy.specs.checker.FileResults.{IsRewritten, IsWritten, StopsWrite, StopsRewrite, StopsFile};
@@ -38,10 +38,9 @@ pub(crate) fn tidy_file<D: WriteDisk>(
 ) -> Result<FileReport, Stop>
     ensures settled { config.new.system ≡ config.old.system }
     ensures step { IfOk result (λ report. (line : List ℕ) × (text.new.items ≡ text.old.items ++ line)
-        × Step (settings_of config.old.system format.now options) (disk_of (D.state disk.old) (D.failures disk.old))
-        (disk_of (D.state disk.new) (D.failures disk.new)) path.now line (report_lines path.now report) report.outcome) }
-    ensures stopped { IfErr result (StopsFile (settings_of config.old.system format.now options) (disk_of (D.state disk.old) (D.failures disk.old))
-        (disk_of (D.state disk.new) (D.failures disk.new)) path.now) }
+        × Step (settings_of config.old.system format.now options) (D.disk disk.old)
+        (D.disk disk.new) path.now line (report_lines path.now report) report.outcome) }
+    ensures stopped { IfErr result (StopsFile (settings_of config.old.system format.now options) (D.disk disk.old) (D.disk disk.new) path.now) }
 {
     if is_refused_unread(options, path, disk) {
         return Ok(report_of_problem(alloc, Problem::NotRegular, FileOutcome::Failed));
@@ -54,8 +53,8 @@ pub(crate) fn tidy_file<D: WriteDisk>(
 
 /// Whether a file is refused before it is read: where files are replaced, and it is a link, a folder, a pipe or a device.
 fn is_refused_unread<D: ReadDisk>(options: TidyOptions, path: &str, disk: &D) -> bool
-    ensures refused { result ≡ true → (options.write ≡ true) × IsOfKind (content_at (D.state disk.now) path.now) NotRegular }
-    ensures may { result ≡ false → options.write ≡ true → content_at (D.state disk.now) path.now ≢ Some special }
+    ensures refused { result ≡ true → (options.write ≡ true) × IsOfKind (content_at (D.disk disk.now).state path.now) NotRegular }
+    ensures may { result ≡ false → options.write ≡ true → content_at (D.disk disk.now).state path.now ≢ Some special }
 {
     if options.write {
         is_not_regular(path, disk)
@@ -66,8 +65,8 @@ fn is_refused_unread<D: ReadDisk>(options: TidyOptions, path: &str, disk: &D) ->
 
 /// Whether a path leads to a link, a folder, a pipe or a device.
 fn is_not_regular<D: ReadDisk>(path: &str, disk: &D) -> bool
-    ensures known { result ≡ true → IsOfKind (content_at (D.state disk.now) path.now) NotRegular }
-    ensures other { result ≡ false → content_at (D.state disk.now) path.now ≢ Some special }
+    ensures known { result ≡ true → IsOfKind (content_at (D.disk disk.now).state path.now) NotRegular }
+    ensures other { result ≡ false → content_at (D.disk disk.now).state path.now ≢ Some special }
 {
     match disk.kind(path) {
         FileKind::NotRegular => true,
@@ -111,14 +110,13 @@ fn tidy_accepted<D: WriteDisk>(
     disk: &mut D,
     text: &mut Vec<u8>,
 ) -> Result<FileReport, Stop>
-    requires may { MayBeRead (settings_of config.old.system format.now options) (D.state disk.old) path.now }
-    requires accepted { IsAcceptedAs (file_format format.now) (tree_in config.old) (readable (content_at (D.state disk.old) path.now)) file }
+    requires may { MayBeRead (settings_of config.old.system format.now options) (D.disk disk.old).state path.now }
+    requires accepted { IsAcceptedAs (file_format format.now) (tree_in config.old) (readable (content_at (D.disk disk.old).state path.now)) file }
     ensures settled { config.new.system ≡ config.old.system }
     ensures step { IfOk result (λ report. (line : List ℕ) × (text.new.items ≡ text.old.items ++ line)
-        × Step (settings_of config.old.system format.now options) (disk_of (D.state disk.old) (D.failures disk.old))
-        (disk_of (D.state disk.new) (D.failures disk.new)) path.now line (report_lines path.now report) report.outcome) }
-    ensures stopped { IfErr result (StopsFile (settings_of config.old.system format.now options) (disk_of (D.state disk.old) (D.failures disk.old))
-        (disk_of (D.state disk.new) (D.failures disk.new)) path.now) }
+        × Step (settings_of config.old.system format.now options) (D.disk disk.old)
+        (D.disk disk.new) path.now line (report_lines path.now report) report.outcome) }
+    ensures stopped { IfErr result (StopsFile (settings_of config.old.system format.now options) (D.disk disk.old) (D.disk disk.new) path.now) }
 {
     let AcceptedFile { bytes, fragment } = file;
     if is_refused_for(options, &fragment.notices) {
@@ -142,16 +140,15 @@ fn tidy_allowed<D: WriteDisk>(
     disk: &mut D,
     text: &mut Vec<u8>,
 ) -> Result<FileEnd, Stop>
-    requires read { IsReadAt (settings_of config.old.system format.now options) (D.state disk.old) path.now bytes.now }
+    requires read { IsReadAt (settings_of config.old.system format.now options) (D.disk disk.old).state path.now bytes.now }
     requires fragment { IsFragmentOf (file_format format.now) (tree_in config.old) bytes.now fragment.now }
     requires allowed { AreAllowed options (map notice_pair fragment.now.notices.items) }
     ensures settled { config.new.system ≡ config.old.system }
     ensures rewritten { IfOk result (λ end. (line : List ℕ) × (text.new.items ≡ text.old.items ++ line) × (least : List ℕ)
-        × Minimises (settings_of config.old.system format.now options) (D.state disk.old) path.now bytes.now least
-        (map notice_pair fragment.now.notices.items) × IsRewritten options.write (disk_of (D.state disk.old) (D.failures disk.old))
-        (disk_of (D.state disk.new) (D.failures disk.new)) path.now bytes.now least line end) }
-    ensures stopped { IfErr result (StopsFile (settings_of config.old.system format.now options) (disk_of (D.state disk.old) (D.failures disk.old))
-        (disk_of (D.state disk.new) (D.failures disk.new)) path.now) }
+        × Minimises (settings_of config.old.system format.now options) (D.disk disk.old).state path.now bytes.now least
+        (map notice_pair fragment.now.notices.items) × IsRewritten options.write (D.disk disk.old)
+        (D.disk disk.new) path.now bytes.now least line end) }
+    ensures stopped { IfErr result (StopsFile (settings_of config.old.system format.now options) (D.disk disk.old) (D.disk disk.new) path.now) }
 {
     let least = minimal_of(alloc, config, format, fragment)?;
     rewrite(alloc, options, path, bytes, &least, disk, text)
@@ -234,10 +231,8 @@ fn rewrite<D: WriteDisk>(
     text: &mut Vec<u8>,
 ) -> Result<FileEnd, Stop>
     ensures rewritten { IfOk result (λ end. (line : List ℕ) × (text.new.items ≡ text.old.items ++ line)
-        × IsRewritten options.write (disk_of (D.state disk.old) (D.failures disk.old))
-        (disk_of (D.state disk.new) (D.failures disk.new)) path.now bytes.now least.now line end) }
-    ensures stopped { IfErr result (StopsRewrite options.write (disk_of (D.state disk.old) (D.failures disk.old))
-        (disk_of (D.state disk.new) (D.failures disk.new)) path.now bytes.now least.now) }
+        × IsRewritten options.write (D.disk disk.old) (D.disk disk.new) path.now bytes.now least.now line end) }
+    ensures stopped { IfErr result (StopsRewrite options.write (D.disk disk.old) (D.disk disk.new) path.now bytes.now least.now) }
 {
     if least == bytes {
         return Ok(FileEnd {
@@ -263,9 +258,8 @@ fn write_file<D: WriteDisk>(
     least: &[u8],
     disk: &mut D,
 ) -> Result<FileEnd, Stop>
-    ensures written { IfOk result (IsWritten (disk_of (D.state disk.old) (D.failures disk.old))
-        (disk_of (D.state disk.new) (D.failures disk.new)) path.now least.now) }
-    ensures stopped { IfErr result (StopsWrite (disk_of (D.state disk.old) (D.failures disk.old)) (disk_of (D.state disk.new) (D.failures disk.new)) path.now) }
+    ensures written { IfOk result (IsWritten (D.disk disk.old) (D.disk disk.new) path.now least.now) }
+    ensures stopped { IfErr result (StopsWrite (D.disk disk.old) (D.disk disk.new) path.now) }
 {
     match replace(alloc, disk, path, least) {
         Ok(()) => Ok(FileEnd {

@@ -2,7 +2,6 @@
 ghost use Rattle.std.specs.Prelude.{◌≡◌, ◌∷◌, [], ℕ, List, false};
 ghost use Rattle.std.specs.Io.KnownBytes.{Appends};
 ghost use Rattle.kmin_tidy.specs.Options.{settings_of};
-ghost use Rattle.kmin_tidy.specs.Steps.{disk_of};
 ghost use Rattle.kmin_tidy.specs.Runs.{paths_of};
 ghost use Rattle.kmin_tidy.specs.Ends.{Ends};
 ghost use Rattle.kmin_tidy.specs.Promises.{IsKeptOrLeft, AreTidy};
@@ -45,20 +44,20 @@ pub fn tidy_files<D: WriteDisk, O: Sink, E: Sink>(
     out: &mut O,
     err: &mut E,
 ) -> u8
-    ensures ends { (reports : List (List ℕ)) × Ends (settings_of settled.now format.now options) (disk_of (D.state disk.old) (D.failures disk.old))
-        (disk_of (D.state disk.new) (D.failures disk.new)) (paths_of paths.now) (O.taken out.old) (O.taken out.new) (O.failures out.old)
+    ensures ends { (reports : List (List ℕ)) × Ends (settings_of settled.now format.now options) (D.disk disk.old)
+        (D.disk disk.new) (paths_of paths.now) (O.taken out.old) (O.taken out.new) (O.failures out.old)
         (O.failures out.new) reports result × TakesLines (E.taken err.old) (E.failures err.old) reports (E.taken err.new) (E.failures err.new) }
 
     // However the run ends, each place is as before, or its file was replaced by its minimal file, or a new file is
     // left there.
-    ensures became { (place : List ℕ) → IsKeptOrLeft (settings_of settled.now format.now options) ((D.state disk.old).history place)
-        ((D.state disk.new).history place) }
+    ensures became { (place : List ℕ) → IsKeptOrLeft (settings_of settled.now format.now options) ((D.disk disk.old).state.history place)
+        ((D.disk disk.new).state.history place) }
 
-    ensures unasked { options.write ≡ false → D.state disk.new ≡ D.state disk.old }
+    ensures unasked { options.write ≡ false → (D.disk disk.new).state ≡ (D.disk disk.old).state }
 
     // A run over files that are minimal or refused, as after a first run, replaces nothing and writes no line.
-    ensures again { AreTidy (settings_of settled.now format.now options) (D.state disk.old) (paths_of paths.now) → D.state disk.new ≡ D.state disk.old }
-    ensures silent { AreTidy (settings_of settled.now format.now options) (D.state disk.old) (paths_of paths.now)
+    ensures again { AreTidy (settings_of settled.now format.now options) (D.disk disk.old).state (paths_of paths.now) → (D.disk disk.new).state ≡ (D.disk disk.old).state }
+    ensures silent { AreTidy (settings_of settled.now format.now options) (D.disk disk.old).state (paths_of paths.now)
         → Appends (O.taken out.old) (O.taken out.new) [] }
 {
     run_to_end(alloc, settled, format, options, paths, disk, out, err)
@@ -75,8 +74,8 @@ fn run_to_end<D: WriteDisk, O: Sink, E: Sink>(
     out: &mut O,
     err: &mut E,
 ) -> u8
-    ensures { (reports : List (List ℕ)) × Ends (settings_of settled.now format.now options) (disk_of (D.state disk.old) (D.failures disk.old))
-        (disk_of (D.state disk.new) (D.failures disk.new)) (paths_of paths.now) (O.taken out.old) (O.taken out.new) (O.failures out.old)
+    ensures { (reports : List (List ℕ)) × Ends (settings_of settled.now format.now options) (D.disk disk.old)
+        (D.disk disk.new) (paths_of paths.now) (O.taken out.old) (O.taken out.new) (O.failures out.old)
         (O.failures out.new) reports result × TakesLines (E.taken err.old) (E.failures err.old) reports (E.taken err.new) (E.failures err.new) }
 {
     match tidy_all(alloc, settled, format, options, paths, disk, err) {

@@ -1,7 +1,6 @@
 //! A run over files, one after another.
 ghost use Rattle.std.specs.Prelude.{ℕ, List, IfOk, IfErr};
 ghost use Rattle.kmin_tidy.specs.Options.{settings_of};
-ghost use Rattle.kmin_tidy.specs.Steps.{disk_of};
 ghost use Rattle.kmin_tidy.specs.Runs.{Tidies, paths_of};
 ghost use Rattle.kmin_tidy.specs.StandardError.{TakesLines};
 ghost use Rattle.kmin_tidy.specs.checker.FileResults.{StopsRun};
@@ -34,11 +33,11 @@ pub(crate) fn tidy_all<D: WriteDisk, E: Sink>(
     err: &mut E,
 ) -> Result<RunResult, Stop>
     ensures run { IfOk result (λ tidied. (reports : List (List ℕ)) × Tidies (settings_of settled.now format.now options)
-        (disk_of (D.state disk.old) (D.failures disk.old)) (disk_of (D.state disk.new) (D.failures disk.new))
+        (D.disk disk.old) (D.disk disk.new)
         (paths_of paths.now) tidied.text.items reports tidied.status × TakesLines (E.taken err.old) (E.failures err.old) reports (E.taken err.new)
         (E.failures err.new)) }
     ensures stopped { IfErr result (λ stop. (reports : List (List ℕ)) × StopsRun (settings_of settled.now format.now options)
-        (disk_of (D.state disk.old) (D.failures disk.old)) (disk_of (D.state disk.new) (D.failures disk.new)) (paths_of paths.now) reports stop
+        (D.disk disk.old) (D.disk disk.new) (paths_of paths.now) reports stop
         × TakesLines (E.taken err.old) (E.failures err.old) reports (E.taken err.new) (E.failures err.new)) }
 {
     let mut config = Config::new(alloc, settled)?;
@@ -56,11 +55,11 @@ fn tidy_each<D: WriteDisk, E: Sink>(
     err: &mut E,
 ) -> Result<RunResult, Stop>
     ensures run { IfOk result (λ tidied. (reports : List (List ℕ)) × Tidies (settings_of config.old.system format.now options)
-        (disk_of (D.state disk.old) (D.failures disk.old)) (disk_of (D.state disk.new) (D.failures disk.new))
+        (D.disk disk.old) (D.disk disk.new)
         (paths_of paths.now) tidied.text.items reports tidied.status × TakesLines (E.taken err.old) (E.failures err.old) reports (E.taken err.new)
         (E.failures err.new)) }
     ensures stopped { IfErr result (λ stop. (reports : List (List ℕ)) × StopsRun (settings_of config.old.system format.now options)
-        (disk_of (D.state disk.old) (D.failures disk.old)) (disk_of (D.state disk.new) (D.failures disk.new)) (paths_of paths.now) reports stop
+        (D.disk disk.old) (D.disk disk.new) (paths_of paths.now) reports stop
         × TakesLines (E.taken err.old) (E.failures err.old) reports (E.taken err.new) (E.failures err.new)) }
 {
     let mut text = Vec::new(alloc);

@@ -1,4 +1,3 @@
-pub mod CommandParts
 pub mod FoundWords
 pub mod Lists
 pub mod TidyRefusals

@@ -7,11 +7,8 @@ ghost use Rattle.kmin_words.specs.Jobs.{settings_view, questions_view, task_view
 ghost use Rattle.kmin_words.specs.between.WordValues as parsed;
 ghost use Rattle.kmin_words.specs.checker.Refusals.{Agrees};
 
-use crate::commands::{command_names, explained_names, program};
 use crate::expansion_words::{check_inputs, expansion_if_given, expansion_of};
 use crate::job::{Job, OutputJob, Questions, Settings, Task, TidyJob, Verb};
-use crate::kinds::kind_asked;
-use crate::messages::message_tables;
 use crate::names::{nearest, with_tip};
 use crate::output_words::job_and_output;
 use crate::refusal::Refusal;
@@ -20,8 +17,9 @@ use crate::values::{is_given, value_of, values_of};
 use clap::error::ErrorKind;
 use clap::{ArgMatches, Error};
 use kc_dotconfig_model::{Format, Prefix, Strings};
-use kc_expr::Language;
 use kc_rules_model::Profile;
+use kc_tokens::Language;
+use kmin_commands::{command_names, explained_names, kind_asked, message_tables, program};
 use std::alloc::{AllocError, Global};
 
 /// The words after the program's name, parsed.

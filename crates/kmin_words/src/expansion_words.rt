@@ -3,7 +3,7 @@ ghost use Rattle.std.specs.Prelude.{◌≡◌, ◌+◌, ◌<◌, nat_lt, true, c
 ghost use Rattle.std.specs.List.{list_all, filter_map, suffix_len};
 ghost use Rattle.std.specs.Borrow.{Bor};
 ghost use Rattle.clap.specs.Words.{found_of};
-ghost use Rattle.kc_expr.specs.Token.{is_white_byte};
+ghost use Rattle.kc_tokens.specs.Token.{is_white_byte};
 ghost use Rattle.kc_tree_model.specs.TreeLookup.{is_name_byte};
 ghost use Rattle.kc_macros_model.specs.Variables.{is_environment_name};
 ghost use Rattle.kc_tree_model.specs.LogicalLines.{without_white_end};

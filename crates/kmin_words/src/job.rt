@@ -1,7 +1,7 @@
 //! The commands of `kmin`, with their options and files.
 use kc_dotconfig_model::Format;
-use kc_expr::Language;
 use kc_rules_model::Profile;
+use kc_tokens::Language;
 
 /// The commands that write a text about one configuration.
 #[derive(Clone, Copy, Debug, PartialEq, Eq)]

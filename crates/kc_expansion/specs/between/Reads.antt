@@ -2,10 +2,10 @@
 use Rattle.std.specs.Prelude.{◌≡◌}
 use Rattle.kc_macros_model.specs.Programs.{Program}
 use Rattle.kc_macros_model.specs.Worlds.{World, Ending, outcome}
-use Rattle.kc_macros.specs.RunStates.{RunState, after_outcome}
+use Rattle.kc_answers.specs.RunStates.{RunState, after_outcome}
 use Rattle.kc_macros.specs.Runs.{RunEnd, ends, out_of_memory, HasAnswers}
-use Rattle.kc_expansion.specs.TreeContents.{TreeContents}
-use Rattle.kc_expansion.specs.between.KnownFiles.{KnownFiles, Agrees, Grows}
+use Rattle.kc_files.specs.TreeContents.{TreeContents}
+use Rattle.kc_files.specs.between.KnownFiles.{KnownFiles, Agrees, Grows}
 
 -- a run that reads files: the known contents of the tree, the files that were read, and the state of the run
 pub record FileRun : Type 0 where

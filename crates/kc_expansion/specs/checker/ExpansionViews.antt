@@ -3,7 +3,7 @@ use Rattle.std.specs.Prelude.{ℕ, List, [], ◌∷◌, ◌++◌, Result, Ok, Er
 use Rattle.kc_macros.specs.declared.stop.Stop.{Stop}
 use Rattle.kc_macros.specs.declared.stop.Stop.TheVariants as kinds
 use Rattle.kc_macros_model.specs.ReadingStates.{ExpandedFile}
-use Rattle.kc_expansion.specs.between.KnownFiles.{KnownFiles}
+use Rattle.kc_files.specs.between.KnownFiles.{KnownFiles}
 
 -- the files and folders that were read before a reading begins: none
 abbrev pub nothing_known : KnownFiles

@@ -1,6 +1,6 @@
 -- The end of a line after its first word.
 use Rattle.std.specs.Prelude.{ℕ, Bool, true, ◌==◌, List, [], ◌∷◌, length, drop, take_while}
-use Rattle.kc_expr.specs.Token.{is_white_byte}
+use Rattle.kc_tokens.specs.Token.{is_white_byte}
 
 -- whether a text is empty or begins a comment
 abbrev pub is_comment_or_none : List ℕ → Bool

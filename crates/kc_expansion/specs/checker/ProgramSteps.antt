@@ -3,9 +3,9 @@ use Rattle.std.specs.Prelude.{◌≡◌, Result, Ok, Err}
 use Rattle.kc_macros_model.specs.Programs.{Program}
 use Rattle.kc_macros_model.specs.Worlds.{World, Outcome, outcome}
 use Rattle.kc_macros.specs.declared.stop.Stop.{Stop}
-use Rattle.kc_macros.specs.RunStates.{RunState, after_outcome}
+use Rattle.kc_answers.specs.RunStates.{RunState, after_outcome}
 use Rattle.kc_macros.specs.Runs.{end_of_stop, HasAnswers}
-use Rattle.kc_expansion.specs.between.KnownFiles.{Agrees, Grows}
+use Rattle.kc_files.specs.between.KnownFiles.{Agrees, Grows}
 use Rattle.kc_expansion.specs.between.Reads.{FileRun, Reads}
 
 -- the outcome of a program that starts in a state of a run

@@ -17,13 +17,13 @@ use Rattle.kc_macros.specs.declared.stop.Stop.TheVariants as kinds
 use Rattle.kc_macros.specs.declared.assignments.Assignment.{Assignment}
 use Rattle.kc_macros.specs.between.AssignmentViews.{bindings_assigned}
 use Rattle.kc_macros.specs.between.Variables.{bindings_of}
-use Rattle.kc_macros.specs.between.LineContents.{tokens_of}
-use Rattle.kc_macros.specs.between.LineFormViews.{source_sort_of}
-use Rattle.kc_expansion.specs.TextViews.{texts_of}
-use Rattle.kc_expansion.specs.TreeContents.{TreeContents}
-use Rattle.kc_expansion.specs.between.KnownFiles.{FileRead, whole, AreBytes}
+use Rattle.kc_macro_forms.specs.between.WrittenTokens.{tokens_of}
+use Rattle.kc_macro_forms.specs.between.LineFormViews.{source_sort_of}
+use Rattle.kc_files.specs.TextViews.{texts_of}
+use Rattle.kc_files.specs.TreeContents.{TreeContents}
+use Rattle.kc_files.specs.between.KnownFiles.{FileRead, whole, AreBytes}
 use Rattle.kc_expansion.specs.between.Reads.{FileRun, file_run}
-use Rattle.kc_expansion.specs.checker.FileViews.{known_of}
+use Rattle.kc_files.specs.checker.FileViews.{known_of}
 use Rattle.kc_macros.specs.between.SliceTexts.{texts_of_slices}
 use Rattle.kc_expansion.specs.declared.source_faults.ReadCounts.{ReadCounts}
 use Rattle.kc_expansion.specs.declared.line_steps.LineState.{LineState}

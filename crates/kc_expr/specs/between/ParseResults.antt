@@ -1,13 +1,13 @@
 -- The result of a call of the parser.
 use Rattle.std.specs.Prelude.{◌≡◌, ℕ, ◌+◌, Bool, List, length, take, drop, if◌then◌else◌}
 use Rattle.kc_value.specs.declared.limits.TheConstants.{MAX_EXPR_DEPTH}
-use Rattle.kc_expr.specs.declared.fault.ExprFault.{ExprFault}
-use Rattle.kc_expr.specs.declared.fault.ExprKind.{ExprKind}
+use Rattle.kc_tokens.specs.declared.fault.ExprFault.{ExprFault}
+use Rattle.kc_tokens.specs.declared.fault.ExprKind.{ExprKind}
 use Rattle.kc_expr.specs.between.Arena.{Exprs, Represents}
 use Rattle.kc_expr.specs.Expr.{Expr, conditional}
 use Rattle.kc_expr.specs.ExprFaults.{IsFirstExprFault}
 use Rattle.kc_expr.specs.Grammar.{IsExpr, ors, extent, fault_of}
-use Rattle.kc_expr.specs.Token.{Lexeme}
+use Rattle.kc_tokens.specs.Token.{Lexeme}
 
 -- the tokens of the expression that begins at an index of a line's tokens
 abbrev pub expr_tokens : List Lexeme → ℕ → List Lexeme

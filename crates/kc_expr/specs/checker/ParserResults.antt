@@ -1,15 +1,15 @@
 -- The results of the parser's functions.
 use Rattle.std.specs.Prelude.{◌≡◌, ℕ, ◌≤◌, Bool, true, false, ◌&&◌, if◌then◌else◌, List, [], ◌∷◌, length, drop, Option, Some, None, Result, Ok, Err, ◌⊎◌}
 use Rattle.kc_value.specs.declared.tri.Tri.TheVariants.{N, M, Y}
-use Rattle.kc_expr.specs.declared.fault.ExprFault.{ExprFault}
-use Rattle.kc_expr.specs.declared.fault.ExprKind.{ExprKind}
-use Rattle.kc_expr.specs.declared.fault.ExprKind.TheVariants.{Malformed, OutOfMemory}
+use Rattle.kc_tokens.specs.declared.fault.ExprFault.{ExprFault}
+use Rattle.kc_tokens.specs.declared.fault.ExprKind.{ExprKind}
+use Rattle.kc_tokens.specs.declared.fault.ExprKind.TheVariants.{Malformed, OutOfMemory}
 use Rattle.kc_expr.specs.declared.node.Leaf.{Leaf}
 use Rattle.kc_expr.specs.declared.node.Leaf.TheVariants.{Constant, Name, Quoted as Text}
 use Rattle.kc_expr.specs.declared.store.Store.{Store}
-use Rattle.kc_expr.specs.declared.token.Relop.{Relop}
-use Rattle.kc_expr.specs.declared.token.TokenKind.{TokenKind}
-use Rattle.kc_expr.specs.declared.token.TokenKind.TheVariants.{Word, Quoted, Relation, Not, And, Or, Open, Close}
+use Rattle.kc_tokens.specs.declared.token.Relop.{Relop}
+use Rattle.kc_tokens.specs.declared.token.TokenKind.{TokenKind}
+use Rattle.kc_tokens.specs.declared.token.TokenKind.TheVariants.{Word, Quoted, Relation, Not, And, Or, Open, Close}
 use Rattle.kc_expr.specs.between.Arena.{Represents}
 use Rattle.kc_expr.specs.Expr.{Expr, Operand, modules}
 use Rattle.kc_expr.specs.ExpressionNames.{operand_names}
@@ -17,7 +17,7 @@ use Rattle.kc_expr.specs.checker.Nodes.{operand_of}
 use Rattle.kc_expr.specs.Grammar.{Read, after_operand, operand_of_lexeme, read_factor, read_ands, read_ors, read_to_end, fault_of}
 use Rattle.kc_expr.specs.checker.Conditions.{as_condition}
 use Rattle.kc_expr.specs.checker.Store.{exprs_in}
-use Rattle.kc_expr.specs.Token.{Lexeme}
+use Rattle.kc_tokens.specs.Token.{Lexeme}
 
 -- the kind of the first token, if there is a token
 abbrev pub first_kind : List Lexeme → Option TokenKind

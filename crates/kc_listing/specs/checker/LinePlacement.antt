@@ -1,7 +1,7 @@
 -- Where lines are allowed, by their keywords.
 use Rattle.std.specs.Prelude.{◌-◌, Bool, true, false, not, ◌==◌, List, length, filter_map, slice_get, Option, Some, None, if◌then◌else◌}
-use Rattle.kc_expr.specs.Token.{Lexeme}
-use Rattle.kc_expr.specs.declared.language.Language.{Language}
+use Rattle.kc_tokens.specs.Token.{Lexeme}
+use Rattle.kc_tokens.specs.declared.language.Language.{Language}
 use Rattle.kc_tree_model.specs.declared.fault.TreeKind.{TreeKind}
 use Rattle.kc_tree_model.specs.declared.fault.TreeKind.TheVariants.{LeftOut, Misplaced, StrayEnd}
 use Rattle.kc_tree_model.specs.declared.keyword.Keyword.{Keyword}

@@ -1,9 +1,9 @@
 -- The programs of texts that are expanded in a frame.
 use Rattle.std.specs.Prelude.{ℕ, false, List}
-use Rattle.kc_macros_model.specs.Programs.{Place, Program}
+use Rattle.kc_macros_model.specs.Programs.{Place, Program, returns, ◌>>=◌}
 use Rattle.kc_macros_model.specs.References.{Item, items}
-use Rattle.kc_macros_model.specs.Variables.{Value, Bindings}
-use Rattle.kc_macros_model.specs.Expansion.{Expander, item_value, item_values, expanded}
+use Rattle.kc_macros_model.specs.Variables.{Value, value_length, Bindings}
+use Rattle.kc_macros_model.specs.Expansion.{Expander, spends, item_value, item_values, piece_values, call_value, expanded}
 use Rattle.kc_macros.specs.declared.frame.Frame.{Frame}
 use Rattle.kc_macros.specs.between.Variables.{bindings_of}
 use Rattle.kc_macros.specs.Runs.{place_of}
@@ -36,3 +36,15 @@ frame_item f i = item_value (frame_expander f) (frame_place f) (frame_bindings f
 -- the program that gives the value of a text in a frame of the expansion, as the joined values of its items
 abbrev pub frame_items : Frame → List ℕ → Program Value
 frame_items f text = item_values (frame_place f) (frame_item f) 0 (items false 0 text)
+
+-- the program that spends the length of a value as work, and then returns the value
+abbrev pub paid : Place → Value → Program Value
+paid at v = spends at (value_length v) (returns v)
+
+-- the program that gives the value of a text in a frame of the expansion, and spends its length as work
+abbrev pub paid_items : Frame → List ℕ → Program Value
+paid_items f text = frame_items f text >>= paid (frame_place f)
+
+-- the program that gives the value of a reference in a frame of the expansion, by its pieces
+abbrev pub frame_call : Frame → List (List ℕ) → Program Value
+frame_call f pieces = piece_values (frame_value f) pieces >>= call_value (frame_expander f) (frame_place f) (frame_bindings f) (frame_names f)

@@ -1,8 +1,9 @@
 -- The value of a text so far, item by item.
-use Rattle.std.specs.Prelude.{ℕ, Bool, true, false, List, [], length, Some, None}
+use Rattle.std.specs.Prelude.{ℕ, Bool, true, false, List, [], ◌∷◌, length, Option, Some, None}
+use Rattle.std.specs.Borrow.{Bor}
 use Rattle.kc_macros_model.specs.declared.fault.MacroKind.TheVariants.{LineTooLong}
 use Rattle.kc_macros_model.specs.Programs.{Place, Fault, Program, returns, ◌>>=◌}
-use Rattle.kc_macros_model.specs.References.{Item}
+use Rattle.kc_macros_model.specs.References.{Item, reference, items}
 use Rattle.kc_macros_model.specs.Variables.{Value, joined_values}
 use Rattle.kc_macros_model.specs.Expansion.{item_values}
 
@@ -24,3 +25,8 @@ too_long at = record { at = at; kind = LineTooLong; text = [] }
 -- the items that follow
 abbrev pub values_left : Place → (Item → Program Value) → (known : Bool) → List ℕ → List Item → Program Value
 values_left at value known bytes is = item_values at value (length bytes) is >>= λ rest. returns (joined_values (value_if_known known bytes) rest)
+
+-- the items of a text from its next reference on, by the bytes between its parentheses and those after it; none without one
+abbrev pub items_from : Option (Bor (List ℕ) × Bor (List ℕ)) → List Item
+items_from (Some parts) = reference parts.0.now ∷ items false 0 parts.1.now
+items_from None = []

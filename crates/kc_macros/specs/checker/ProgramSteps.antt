@@ -2,7 +2,7 @@
 use Rattle.std.specs.Prelude.{Result, Ok, Err}
 use Rattle.kc_macros_model.specs.Programs.{Program}
 use Rattle.kc_macros.specs.declared.stop.Stop.{Stop}
-use Rattle.kc_macros.specs.RunStates.{RunState}
+use Rattle.kc_answers.specs.RunStates.{RunState}
 use Rattle.kc_macros.specs.Runs.{RunEnd, end_of_stop, Runs}
 
 -- the program `p` in the state `s` comes to each state and end that `q` in the state `t` comes to

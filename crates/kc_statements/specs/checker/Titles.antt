@@ -1,6 +1,6 @@
 -- One quoted text.
 use Rattle.std.specs.Prelude.{Bool, false, List, [], ◌∷◌}
-use Rattle.kc_expr.specs.Token.{Lexeme}
+use Rattle.kc_tokens.specs.Token.{Lexeme}
 use Rattle.kc_tree_model.specs.Keywords.{is_quoted_kind}
 
 -- whether a list of tokens is one quoted text and nothing else

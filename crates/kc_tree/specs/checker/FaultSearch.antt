@@ -1,6 +1,6 @@
 -- The state of the search for the first fault.
 use Rattle.std.specs.Prelude.{◌≡◌, ℕ, ◌≤◌, List, [], flat_map, length, slice_get, slice_index, None}
-use Rattle.kc_expr.specs.declared.language.Language.{Language}
+use Rattle.kc_tokens.specs.declared.language.Language.{Language}
 use Rattle.kc_tree_model.specs.Blocks.{Group}
 use Rattle.kc_tree_model.specs.Conditions.{groups_in_context}
 use Rattle.kc_tree_model.specs.Contents.{contents_of}

@@ -2,9 +2,9 @@
 use Rattle.std.proofs.Common.{◌≡◌, Bool, true, false, not, cond, List, [], ◌∷◌, Option, Some, None, Result, Ok, Err, subst, length}
 use Rattle.std.specs.Prelude.{nat_lt}
 use Rattle.std.specs.Str.{is_utf8}
-use Rattle.kc_expr.specs.Token.{Lexeme, lexemes_from}
-use Rattle.kc_expr.specs.declared.fault.ExprFault.{ExprFault}
-use Rattle.kc_expr.specs.declared.language.Language.{Language}
+use Rattle.kc_tokens.specs.Token.{Lexeme, lexemes_from}
+use Rattle.kc_tokens.specs.declared.fault.ExprFault.{ExprFault}
+use Rattle.kc_tokens.specs.declared.language.Language.{Language}
 use Rattle.kc_tree_model.specs.declared.fault.TreeKind.TheVariants.{LeftOut, Misplaced, StrayEnd, TooDeep, TooMany, LineTooLong, NotUtf8}
 use Rattle.kc_tree_model.specs.LogicalLines.{LogicalLine}
 use Rattle.kc_tree_model.specs.Statements.{Statement}

@@ -1,7 +1,7 @@
 -- A property that every step of reading keeps holds of all that is read.
 use Rattle.std.proofs.Common.{◌≡◌, ℕ, suc, zero, Bool, true, false, cond, List, [], ◌∷◌, Option, Some, None, Result, Ok, Err, refl, length}
 use Rattle.std.specs.Prelude.{nat_lt}
-use Rattle.kc_expr.specs.declared.language.Language.{Language}
+use Rattle.kc_tokens.specs.declared.language.Language.{Language}
 use Rattle.kc_tree_model.specs.declared.fault.TreeKind.{TreeKind}
 use Rattle.kc_tree_model.specs.declared.fault.TreeFault.{TreeFault}
 use Rattle.kc_tree_model.specs.TreeFiles.{Files, file_at, index_of_file}

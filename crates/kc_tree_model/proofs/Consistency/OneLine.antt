@@ -1,10 +1,10 @@
 -- A logical line has no newline, nor have its tokens.
 use Rattle.std.proofs.Common.{◌≡◌, ℕ, zero, suc, ◌+◌, ◌-◌, Bool, true, false, cond, ◌||◌, ◌==◌, List, [], ◌∷◌, ◌++◌, Ok, refl, length, map, take, drop}
 use Rattle.kc_value.specs.QuotedTexts.{unescaped}
-use Rattle.kc_expr.specs.Token.{Lexeme, lexemes_from}
+use Rattle.kc_tokens.specs.Token.{Lexeme, lexemes_from}
 use Rattle.kc_expr.specs.Grammar.{between_quotes, quoted_text}
 use Rattle.kc_expr.proofs.TokenTexts.{AllTexts, texts_of_line}
-use Rattle.kc_expr.specs.declared.language.Language.{Language}
+use Rattle.kc_tokens.specs.declared.language.Language.{Language}
 use Rattle.kc_value.specs.Lines.{has_newline}
 use Rattle.kc_tree_model.specs.LogicalLines.{PhysicalLine, LogicalLine, with_first_byte, split_at_newlines, without_last, without_return, physical_lines, is_continued, joined_bytes, continuation_count, logical_lines_from, lines_of}
 

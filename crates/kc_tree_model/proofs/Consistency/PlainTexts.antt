@@ -3,9 +3,9 @@ use Rattle.std.proofs.Common.{◌≡◌, ℕ, false, List, [], ◌∷◌, IsUtf8
 use Rattle.std.proofs.lemmas.Str.{IsUtf8-nil}
 use Rattle.kc_expr.specs.Expr.{Expr}
 use Rattle.kc_expr.specs.Grammar.{quoted_text}
-use Rattle.kc_expr.specs.Token.{Lexeme, lexemes_from}
+use Rattle.kc_tokens.specs.Token.{Lexeme, lexemes_from}
 use Rattle.kc_expr.proofs.TokenTexts.{AllTexts}
-use Rattle.kc_expr.specs.declared.language.Language.{Language}
+use Rattle.kc_tokens.specs.declared.language.Language.{Language}
 use Rattle.kc_value.specs.Lines.{has_newline}
 use Rattle.kc_tree_model.specs.TreeLookup.{own_text}
 use Rattle.kc_tree_model.proofs.NestedTrees.LineFits.{IsValueOf}

@@ -8,16 +8,16 @@ use Rattle.std.proofs.lemmas.Grind.{get_or_after_one}
 use Rattle.std.proofs.lemmas.Str.{IsUtf8-append, IsUtf8-nil, IsUtf8-encode, IsUtf8-take, IsUtf8-drop, IsCharBoundary-after_ascii, IsCharBoundary-before_ascii}
 use Rattle.std.proofs.Math.Seq.{get_or-append_seam}
 use lib.Utf8.{scalar, scalars, encode, encodes}
-use Rattle.kc_expr.specs.declared.language.Language.{Language}
+use Rattle.kc_tokens.specs.declared.language.Language.{Language}
 use Rattle.kc_value.specs.QuotedTexts.{unescaped}
 use Rattle.kc_value.proofs.EscapeSteps.{escaped_char, plain_char, backslash}
-use Rattle.kc_expr.specs.declared.token.Relop.TheVariants.{Equal, NotEqual, Less, Greater, LessEqual, GreaterEqual}
-use Rattle.kc_expr.specs.declared.token.TokenKind.{TokenKind}
-use Rattle.kc_expr.specs.declared.token.TokenKind.TheVariants.{Word, Quoted, Relation, Not, And, Or, Open, Close}
-use Rattle.kc_expr.specs.Grammar.{is_quote, between_quotes, quoted_text}
-use Rattle.kc_expr.specs.Token.{Lexeme, is_white_byte, is_word_byte, lexemes_from}
-use Rattle.kc_expr.specs.TokenGrammar.{IsToken, IsCut, ends, comment, white, token}
-use Rattle.kc_expr.proofs.CutLaws.{read_cut}
+use Rattle.kc_tokens.specs.declared.token.Relop.TheVariants.{Equal, NotEqual, Less, Greater, LessEqual, GreaterEqual}
+use Rattle.kc_tokens.specs.declared.token.TokenKind.{TokenKind}
+use Rattle.kc_tokens.specs.declared.token.TokenKind.TheVariants.{Word, Quoted, Relation, Not, And, Or, Open, Close}
+use Rattle.kc_expr.specs.Grammar.{between_quotes, quoted_text}
+use Rattle.kc_tokens.specs.Token.{is_quote, Lexeme, is_white_byte, is_word_byte, lexemes_from}
+use Rattle.kc_tokens.specs.TokenGrammar.{IsToken, IsCut, ends, comment, white, token}
+use Rattle.kc_tokens.proofs.CutLaws.{read_cut}
 use Rattle.kc_expr.proofs.TokenTexts.{AllTexts}
 
 -- a text that ends in a byte below 128

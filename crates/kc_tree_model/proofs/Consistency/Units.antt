@@ -3,7 +3,7 @@ use Rattle.std.proofs.Common.{◌≡◌, inl, inr, ℕ, zero, suc, Bool, true, f
 use Rattle.std.specs.Prelude.{slice_get, filter_map, option_map, option_and_then, is_none, ◌==◌}
 use Rattle.std.specs.List.{cons_option}
 use Rattle.std.proofs.lemmas.Bool.{eqb-true, eq-eqb}
-use Rattle.kc_expr.specs.declared.language.Language.{Language}
+use Rattle.kc_tokens.specs.declared.language.Language.{Language}
 use Rattle.kc_expr.specs.Lookup.{index_of_name}
 use Rattle.kc_tree_model.specs.Trees.{Symbol, Choice}
 use Rattle.kc_tree_model.specs.declared.ids.Unit.{Unit as TreeUnit}

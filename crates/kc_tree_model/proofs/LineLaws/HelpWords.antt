@@ -1,11 +1,11 @@
 -- A line begins a help text where its one token is the word of one.
 use Rattle.std.proofs.Common.{◌≡◌, ℕ, true, false, List, [], ◌∷◌, Option, Some, Result, Ok, Err, refl, ap, sym, ◌∙◌, length, arith}
 use Rattle.std.proofs.lemmas.Bool.{false_from_ne_true}
-use Rattle.kc_expr.specs.declared.fault.ExprFault.{ExprFault}
-use Rattle.kc_expr.specs.declared.language.Language.TheVariants.{Strict}
-use Rattle.kc_expr.specs.Token.{Lexeme, lexemes_from}
-use Rattle.kc_expr.proofs.CutLaws.{read_cut}
-use Rattle.kc_expr.proofs.TokenLaws.{cut_read}
+use Rattle.kc_tokens.specs.declared.fault.ExprFault.{ExprFault}
+use Rattle.kc_tokens.specs.declared.language.Language.TheVariants.{Strict}
+use Rattle.kc_tokens.specs.Token.{Lexeme, lexemes_from}
+use Rattle.kc_tokens.proofs.CutLaws.{read_cut}
+use Rattle.kc_tokens.proofs.TokenLaws.{cut_read}
 use Rattle.kc_tree_model.specs.Keywords.{keyword_of}
 use Rattle.kc_tree_model.specs.declared.keyword.Keyword.{Keyword}
 use Rattle.kc_tree_model.specs.declared.keyword.Keyword.TheVariants as words

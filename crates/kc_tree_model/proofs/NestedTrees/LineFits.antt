@@ -3,12 +3,12 @@ use Rattle.std.proofs.Common.{ap, ◌∙◌, ◌≡◌, ℕ, Bool, true, false, 
 use Rattle.std.specs.Prelude.{nat_lt}
 use Rattle.std.specs.Str.{is_utf8}
 use Rattle.std.proofs.lemmas.Str.{IsUtf8-from_is_utf8}
-use Rattle.kc_expr.specs.declared.language.Language.{Language}
+use Rattle.kc_tokens.specs.declared.language.Language.{Language}
 use Rattle.kc_value.specs.declared.value.Kind.{Kind}
 use Rattle.kc_expr.specs.Expr.{Expr, Operand}
-use Rattle.kc_expr.specs.Token.{Lexeme, lexemes_from}
+use Rattle.kc_tokens.specs.Token.{Lexeme, lexemes_from}
 use Rattle.kc_expr.specs.Grammar.{operand_of_lexeme, quoted_text}
-use Rattle.kc_expr.specs.declared.fault.ExprFault.{ExprFault}
+use Rattle.kc_tokens.specs.declared.fault.ExprFault.{ExprFault}
 use Rattle.kc_tree_model.specs.declared.fault.TreeKind.{TreeKind}
 use Rattle.kc_tree_model.specs.declared.fault.TreeKind.TheVariants.{Malformed, LeftOut, Misplaced, StrayEnd, TooDeep, TooMany, LineTooLong, NotUtf8}
 use Rattle.kc_tree_model.specs.LogicalLines.{LogicalLine}

@@ -4,14 +4,14 @@ use Rattle.std.specs.Prelude.{nat_lt, take, drop}
 use Rattle.std.specs.Str.{is_utf8}
 use Rattle.std.proofs.lemmas.Bool.{ltb-true, ltb-false}
 use Rattle.kc_value.specs.declared.limits.TheConstants.{MAX_LINE_BYTES}
-use Rattle.kc_expr.specs.declared.fault.ExprFault.{ExprFault}
-use Rattle.kc_expr.specs.declared.fault.ExprKind.{ExprKind}
-use Rattle.kc_expr.specs.declared.fault.ExprKind.TheVariants as expr_kinds
-use Rattle.kc_expr.specs.declared.language.Language.{Language}
-use Rattle.kc_expr.specs.Token.{Lexeme, lexemes_from}
-use Rattle.kc_expr.specs.TokenGrammar.{IsFirstTokenFault}
-use Rattle.kc_expr.proofs.TokenLaws.{cut_read}
-use Rattle.kc_expr.proofs.CutLaws.{read_cut, read_fault}
+use Rattle.kc_tokens.specs.declared.fault.ExprFault.{ExprFault}
+use Rattle.kc_tokens.specs.declared.fault.ExprKind.{ExprKind}
+use Rattle.kc_tokens.specs.declared.fault.ExprKind.TheVariants as expr_kinds
+use Rattle.kc_tokens.specs.declared.language.Language.{Language}
+use Rattle.kc_tokens.specs.Token.{Lexeme, lexemes_from}
+use Rattle.kc_tokens.specs.TokenGrammar.{IsFirstTokenFault}
+use Rattle.kc_tokens.proofs.TokenLaws.{cut_read}
+use Rattle.kc_tokens.proofs.CutLaws.{read_cut, read_fault}
 use Rattle.kc_expr.proofs.FaultLaws.{fault_read}
 use Rattle.kc_tree_model.specs.declared.fault.TreeKind.{TreeKind}
 use Rattle.kc_tree_model.specs.declared.fault.TreeKind.TheVariants.{LineTooLong, NotUtf8, BadToken, UnclosedQuote, UnknownStatement, LeftOut, Misplaced, StrayEnd, Malformed, TooDeep, TooMany}

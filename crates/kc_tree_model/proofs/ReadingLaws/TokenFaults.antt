@@ -1,12 +1,12 @@
 -- A line has tokens or a fault of its tokens, and not both; the fault is of one of three kinds.
 use Rattle.std.proofs.Common.{◌≡◌, ℕ, Bool, true, false, List, Ok, refl, sym, ◌∙◌}
-use Rattle.kc_expr.specs.declared.fault.ExprFault.{ExprFault}
-use Rattle.kc_expr.specs.declared.fault.ExprKind.{ExprKind}
-use Rattle.kc_expr.specs.declared.fault.ExprKind.TheVariants.{BadToken, UnclosedQuote, LeftOut}
-use Rattle.kc_expr.specs.declared.language.Language.{Language}
-use Rattle.kc_expr.specs.Token.{Lexeme}
-use Rattle.kc_expr.specs.TokenGrammar.{IsFaultAt, dollar, unclosed, dollar_between, other_byte, IsFirstTokenFault, here, after_white, after_token}
-use Rattle.kc_expr.proofs.TokenLaws.{cut_read}
+use Rattle.kc_tokens.specs.declared.fault.ExprFault.{ExprFault}
+use Rattle.kc_tokens.specs.declared.fault.ExprKind.{ExprKind}
+use Rattle.kc_tokens.specs.declared.fault.ExprKind.TheVariants.{BadToken, UnclosedQuote, LeftOut}
+use Rattle.kc_tokens.specs.declared.language.Language.{Language}
+use Rattle.kc_tokens.specs.Token.{Lexeme}
+use Rattle.kc_tokens.specs.TokenGrammar.{IsFaultAt, dollar, unclosed, dollar_between, other_byte, IsFirstTokenFault, here, after_white, after_token}
+use Rattle.kc_tokens.proofs.TokenLaws.{cut_read}
 use Rattle.kc_tree_model.specs.LogicalLines.{LogicalLine}
 use Rattle.kc_tree_model.specs.ReadingFaults.{HasTokens, help_line, cut_line}
 

@@ -1,7 +1,7 @@
 -- A row on the lines of a help text.
 use Rattle.std.proofs.Common.{◌≡◌, ℕ, List, [], ◌∷◌, refl, true, false, map, Bool}
 use Rattle.std.specs.Prelude.{codes}
-use Rattle.kc_expr.specs.Token.{next_token}
+use Rattle.kc_tokens.specs.Token.{next_token}
 use Rattle.kc_tree_model.specs.LogicalLines.{lines_of, LogicalLine}
 
 abbrev helped : List ℕ → List Bool

@@ -4,7 +4,7 @@ use Rattle.std.specs.Prelude.{codes, option_map}
 use Rattle.std.specs.Str.{is_utf8, chars}
 use Rattle.kc_tree_model.specs.Contents.{index_of_number}
 use Rattle.kc_expr.specs.Lookup.{index_of_name}
-use Rattle.kc_expr.specs.Token.{next_token}
+use Rattle.kc_tokens.specs.Token.{next_token}
 use Rattle.kc_expr.specs.Grammar.{read_expr}
 use Rattle.kc_tree_model.specs.TreeFiles.{strict_files}
 use Rattle.kc_tree_model.specs.declared.fault.TreeKind.{TreeKind}

@@ -1,7 +1,7 @@
 -- The files of `Texts`, from the entries of its map.
 use Rattle.std.specs.Prelude.{ℕ, List, map, String, Vec, string_bytes}
 use Rattle.std.specs.declared.alloc.Global.{Global}
-use Rattle.kc_expr.specs.declared.language.Language.{Language}
+use Rattle.kc_tokens.specs.declared.language.Language.{Language}
 use Rattle.kc_tree_model.specs.TreeFiles.{Files}
 
 -- the path and the bytes of one entry of the map in `Texts`

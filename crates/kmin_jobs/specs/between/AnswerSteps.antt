@@ -6,8 +6,8 @@ use Rattle.kc_macros_model.specs.declared.fault.AnswersKind.{AnswersKind}
 use Rattle.kc_macros_model.specs.declared.fault.AnswersKind.TheVariants.{OutOfMemory}
 use Rattle.kc_macros_model.specs.declared.fault.AnswersFault.{AnswersFault}
 use Rattle.kc_macros_model.specs.AnswerFiles.{RecordedAnswers}
-use Rattle.kc_macros.specs.ReadAnswers.{IsRefused}
-use Rattle.kc_expansion.specs.TreeContents.{FileContent}
+use Rattle.kc_answers.specs.ReadAnswers.{IsRefused}
+use Rattle.kc_files.specs.TreeContents.{FileContent}
 use Rattle.kmin_jobs.specs.FileContents.{VariableContent, MatchVariable}
 use Rattle.kmin_tidy.specs.StandardError.{TakesLines}
 use Rattle.kmin_jobs.specs.MacroReports.{answers_line}

@@ -1,6 +1,6 @@
 -- Ends of a run at a tree whose macros are expanded.
 use Rattle.std.specs.Prelude.{◌≡◌, ℕ, List, ◌++◌}
-use Rattle.kc_expr.specs.declared.language.Language.{Language}
+use Rattle.kc_tokens.specs.declared.language.Language.{Language}
 use Rattle.kmin_words.specs.Jobs.{Expansion}
 use Rattle.kmin_jobs.specs.FileContents.{Surroundings}
 use Rattle.kmin_jobs.specs.JobTexts.{TreeTexts, AreExpandedTexts}

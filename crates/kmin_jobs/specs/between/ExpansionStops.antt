@@ -2,7 +2,7 @@
 use Rattle.std.specs.Prelude.{◌≡◌, ℕ, List, [], ◌∷◌, ◌++◌, Err, map}
 use Rattle.kc_macros_model.specs.Programs.{Fault, Notice}
 use Rattle.kc_macros_model.specs.AnswerFiles.{RecordedAnswers}
-use Rattle.kc_expansion.specs.TreeContents.{TreeContents}
+use Rattle.kc_files.specs.TreeContents.{TreeContents}
 use Rattle.kc_expansion.specs.Expansions.{IsExpansion}
 use Rattle.kmin_jobs.specs.MacroReports.{macro_fault_line, macro_notice_line}
 

@@ -8,7 +8,7 @@ use Rattle.kc_dotconfig_model.specs.ConfigFiles.{FileMeans, notices_from, file_a
 use Rattle.kc_dotconfig_model.specs.LoadFaults.{IsAccepted}
 use Rattle.kc_dotconfig.specs.declared.fragment.Fragment.{Fragment}
 use Rattle.kc_dotconfig.specs.Fragments.{users_of, notice_pair}
-use Rattle.kc_expansion.specs.TreeContents.{FileContent}
+use Rattle.kc_files.specs.TreeContents.{FileContent}
 use Rattle.kmin_tidy.specs.KnownBytes.{AreKnownBytes}
 use Rattle.kmin_jobs.specs.Reports.{file_notices, notice_lines}
 use Rattle.kmin_tidy.specs.StandardError.{TakesLines}

@@ -1,9 +1,9 @@
 -- Results of a file that was read, and of a run that ends early.
 use Rattle.std.specs.Prelude.{◌≡◌, ◌≢◌, ◌⊎◌, ℕ, Bool, true, false, List, [], ◌∷◌, ◌++◌, Some, None, string_bytes}
-use Rattle.kmin_disk.specs.Disks.{IsUnchanged, Replaces}
+use Rattle.kmin_disk.specs.Disks.{Disk, IsUnchanged, Replaces}
 use Rattle.kmin_tidy.specs.Options.{Settings}
 use Rattle.kmin_tidy.specs.Reports.{difference_line}
-use Rattle.kmin_tidy.specs.Steps.{Disk, IsUnwritten}
+use Rattle.kmin_tidy.specs.Steps.{IsUnwritten}
 use Rattle.kmin_tidy.specs.Ends.{IsToBeReplaced, LeavesNewFile}
 use Rattle.kmin_tidy.specs.Runs.{Tidies}
 use Rattle.kmin_tidy.specs.declared.outcome.FileOutcome.TheVariants.{Minimal, NotMinimal, Failed}

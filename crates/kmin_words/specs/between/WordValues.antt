@@ -5,8 +5,8 @@ use Rattle.clap.specs.Words.{matched_of, first_value}
 use Rattle.clap.specs.Matches.{raw_values}
 use Rattle.clap.specs.declared.parser.matches.Found.{Found}
 use Rattle.kc_value.specs.declared.limits.TheConstants.{MAX_VARIABLE_BYTES}
-use Rattle.kc_expr.specs.declared.language.Language.{Language}
-use Rattle.kc_expr.specs.declared.language.Language.TheVariants.{Strict, Linux}
+use Rattle.kc_tokens.specs.declared.language.Language.{Language}
+use Rattle.kc_tokens.specs.declared.language.Language.TheVariants.{Strict, Linux}
 use Rattle.kc_rules_model.specs.declared.profile.Profile.{Profile}
 use Rattle.kc_rules_model.specs.declared.profile.Profile.TheVariants.{Present, Classic}
 use Rattle.kc_dotconfig_model.specs.declared.format.Strings.{Strings}

@@ -1,6 +1,6 @@
 use Rattle.std.proofs.Common.{map, true, subst}
 use Rattle.kc_macros_model.specs.TreeExpansion.{tree_read}
-use Rattle.kc_macros.specs.RunStates.{run_at_start}
+use Rattle.kc_answers.specs.RunStates.{run_at_start}
 use Rattle.kc_macros.specs.Runs.{notice_of, end_of}
 use Rattle.kc_expansion.specs.Expansions.{tree_of}
 use Rattle.kc_expansion.specs.between.Reads.{Reaches}

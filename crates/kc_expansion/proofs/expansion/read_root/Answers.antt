@@ -7,8 +7,8 @@ use Rattle.kc_macros_model.specs.Programs.{returns as returns_value, fails, ◌>
 use Rattle.kc_macros_model.specs.ReadingStates.{Progress, progress, counted}
 use Rattle.kc_macros_model.specs.TreeExpansion.{place, tree_read, lines_read}
 use Rattle.kc_macros.specs.Runs.{end_of, end_of_stop}
-use Rattle.kc_expansion.specs.between.KnownFiles.{missing, whole, too_long}
-use Rattle.kc_expansion.specs.checker.FileViews.{file_of}
+use Rattle.kc_files.specs.between.KnownFiles.{missing, whole, too_long}
+use Rattle.kc_files.specs.checker.FileViews.{file_of}
 use Rattle.kc_expansion.specs.checker.ExpansionViews.{with_root}
 use Rattle.kc_expansion.specs.checker.ReadingViews.{state_of, file_run_of, fault_at, reader_for}
 use Rattle.kc_macros.specs.between.SliceTexts.{texts_of_slices}

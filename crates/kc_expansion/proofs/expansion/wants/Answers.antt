@@ -2,7 +2,7 @@ use Rattle.std.proofs.Common.{false}
 use Rattle.kc_macros_model.specs.TreeExpansion.{tree_read}
 use Rattle.kc_macros.specs.Runs.{end_of}
 use Rattle.kc_expansion.specs.Expansions.{questions_of}
-use Rattle.kc_expansion.specs.TextViews.{texts_of}
+use Rattle.kc_files.specs.TextViews.{texts_of}
 use Rattle.kc_expansion.specs.checker.ExpansionViews.{with_root}
 use Rattle.kc_expansion.specs.checker.ReadingViews.{file_run_of}
 use Rattle.kc_expansion.proofs.FileProgramLemmas.{if_ok}

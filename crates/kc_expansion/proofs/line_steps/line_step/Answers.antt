@@ -6,7 +6,8 @@ use Rattle.kc_macros_model.specs.Programs.{returns as returns_value, ◌>>=◌}
 use Rattle.kc_macros_model.specs.ReadingStates.{ReadingState, written_line}
 use Rattle.kc_macros_model.specs.TreeExpansion.{content_written, tokens_written, line_written}
 use Rattle.kc_macros_model.specs.Variables.{Bindings}
-use Rattle.kc_macros.specs.between.LineContents.{tokens_of, content_of}
+use Rattle.kc_macro_lines.specs.between.LineContents.{content_of}
+use Rattle.kc_macro_forms.specs.between.WrittenTokens.{tokens_of}
 use Rattle.kc_macros.specs.Runs.{place_of, Runs, end_of_stop, ends}
 use Rattle.kc_macros.specs.between.Variables.{bindings_of}
 use Rattle.kc_macros_model.specs.Worlds.{returned}

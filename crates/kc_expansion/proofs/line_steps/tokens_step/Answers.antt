@@ -5,8 +5,8 @@ use Rattle.kc_macros_model.specs.ReadingStates.{ReadingState, progress, written_
 use Rattle.kc_macros_model.specs.TreeExpansion.{form_written, tokens_written, short_line}
 use Rattle.kc_macros_model.specs.Worlds.{stopped}
 use Rattle.kc_macros.specs.Runs.{place_of, ends}
-use Rattle.kc_macros.specs.between.LineContents.{tokens_of}
-use Rattle.kc_macros.specs.between.LineFormViews.{form_view}
+use Rattle.kc_macro_forms.specs.between.WrittenTokens.{tokens_of}
+use Rattle.kc_macro_forms.specs.between.LineFormViews.{form_view}
 use Rattle.kc_expansion.specs.between.Reads.{file_run}
 use Rattle.kc_expansion.specs.checker.ReadingViews.{with_lines}
 use Rattle.kc_expansion.proofs.FileProgramLemmas.{leads_same, leads_then, leads_value, reads_on, reads_stop, steps_out, steps_stopped}

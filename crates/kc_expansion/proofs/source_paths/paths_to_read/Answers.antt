@@ -4,8 +4,8 @@ use Rattle.kc_macros_model.specs.Worlds.{returned}
 use Rattle.kc_macros_model.specs.PathPatterns.{is_pattern, readable_paths}
 use Rattle.kc_macros_model.specs.TreeExpansion.{file_list, list_name, path_read}
 use Rattle.kc_macros.specs.Runs.{place_of}
-use Rattle.kc_macros.specs.between.LineFormViews.{source_sort_of}
-use Rattle.kc_expansion.specs.TextViews.{texts_of}
+use Rattle.kc_macro_forms.specs.between.LineFormViews.{source_sort_of}
+use Rattle.kc_files.specs.TextViews.{texts_of}
 use Rattle.kc_expansion.specs.checker.ReadingViews.{state_of, file_run_of, pattern_followed}
 use Rattle.kc_expansion.proofs.FileProgramLemmas.{leads_same, leads_then, leads_on, reads_by_files, steps_on, steps_out_now}
 use Rattle.kc_expansion.proofs.SourceReadLemmas.{path_of_pattern, path_optional}

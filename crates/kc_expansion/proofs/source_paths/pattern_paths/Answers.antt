@@ -6,12 +6,12 @@ use Rattle.kc_macros_model.specs.ReadingStates.{with_listed}
 use Rattle.kc_macros_model.specs.TreeExpansion.{file_list, list_name, pattern_read}
 use Rattle.kc_macros_model.specs.declared.fault.MacroKind.TheVariants.{MissingFile}
 use Rattle.kc_macros.specs.Runs.{place_of}
-use Rattle.kc_macros.specs.between.LineFormViews.{source_sort_of}
-use Rattle.kc_expansion.specs.TextViews.{items_of}
-use Rattle.kc_expansion.specs.between.FileRuns.{too_many_at}
+use Rattle.kc_macro_forms.specs.between.LineFormViews.{source_sort_of}
+use Rattle.kc_files.specs.TextViews.{items_of}
+use Rattle.kc_files.specs.between.FileRuns.{too_many_at}
 use Rattle.kc_expansion.specs.between.Reads.{cut_short}
-use Rattle.kc_expansion.specs.checker.PatternRuns.{found_of, Finds}
-use Rattle.kc_expansion.specs.declared.patterns.PatternStop.{PatternStop}
+use Rattle.kc_files.specs.checker.PatternRuns.{found_of, Finds}
+use Rattle.kc_files.specs.declared.patterns.PatternStop.{PatternStop}
 use Rattle.kc_expansion.specs.checker.ReadingViews.{state_of, file_run_of, fault_at, pattern_followed}
 use Rattle.kc_expansion.proofs.FileProgramLemmas.{leads_same, leads_then, leads_on, reads_on, reads_early, reads_by_files, reads_fails, fails_by}
 use Rattle.kc_expansion.proofs.SourceReadLemmas.{pattern_without, pattern_with}

@@ -3,7 +3,7 @@ use Rattle.std.specs.Prelude.{◌-◌}
 use Rattle.kc_tree_model.specs.LogicalLines.{split_at_newlines}
 use Rattle.kc_macros_model.specs.TreeExpansion.{list_read, lines_read}
 use Rattle.kc_macros.specs.Runs.{place_of}
-use Rattle.kc_expansion.specs.TextViews.{items_of}
+use Rattle.kc_files.specs.TextViews.{items_of}
 use Rattle.kc_expansion.specs.checker.ProgramSteps.{Leads}
 use Rattle.kc_expansion.specs.checker.ReadingViews.{state_of, file_run_of, reader_of, lists_left, lines_left, IsWrittenTo}
 use Rattle.kc_expansion.specs.checker.WrittenViews.{text_up_to}
@@ -23,9 +23,6 @@ decreases-read_path g l = 8 * (33 - length l.opened.now.paths.now) + 1
 
 abbrev pub decreases-follow_source : goal.decreases-follow_source
 decreases-follow_source g l = 8 * (33 - length l.opened.now.paths.now) + 2
-
-abbrev pub decreases-write_line : goal.decreases-write_line
-decreases-write_line g l = 8 * (33 - length l.opened.now.paths.now) + 3
 
 abbrev pub decreases-next_line : goal.decreases-next_line
 decreases-next_line g l = 8 * (33 - length l.opened.now.paths.now) + 4

@@ -6,7 +6,7 @@ use Rattle.kc_expr.specs.ExpressionNames.{operand_names}
 use Rattle.kc_expr.specs.checker.Nodes.{operand_of}
 use Rattle.kc_expr.specs.checker.Store.{stored_names}
 use Rattle.kc_expr.specs.between.ReverseNames.{names_in_reverse}
-use Rattle.kc_expr.proofs.KeptLists.{kept_through}
+use Rattle.kc_tokens.proofs.KeptLists.{kept_through}
 use Rattle.kc_expr.proofs.ExpressionNameLemmas.{names_of_both}
 use Rattle.kc_expr.proofs.StoreLemmas.{node_of, fits_at}
 use Rattle.kc_expr.proofs.names.+push_names.Goals as goal

@@ -4,7 +4,7 @@ use Rattle.std.proofs.lemmas.Result.{on_ok_weaker}
 use Rattle.std.proofs.lemmas.List.Folds.{list_any-append}
 use Rattle.kc_expr.specs.between.Visits.{mentions, passes_some_name}
 use Rattle.kc_expr.specs.checker.Store.{exprs_in}
-use Rattle.kc_expr.proofs.KeptLists.{kept_through}
+use Rattle.kc_tokens.proofs.KeptLists.{kept_through}
 use Rattle.kc_expr.proofs.StoreLemmas.{node_of, fits_at}
 use Rattle.kc_expr.proofs.VisitLemmas.{some_pushed, both_pushed, walk_visited, walk_one, walk_two}
 use Rattle.kc_expr.proofs.names.+push_new_names.Goals as goal

@@ -1,7 +1,7 @@
 use Rattle.std.proofs.Common.{◌≡◌, ◌+◌, ◌-◌, ◌<◌, ◌≤◌, ◌⊎◌, inl, inr, length, drop, ap, sym, ◌∙◌, arith}
 use Rattle.std.proofs.lemmas.Bool.{cases_lt}
 use Rattle.kc_expr.specs.Grammar.{extent}
-use Rattle.kc_expr.specs.Token.{lexemes_of}
+use Rattle.kc_tokens.specs.Token.{lexemes_of}
 use Rattle.kc_expr.proofs.TokenPlaces.{extent_goes_on, extent_stops, extent_none, extent_last, some_token}
 use Rattle.kc_expr.proofs.parse.extent_len.Goals as goal
 

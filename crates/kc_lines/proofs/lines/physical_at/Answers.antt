@@ -1,5 +1,5 @@
 use Rattle.std.proofs.Common.{arith, refl}
-use Rattle.kc_expr.proofs.TokenSteps.{rest_is}
+use Rattle.kc_tokens.proofs.TokenSteps.{rest_is}
 use Rattle.kc_lines.proofs.CutSteps.{line_at_end, line_returned, line_kept}
 use Rattle.kc_lines.proofs.lines.physical_at.Goals as goal
 use Rattle.kc_lines.proofs.lines.physical_at.Goals.{else-n-gt0-via-then-n-gt0+else-rest-n-eq13, else-n-gt0-via-else-n-gt0}

@@ -1,5 +1,5 @@
 use Rattle.std.proofs.Common.{false, sym, ◌∙◌, inr}
-use Rattle.kc_expr.specs.Token.{lexemes_from, lexemes_of}
+use Rattle.kc_tokens.specs.Token.{lexemes_from, lexemes_of}
 use Rattle.kc_listing.specs.checker.StateViews.{file_source_of}
 use Rattle.kc_listing.proofs.ReaderSteps.{shown_of}
 use Rattle.kc_listing.proofs.StatementSteps.{language_of_source, line_of_tokens, line_of_fault, with_no_front}

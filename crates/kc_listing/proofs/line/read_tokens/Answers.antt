@@ -1,6 +1,6 @@
 use Rattle.std.proofs.Common.{sym, ◌∙◌, inr, arith}
 use Rattle.std.proofs.lemmas.Grind.{common_steps}
-use Rattle.kc_expr.specs.Token.{lexeme_of, lexemes_of}
+use Rattle.kc_tokens.specs.Token.{lexeme_of, lexemes_of}
 use Rattle.kc_listing.proofs.ReaderSteps.{shown_of}
 use Rattle.kc_listing.proofs.StatementSteps.{word_unknown, given_by_word}
 use Rattle.kc_listing.proofs.line.read_tokens.Goals as goal

@@ -1,5 +1,5 @@
 use Rattle.std.proofs.Common.{sym, ap, ◌∙◌}
-use Rattle.kc_expr.specs.Token.{lexemes_of}
+use Rattle.kc_tokens.specs.Token.{lexemes_of}
 use Rattle.kc_tree_model.specs.Placement.{is_choice_open}
 use Rattle.kc_listing.specs.between.ListingView.{RepresentsListing}
 use Rattle.kc_listing.specs.checker.StateViews.{Describes}

@@ -1,7 +1,7 @@
 use Rattle.std.proofs.Common.{◌≡◌, ◌∙◌, ◌∷◌, ◌++◌, [], Some, ap}
 use Rattle.kc_macros_model.specs.Programs.{Notice}
 use Rattle.kc_macros_model.specs.Expansion.{reported}
-use Rattle.kc_macros.specs.RunStates.{RunState}
+use Rattle.kc_answers.specs.RunStates.{RunState}
 use Rattle.kc_macros.specs.Runs.{place_of}
 use Rattle.kc_macros.proofs.RunLemmas.{runs_out, returns_as}
 use Rattle.kc_macros.proofs.EventLemmas.{reports}

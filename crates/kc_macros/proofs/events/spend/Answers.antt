@@ -1,5 +1,5 @@
 use Rattle.std.proofs.Common.{sym, subst, arith}
-use Rattle.kc_macros.specs.RunStates.{RunState}
+use Rattle.kc_answers.specs.RunStates.{RunState}
 use Rattle.kc_macros.specs.Runs.{place_of, ends, Runs}
 use Rattle.kc_macros_model.specs.Worlds.{returned}
 use Rattle.kc_macros.specs.checker.Events.{spent}

@@ -1,20 +1,19 @@
-use Rattle.std.proofs.Common.{◌∙◌, ◌-◌, false, [], ◌∷◌, Some, length, take, drop, refl, sym, ap, arith, rules}
+use Rattle.std.proofs.Common.{◌∙◌, ◌-◌, false, [], ◌∷◌, Some, length, take, drop, sym, ap, arith, rules}
 use Rattle.std.proofs.lemmas.List.{at_drop_all}
-use Rattle.kc_macros_model.specs.Programs.{returns as returns_value, ◌>>=◌}
 use Rattle.kc_macros_model.specs.Worlds.{returned}
 use Rattle.kc_macros.specs.between.Variables.{variable_of}
 use Rattle.kc_macros.specs.checker.Pieces.{pieces_left}
-use Rattle.kc_macros_model.specs.References.{reference, items, pieces}
+use Rattle.kc_macros_model.specs.References.{reference, items}
 use Rattle.kc_macros_model.specs.Expansion.{call_value, named_value, piece_values}
-use Rattle.kc_macros.specs.Runs.{ends, end_of_stop}
+use Rattle.kc_macros.specs.Runs.{ends, end_of, end_of_stop}
 use Rattle.kc_macros.specs.between.SliceTexts.{texts_of_slices}
-use Rattle.kc_macros.specs.checker.Frames.{frame_place, frame_bindings, frame_names, frame_expander, frame_item, frame_value}
+use Rattle.kc_macros.specs.checker.PartialValues.{items_from, values_left}
+use Rattle.kc_macros.specs.checker.Frames.{paid, frame_items, frame_place, frame_bindings, frame_names, frame_expander, frame_item, frame_value}
 use Rattle.kc_macros.proofs.RunLemmas.{runs_out, passes_on, then_runs, stops_early}
-use Rattle.kc_macros.proofs.ProgramLemmas.{runs_same, leads_same, steps_stopped}
-use Rattle.kc_macros.proofs.PieceLemmas.{rest_is}
+use Rattle.kc_macros.proofs.ProgramLemmas.{runs_same, leads_same, leads_then, steps_stopped}
 use Rattle.kc_macros.proofs.NameLemmas.{no_element}
-use Rattle.kc_macros.proofs.CallLemmas.{pieces_at_first, argument_meant, too_many_pieces, few_pieces, first_and_rest, is_recursive, texts_length, piece_front, piece_stopped, piece_found, pieces_found}
-use Rattle.kc_macros.proofs.ExpansionLemmas.{fails_so, returns_so, too_deep, whole_unpaid, whole_stopped, whole_unpaid_value, whole_returned, begins_all, ends_all, plain_too_long, plain_leads, plain_unterminated, item_stopped, item_too_long, item_leads}
+use Rattle.kc_macros.proofs.CallLemmas.{pieces_at_first, argument_meant, first_and_rest, piece_front, piece_stopped, piece_found, pieces_found}
+use Rattle.kc_macros.proofs.ExpansionLemmas.{fails_so, returns_so, begins_all, ends_all, item_after, item_stopped, item_step, item_short}
 use Rattle.kc_macros.proofs.text_values.+expansion.Goals as goal
 
 pub call_value-returns-then-is_empty : goal.call_value-returns-then-is_empty
@@ -29,106 +28,6 @@ call_value-returns-in-None t c =
     let vs = c.args.values.now in
     returns_so c.args.run.now _ _ (ap (call_value (frame_expander f) (frame_place f) (frame_bindings f) (frame_names f))
     (first_and_rest vs c.index-values-0.result (search rules) c.index-values-0.is ∙ ap (λ v. v ∷ take (length vs - 1) (drop 1 vs)) c.in-None.is))
-
-pub expanded-returns-then-frame-eq0 : goal.expanded-returns-then-frame-eq0
-expanded-returns-then-frame-eq0 t c =
-    let f = c.args.frame.now in
-    fails_so c.args.run.now _ _ c.fault.result (too_deep (frame_place f) f.more (frame_bindings f) (frame_names f) f.args.now c.args.text.now
-    c.if-frame-eq0.true) c.fault.ensures
-
-pub expanded-returns-in_err-spend : goal.expanded-returns-in_err-spend
-expanded-returns-in_err-spend t c =
-    let f = c.args.frame.now in
-    passes_on _ _ _ _ c.in_err-spend.field-0.0 _ c.from_residual.ensures.1
-    (whole_unpaid (frame_place f) f.more (frame_bindings f) (frame_names f) f.args.now c.args.text.now
-    (omega arith) c.args.run.now c.spend.new.run c.args.run.now c.args.run.now c.in_err-spend.field-0.0 c.in_err-spend.ensures)
-
-pub expanded-returns-in_err-value : goal.expanded-returns-in_err-value
-expanded-returns-in_err-value t c =
-    let f = c.args.frame.now in
-    passes_on _ _ _ _ c.in_err-value.field-0.0 _ c.from_residual-in_err-value.ensures.1
-    (whole_stopped (frame_place f) f.more (frame_bindings f) (frame_names f) f.args.now c.args.text.now
-    (omega arith) c.args.run.now c.spend.new.run c.args.run.now c.text_items.new.run c.in_err-value.field-0.0 c.in_ok-spend.ensures c.in_err-value.ensures)
-
-pub expanded-returns-in_err-spend-2 : goal.expanded-returns-in_err-spend-2
-expanded-returns-in_err-spend-2 t c =
-    let f = c.args.frame.now in
-    passes_on _ _ _ _ c.in_err-spend-2.field-0.0 _ c.from_residual-in_err-spend-2.ensures.1
-    (whole_unpaid_value (frame_place f) f.more (frame_bindings f) (frame_names f) f.args.now c.args.text.now
-    (omega arith) c.args.run.now c.spend.new.run c.text_items.new.run c.spend-2.new.run c.in_ok-value.value c.value_length.result c.in_err-spend-2.field-0.0
-    c.value_length.ensures c.in_ok-spend.ensures c.in_ok-value.ensures c.in_err-spend-2.ensures)
-
-pub expanded-returns : goal.expanded-returns
-expanded-returns t c =
-    let f = c.args.frame.now in
-    whole_returned (frame_place f) f.more (frame_bindings f) (frame_names f) f.args.now c.args.text.now
-    (omega arith) c.args.run.now c.spend.new.run c.text_items.new.run c.spend-2.new.run c.in_ok-value.value c.value_length.result c.value_length.ensures
-    c.in_ok-spend.ensures c.in_ok-value.ensures c.in_ok-spend-2.ensures
-
-pub named_value-returns-in_err-copied_value-in-Some-Simple : goal.named_value-returns-in_err-copied_value-in-Some-Simple
-named_value-returns-in_err-copied_value-in-Some-Simple t c =
-    let f = c.args.frame.now in
-    runs_out _ _ _ _ _ c.from_residual.ensures.1
-
-pub named_value-returns-in_ok-copied_value-in-Some-Simple : goal.named_value-returns-in_ok-copied_value-in-Some-Simple
-named_value-returns-in_ok-copied_value-in-Some-Simple t c =
-    let f = c.args.frame.now in
-    returns_so c.args.run.now _ _ (ap (named_value (frame_expander f) (frame_place f) (frame_names f) c.args.name.now c.args.args.now)
-    (sym c.in-Some-Simple.ensures ∙ ap (λ v. Some (variable_of v)) c.in-Some-Simple.field-0-is) ∙ ap returns_value
-    (sym c.in_ok-copied_value-in-Some-Simple.ensures))
-
-pub next_items-returns-in_err-push_text-clause-steps : goal.next_items-returns-in_err-push_text-clause-steps
-next_items-returns-in_err-push_text-clause-steps t c =
-    let f = c.args.frame.now in
-    steps_stopped _ _ _ _ c.in_err-push_text.field-0.0 _ c.from_residual.ensures.1
-    (plain_too_long (frame_place f) (frame_item f) (λ d. refl) c.args.run.now c.args.out.now.known c.args.out.now.bytes.items c.args.text.now _ _
-    c.plain_length-plain.ensures.items c.requires.small c.in_err-push_text.field-0.0 c.in_err-push_text.ensures.err)
-
-pub next_items-returns-then-is_empty-clause-steps : goal.next_items-returns-then-is_empty-clause-steps
-next_items-returns-then-is_empty-clause-steps t c =
-    let f = c.args.frame.now in
-    plain_leads (frame_place f) (frame_item f) (λ d. refl) c.args.run.now c.args.out.now.known c.args.out.now.bytes.items c.args.text.now _ _
-    c.plain_length-plain.ensures.items c.requires.small c.in_ok-push_text.ensures.small c.push_text.new.out.known c.push_text.new.out.bytes.items
-    c.in_ok-push_text.ensures.known c.in_ok-push_text.ensures.bytes _ (ap (items false 0) (sym (rest_is c.args.text.now c.plain_length-plain.result)))
-
-pub next_items-returns-in_default-clause-steps : goal.next_items-returns-in_default-clause-steps
-next_items-returns-in_default-clause-steps t c =
-    let f = c.args.frame.now in
-    let u = c.in_default.ensures.unterminated false in
-    plain_unterminated (frame_place f) (frame_item f) (λ d. refl) c.args.run.now c.args.out.now.known c.args.out.now.bytes.items c.args.text.now _ _
-    c.plain_length-plain.ensures.items c.requires.small c.in_ok-push_text.ensures.small c.push_text.new.out.known c.push_text.new.out.bytes.items
-    c.in_ok-push_text.ensures.known c.in_ok-push_text.ensures.bytes _ u.0 _ c.fault.result
-    (ap (items false 0) (sym (rest_is c.args.text.now c.plain_length-plain.result)) ∙ u.1) refl c.fault.ensures
-
-pub next_items-returns-in_err-value-clause-steps : goal.next_items-returns-in_err-value-clause-steps
-next_items-returns-in_err-value-clause-steps t c =
-    let f = c.args.frame.now in
-    steps_stopped _ _ _ _ c.in_err-value.field-0.0 _ c.from_residual-in_err-value.ensures.1
-    (item_stopped (frame_place f) (frame_item f) (λ d. refl) c.args.run.now c.args.out.now.known c.args.out.now.bytes.items c.args.text.now _ _
-    c.plain_length-plain.ensures.items c.requires.small c.in_ok-push_text.ensures.small c.push_text.new.out.known c.push_text.new.out.bytes.items
-    c.in_ok-push_text.ensures.known c.in_ok-push_text.ensures.bytes (reference c.in-Some.inside.now) (items false 0 c.in-Some.after.now)
-    (ap (items false 0) (sym (rest_is c.args.text.now c.plain_length-plain.result)) ∙ c.in-Some.ensures.reference false) c.reference_value.new.run
-    c.in_err-value.field-0.0 c.in_err-value.ensures)
-
-pub next_items-returns-in_err-push_value-clause-steps : goal.next_items-returns-in_err-push_value-clause-steps
-next_items-returns-in_err-push_value-clause-steps t c =
-    let f = c.args.frame.now in
-    steps_stopped _ _ _ _ c.in_err-push_value.field-0.0 _ c.from_residual-in_err-push_value.ensures.1
-    (item_too_long (frame_place f) (frame_item f) (λ d. refl) c.args.run.now c.args.out.now.known c.args.out.now.bytes.items c.args.text.now _ _
-    c.plain_length-plain.ensures.items c.requires.small c.in_ok-push_text.ensures.small c.push_text.new.out.known c.push_text.new.out.bytes.items
-    c.in_ok-push_text.ensures.known c.in_ok-push_text.ensures.bytes (reference c.in-Some.inside.now) (items false 0 c.in-Some.after.now)
-    (ap (items false 0) (sym (rest_is c.args.text.now c.plain_length-plain.result)) ∙ c.in-Some.ensures.reference false) c.reference_value.new.run
-    c.in_ok-value.value c.in_err-push_value.field-0.0 c.in_ok-value.ensures c.in_err-push_value.ensures.err)
-
-pub next_items-returns-clause-steps : goal.next_items-returns-clause-steps
-next_items-returns-clause-steps t c =
-    let f = c.args.frame.now in
-    item_leads (frame_place f) (frame_item f) (λ d. refl) c.args.run.now c.args.out.now.known c.args.out.now.bytes.items c.args.text.now _ _
-    c.plain_length-plain.ensures.items c.requires.small c.in_ok-push_text.ensures.small c.push_text.new.out.known c.push_text.new.out.bytes.items
-    c.in_ok-push_text.ensures.known c.in_ok-push_text.ensures.bytes (reference c.in-Some.inside.now) (items false 0 c.in-Some.after.now)
-    (ap (items false 0) (sym (rest_is c.args.text.now c.plain_length-plain.result)) ∙ c.in-Some.ensures.reference false) c.reference_value.new.run
-    c.in_ok-value.value c.push_value.new.out.known c.push_value.new.out.bytes.items c.in_ok-value.ensures c.in_ok-push_value.ensures.small
-    c.in_ok-push_value.ensures.known c.in_ok-push_value.ensures.bytes
 
 pub piece_values-pieces-init : goal.piece_values-pieces-init
 piece_values-pieces-init t c =
@@ -165,76 +64,6 @@ piece_values-returns t c =
     pieces_found (frame_value f) c.args.run.now c.pieces.run _ c.pieces.values.items _
     (at_drop_all texts_of_slices c.args.pieces.now c.pieces.piece-index (omega arith)) c.pieces.invariant
 
-pub recursive_value-returns-then-is_recursion : goal.recursive_value-returns-then-is_recursion
-recursive_value-returns-then-is_recursion t c =
-    let f = c.args.frame.now in
-    fails_so c.args.run.now _ _ c.fault.result (is_recursive (frame_expander f) (frame_place f) (frame_names f) c.args.name.now c.args.args.now c.args.text.now
-    (sym c.is_recursion.ensures ∙ c.if-is_recursion.true)) c.fault.ensures
-
-pub recursive_value-returns-in_err-names : goal.recursive_value-returns-in_err-names
-recursive_value-returns-in_err-names t c =
-    let f = c.args.frame.now in
-    runs_out _ _ _ _ _ c.from_residual.ensures.1
-
-pub reference_value-returns-in_err-copied_value : goal.reference_value-returns-in_err-copied_value
-reference_value-returns-in_err-copied_value t c =
-    let f = c.args.frame.now in
-    runs_out _ _ _ _ _ c.from_residual.ensures.1
-
-pub reference_value-returns-in-Some : goal.reference_value-returns-in-Some
-reference_value-returns-in-Some t c =
-    let f = c.args.frame.now in
-    returns_so c.args.run.now _ _ (argument_meant (frame_expander f) (frame_place f) (frame_bindings f) (frame_names f) f.args.now c.args.inside.now _
-    (sym c.in-Some.ensures) ∙ ap returns_value (sym c.in_ok-copied_value.ensures))
-
-pub reference_value-returns-in_err-pieces : goal.reference_value-returns-in_err-pieces
-reference_value-returns-in_err-pieces t c =
-    let f = c.args.frame.now in
-    runs_out _ _ _ _ _ c.from_residual-in_err-pieces.ensures.1
-
-pub reference_value-returns-then-len-gt-MAX_PIECES : goal.reference_value-returns-then-len-gt-MAX_PIECES
-reference_value-returns-then-len-gt-MAX_PIECES t c =
-    let f = c.args.frame.now in
-    fails_so c.args.run.now _ _ c.fault.result (too_many_pieces (frame_expander f) (frame_place f) (frame_bindings f)
-    (frame_names f) f.args.now c.args.inside.now (sym c.in_default.ensures)
-    (omega (arith, ap length c.in_ok-pieces.ensures, texts_length c.in_ok-pieces.pieces.items))) c.fault.ensures
-
-pub reference_value-returns-in_err-values : goal.reference_value-returns-in_err-values
-reference_value-returns-in_err-values t c =
-    let f = c.args.frame.now in
-    let stop = c.in_err-values.field-0.0 in
-    let s = c.args.run.now in
-    let u = c.piece_values.new.run in
-    passes_on _ _ _ _ stop _ c.from_residual-in_err-values.ensures.1 (runs_same s u _
-    ((piece_values (frame_value f) (pieces 0 c.args.inside.now)) >>= (call_value (frame_expander f) (frame_place f) (frame_bindings f) (frame_names f)))
-    (end_of_stop stop) (few_pieces (frame_expander f) (frame_place f) (frame_bindings f) (frame_names f) f.args.now c.args.inside.now
-    (sym c.in_default.ensures) (omega (arith, ap length c.in_ok-pieces.ensures, texts_length c.in_ok-pieces.pieces.items)))
-    (stops_early s u (piece_values (frame_value f) (pieces 0 c.args.inside.now))
-    (call_value (frame_expander f) (frame_place f) (frame_bindings f) (frame_names f)) stop
-    (runs_same s u (piece_values (frame_value f) (pieces 0 c.args.inside.now)) (piece_values (frame_value f) (texts_of_slices c.as_slice.result.now))
-    (end_of_stop stop)
-    (ap (piece_values (frame_value f)) (sym (ap texts_of_slices c.as_slice.ensures.value ∙ c.in_ok-pieces.ensures))) c.in_err-values.ensures)))
-
-pub reference_value-returns : goal.reference_value-returns
-reference_value-returns t c =
-    let f = c.args.frame.now in
-    let s = c.args.run.now in
-    let u = c.piece_values.new.run in
-    let v = c.call_value.new.run in
-    let vs = c.in_ok-values.values.items in
-    runs_same s v _ ((piece_values (frame_value f) (pieces 0 c.args.inside.now)) >>=
-    (call_value (frame_expander f) (frame_place f) (frame_bindings f) (frame_names f))) _
-    (few_pieces (frame_expander f) (frame_place f) (frame_bindings f) (frame_names f) f.args.now c.args.inside.now (sym c.in_default.ensures)
-    (omega (arith, ap length c.in_ok-pieces.ensures, texts_length c.in_ok-pieces.pieces.items)))
-    (then_runs s u (piece_values (frame_value f) (pieces 0 c.args.inside.now))
-    (call_value (frame_expander f) (frame_place f) (frame_bindings f) (frame_names f)) vs v _
-    (runs_same s u (piece_values (frame_value f) (pieces 0 c.args.inside.now)) (piece_values (frame_value f) (texts_of_slices c.as_slice.result.now))
-    (ends (returned vs))
-    (ap (piece_values (frame_value f)) (sym (ap texts_of_slices c.as_slice.ensures.value ∙ c.in_ok-pieces.ensures))) c.in_ok-values.ensures)
-    (runs_same u v ((call_value (frame_expander f) (frame_place f) (frame_bindings f) (frame_names f)) vs)
-    ((call_value (frame_expander f) (frame_place f) (frame_bindings f) (frame_names f)) c.as_slice-2.result.now) _
-    (ap (call_value (frame_expander f) (frame_place f) (frame_bindings f) (frame_names f)) (sym c.as_slice-2.ensures.value)) c.call_value.ensures))
-
 pub text_items-items-init : goal.text_items-items-init
 text_items-items-init t c =
     let f = c.args.frame.now in
@@ -244,8 +73,150 @@ text_items-items-init t c =
           (items false 0 c.args.text.now) c.empty_value-out.ensures.known c.empty_value-out.ensures.bytes;
     }
 
+pub push_reference-returns-in_err-value-clause-steps : goal.push_reference-returns-in_err-value-clause-steps
+push_reference-returns-in_err-value-clause-steps t c = λ is.
+    let f = c.args.frame.now in
+    steps_stopped _ _ _ _ c.in_err-value.field-0.0 _ c.from_residual.ensures.1
+    (item_stopped (frame_place f) (frame_item f) c.args.run.now c.args.out.now.known c.args.out.now.bytes.items (reference c.args.inside.now) is
+    c.reference_value.new.run c.in_err-value.field-0.0 c.in_err-value.ensures)
+
+pub push_reference-returns-clause-steps : goal.push_reference-returns-clause-steps
+push_reference-returns-clause-steps t c = λ is.
+    let f = c.args.frame.now in
+    item_step (frame_place f) (frame_item f) c.args.run.now c.args.out.now.known c.args.out.now.bytes.items (reference c.args.inside.now) is
+    c.reference_value.new.run c.in_ok-value.value c.push_value.new.out.known c.push_value.new.out.bytes.items c.push_value.result c.in_ok-value.ensures
+    c.push_value.ensures.small c.push_value.ensures.known c.push_value.ensures.bytes c.push_value.ensures.err
+
+pub push_reference-returns-clause-small : goal.push_reference-returns-clause-small
+push_reference-returns-clause-small t c =
+    let f = c.args.frame.now in
+    item_short (frame_place f) (frame_item f) c.args.run.now c.args.out.now.known c.args.out.now.bytes.items (reference c.args.inside.now) []
+    c.in_ok-value.value c.push_value.new.out.bytes.items c.push_value.result c.push_value.ensures.small c.push_value.ensures.bytes
+
 pub text_items-returns : goal.text_items-returns
 text_items-returns t c =
     let f = c.args.frame.now in
-    ends_all (frame_place f) (frame_item f) c.items.run c.items.out.known c.items.out.bytes.items c.args.run.now _ (items false 0 c.items.rest.now) _
-    (ap (items false 0) (no_element c.items.rest.now (search rules))) c.value_if_known.ensures c.items.invariant.left
+    let o = c.next_reference.new.out in
+    ends_all (frame_place f) (frame_item f) c.items.run o.known o.bytes.items c.args.run.now _ (items_from c.in_ok-inside.field-0) _
+    (ap items_from c.in_default.is) c.value_if_known.ensures (leads_then c.args.run.now c.items.run c.items.run (frame_items f c.args.text.now)
+    (values_left (frame_place f) (frame_item f) c.items.out.known c.items.out.bytes.items (items false 0 c.items.rest.now))
+    (values_left (frame_place f) (frame_item f) o.known o.bytes.items (items_from c.in_ok-inside.field-0))
+    c.items.invariant.left (c.in_ok-inside.ensures.steps c.items.run))
+
+pub text_items-returns-in_err-inside : goal.text_items-returns-in_err-inside
+text_items-returns-in_err-inside t c =
+    passes_on _ _ _ _ c.in_err-inside.field-0.0 _ c.from_residual.ensures.1
+    (c.items.invariant.left.leads c.items.run (end_of_stop c.in_err-inside.field-0.0) (c.in_err-inside.ensures.steps c.items.run))
+
+pub text_items-returns-in_err-push_reference : goal.text_items-returns-in_err-push_reference
+text_items-returns-in_err-push_reference t c =
+    let f = c.args.frame.now in
+    let o = c.next_reference.new.out in
+    let u = c.push_reference.new.run in
+    let stop = c.in_err-push_reference.field-0.0 in
+    passes_on _ _ _ _ stop _ c.from_residual-in_err-push_reference.ensures.1
+    (c.items.invariant.left.leads u (end_of_stop stop) ((c.in_ok-inside.ensures.steps c.items.run).leads u (end_of_stop stop)
+    (runs_same c.items.run u (values_left (frame_place f) (frame_item f) o.known o.bytes.items (items_from c.in_ok-inside.field-0))
+    (values_left (frame_place f) (frame_item f) o.known o.bytes.items (items_from (Some (c.in-Some.inside, c.in-Some.after)))) (end_of_stop stop)
+    (ap (λ r. values_left (frame_place f) (frame_item f) o.known o.bytes.items (items_from r)) c.in-Some.is)
+    (c.in_err-push_reference.ensures.steps (items false 0 c.in-Some.after.now)))))
+
+pub text_items-items-preserved : goal.text_items-items-preserved
+text_items-items-preserved t c =
+    let f = c.args.frame.now in
+    let o = c.next_reference.new.out in
+    record {
+      within = c.in_ok-push_reference.ensures.small;
+      left = item_after (frame_place f) (frame_item f) c.args.run.now c.items.run c.push_reference.new.run (frame_items f c.args.text.now)
+          (values_left (frame_place f) (frame_item f) c.items.out.known c.items.out.bytes.items (items false 0 c.items.rest.now)) o.known o.bytes.items
+          (items_from c.in_ok-inside.field-0) (items_from (Some (c.in-Some.inside, c.in-Some.after)))
+          (values_left (frame_place f) (frame_item f) c.push_reference.new.out.known c.push_reference.new.out.bytes.items (items false 0 c.in-Some.after.now))
+          (ap items_from c.in-Some.is) c.items.invariant.left (c.in_ok-inside.ensures.steps c.items.run)
+          (c.in_ok-push_reference.ensures.steps (items false 0 c.in-Some.after.now));
+    }
+
+pub expanded-returns-in_err-inner : goal.expanded-returns-in_err-inner
+expanded-returns-in_err-inner t c = passes_on _ _ _ _ c.in_err-inner.field-0.0 _ c.from_residual.ensures.1 c.in_err-inner.ensures.steps
+
+pub expanded-returns-in_err-value : goal.expanded-returns-in_err-value
+expanded-returns-in_err-value t c =
+    let i = c.in_ok-inner.inner in
+    let stop = c.in_err-value.field-0.0 in
+    passes_on _ _ _ _ stop _ c.from_residual-in_err-value.ensures.1
+    (c.in_ok-inner.ensures.steps.leads c.text_items.new.run (end_of_stop stop)
+    (stops_early c.inner_frame.new.run c.text_items.new.run (frame_items i c.args.text.now) (paid (frame_place i)) stop c.in_err-value.ensures))
+
+pub expanded-returns : goal.expanded-returns
+expanded-returns t c =
+    let i = c.in_ok-inner.inner in
+    c.in_ok-inner.ensures.steps.leads c.paid_value.new.run (end_of (λ v. v) c.paid_value.result)
+    (then_runs c.inner_frame.new.run c.text_items.new.run (frame_items i c.args.text.now) (paid (frame_place i)) c.in_ok-value.value
+    c.paid_value.new.run (end_of (λ v. v) c.paid_value.result) c.in_ok-value.ensures c.paid_value.ensures)
+
+pub named_value-returns-in-Some-Simple : goal.named_value-returns-in-Some-Simple
+named_value-returns-in-Some-Simple t c =
+    let f = c.args.frame.now in
+    let s = c.args.run.now in
+    runs_same s s (named_value (frame_expander f) (frame_place f) (frame_names f) c.args.name.now c.args.args.now (frame_bindings f c.args.name.now)) _
+    (end_of (λ v. v) c.copied_value.result)
+    (ap (named_value (frame_expander f) (frame_place f) (frame_names f) c.args.name.now c.args.args.now)
+    (sym c.in-Some-Simple.ensures ∙ ap (λ v. Some (variable_of v)) c.in-Some-Simple.field-0-is)) (c.copied_value.ensures s)
+
+pub recursive_value-returns-in_err-names : goal.recursive_value-returns-in_err-names
+recursive_value-returns-in_err-names t c =
+    passes_on _ _ _ _ c.in_err-names.field-0.0 _ c.from_residual.ensures.1 (c.in_err-names.ensures (frame_expander c.args.frame.now) c.args.run.now c.args.text.now)
+
+pub recursive_value-returns : goal.recursive_value-returns
+recursive_value-returns t c =
+    let f = c.args.frame.now in
+    let s = c.args.run.now in
+    let u = c.expanded.new.run in
+    let e = end_of (λ v. v) c.expanded.result in
+    (c.in_ok-names.ensures (frame_expander f) s c.args.text.now).leads u e
+    (runs_same s u (frame_expander f (texts_of_slices c.in_ok-names.names.items) c.args.args.now c.args.text.now)
+    (frame_expander f (texts_of_slices c.as_slice.result.now) c.args.args.now c.args.text.now) e
+    (ap (λ ns. frame_expander f (texts_of_slices ns) c.args.args.now c.args.text.now) (sym c.as_slice.ensures.value)) c.expanded.ensures)
+
+pub reference_value-returns-in-Some : goal.reference_value-returns-in-Some
+reference_value-returns-in-Some t c =
+    let f = c.args.frame.now in
+    let s = c.args.run.now in
+    runs_same s s (frame_item f (reference c.args.inside.now)) _ (end_of (λ v. v) c.copied_value.result)
+    (argument_meant (frame_expander f) (frame_place f) (frame_bindings f) (frame_names f) f.args.now c.args.inside.now _
+    (sym c.in-Some.ensures)) (c.copied_value.ensures s)
+
+pub reference_value-reference_pieces-requires : goal.reference_value-reference_pieces-requires
+reference_value-reference_pieces-requires t c = record { no_argument = sym c.in_default.ensures }
+
+pub reference_value-returns-in_err-pieces : goal.reference_value-returns-in_err-pieces
+reference_value-returns-in_err-pieces t c =
+    passes_on _ _ _ _ c.in_err-pieces.field-0.0 _ c.from_residual.ensures.1 (c.in_err-pieces.ensures c.args.run.now)
+
+pub reference_value-returns-in_err-values : goal.reference_value-returns-in_err-values
+reference_value-returns-in_err-values t c =
+    let f = c.args.frame.now in
+    let stop = c.in_err-values.field-0.0 in
+    let s = c.args.run.now in
+    let u = c.piece_values.new.run in
+    passes_on _ _ _ _ stop _ c.from_residual-in_err-values.ensures.1 ((c.in_ok-pieces.ensures s).leads u (end_of_stop stop)
+    (stops_early s u (piece_values (frame_value f) (texts_of_slices c.in_ok-pieces.pieces.items))
+    (call_value (frame_expander f) (frame_place f) (frame_bindings f) (frame_names f)) stop
+    (runs_same s u (piece_values (frame_value f) (texts_of_slices c.in_ok-pieces.pieces.items))
+    (piece_values (frame_value f) (texts_of_slices c.as_slice.result.now)) (end_of_stop stop)
+    (ap (λ ps. piece_values (frame_value f) (texts_of_slices ps)) (sym c.as_slice.ensures.value)) c.in_err-values.ensures)))
+
+pub reference_value-returns : goal.reference_value-returns
+reference_value-returns t c =
+    let f = c.args.frame.now in
+    let s = c.args.run.now in
+    let u = c.piece_values.new.run in
+    let v = c.call_value.new.run in
+    let vs = c.in_ok-values.values.items in
+    let e = end_of (λ x. x) c.call_value.result in
+    let call = call_value (frame_expander f) (frame_place f) (frame_bindings f) (frame_names f) in
+    (c.in_ok-pieces.ensures s).leads v e
+    (then_runs s u (piece_values (frame_value f) (texts_of_slices c.in_ok-pieces.pieces.items)) call vs v e
+    (runs_same s u (piece_values (frame_value f) (texts_of_slices c.in_ok-pieces.pieces.items))
+    (piece_values (frame_value f) (texts_of_slices c.as_slice.result.now)) (ends (returned vs))
+    (ap (λ ps. piece_values (frame_value f) (texts_of_slices ps)) (sym c.as_slice.ensures.value)) c.in_ok-values.ensures)
+    (runs_same u v (call vs) (call c.as_slice-2.result.now) e (ap call (sym c.as_slice-2.ensures.value)) c.call_value.ensures))

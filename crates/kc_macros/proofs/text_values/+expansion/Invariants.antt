@@ -15,8 +15,8 @@ decreases-expanded l = 8 * l.frame.now.more
 abbrev pub decreases-text_items : goal.decreases-text_items
 decreases-text_items l = 8 * l.frame.now.more + 7
 
-abbrev pub decreases-next_items : goal.decreases-next_items
-decreases-next_items l = 8 * l.frame.now.more + 6
+abbrev pub decreases-push_reference : goal.decreases-push_reference
+decreases-push_reference l = 8 * l.frame.now.more + 6
 
 abbrev pub decreases-reference_value : goal.decreases-reference_value
 decreases-reference_value l = 8 * l.frame.now.more + 5

@@ -4,7 +4,7 @@ use Rattle.std.specs.Option.{option_copied}
 use Rattle.std.proofs.lemmas.Result.{IfOk-weaker}
 use Rattle.kc_tree.specs.between.Views.{choice_view, symbol_view}
 use Rattle.kc_rules_model.specs.declared.values.UnitValue.TheVariants.{Member as MemberValue}
-use Rattle.kc_rules.specs.checker.StoredRules.{choice_rule_of}
+use Rattle.kc_dependencies.specs.checker.StoredRules.{choice_rule_of}
 use Rattle.kc_rules.proofs.Evaluations.{rule_symbol, rule_choice, member_there}
 use Rattle.kc_rules.proofs.evaluation.value_of.Goals as goal
 

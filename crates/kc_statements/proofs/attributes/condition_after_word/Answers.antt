@@ -1,6 +1,6 @@
 use Rattle.std.proofs.Common.{inr, ap, sym, ◌∙◌, length, drop, arith}
 use Rattle.std.proofs.lemmas.Grind.{common_steps, elements}
-use Rattle.kc_expr.specs.Token.{lexemes_of}
+use Rattle.kc_tokens.specs.Token.{lexemes_of}
 use Rattle.kc_expr.specs.between.Arena.{node_expr}
 use Rattle.kc_tree_model.specs.Forms.{condition_line, last_condition}
 use Rattle.kc_tree_model.specs.Statements.{attribute}

@@ -1,6 +1,6 @@
 use Rattle.std.proofs.Common.{arith, inl, inr}
 use Rattle.std.proofs.lemmas.List.{length-map}
-use Rattle.kc_expr.specs.Token.{lexemes_of, lexeme_of}
+use Rattle.kc_tokens.specs.Token.{lexemes_of, lexeme_of}
 use Rattle.kc_expr.proofs.GrammarComplete.{expr_complete}
 use Rattle.kc_statements.proofs.AttributeLemmas.{extent_within, default_unread}
 use Rattle.kc_statements.proofs.ArenaGrowth.{grows_on}

@@ -1,6 +1,6 @@
 use Rattle.std.proofs.Common.{inr, sym, ◌∙◌, length, drop, arith}
 use Rattle.std.proofs.lemmas.Grind.{common_steps, elements}
-use Rattle.kc_expr.specs.Token.{lexemes_of}
+use Rattle.kc_tokens.specs.Token.{lexemes_of}
 use Rattle.kc_tree_model.specs.Forms.{prompt_line, optional_if}
 use Rattle.kc_tree_model.specs.Statements.{attribute}
 use Rattle.kc_statements.specs.between.StatementViews.{if_in}

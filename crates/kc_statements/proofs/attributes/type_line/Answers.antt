@@ -3,7 +3,7 @@ use Rattle.std.proofs.lemmas.Grind.{common_steps}
 use Rattle.kc_tree_model.specs.Statements.{typed_prompt}
 use Rattle.kc_statements.proofs.FormLemmas.{there, none_there}
 use Rattle.kc_statements.proofs.AttributeLemmas.{type_is}
-use Rattle.kc_expr.specs.Token.{lexemes_of}
+use Rattle.kc_tokens.specs.Token.{lexemes_of}
 use Rattle.kc_tree_model.specs.Forms.{type_line}
 use Rattle.kc_statements.proofs.ArenaGrowth.{grows_none}
 use Rattle.kc_statements.proofs.attributes.type_line.Goals as goal

@@ -1,6 +1,6 @@
 use Rattle.std.proofs.Common.{arith, inr, drop, length-drop, ap, sym, ◌∙◌, Ok}
 use Rattle.std.proofs.lemmas.List.{length-map}
-use Rattle.kc_expr.specs.Token.{lexemes_of, lexeme_of}
+use Rattle.kc_tokens.specs.Token.{lexemes_of, lexeme_of}
 use Rattle.kc_expr.proofs.GrammarComplete.{expr_complete}
 use Rattle.kc_statements.proofs.FormLemmas.{condition_after, condition_last, condition_unread, unread}
 use Rattle.kc_tree_model.specs.Forms.{last_condition}

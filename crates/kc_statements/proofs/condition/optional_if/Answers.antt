@@ -1,6 +1,6 @@
 use Rattle.std.proofs.Common.{arith, inl, inr, sym, ◌∙◌, drop, ◌+◌}
 use Rattle.std.proofs.lemmas.Grind.{common_steps}
-use Rattle.kc_expr.specs.Token.{lexemes_of, lexeme_of}
+use Rattle.kc_tokens.specs.Token.{lexemes_of, lexeme_of}
 use Rattle.std.specs.Prelude.{slice_index_or}
 use Rattle.kc_statements.proofs.FormLemmas.{front_piece, no_if, if_given, if_refused, some_token}
 use Rattle.kc_statements.proofs.ArenaGrowth.{grows_none}

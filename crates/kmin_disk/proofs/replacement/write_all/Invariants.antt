@@ -6,8 +6,8 @@ abbrev pub invariant-loop-written : goal.invariant-loop-written
 invariant-loop-written g l = record {
   within : l.written ≤ length l.bytes;
   takes : Takes (g.D.WriteDisk.draft l.initial.new) (g.D.WriteDisk.draft l.new) (take l.written l.bytes);
-  state : g.D.ReadDisk.state l.disk ≡ g.D.ReadDisk.state l.initial.disk;
-  failures : g.D.WriteDisk.failures l.disk ≡ g.D.WriteDisk.failures l.initial.disk;
+  state : (g.D.ReadDisk.disk l.disk).state ≡ (g.D.ReadDisk.disk l.initial.disk).state;
+  failures : (g.D.ReadDisk.disk l.disk).failures ≡ (g.D.ReadDisk.disk l.initial.disk).failures;
 }
 
 abbrev pub decreases-loop-written : goal.decreases-loop-written

@@ -19,7 +19,7 @@ returns-in_err-config-clause-stopped g c =
     let tree = tree_of_settled c.args.settled.now in
     let content = bundle_content c.args.configuration.now in
     memory_err _ _ c.from_residual-in_err-config.ensures (λ stop status.
-    stopped_for_memory content content _ _ tree _ _ _ _ _ (codes "config" ∷ []) [] _ (empty_assignment tree) _ refl status
+    stopped_for_memory content _ _ tree _ _ _ _ _ (codes "config" ∷ []) [] _ (empty_assignment tree) _ refl status
     (memory_loaded c.args.configuration.now _ _ _ tree (codes "config") _ (empty_assignment tree) _ c.in_ok-fragment.fragment _ _ _ _ c.plain-format.ensures
     c.new-reader.ensures c.in_ok-fragment.ensures.ok c.in_ok-fragment.ensures.notices refl))
 
@@ -28,7 +28,7 @@ returns-in_err-text-clause-stopped g c =
     let tree = tree_of_settled c.args.settled.now in
     let content = bundle_content c.args.configuration.now in
     memory_err _ _ c.from_residual-in_err-text.ensures (λ stop status.
-    stopped_for_memory content content _ _ tree _ _ _ _ _ (codes "config" ∷ []) [] _ (empty_assignment tree) _ refl status
+    stopped_for_memory content _ _ tree _ _ _ _ _ (codes "config" ∷ []) [] _ (empty_assignment tree) _ refl status
     (memory_loaded c.args.configuration.now _ _ _ tree (codes "config") _ (empty_assignment tree) _ c.in_ok-fragment.fragment _ _ _ _ c.plain-format.ensures
     c.new-reader.ensures c.in_ok-fragment.ensures.ok c.in_ok-fragment.ensures.notices refl))
 

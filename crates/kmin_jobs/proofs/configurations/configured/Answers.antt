@@ -17,22 +17,22 @@ returns-in_err-new-clause-stopped g c =
 
 pub returns-in_err-config-clause-stopped : goal.returns-in_err-config-clause-stopped
 returns-in_err-config-clause-stopped g c =
-    let content_of = g.F.Files.content_of c.args.files.now in
+    let content_of = (g.F.Files.surroundings c.args.files.now).content in
     if_err c.from_residual-in_err-config.result c.in_err-config.field-0.0 _ (search rules)
-    (stopped_more content_of content_of _ _ _ _ _ _ _ _ (c.in-Some.first.now.now ∷ []) (map (λ (p : Bor (List ℕ)). p.now) c.in-Some.others.now) _
+    (stopped_more content_of _ _ _ _ _ _ _ _ (c.in-Some.first.now.now ∷ []) (map (λ (p : Bor (List ℕ)). p.now) c.in-Some.others.now) _
     (mapped c.args.paths.now c.in-Some.first.now c.in-Some.others.now c.in-Some.ensures.cases.0) c.in_err-config.ensures.stopped)
 
 pub returns-clause-loaded : goal.returns-clause-loaded
 returns-clause-loaded g c =
-    loaded_rest (g.F.Files.content_of c.args.files.now) (g.F.Files.content_of c.configured_by.new.files) _ _ _ (c.in-Some.first.now.now ∷ [])
+    loaded_rest (g.F.Files.surroundings c.args.files.now).content _ _ _ (c.in-Some.first.now.now ∷ [])
     (map (λ (p : Bor (List ℕ)). p.now) c.in-Some.others.now) _ _ c.in_ok-config.config.users _ _ _ _ _ _ c.overlaid.result
-    c.configured_by.ensures.same (mapped c.args.paths.now c.in-Some.first.now c.in-Some.others.now c.in-Some.ensures.cases.0) c.in_ok-config.ensures.loaded
-    c.overlaid.ensures.loaded
+    (mapped c.args.paths.now c.in-Some.first.now c.in-Some.others.now c.in-Some.ensures.cases.0) c.in_ok-config.ensures.loaded
+    (rw c.configured_by.ensures.same at c.overlaid.ensures.loaded)
 
 pub returns-clause-stopped : goal.returns-clause-stopped
 returns-clause-stopped g c =
     if_err_map c.overlaid.result _ _ (λ stop stopped.
-    stopped_later (g.F.Files.content_of c.args.files.now) (g.F.Files.content_of c.configured_by.new.files) _ _ _ _ _ _ _ _ (c.in-Some.first.now.now ∷ [])
+    stopped_later (g.F.Files.surroundings c.args.files.now).content _ _ _ _ _ _ _ _ (c.in-Some.first.now.now ∷ [])
     (map (λ (p : Bor (List ℕ)). p.now) c.in-Some.others.now) _ _ c.in_ok-config.config.users _ _
-    (mapped c.args.paths.now c.in-Some.first.now c.in-Some.others.now c.in-Some.ensures.cases.0) c.configured_by.ensures.same c.in_ok-config.ensures.loaded
-    stopped) c.overlaid.ensures.stopped
+    (mapped c.args.paths.now c.in-Some.first.now c.in-Some.others.now c.in-Some.ensures.cases.0) c.in_ok-config.ensures.loaded
+    stopped) (rw c.configured_by.ensures.same at c.overlaid.ensures.stopped)

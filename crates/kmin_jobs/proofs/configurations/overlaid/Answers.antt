@@ -8,7 +8,7 @@ use Rattle.kmin_jobs.proofs.configurations.overlaid.Goals as goal
 
 pub loop-path-init : goal.loop-path-init
 loop-path-init g c = record {
-  same = λ other. refl;
+  same = refl;
   settled = c.requires.settled;
   solved = c.requires.solved;
   loaded = loaded_none _ _ _ _ [] c.args.begun.users c.args.begun.users _ _ refl refl;
@@ -16,58 +16,57 @@ loop-path-init g c = record {
 
 pub loop-path-preserved : goal.loop-path-preserved
 loop-path-preserved g c =
-    let content_of = g.F.Files.content_of c.args.files.now in
-    let others = g.F.Files.content_of c.loop-path.files in
+    let content_of = (g.F.Files.surroundings c.args.files.now).content in
+    let same = c.loop-path.invariant.same in
     let tree = tree_of_settled c.args.settled.now in
     let absent : Bor (List ℕ) = record { ref_ptr = (0, 0); now = [] } in
     let path = get_or c.args.paths.now c.loop-path.path-index absent in
     record {
-      same = λ other. c.load_path.ensures.same other ∙ c.loop-path.invariant.same other;
+      same = c.load_path.ensures.same ∙ c.loop-path.invariant.same;
       settled = search rules;
       solved = search rules;
       loaded = rw (paths_next c.args.paths.now c.loop-path.path-index absent (search rules))
-          (loaded_append content_of others _ _ tree _ (path.now ∷ []) c.args.begun.users c.loop-path.config.users _ _ _ _ _ _ _ c.loop-path.invariant.same
+          (loaded_append content_of _ _ tree _ (path.now ∷ []) c.args.begun.users c.loop-path.config.users _ _ _ _ _ _ _
           c.loop-path.invariant.loaded
-          (loaded_one others others _ _ tree path.now _ _ c.in_ok-fragment.fragment _ _ _ _ refl c.in_ok-fragment.ensures.loaded
+          (loaded_one content_of _ _ tree path.now _ _ c.in_ok-fragment.fragment _ _ _ _ (rw same at c.in_ok-fragment.ensures.loaded)
           c.in_ok-fragment.ensures.allowed (search rules)));
     }
 
 pub returns-in_err-fragment-clause-same : goal.returns-in_err-fragment-clause-same
-returns-in_err-fragment-clause-same g c = λ other. c.load_path.ensures.same other ∙ c.loop-path.invariant.same other
+returns-in_err-fragment-clause-same g c = c.load_path.ensures.same ∙ c.loop-path.invariant.same
 
 pub returns-in_err-merge-clause-same : goal.returns-in_err-merge-clause-same
-returns-in_err-merge-clause-same g c = λ other. c.load_path.ensures.same other ∙ c.loop-path.invariant.same other
+returns-in_err-merge-clause-same g c = c.load_path.ensures.same ∙ c.loop-path.invariant.same
 
 pub returns-in_err-fragment-clause-stopped : goal.returns-in_err-fragment-clause-stopped
 returns-in_err-fragment-clause-stopped g c =
-    let content_of = g.F.Files.content_of c.args.files.now in
-    let others = g.F.Files.content_of c.loop-path.files in
+    let content_of = (g.F.Files.surroundings c.args.files.now).content in
+    let same = c.loop-path.invariant.same in
     let absent : Bor (List ℕ) = record { ref_ptr = (0, 0); now = [] } in
     let k = c.loop-path.path-index in
     let path = get_or c.args.paths.now k absent in
     if_err c.from_residual.result c.in_err-fragment.field-0.0 _ (search rules)
-    (stopped_later content_of others _ _ _ _ _ _ _ _ (map (λ (p : Bor (List ℕ)). p.now) (take k c.args.paths.now))
+    (stopped_later content_of _ _ _ _ _ _ _ _ (map (λ (p : Bor (List ℕ)). p.now) (take k c.args.paths.now))
     (path.now ∷ map (λ (p : Bor (List ℕ)). p.now) (drop (suc k) c.args.paths.now)) _ c.args.begun.users c.loop-path.config.users _ _
-    (paths_at c.args.paths.now k absent (search rules)) c.loop-path.invariant.same c.loop-path.invariant.loaded
-    (stopped_more others others _ _ _ _ _ _ _ _ (path.now ∷ []) (map (λ (p : Bor (List ℕ)). p.now) (drop (suc k) c.args.paths.now)) _ refl
-    (stopped_path others others _ _ _ _ _ _ _ _ path.now refl c.in_err-fragment.ensures.stopped)))
+    (paths_at c.args.paths.now k absent (search rules)) c.loop-path.invariant.loaded
+    (stopped_more content_of _ _ _ _ _ _ _ _ (path.now ∷ []) (map (λ (p : Bor (List ℕ)). p.now) (drop (suc k) c.args.paths.now)) _ refl
+    (stopped_path content_of _ _ _ _ _ _ _ _ path.now (rw same at c.in_err-fragment.ensures.stopped))))
 
 pub returns-in_err-merge-clause-stopped : goal.returns-in_err-merge-clause-stopped
 returns-in_err-merge-clause-stopped g c =
-    let content_of = g.F.Files.content_of c.args.files.now in
-    let others = g.F.Files.content_of c.loop-path.files in
+    let content_of = (g.F.Files.surroundings c.args.files.now).content in
+    let same = c.loop-path.invariant.same in
     let tree = tree_of_settled c.args.settled.now in
     let absent : Bor (List ℕ) = record { ref_ptr = (0, 0); now = [] } in
     let k = c.loop-path.path-index in
     let path = get_or c.args.paths.now k absent in
     let front = map (λ (p : Bor (List ℕ)). p.now) (take k c.args.paths.now) in
     memory_err _ _ c.from_residual-in_err-merge.ensures (λ stop status.
-    stopped_for_memory content_of content_of _ _ tree _ _ _ _ _ (front ++ path.now ∷ []) (map (λ (p : Bor (List ℕ)). p.now) (drop (suc k) c.args.paths.now)) _
+    stopped_for_memory content_of _ _ tree _ _ _ _ _ (front ++ path.now ∷ []) (map (λ (p : Bor (List ℕ)). p.now) (drop (suc k) c.args.paths.now)) _
     c.args.begun.users _
     (paths_at c.args.paths.now k absent (search rules) ∙ sym (append_assoc front (path.now ∷ []) _)) status
-    (loaded_append content_of others _ _ tree front (path.now ∷ []) c.args.begun.users c.loop-path.config.users _ _ _ _ _ _ _ c.loop-path.invariant.same
-    c.loop-path.invariant.loaded
-    (loaded_one others others _ _ tree path.now _ _ c.in_ok-fragment.fragment _ _ _ _ refl c.in_ok-fragment.ensures.loaded
+    (loaded_append content_of _ _ tree front (path.now ∷ []) c.args.begun.users c.loop-path.config.users _ _ _ _ _ _ _ c.loop-path.invariant.loaded
+    (loaded_one content_of _ _ tree path.now _ _ c.in_ok-fragment.fragment _ _ _ _ (rw same at c.in_ok-fragment.ensures.loaded)
     c.in_ok-fragment.ensures.allowed refl)))
 
 pub returns-clause-loaded : goal.returns-clause-loaded

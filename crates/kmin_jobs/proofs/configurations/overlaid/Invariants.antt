@@ -8,10 +8,10 @@ use Rattle.kmin_jobs.proofs.configurations.overlaid.Given as goal
 
 abbrev pub invariant-loop-path : goal.invariant-loop-path
 invariant-loop-path g l = record {
-  same : (other : List ℕ) → g.F.Files.content_of l.files other ≡ g.F.Files.content_of l.fn.files other;
+  same : g.F.Files.surroundings l.files ≡ g.F.Files.surroundings l.fn.files;
   settled : l.config.system ≡ l.settled;
   solved : IsSolved l.config;
-  loaded : AreLoaded (g.F.Files.content_of l.fn.files) (file_format l.settings.format) l.settings.strict (tree_of_settled l.settled)
+  loaded : AreLoaded (g.F.Files.surroundings l.fn.files).content (file_format l.settings.format) l.settings.strict (tree_of_settled l.settled)
       (map (λ (path : Bor (List ℕ)). path.now) (take l.path-index l.paths)) l.fn.begun.users l.config.users (g.E.Sink.taken l.fn.err)
       (g.E.Sink.failures l.fn.err) (g.E.Sink.taken l.err) (g.E.Sink.failures l.err);
 }

@@ -1,9 +1,7 @@
-use Rattle.kmin_jobs.specs.FileContents.{known_by}
 use Rattle.kmin_tidy.proofs.ReadingLemmas.{if_ok_map}
 use Rattle.kmin_jobs.proofs.TreeFolders.{wanted_below}
 use Rattle.kmin_jobs.proofs.expanded_trees.wanted_below.Goals as goal
 
 pub returns : goal.returns
 returns g c =
-    if_ok_map c.wants.result _ _ (λ w h. wanted_below _ (known_by (g.F.Files.content_of c.args.files.now) (g.F.Files.regular_content_of c.args.files.now)
-    (g.F.Files.names_of c.args.files.now) (g.F.Files.variable_of c.args.files.now)) _ _ _ _ _ c.as_bytes.ensures.value h) c.wants.ensures.wanted
+    if_ok_map c.wants.result _ _ (λ w h. wanted_below _ (g.F.Files.surroundings c.args.files.now) _ _ _ _ _ c.as_bytes.ensures.value h) c.wants.ensures.wanted

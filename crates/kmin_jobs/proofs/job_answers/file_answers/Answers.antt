@@ -35,7 +35,7 @@ returns-in_err-record_path-clause-stopped g c =
     let path = get_or c.args.paths.now k absent in
     let content = ap (λ (known : Surroundings). known.content) c.loop-path.invariant.same in
     if_err c.from_residual.result c.in_err-record_path.field-0.0 _ (search rules)
-    (stopped_later _ (g.F.Files.content_of c.loop-path.files) content _ _ _ path.now _ _ _ _ _ _ _ _
+    (stopped_later _ (g.F.Files.surroundings c.loop-path.files).content content _ _ _ path.now _ _ _ _ _ _ _ _
     (paths_at c.args.paths.now k absent (search rules)) c.loop-path.invariant.recorded c.loop-path.invariant.reported c.in_err-record_path.ensures.stopped)
 
 pub returns-clause-recorded : goal.returns-clause-recorded

@@ -1,14 +1,12 @@
 use Rattle.std.proofs.Common.{◌≡◌, ℕ, List, [], map, take}
 use Rattle.std.specs.Borrow.{Bor}
-use Rattle.kmin_jobs.specs.FileContents.{known_by}
 use Rattle.kmin_jobs.specs.JobAnswers.{FilesRecord}
 use Rattle.kmin_tidy.specs.StandardError.{TakesLines}
 use Rattle.kmin_jobs.proofs.job_answers.file_answers.Given as goal
 
 abbrev pub invariant-loop-path : goal.invariant-loop-path
 invariant-loop-path g l = record {
-  same : known_by (g.F.Files.content_of l.files) (g.F.Files.regular_content_of l.files) (g.F.Files.names_of l.files) (g.F.Files.variable_of l.files)
-      ≡ known_by (g.F.Files.content_of l.fn.files) (g.F.Files.regular_content_of l.fn.files) (g.F.Files.names_of l.fn.files) (g.F.Files.variable_of l.fn.files);
-  recorded : FilesRecord (g.F.Files.content_of l.fn.files) (map (λ (path : Bor (List ℕ)). path.now) (take l.path-index l.paths)) [] l.answers;
+  same : g.F.Files.surroundings l.files ≡ g.F.Files.surroundings l.fn.files;
+  recorded : FilesRecord (g.F.Files.surroundings l.fn.files).content (map (λ (path : Bor (List ℕ)). path.now) (take l.path-index l.paths)) [] l.answers;
   reported : TakesLines (g.E.Sink.taken l.fn.err) (g.E.Sink.failures l.fn.err) [] (g.E.Sink.taken l.err) (g.E.Sink.failures l.err);
 }

@@ -3,25 +3,16 @@ use Rattle.std.specs.Prelude.{is_some, option_map, string_bytes}
 use Rattle.kc_tree_model.specs.Keywords.{keyword_in_table}
 use Rattle.kmin_jobs.proofs.AnswerFileLists.{on_ok_map}
 use Rattle.kmin_jobs.proofs.LentAnswers.{lent_kept, lent_new, no_answer}
-use Rattle.kmin_jobs.proofs.TreeFolders.{known_same}
 use Rattle.kmin_jobs.proofs.job_answers.lend_one.Goals as goal
 
 pub returns-then-has-clause-lent : goal.returns-then-has-clause-lent
 returns-then-has-clause-lent g c =
-    lent_kept (g.F.Files.variable_of c.args.files.now) c.args.answers.now c.args.name.now
+    lent_kept (g.F.Files.surroundings c.args.files.now).variable c.args.answers.now c.args.name.now
     (rw c.as_bytes-question.ensures.value at (sym c.has.ensures ∙ c.if-has.true))
-
-pub returns-in_err-value-clause-same : goal.returns-in_err-value-clause-same
-returns-in_err-value-clause-same g c =
-    known_same _ _ _ _ _ _ _ _ c.variable.ensures.same c.variable.ensures.regular c.variable.ensures.names c.variable.ensures.variables
-
-pub returns-clause-same : goal.returns-clause-same
-returns-clause-same g c =
-    known_same _ _ _ _ _ _ _ _ c.variable.ensures.same c.variable.ensures.regular c.variable.ensures.names c.variable.ensures.variables
 
 pub returns-clause-lent : goal.returns-clause-lent
 returns-clause-lent g c =
-    let variable_of = g.F.Files.variable_of c.args.files.now in
+    let variable_of = (g.F.Files.surroundings c.args.files.now).variable in
     let name = c.args.name.now in
     let value = option_map string_bytes c.in_ok-value.value in
     let absent : is_some (keyword_in_table c.args.answers.now name) ≡ false = rw c.as_bytes-question.ensures.value at (sym c.has.ensures ∙ c.if-has.false) in

@@ -3,20 +3,11 @@ use Rattle.kmin_jobs.specs.AnswerStops.{unopened}
 use Rattle.kmin_jobs.specs.between.AnswerSteps.{at_file}
 use Rattle.kmin_jobs.proofs.AnswerFileLists.{recorded_from, stopped_reading, on_ok_map}
 use Rattle.kmin_tidy.proofs.ReadingLemmas.{if_err_map}
-use Rattle.kmin_jobs.proofs.TreeFolders.{known_same}
 use Rattle.kmin_jobs.proofs.job_answers.record_path.Goals as goal
-
-pub returns-in-Some-clause-same : goal.returns-in-Some-clause-same
-returns-in-Some-clause-same g c =
-    known_same _ _ _ _ _ _ _ _ c.reader_for.ensures.same c.reader_for.ensures.regular c.reader_for.ensures.names c.reader_for.ensures.variables
-
-pub returns-in-None-clause-same : goal.returns-in-None-clause-same
-returns-in-None-clause-same g c =
-    known_same _ _ _ _ _ _ _ _ c.reader_for.ensures.same c.reader_for.ensures.regular c.reader_for.ensures.names c.reader_for.ensures.variables
 
 pub returns-in-Some-clause-recorded : goal.returns-in-Some-clause-recorded
 returns-in-Some-clause-recorded g c =
-    on_ok_map c.record.result _ _ (λ h. recorded_from (g.F.Files.content_of c.args.files.now) c.args.path.now _ _ _ _
+    on_ok_map c.record.result _ _ (λ h. recorded_from (g.F.Files.surroundings c.args.files.now).content c.args.path.now _ _ _ _
     (rw c.in-Some.is at c.reader_for.ensures.opens) h)
     c.record.ensures.recorded
 

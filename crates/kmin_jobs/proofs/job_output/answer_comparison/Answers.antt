@@ -9,24 +9,24 @@ use Rattle.kmin_jobs.proofs.job_output.answer_comparison.Goals as goal
 
 pub returns-in_err-left-clause-stopped : goal.returns-in_err-left-clause-stopped
 returns-in_err-left-clause-stopped g c =
-    let content_of = g.F.Files.content_of c.args.files.now in
+    let content_of = (g.F.Files.surroundings c.args.files.now).content in
     if_err c.from_residual.result c.in_err-left.field-0.0 _ (search rules)
-    (stopped_more content_of content_of _ _ _ _ _ _ _ _ (c.args.left.now ∷ []) (c.args.right.now ∷ []) _ refl c.in_err-left.ensures.stopped)
+    (stopped_more content_of _ _ _ _ _ _ _ _ (c.args.left.now ∷ []) (c.args.right.now ∷ []) _ refl c.in_err-left.ensures.stopped)
 
 pub returns-in_err-right-clause-stopped : goal.returns-in_err-right-clause-stopped
 returns-in_err-right-clause-stopped g c =
     if_err c.from_residual-in_err-right.result c.in_err-right.field-0.0 _ (search rules)
-    (stopped_later (g.F.Files.content_of c.args.files.now) (g.F.Files.content_of c.configured_by.new.files) _ _ _ _ _ _ _ _ (c.args.left.now ∷ [])
-    (c.args.right.now ∷ []) _ _ _ _ _ refl
-    c.configured_by.ensures.same c.in_ok-left.ensures.loaded c.in_err-right.ensures.stopped)
+    (stopped_later (g.F.Files.surroundings c.args.files.now).content _ _ _ _ _ _ _ _ (c.args.left.now ∷ []) (c.args.right.now ∷ []) _ _ _ _ _ refl
+    c.in_ok-left.ensures.loaded (rw c.configured_by.ensures.same at c.in_err-right.ensures.stopped))
 
 pub returns-in_err-answer-clause-stopped : goal.returns-in_err-answer-clause-stopped
 returns-in_err-answer-clause-stopped g c =
-    let others = g.F.Files.content_of c.configured_by.new.files in
+    let content_of = (g.F.Files.surroundings c.args.files.now).content in
     memory_err _ _ c.from_residual-in_err-answer.ensures (λ stop status.
-    stopped_later (g.F.Files.content_of c.args.files.now) others _ _ _ _ _ _ _ _ (c.args.left.now ∷ []) (c.args.right.now ∷ []) _ _ _ _ _ refl
-    c.configured_by.ensures.same c.in_ok-left.ensures.loaded
-    (stopped_for_memory others others _ _ _ _ _ _ _ _ (c.args.right.now ∷ []) [] _ _ _ refl status c.in_ok-right.ensures.loaded))
+    stopped_later content_of _ _ _ _ _ _ _ _ (c.args.left.now ∷ []) (c.args.right.now ∷ []) _ _ _ _ _ refl
+    c.in_ok-left.ensures.loaded
+    (stopped_for_memory content_of _ _ _ _ _ _ _ _ (c.args.right.now ∷ []) [] _ _ _ refl status
+    (rw c.configured_by.ensures.same at c.in_ok-right.ensures.loaded)))
 
 pub returns-clause-status : goal.returns-clause-status
 returns-clause-status g c = subst (λ n. n ≤ 1) (sym c.in_ok-answer.ensures.status)
@@ -34,8 +34,8 @@ returns-clause-status g c = subst (λ n. n ≤ 1) (sym c.in_ok-answer.ensures.st
 
 pub returns-clause-answer : goal.returns-clause-answer
 returns-clause-answer g c =
-    answers_comparison (g.F.Files.content_of c.args.files.now) (g.F.Files.content_of c.configured_by.new.files) (settings_view c.args.settings.now)
+    answers_comparison (g.F.Files.surroundings c.args.files.now).content (settings_view c.args.settings.now)
     c.in_ok-left.left c.in_ok-right.right c.args.settled.now c.args.left.now c.args.right.now _ _ _ _ _ _ _ _
-    c.configured_by.ensures.same c.in_ok-left.ensures.settled c.in_ok-right.ensures.settled c.requires.profile c.in_ok-left.ensures.solved
+    c.in_ok-left.ensures.settled c.in_ok-right.ensures.settled c.requires.profile c.in_ok-left.ensures.solved
     c.in_ok-right.ensures.solved
-    c.in_ok-left.ensures.loaded c.in_ok-right.ensures.loaded c.in_ok-answer.ensures.text c.in_ok-answer.ensures.status
+    c.in_ok-left.ensures.loaded (rw c.configured_by.ensures.same at c.in_ok-right.ensures.loaded) c.in_ok-answer.ensures.text c.in_ok-answer.ensures.status

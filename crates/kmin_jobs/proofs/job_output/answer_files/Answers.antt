@@ -9,15 +9,15 @@ use Rattle.kmin_jobs.proofs.job_output.answer_files.Goals as goal
 
 pub returns-in_err-answer-clause-stopped : goal.returns-in_err-answer-clause-stopped
 returns-in_err-answer-clause-stopped g c =
-    let content_of = g.F.Files.content_of c.args.files.now in
+    let content_of = (g.F.Files.surroundings c.args.files.now).content in
     memory_err _ _ c.from_residual-in_err-answer.ensures (λ stop status.
-    stopped_for_memory content_of content_of _ _ _ _ _ _ _ _ (map (λ (path : Bor (List ℕ)). path.now) c.args.paths.now) [] _ _ _ (sym (append-nil _)) status
+    stopped_for_memory content_of _ _ _ _ _ _ _ _ (map (λ (path : Bor (List ℕ)). path.now) c.args.paths.now) [] _ _ _ (sym (append-nil _)) status
     c.in_ok-config.ensures.loaded)
 
 pub returns-clause-answer : goal.returns-clause-answer
 returns-clause-answer g c =
     let same = c.in_ok-config.ensures.settled in
-    answers_files (g.F.Files.content_of c.args.files.now) (settings_view c.args.settings.now) c.args.verb c.in_ok-config.config c.args.settled.now
+    answers_files (g.F.Files.surroundings c.args.files.now).content (settings_view c.args.settings.now) c.args.verb c.in_ok-config.config c.args.settled.now
     (map (λ (path : Bor (List ℕ)). path.now) c.args.paths.now) _ _ _ _ _ _
     same c.requires.profile c.in_ok-config.ensures.solved c.in_ok-config.ensures.loaded
     (c.in_ok-answer.ensures.text (settings_view c.args.settings.now) refl (sym (ap profile_of same ∙ c.requires.profile))) c.in_ok-answer.ensures.status

@@ -1,7 +1,6 @@
 use Rattle.std.proofs.Common.{rules}
 use Rattle.kc_rules.specs.between.SettledViews.{tree_of_settled}
 use Rattle.kmin_words.specs.Jobs.{settings_view, task_view}
-use Rattle.kmin_jobs.specs.FileContents.{known_by}
 use Rattle.kmin_jobs.specs.Stops.{at_tree}
 use Rattle.kmin_tidy.proofs.WholeRuns.{if_err}
 use Rattle.kmin_jobs.proofs.JobOutputs.{job_answers, job_stops}
@@ -15,17 +14,13 @@ returns-in_err-settled-clause-stopped g c =
 pub returns-clause-answer : goal.returns-clause-answer
 returns-clause-answer g c =
     let accepted = c.in_ok-settled.ensures.accepted in
-    job_answers (known_by (g.F.Files.content_of c.args.files.now) (g.F.Files.regular_content_of c.args.files.now) (g.F.Files.names_of c.args.files.now)
-    (g.F.Files.variable_of c.args.files.now))
-    (g.F.Files.content_of c.job_tree.new.files) (settings_view c.args.job.now.settings)
+    job_answers (g.F.Files.surroundings c.args.files.now) (settings_view c.args.job.now.settings)
     (task_view c.args.job.now.task) (tree_of_settled c.in_ok-settled.settled) accepted.0
-    c.job_tree.ensures.same accepted.1 accepted.2 _ _ _ _ _ _ accepted.3 c.answer_over-answer.result c.answer_over-answer.ensures.answer
+    accepted.1 accepted.2 _ _ _ _ _ _ accepted.3 c.answer_over-answer.result (rw c.job_tree.ensures.same at c.answer_over-answer.ensures.answer)
 
 pub returns-clause-stopped : goal.returns-clause-stopped
 returns-clause-stopped g c =
     let accepted = c.in_ok-settled.ensures.accepted in
-    job_stops (known_by (g.F.Files.content_of c.args.files.now) (g.F.Files.regular_content_of c.args.files.now) (g.F.Files.names_of c.args.files.now)
-    (g.F.Files.variable_of c.args.files.now))
-    (g.F.Files.content_of c.job_tree.new.files) (settings_view c.args.job.now.settings)
+    job_stops (g.F.Files.surroundings c.args.files.now) (settings_view c.args.job.now.settings)
     (task_view c.args.job.now.task) (tree_of_settled c.in_ok-settled.settled) accepted.0
-    c.job_tree.ensures.same accepted.1 accepted.2 _ _ _ _ _ _ accepted.3 c.answer_over-answer.result c.answer_over-answer.ensures.stopped
+    accepted.1 accepted.2 _ _ _ _ _ _ accepted.3 c.answer_over-answer.result (rw c.job_tree.ensures.same at c.answer_over-answer.ensures.stopped)

@@ -1,5 +1,4 @@
 use Rattle.std.proofs.Common.{inr, rules, ◌++◌}
-use Rattle.kmin_jobs.specs.FileContents.{known_by}
 use Rattle.kmin_words.specs.Jobs.{settings_view, task_view}
 use Rattle.kmin_jobs.proofs.JobOutputs.{lines_kept, no_other_status, write_stops, job_ends}
 use Rattle.kmin_jobs.proofs.job_output.serve.Goals as goal
@@ -30,12 +29,10 @@ returns-in-Ok-clause-part g c = λ e.
 
 pub returns-in-Ok-clause-stopped : goal.returns-in-Ok-clause-stopped
 returns-in-Ok-clause-stopped g c = λ e.
-    write_stops (known_by (g.F.Files.content_of c.args.files.now) (g.F.Files.regular_content_of c.args.files.now) (g.F.Files.names_of c.args.files.now)
-    (g.F.Files.variable_of c.args.files.now)) (settings_view c.args.job.now.settings) (task_view c.args.job.now.task) c.in-Ok.answer.text.items
+    write_stops (g.F.Files.surroundings c.args.files.now) (settings_view c.args.job.now.settings) (task_view c.args.job.now.task) c.in-Ok.answer.text.items
     c.in-Ok.answer.status c.status.result _ _ _ _ _ _ c.status.ensures c.in-Ok.ensures.answer (search rules)
 
 pub returns-clause-stopped : goal.returns-clause-stopped
 returns-clause-stopped g c = λ e.
-    job_ends (known_by (g.F.Files.content_of c.args.files.now) (g.F.Files.regular_content_of c.args.files.now) (g.F.Files.names_of c.args.files.now)
-    (g.F.Files.variable_of c.args.files.now)) (settings_view c.args.job.now.settings) (task_view c.args.job.now.task) c.in-Err.stop c.exit_status.result
+    job_ends (g.F.Files.surroundings c.args.files.now) (settings_view c.args.job.now.settings) (task_view c.args.job.now.task) c.in-Err.stop c.exit_status.result
     _ _ _ _ _ _ c.exit_status.ensures.status c.in-Err.ensures.stopped c.exit_status.ensures.reported

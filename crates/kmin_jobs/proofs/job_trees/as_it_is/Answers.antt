@@ -4,7 +4,7 @@ use Rattle.kmin_jobs.specs.JobTexts.{no_texts}
 use Rattle.kmin_tidy.specs.StandardError.{none}
 use Rattle.kmin_jobs.specs.between.RunErrors.{status_of}
 use Rattle.kmin_jobs.specs.between.TreeStops.{StopsAtTexts, for_memory}
-use Rattle.kmin_jobs.proofs.JobOutputs.{below_none}
+use Rattle.kmin_jobs.proofs.TextGrowth.{below_none}
 use Rattle.kmin_tidy.proofs.ReadingLemmas.{if_err_map}
 use Rattle.kmin_jobs.proofs.Sequences.{memory_err}
 use Rattle.kmin_jobs.proofs.job_trees.as_it_is.Goals as goal
@@ -14,7 +14,7 @@ returns-in_err-texts-clause-stopped g c =
     memory_err _ _ c.from_residual.ensures (λ stop status. (
       no_texts c.args.settings.now.language,
       [],
-      below_none (g.F.Files.content_of c.args.files.now) c.args.settings.now.root.now c.args.settings.now.language
+      below_none (g.F.Files.surroundings c.args.files.now).content c.args.settings.now.root.now c.args.settings.now.language
           (no_texts c.args.settings.now.language) refl refl,
       for_memory
           status refl,

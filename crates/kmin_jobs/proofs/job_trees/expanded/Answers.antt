@@ -1,6 +1,5 @@
 use Rattle.std.proofs.Common.{rules}
 use Rattle.kmin_words.specs.Jobs.{expansion_view}
-use Rattle.kmin_jobs.specs.FileContents.{known_by}
 use Rattle.kmin_jobs.specs.between.ExpandedStops.{in_expansion}
 use Rattle.kmin_jobs.proofs.JobTrees.{settled_accepted, settled_stopped}
 use Rattle.kmin_tidy.proofs.WholeRuns.{if_err}
@@ -13,14 +12,12 @@ returns-in_err-tree-clause-stopped g c =
 
 pub returns-clause-accepted : goal.returns-clause-accepted
 returns-clause-accepted g c =
-    settled_accepted (known_by (g.F.Files.content_of c.args.files.now) (g.F.Files.regular_content_of c.args.files.now) (g.F.Files.names_of c.args.files.now)
-    (g.F.Files.variable_of c.args.files.now)) _ _ c.args.settings.now.language (expansion_view c.args.expansion.now) _ _ _ _ _ _ _ _
+    settled_accepted (g.F.Files.surroundings c.args.files.now) _ _ c.args.settings.now.language (expansion_view c.args.expansion.now) _ _ _ _ _ _ _ _
     c.in_ok-tree.ensures.expanded
     c.settled_expanded.result c.settled_expanded.ensures.accepted c.settled_expanded.ensures.unreported
 
 pub returns-clause-stopped : goal.returns-clause-stopped
 returns-clause-stopped g c =
-    settled_stopped (known_by (g.F.Files.content_of c.args.files.now) (g.F.Files.regular_content_of c.args.files.now) (g.F.Files.names_of c.args.files.now)
-    (g.F.Files.variable_of c.args.files.now)) _ _ c.args.settings.now.language (expansion_view c.args.expansion.now) _ _ _ _ _ _ _ _
+    settled_stopped (g.F.Files.surroundings c.args.files.now) _ _ c.args.settings.now.language (expansion_view c.args.expansion.now) _ _ _ _ _ _ _ _
     c.in_ok-tree.ensures.expanded
     c.settled_expanded.result c.settled_expanded.ensures.stopped

@@ -1,6 +1,5 @@
 use Rattle.std.proofs.Common.{rules}
 use Rattle.kmin_words.specs.Jobs.{expansion_view}
-use Rattle.kmin_jobs.specs.FileContents.{known_by}
 use Rattle.kmin_jobs.specs.Stops.{among_answers}
 use Rattle.kmin_jobs.proofs.JobTrees.{stopped_expanding, both_expanded}
 use Rattle.kmin_tidy.proofs.ReadingLemmas.{if_err_map}
@@ -14,21 +13,13 @@ returns-in_err-answers-clause-stopped g c =
 
 pub returns-clause-expanded : goal.returns-clause-expanded
 returns-clause-expanded g c =
-    both_expanded (known_by (g.F.Files.content_of c.args.files.now) (g.F.Files.regular_content_of c.args.files.now) (g.F.Files.names_of c.args.files.now)
-    (g.F.Files.variable_of c.args.files.now))
-    (known_by (g.F.Files.content_of c.job_answers.new.files) (g.F.Files.regular_content_of c.job_answers.new.files) (g.F.Files.names_of c.job_answers.new.files)
-    (g.F.Files.variable_of c.job_answers.new.files))
-    _ _ c.args.settings.now.language (expansion_view c.args.expansion.now) _ c.job_answers.ensures.same c.in_ok-answers.ensures.answers _ _ _ _ _ _
-    c.in_ok-answers.ensures.unreported
-    c.expanded_tree-tree.result c.expanded_tree-tree.ensures.texts c.expanded_tree-tree.ensures.expanded
+    both_expanded (g.F.Files.surroundings c.args.files.now) _ _ c.args.settings.now.language (expansion_view c.args.expansion.now) _
+    c.in_ok-answers.ensures.answers _ _ _ _ _ _ c.in_ok-answers.ensures.unreported
+    c.expanded_tree-tree.result c.expanded_tree-tree.ensures.texts (rw c.job_answers.ensures.same at c.expanded_tree-tree.ensures.expanded)
 
 pub returns-clause-stopped : goal.returns-clause-stopped
 returns-clause-stopped g c =
     if_err_map c.expanded_tree-tree.result _ _ (λ stop stopped.
-    stopped_expanding (known_by (g.F.Files.content_of c.args.files.now) (g.F.Files.regular_content_of c.args.files.now) (g.F.Files.names_of c.args.files.now)
-    (g.F.Files.variable_of c.args.files.now))
-    (known_by (g.F.Files.content_of c.job_answers.new.files) (g.F.Files.regular_content_of c.job_answers.new.files) (g.F.Files.names_of c.job_answers.new.files)
-    (g.F.Files.variable_of c.job_answers.new.files))
-    _ _ c.args.settings.now.language (expansion_view c.args.expansion.now) _ c.job_answers.ensures.same c.in_ok-answers.ensures.answers _ _ _ _ _ _
-    c.in_ok-answers.ensures.unreported
-    _ stopped) c.expanded_tree-tree.ensures.stopped
+    stopped_expanding (g.F.Files.surroundings c.args.files.now) _ _ c.args.settings.now.language (expansion_view c.args.expansion.now) _
+    c.in_ok-answers.ensures.answers _ _ _ _ _ _ c.in_ok-answers.ensures.unreported _ stopped)
+    (rw c.job_answers.ensures.same at c.expanded_tree-tree.ensures.stopped)

@@ -1,5 +1,4 @@
 use Rattle.std.proofs.Common.{refl, ◌++◌}
-use Rattle.kmin_jobs.specs.FileContents.{known_by}
 use Rattle.kmin_jobs.specs.Saves.{saved}
 use Rattle.kmin_words.specs.Jobs.{settings_view, task_view}
 use Rattle.kmin_jobs.proofs.JobOutputs.{lines_kept}
@@ -17,7 +16,7 @@ returns-in-Ok-save_text-clause-ends g c =
 pub returns-in-Ok-clause-ends : goal.returns-in-Ok-clause-ends
 returns-in-Ok-clause-ends g c =
     let files = c.args.files.now in
-    ends_at_file (known_by (g.F.Files.content_of files) (g.F.Files.regular_content_of files) (g.F.Files.names_of files) (g.F.Files.variable_of files))
+    ends_at_file (g.F.Files.surroundings files)
     (settings_view c.args.output_job.now.job.settings) (task_view c.args.output_job.now.job.task) c.args.output_job.now.output.now _ _
     c.in-Err-save_text.stop c.exit_status.result c.exit_status.ensures.status _ _ _ _
     c.in-Ok.answer.text.items c.in-Ok.answer.status _ _ _ _ c.in-Ok.ensures.answer (rw c.deref.ensures.value at c.in-Err-save_text.ensures.unsaved)
@@ -26,7 +25,7 @@ returns-in-Ok-clause-ends g c =
 pub returns-clause-ends : goal.returns-clause-ends
 returns-clause-ends g c =
     let files = c.args.files.now in
-    ends_before (known_by (g.F.Files.content_of files) (g.F.Files.regular_content_of files) (g.F.Files.names_of files) (g.F.Files.variable_of files))
+    ends_before (g.F.Files.surroundings files)
     (settings_view c.args.output_job.now.job.settings) (task_view c.args.output_job.now.job.task) c.args.output_job.now.output.now _ _
     c.in-Err.stop c.exit_status-in-Err.result c.exit_status-in-Err.ensures.status _ _ _ _ _ _ refl c.in-Err.ensures.stopped
     c.exit_status-in-Err.ensures.reported

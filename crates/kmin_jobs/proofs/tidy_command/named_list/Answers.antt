@@ -9,8 +9,8 @@ pub returns-then-eq-clause-stopped : goal.returns-then-eq-clause-stopped
 returns-then-eq-clause-stopped g c =
     if_err_map c.read_list.result _ _ (λ stop stopped. (
       stopped.0,
-      stopped.1 (list_content (g.F.Files.content_of c.args.files.now) (g.I.Source.left c.args.input.now) c.args.path.now)
-          (opens_input (g.F.Files.content_of c.args.files.now) (g.I.Source.left c.args.input.now) c.args.path.now (search rules)),
+      stopped.1 (list_content (g.F.Files.surroundings c.args.files.now).content (g.I.Source.left c.args.input.now) c.args.path.now)
+          (opens_input (g.F.Files.surroundings c.args.files.now).content (g.I.Source.left c.args.input.now) c.args.path.now (search rules)),
       stopped.2,
     )) c.read_list.ensures.stopped
 
@@ -18,8 +18,8 @@ pub returns-in-Some-clause-stopped : goal.returns-in-Some-clause-stopped
 returns-in-Some-clause-stopped g c =
     if_err_map c.read_list-in-Some.result _ _ (λ stop stopped. (
       stopped.0,
-      stopped.1 (list_content (g.F.Files.content_of c.args.files.now) (g.I.Source.left c.args.input.now) c.args.path.now)
-          (opens_file (g.F.Files.content_of c.args.files.now) (g.I.Source.left c.args.input.now) _ c.args.path.now (search rules)
+      stopped.1 (list_content (g.F.Files.surroundings c.args.files.now).content (g.I.Source.left c.args.input.now) c.args.path.now)
+          (opens_file (g.F.Files.surroundings c.args.files.now).content (g.I.Source.left c.args.input.now) _ c.args.path.now (search rules)
           (rw c.in-Some.is at c.reader_for.ensures.opens)),
       stopped.2,
     )) c.read_list-in-Some.ensures.stopped

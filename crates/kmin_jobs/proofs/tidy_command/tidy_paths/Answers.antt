@@ -1,6 +1,5 @@
 use Rattle.std.proofs.Common.{refl}
 use Rattle.kmin_words.specs.Jobs.{settings_view}
-use Rattle.kmin_jobs.specs.FileContents.{known_by}
 use Rattle.kmin_jobs.proofs.TidyLemmas.{ends_small, ends_unwritten, went_over, tree_ends}
 use Rattle.kmin_jobs.proofs.tidy_command.tidy_paths.Goals as goal
 
@@ -14,15 +13,13 @@ pub returns-in-Ok-clause-ends : goal.returns-in-Ok-clause-ends
 returns-in-Ok-clause-ends g c =
     let run = c.tidy_files-status.ensures in
     went_over _ _ _ _ _ _ c.tidy_files-status.result
-    (known_by (g.F.Files.content_of c.args.files.now) (g.F.Files.regular_content_of c.args.files.now) (g.F.Files.names_of c.args.files.now)
-    (g.F.Files.variable_of c.args.files.now))
+    (g.F.Files.surroundings c.args.files.now)
     (settings_view c.args.tidy_job.now.settings) c.args.tidy_job.now.flags c.in-Ok.settled c.args.tidy_job.now.settings.format c.options_of-options.result _ _ _
     c.in-Ok.ensures.profile refl c.options_of-options.ensures c.in-Ok.ensures.accepted run.ends run.became run.again run.silent
 
 pub returns-in-Err-clause-ends : goal.returns-in-Err-clause-ends
 returns-in-Err-clause-ends g c =
     tree_ends _ _ _ _ _ _ c.exit_status.result
-    (known_by (g.F.Files.content_of c.args.files.now) (g.F.Files.regular_content_of c.args.files.now) (g.F.Files.names_of c.args.files.now)
-    (g.F.Files.variable_of c.args.files.now))
+    (g.F.Files.surroundings c.args.files.now)
     (settings_view c.args.tidy_job.now.settings) c.args.tidy_job.now.flags _ _ c.in-Err.stop c.exit_status.ensures.status c.in-Err.ensures.stopped
     c.exit_status.ensures.reported

@@ -1,7 +1,7 @@
 use Rattle.std.proofs.Common.{arith}
 use Rattle.std.proofs.lemmas.Grind.{common_steps}
 use Rattle.std.proofs.Common.{refl}
-use Rattle.kmin_jobs.proofs.JobOutputs.{below_none}
+use Rattle.kmin_jobs.proofs.TextGrowth.{below_none}
 use Rattle.kmin_jobs.proofs.tree_files.gather.Goals as goal
 
 pub returns-then-lacks_file-clause-read : goal.returns-then-lacks_file-clause-read
@@ -13,20 +13,11 @@ returns-then-lacks_file-clause-below c = grind (arith, common_steps)
 pub returns-in_err-open_first-clause-read : goal.returns-in_err-open_first-clause-read
 returns-in_err-open_first-clause-read c = grind (arith, common_steps)
 
-pub returns-in_err-open_first-clause-same : goal.returns-in_err-open_first-clause-same
-returns-in_err-open_first-clause-same c = grind (arith, common_steps)
-
 pub returns-in_err-open_first-clause-below : goal.returns-in_err-open_first-clause-below
 returns-in_err-open_first-clause-below c = grind (arith, common_steps)
 
 pub gather_wanted-requires : goal.gather_wanted-requires
 gather_wanted-requires c = grind (arith, common_steps)
-
-pub returns-clause-same : goal.returns-clause-same
-returns-clause-same c = grind (arith, common_steps)
-
-pub returns-then-lacks_file-clause-same : goal.returns-then-lacks_file-clause-same
-returns-then-lacks_file-clause-same c = grind (arith, common_steps)
 
 pub returns-clause-below : goal.returns-clause-below
 returns-clause-below c = grind (arith, common_steps)
@@ -34,7 +25,7 @@ returns-clause-below c = grind (arith, common_steps)
 pub open_first-requires : goal.open_first-requires
 open_first-requires g c =
     record {
-      below = below_none (g.F.Files.content_of c.args.files.now) c.args.root.now _ c.with_language-texts.result refl
+      below = below_none (g.F.Files.surroundings c.args.files.now).content c.args.root.now _ c.with_language-texts.result refl
           c.with_language-texts.ensures.empty;
     }
 

@@ -1,10 +1,9 @@
-use Rattle.std.proofs.Common.{◌≡◌, ℕ, List}
+use Rattle.std.proofs.Common.{◌≡◌}
 use Rattle.kmin_jobs.specs.FileContents.{AreTextsBelow}
 use Rattle.kmin_jobs.proofs.tree_files.insert_all.Given as goal
 
 abbrev pub invariant-loop-path : goal.invariant-loop-path
 invariant-loop-path g l = record {
-  same : (other : List ℕ) → g.F.Files.content_of l.files other ≡ g.F.Files.content_of l.fn.files other;
-  below : AreTextsBelow (g.F.Files.content_of l.fn.files) l.root l.fn.texts.language l.texts;
-  again : AreTextsBelow (g.F.Files.content_of l.files) l.root l.fn.texts.language l.texts;
+  same : g.F.Files.surroundings l.files ≡ g.F.Files.surroundings l.fn.files;
+  below : AreTextsBelow (g.F.Files.surroundings l.fn.files).content l.root l.fn.texts.language l.texts;
 }

@@ -2,14 +2,8 @@ use Rattle.std.proofs.Common.{arith}
 use Rattle.std.proofs.lemmas.Grind.{common_steps}
 use Rattle.kmin_jobs.proofs.tree_files.open_first.Goals as goal
 
-pub returns-in_err-insert_one-clause-same : goal.returns-in_err-insert_one-clause-same
-returns-in_err-insert_one-clause-same c = grind (arith, common_steps)
-
 pub returns-in_err-insert_one-clause-below : goal.returns-in_err-insert_one-clause-below
 returns-in_err-insert_one-clause-below c = grind (arith, common_steps)
-
-pub returns-clause-same : goal.returns-clause-same
-returns-clause-same c = grind (arith, common_steps)
 
 pub returns-clause-below : goal.returns-clause-below
 returns-clause-below c = grind (arith, common_steps)

@@ -11,8 +11,8 @@ returns-in-Some-clause-bytes g c =
     c.deref.ensures ∙ c.in_ok-push_str-2.ensures.bytes
     ∙ ap (λ (z : List ℕ). z ++ c.args.path.now) (c.in_ok-push_str.ensures.bytes ∙ ap (λ (z : List ℕ). z ++ 47 ∷ []) c.in_ok-place.ensures.ok)
     ∙ append_assoc c.args.root.now (47 ∷ []) c.args.path.now in
-    let opens : OpensAs (g.F.Files.content_of c.args.files.now (path_below c.args.root.now c.args.path.now)) _ = rw at at c.in-Some.ensures.opens in
-    front_read (g.F.Files.content_of c.args.files.now (path_below c.args.root.now c.args.path.now)) _ _ c.read_front.result opens c.read_front.ensures.bytes
+    let opens : OpensAs ((g.F.Files.surroundings c.args.files.now).content (path_below c.args.root.now c.args.path.now)) _ = rw at at c.in-Some.ensures.opens in
+    front_read ((g.F.Files.surroundings c.args.files.now).content (path_below c.args.root.now c.args.path.now)) _ _ c.read_front.result opens c.read_front.ensures.bytes
 
 pub returns-in_err-push_str-clause-bytes : goal.returns-in_err-push_str-clause-bytes
 returns-in_err-push_str-clause-bytes g c = grind (arith, common_steps)
@@ -20,23 +20,8 @@ returns-in_err-push_str-clause-bytes g c = grind (arith, common_steps)
 pub returns-in_err-place-clause-bytes : goal.returns-in_err-place-clause-bytes
 returns-in_err-place-clause-bytes g c = grind (arith, elements)
 
-pub returns-clause-same : goal.returns-clause-same
-returns-clause-same g c = grind (arith, common_steps)
-
-pub returns-in_err-push_str-2-clause-same : goal.returns-in_err-push_str-2-clause-same
-returns-in_err-push_str-2-clause-same g c = grind (arith, common_steps)
-
 pub returns-clause-bytes : goal.returns-clause-bytes
 returns-clause-bytes g c = grind (arith, common_steps)
 
-pub returns-in-Some-clause-same : goal.returns-in-Some-clause-same
-returns-in-Some-clause-same g c = grind (arith, common_steps)
-
 pub returns-in_err-push_str-2-clause-bytes : goal.returns-in_err-push_str-2-clause-bytes
 returns-in_err-push_str-2-clause-bytes g c = grind (arith, common_steps)
-
-pub returns-in_err-push_str-clause-same : goal.returns-in_err-push_str-clause-same
-returns-in_err-push_str-clause-same g c = grind (arith, common_steps)
-
-pub returns-in_err-place-clause-same : goal.returns-in_err-place-clause-same
-returns-in_err-place-clause-same g c = grind (arith, common_steps)

@@ -1,6 +1,5 @@
 use Rattle.std.proofs.Common.{inr, rules}
 use Rattle.kmin_words.specs.Jobs.{questions_view}
-use Rattle.kmin_jobs.specs.FileContents.{known_by}
 use Rattle.kmin_jobs.proofs.JobOutputs.{lines_kept, no_other_status}
 use Rattle.kmin_jobs.proofs.QuestionEnds.{write_stops, questions_end}
 use Rattle.kmin_jobs.proofs.wants_command.list_questions.Goals as goal
@@ -26,13 +25,10 @@ returns-in-Ok-clause-part g c = λ e.
 
 pub returns-in-Ok-clause-stopped : goal.returns-in-Ok-clause-stopped
 returns-in-Ok-clause-stopped g c = λ e.
-    write_stops (known_by (g.F.Files.content_of c.args.files.now) (g.F.Files.regular_content_of c.args.files.now) (g.F.Files.names_of c.args.files.now)
-    (g.F.Files.variable_of c.args.files.now))
+    write_stops (g.F.Files.surroundings c.args.files.now)
     (questions_view c.args.questions.now) _ _ _ _ _ _ _ _ c.status.ensures c.in-Ok.ensures.answer.1 c.in-Ok.ensures.unreported (search rules)
 
 pub returns-clause-stopped : goal.returns-clause-stopped
 returns-clause-stopped g c = λ e.
-    questions_end (known_by (g.F.Files.content_of c.args.files.now) (g.F.Files.regular_content_of c.args.files.now) (g.F.Files.names_of c.args.files.now)
-    (g.F.Files.variable_of c.args.files.now))
-    (questions_view c.args.questions.now) c.in-Err.stop c.exit_status.result
+    questions_end (g.F.Files.surroundings c.args.files.now) (questions_view c.args.questions.now) c.in-Err.stop c.exit_status.result
     _ _ _ _ _ _ c.exit_status.ensures.status c.in-Err.ensures.stopped c.exit_status.ensures.reported

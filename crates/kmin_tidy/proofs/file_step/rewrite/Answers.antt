@@ -1,5 +1,4 @@
 use Rattle.std.proofs.Common.{◌≢◌, Bool, [], refl, sym, subst, append-nil, inl, inr}
-use Rattle.kmin_tidy.specs.Steps.{disk_of}
 use Rattle.kmin_tidy.specs.Reports.{difference_line}
 use Rattle.kmin_tidy.specs.checker.FileResults.{IsRewritten, same, shown}
 use Rattle.kmin_tidy.proofs.FileLemmas.{agree, differ, rewritten_by}
@@ -13,8 +12,8 @@ returns-then-eq-clause-rewritten g c =
 
 pub returns-then-options-clause-rewritten : goal.returns-then-options-clause-rewritten
 returns-then-options-clause-rewritten g c =
-    let a = disk_of (g.D.ReadDisk.state c.args.disk.now) (g.D.WriteDisk.failures c.args.disk.now) in
-    let b = disk_of (g.D.ReadDisk.state c.write_file.new.disk) (g.D.WriteDisk.failures c.write_file.new.disk) in
+    let a = g.D.ReadDisk.disk c.args.disk.now in
+    let b = g.D.ReadDisk.disk c.write_file.new.disk in
     let path = c.args.path.now in
     let bytes = c.args.bytes.now in
     let least = c.args.least.now in

@@ -2,14 +2,13 @@ use Rattle.std.proofs.Common.{◌≢◌, [], map, sym, ap, ◌∙◌, append-nil
 use Rattle.kc_dotconfig.specs.Fragments.{notice_pair}
 use Rattle.kmin_tidy.specs.Options.{settings_of}
 use Rattle.kmin_tidy.specs.MinimalFiles.{IsReadAt}
-use Rattle.kmin_tidy.specs.Steps.{disk_of}
 use Rattle.kmin_tidy.proofs.FileLemmas.{notices_step, rewritten_step, map_some}
 use Rattle.kmin_tidy.proofs.file_step.tidy_accepted.Goals as goal
 
 pub returns-then-is_refused_for-clause-step : goal.returns-then-is_refused_for-clause-step
 returns-then-is_refused_for-clause-step g c =
     let s = settings_of c.args.config.now.system c.args.format.now c.args.options in
-    let a = disk_of (g.D.ReadDisk.state c.args.disk.now) (g.D.WriteDisk.failures c.args.disk.now) in
+    let a = g.D.ReadDisk.disk c.args.disk.now in
     let asked = c.is_refused_for.ensures.refused c.if-is_refused_for.true in
     let some : c.args.file.fragment.notices.items ≢ [] = rw c.deref.ensures.value at asked.1 in
     let read : IsReadAt s a.state c.args.path.now c.args.file.bytes.items = record { may = c.requires.may; bytes_are = c.requires.accepted.read } in (
@@ -30,8 +29,8 @@ tidy_allowed-requires g c = record {
 pub returns-clause-step : goal.returns-clause-step
 returns-clause-step g c =
     let s = settings_of c.args.config.now.system c.args.format.now c.args.options in
-    let a = disk_of (g.D.ReadDisk.state c.args.disk.now) (g.D.WriteDisk.failures c.args.disk.now) in
-    let b = disk_of (g.D.ReadDisk.state c.tidy_allowed.new.disk) (g.D.WriteDisk.failures c.tidy_allowed.new.disk) in
+    let a = g.D.ReadDisk.disk c.args.disk.now in
+    let b = g.D.ReadDisk.disk c.tidy_allowed.new.disk in
     let r = c.in_ok-end.ensures.rewritten in (
       r.0,
       r.1,

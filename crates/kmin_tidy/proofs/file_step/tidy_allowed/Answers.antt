@@ -2,7 +2,6 @@ use Rattle.std.proofs.Common.{ℕ, List, map, refl, sym, subst, inl}
 use Rattle.kc_dotconfig.specs.Fragments.{notice_pair}
 use Rattle.kmin_tidy.specs.Options.{settings_of}
 use Rattle.kmin_tidy.specs.MinimalFiles.{HasMinimalFile, Minimises}
-use Rattle.kmin_tidy.specs.Steps.{disk_of}
 use Rattle.kmin_tidy.proofs.FileLemmas.{stops_rewrite}
 use Rattle.kmin_tidy.proofs.ReadingLemmas.{if_ok_map, if_err_map}
 use Rattle.kmin_tidy.proofs.WholeRuns.{memory_stop}
@@ -11,7 +10,7 @@ use Rattle.kmin_tidy.proofs.file_step.tidy_allowed.Goals as goal
 pub returns-clause-rewritten : goal.returns-clause-rewritten
 returns-clause-rewritten g c =
     let s = settings_of c.args.config.now.system c.args.format.now c.args.options in
-    let state = g.D.ReadDisk.state c.args.disk.now in
+    let state = (g.D.ReadDisk.disk c.args.disk.now).state in
     let notices = map notice_pair c.args.fragment.now.notices.items in
     let minimises : Minimises s state c.args.path.now c.args.bytes.now c.deref.result.now notices = record {
       read = c.requires.read;
@@ -24,7 +23,7 @@ returns-clause-rewritten g c =
 pub returns-clause-stopped : goal.returns-clause-stopped
 returns-clause-stopped g c =
     let s = settings_of c.args.config.now.system c.args.format.now c.args.options in
-    let state = g.D.ReadDisk.state c.args.disk.now in
+    let state = (g.D.ReadDisk.disk c.args.disk.now).state in
     let notices = map notice_pair c.args.fragment.now.notices.items in
     let minimises : Minimises s state c.args.path.now c.args.bytes.now c.deref.result.now notices = record {
       read = c.requires.read;
@@ -32,8 +31,8 @@ returns-clause-stopped g c =
           (c.in_ok-least.ensures.minimal c.args.options c.args.bytes.now c.requires.fragment);
       allowed = c.requires.allowed;
     } in
-    if_err_map c.rewrite.result _ _ (λ stop h. stops_rewrite s (disk_of state (g.D.WriteDisk.failures c.args.disk.now))
-    (disk_of (g.D.ReadDisk.state c.rewrite.new.disk) (g.D.WriteDisk.failures c.rewrite.new.disk)) c.args.path.now c.args.bytes.now c.deref.result.now notices
+    if_err_map c.rewrite.result _ _ (λ stop h. stops_rewrite s (g.D.ReadDisk.disk c.args.disk.now)
+    (g.D.ReadDisk.disk c.rewrite.new.disk) c.args.path.now c.args.bytes.now c.deref.result.now notices
     stop minimises h)
     c.rewrite.ensures.stopped
 

@@ -1,6 +1,5 @@
 use Rattle.std.proofs.Common.{[], refl, sym, append-nil, inl}
 use Rattle.kmin_tidy.specs.Options.{settings_of}
-use Rattle.kmin_tidy.specs.Steps.{disk_of}
 use Rattle.kmin_tidy.proofs.FileLemmas.{not_regular_step, fault_step}
 use Rattle.kmin_tidy.proofs.ReadingLemmas.{if_ok_map, if_err_map}
 use Rattle.kmin_tidy.proofs.file_step.tidy_file.Goals as goal
@@ -11,7 +10,7 @@ returns-then-is_refused_unread-clause-step g c =
       [],
       sym (append-nil c.args.text.now.items),
       not_regular_step (settings_of c.args.config.now.system c.args.format.now c.args.options)
-          (disk_of (g.D.ReadDisk.state c.args.disk.now) (g.D.WriteDisk.failures c.args.disk.now)) c.args.path.now c.report_of_problem.result known.0 known.1
+          (g.D.ReadDisk.disk c.args.disk.now) c.args.path.now c.report_of_problem.result known.0 known.1
           c.report_of_problem.ensures.notices c.report_of_problem.ensures.problem c.report_of_problem.ensures.outcome,
     )
 
@@ -24,7 +23,7 @@ returns-in-Err-clause-step g c =
       [],
       sym (append-nil c.args.text.now.items),
       fault_step (settings_of c.args.config.now.system c.args.format.now c.args.options)
-          (disk_of (g.D.ReadDisk.state c.args.disk.now) (g.D.WriteDisk.failures c.args.disk.now)) c.args.path.now report c.in-Err.fault
+          (g.D.ReadDisk.disk c.args.disk.now) c.args.path.now report c.in-Err.fault
           (c.is_refused_unread.ensures.may c.if-is_refused_unread.false) (rw c.settled.ensures at c.in-Err.ensures.fault) refused,
     )) c.report_fault.ensures.refused
 

@@ -1,5 +1,4 @@
 use Rattle.std.proofs.Common.{refl, ap, Err}
-use Rattle.kmin_tidy.specs.Steps.{disk_of}
 use Rattle.kmin_tidy.specs.checker.FileResults.{in_place}
 use Rattle.kmin_tidy.proofs.FileLemmas.{written_by, stopped_by}
 use Rattle.kmin_tidy.proofs.ReadingLemmas.{if_ok_map, if_err_map}
@@ -11,14 +10,12 @@ returns-in-Ok-clause-written g c = in_place c.in-Ok.ensures.ok c.in-Ok.ensures.f
 pub returns-in-Err-clause-written : goal.returns-in-Err-clause-written
 returns-in-Err-clause-written g c =
     if_ok_map c.end_of_fault.result _ _ (λ end h.
-    written_by (disk_of (g.D.ReadDisk.state c.args.disk.now) (g.D.WriteDisk.failures c.args.disk.now))
-    (disk_of (g.D.ReadDisk.state c.replace.new.disk) (g.D.WriteDisk.failures c.replace.new.disk)) c.args.path.now c.args.least.now c.in-Err.fault end
+    written_by (g.D.ReadDisk.disk c.args.disk.now) (g.D.ReadDisk.disk c.replace.new.disk) c.args.path.now c.args.least.now c.in-Err.fault end
     c.in-Err.ensures.err c.in-Err.ensures.failures (λ e. c.in-Err.ensures.not_regular (ap Err e)) (λ e. c.in-Err.ensures.names_taken (ap Err e)) h)
     c.end_of_fault.ensures.failed
 
 pub returns-in-Err-clause-stopped : goal.returns-in-Err-clause-stopped
 returns-in-Err-clause-stopped g c =
     if_err_map c.end_of_fault.result _ _ (λ stop h.
-    stopped_by (disk_of (g.D.ReadDisk.state c.args.disk.now) (g.D.WriteDisk.failures c.args.disk.now))
-    (disk_of (g.D.ReadDisk.state c.replace.new.disk) (g.D.WriteDisk.failures c.replace.new.disk)) c.args.path.now c.args.least.now c.in-Err.fault stop
+    stopped_by (g.D.ReadDisk.disk c.args.disk.now) (g.D.ReadDisk.disk c.replace.new.disk) c.args.path.now c.args.least.now c.in-Err.fault stop
     c.in-Err.ensures.err c.in-Err.ensures.failures h) c.end_of_fault.ensures.stopped

@@ -1,7 +1,6 @@
 use Rattle.std.proofs.Common.{ℕ, List, [], IfOk, IfErr, subst}
 use Rattle.kc_rules.specs.declared.rules.Settled.{Settled}
 use Rattle.kmin_tidy.specs.Options.{settings_of}
-use Rattle.kmin_tidy.specs.Steps.{disk_of}
 use Rattle.kmin_tidy.specs.Runs.{Tidies, paths_of}
 use Rattle.kmin_tidy.specs.StandardError.{TakesLines, none}
 use Rattle.kmin_tidy.specs.checker.FileResults.{StopsRun}
@@ -11,8 +10,7 @@ use Rattle.kmin_tidy.proofs.whole_run.tidy_all.Goals as goal
 pub returns-clause-run : goal.returns-clause-run
 returns-clause-run g c =
     subst (λ (sys : Settled). IfOk c.tidy_each.result (λ tidied. (reports : List (List ℕ))
-    × Tidies (settings_of sys c.args.format.now c.args.options) (disk_of (g.D.ReadDisk.state c.args.disk.now) (g.D.WriteDisk.failures c.args.disk.now))
-    (disk_of (g.D.ReadDisk.state c.tidy_each.new.disk) (g.D.WriteDisk.failures c.tidy_each.new.disk))
+    × Tidies (settings_of sys c.args.format.now c.args.options) (g.D.ReadDisk.disk c.args.disk.now) (g.D.ReadDisk.disk c.tidy_each.new.disk)
     (paths_of c.args.paths.now) tidied.text.items reports tidied.status
     × TakesLines (g.E.Sink.taken c.args.err.now) (g.E.Sink.failures c.args.err.now) reports (g.E.Sink.taken c.tidy_each.new.err)
     (g.E.Sink.failures c.tidy_each.new.err)))
@@ -21,8 +19,8 @@ returns-clause-run g c =
 pub returns-clause-stopped : goal.returns-clause-stopped
 returns-clause-stopped g c =
     subst (λ (sys : Settled). IfErr c.tidy_each.result (λ stop. (reports : List (List ℕ))
-    × StopsRun (settings_of sys c.args.format.now c.args.options) (disk_of (g.D.ReadDisk.state c.args.disk.now) (g.D.WriteDisk.failures c.args.disk.now))
-    (disk_of (g.D.ReadDisk.state c.tidy_each.new.disk) (g.D.WriteDisk.failures c.tidy_each.new.disk)) (paths_of c.args.paths.now) reports stop
+    × StopsRun (settings_of sys c.args.format.now c.args.options) (g.D.ReadDisk.disk c.args.disk.now)
+    (g.D.ReadDisk.disk c.tidy_each.new.disk) (paths_of c.args.paths.now) reports stop
     × TakesLines (g.E.Sink.taken c.args.err.now) (g.E.Sink.failures c.args.err.now) reports (g.E.Sink.taken c.tidy_each.new.err)
     (g.E.Sink.failures c.tidy_each.new.err)))
     c.in_ok-config.ensures.settled c.tidy_each.ensures.stopped
@@ -30,5 +28,5 @@ returns-clause-stopped g c =
 pub returns-in_err-config-clause-stopped : goal.returns-in_err-config-clause-stopped
 returns-in_err-config-clause-stopped g c =
     let s = settings_of c.args.settled.now c.args.format.now c.args.options in
-    let a = disk_of (g.D.ReadDisk.state c.args.disk.now) (g.D.WriteDisk.failures c.args.disk.now) in
+    let a = g.D.ReadDisk.disk c.args.disk.now in
     memory_stop c.from_residual.result _ c.from_residual.ensures ([], stops_first s a (paths_of c.args.paths.now), none)

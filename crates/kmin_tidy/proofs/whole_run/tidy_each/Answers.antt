@@ -3,7 +3,7 @@ use Rattle.std.specs.Borrow.{Bor}
 use Rattle.std.proofs.lemmas.List.{take_all}
 use Rattle.kc_rules.specs.declared.rules.Settled.{Settled}
 use Rattle.kmin_tidy.specs.Options.{settings_of}
-use Rattle.kmin_tidy.specs.Steps.{Step, disk_of}
+use Rattle.kmin_tidy.specs.Steps.{Step}
 use Rattle.kmin_tidy.specs.Runs.{Tidies, paths_of}
 use Rattle.kmin_tidy.specs.StandardError.{none}
 use Rattle.kmin_tidy.specs.checker.ReportLines.{report_lines}
@@ -15,7 +15,7 @@ use Rattle.kmin_tidy.proofs.whole_run.tidy_each.Goals as goal
 pub loop-path-init : goal.loop-path-init
 loop-path-init g c =
     let s = settings_of c.args.config.now.system c.args.format.now c.args.options in
-    let a = disk_of (g.D.ReadDisk.state c.args.disk.now) (g.D.WriteDisk.failures c.args.disk.now) in
+    let a = g.D.ReadDisk.disk c.args.disk.now in
     record {
       system = refl;
       ran = ([], subst (λ (t : List ℕ). Tidies s a a [] t [] 0) (sym c.new-text.ensures.items) (tidies_none s a), none);
@@ -25,9 +25,9 @@ pub loop-path-preserved : goal.loop-path-preserved
 loop-path-preserved g c =
     let system = c.args.config.now.system in
     let s = settings_of system c.args.format.now c.args.options in
-    let a = disk_of (g.D.ReadDisk.state c.args.disk.now) (g.D.WriteDisk.failures c.args.disk.now) in
-    let b = disk_of (g.D.ReadDisk.state c.loop-path.disk) (g.D.WriteDisk.failures c.loop-path.disk) in
-    let after = disk_of (g.D.ReadDisk.state c.tidy_file.new.disk) (g.D.WriteDisk.failures c.tidy_file.new.disk) in
+    let a = g.D.ReadDisk.disk c.args.disk.now in
+    let b = g.D.ReadDisk.disk c.loop-path.disk in
+    let after = g.D.ReadDisk.disk c.tidy_file.new.disk in
     let absent : Bor (List ℕ) = record { ref_ptr = (0, 0); now = [] } in
     let i = c.loop-path.path-index in
     let path = (get_or c.args.paths.now i absent).now in
@@ -57,9 +57,9 @@ pub returns-in_err-report-clause-stopped : goal.returns-in_err-report-clause-sto
 returns-in_err-report-clause-stopped g c =
     let system = c.args.config.now.system in
     let s = settings_of system c.args.format.now c.args.options in
-    let a = disk_of (g.D.ReadDisk.state c.args.disk.now) (g.D.WriteDisk.failures c.args.disk.now) in
-    let b = disk_of (g.D.ReadDisk.state c.loop-path.disk) (g.D.WriteDisk.failures c.loop-path.disk) in
-    let after = disk_of (g.D.ReadDisk.state c.tidy_file.new.disk) (g.D.WriteDisk.failures c.tidy_file.new.disk) in
+    let a = g.D.ReadDisk.disk c.args.disk.now in
+    let b = g.D.ReadDisk.disk c.loop-path.disk in
+    let after = g.D.ReadDisk.disk c.tidy_file.new.disk in
     let absent : Bor (List ℕ) = record { ref_ptr = (0, 0); now = [] } in
     let i = c.loop-path.path-index in
     let path = (get_or c.args.paths.now i absent).now in

@@ -1,6 +1,6 @@
 use Rattle.std.proofs.Common.{◌≡◌, ◌+◌, ◌-◌, ◌<◌, ◌≤◌, true, length, take, get_or}
 use Rattle.std.specs.List.{suffix_len}
-use Rattle.kc_expr.specs.Token.{is_white_byte}
+use Rattle.kc_tokens.specs.Token.{is_white_byte}
 use Rattle.kmin_words.proofs.expansion_words.white_end.Given as goal
 
 -- the bytes of the value from `end` on are white

@@ -1,7 +1,7 @@
 use Rattle.std.proofs.Common.{ap, ◌∙◌}
 use Rattle.std.specs.Prelude.{is_some}
 use Rattle.kc_macros_model.specs.ReadingStates.{has_key}
-use Rattle.kc_expansion.proofs.TableLemmas.{some_copied}
+use Rattle.kc_files.proofs.TableLemmas.{some_copied}
 use Rattle.kc_expansion.proofs.KeyLemmas.{key_is_there}
 use Rattle.kc_expansion.proofs.expanded_files.ExpandedFiles.has_key.Goals as goal
 

@@ -2,7 +2,7 @@ use Rattle.std.proofs.Common.{◌≡◌, ◌+◌, refl, ap, ◌∙◌, length, t
 use Rattle.std.proofs.lemmas.Grind.{common_steps}
 use Rattle.kc_expr.specs.Grammar.{extent}
 use Rattle.kc_expr.specs.between.ParseResults.{expr_end}
-use Rattle.kc_expr.specs.Token.{lexemes_of}
+use Rattle.kc_tokens.specs.Token.{lexemes_of}
 use Rattle.kc_expr.proofs.ReadingLemmas.{tail_pieces, line_read, line_refused}
 use Rattle.kc_expr.proofs.StoreLemmas.{grows}
 use Rattle.kc_expr.proofs.arena.Arena.parse_expr.Goals as goal

@@ -3,12 +3,12 @@ use Rattle.std.proofs.lemmas.Grind.{common_steps}
 use Rattle.std.proofs.lemmas.Bool.{both_ways}
 use Rattle.std.proofs.lemmas.List.{length-map}
 use Rattle.std.proofs.lemmas.Result.{err_from_is_err_and}
-use Rattle.kc_expr.specs.declared.token.Token.{Token}
-use Rattle.kc_expr.specs.declared.token.TokenKind.{TokenKind}
-use Rattle.kc_expr.specs.declared.token.TokenKind.TheVariants.{And, Or}
+use Rattle.kc_tokens.specs.declared.token.Token.{Token}
+use Rattle.kc_tokens.specs.declared.token.TokenKind.{TokenKind}
+use Rattle.kc_tokens.specs.declared.token.TokenKind.TheVariants.{And, Or}
 use Rattle.kc_expr.specs.Expr.{both, either}
 use Rattle.kc_expr.specs.checker.ParserResults.{first_kind, factor_read, ands_read, ors_read}
-use Rattle.kc_expr.specs.Token.{lexeme_of, lexemes_of}
+use Rattle.kc_tokens.specs.Token.{lexeme_of, lexemes_of}
 use Rattle.kc_expr.proofs.ParserNames.{read_negated, read_joined}
 use Rattle.kc_expr.proofs.ParseSteps.{as_both, as_either, factor_is_operand, factor_beyond, not_fails, not_parsed, open_fails, open_unclosed, open_parsed, parses_by, kind_within, chain_first_fails, chain_begins, chain_fails, chain_goes_on, chain_ends}
 use Rattle.kc_expr.proofs.ReaderSteps.{ands_on, ors_on, ands_first_fails, ands_first, ands_link_fails, ands_link, ands_end, ors_first_fails, ors_first, ors_link_fails, ors_link, ors_end}

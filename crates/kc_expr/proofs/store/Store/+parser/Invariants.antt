@@ -1,7 +1,7 @@
 use Rattle.std.proofs.Common.{◌+◌, ◌*◌, ◌-◌, length}
 use Rattle.kc_expr.specs.checker.ParserResults.{ands_read, ors_read}
 use Rattle.kc_expr.specs.checker.Store.{IsSound, Extends, HasNamesOf}
-use Rattle.kc_expr.specs.Token.{lexemes_of}
+use Rattle.kc_tokens.specs.Token.{lexemes_of}
 use Rattle.kc_expr.proofs.ParseSteps.{IsChained}
 use Rattle.kc_expr.proofs.ReaderSteps.{ands_on, ors_on}
 use Rattle.kc_expr.proofs.store.Store.+parser.Given as goal

@@ -1,6 +1,6 @@
 use Rattle.std.proofs.Common.{Some, ap, sym, ◌∙◌, arith}
 use Rattle.std.proofs.lemmas.Grind.{common_steps}
-use Rattle.kc_expr.specs.declared.token.TokenKind.TheVariants.{Word, Quoted}
+use Rattle.kc_tokens.specs.declared.token.TokenKind.TheVariants.{Word, Quoted}
 use Rattle.kc_expr.proofs.LeafLemmas.{operand_at, no_operand_at}
 use Rattle.kc_expr.proofs.store.Store.leaf_at.Goals as goal
 

@@ -2,7 +2,7 @@ use Rattle.std.proofs.Common.{sym, ◌∙◌, inl, arith}
 use Rattle.std.proofs.lemmas.Grind.{common_steps}
 use Rattle.kc_expr.specs.checker.Nodes.{operand_of}
 use Rattle.kc_expr.specs.checker.Store.{stored_names}
-use Rattle.kc_expr.specs.Token.{lexemes_of}
+use Rattle.kc_tokens.specs.Token.{lexemes_of}
 use Rattle.kc_expr.proofs.ParserNames.{read_alone, read_related}
 use Rattle.kc_expr.proofs.ParseSteps.{relation_missing, relation_alone, relation_unfinished, relation_whole}
 use Rattle.kc_expr.proofs.StoreLemmas.{operand_on, extends_on}

@@ -5,7 +5,7 @@ use Rattle.std.proofs.lemmas.List.{length-map}
 use Rattle.kc_expr.specs.Expr.{alone, named}
 use Rattle.kc_expr.specs.Grammar.{constant_or}
 use Rattle.kc_expr.specs.checker.ParserResults.{read_all_tokens}
-use Rattle.kc_expr.specs.Token.{lexemes_of, lexeme_of}
+use Rattle.kc_tokens.specs.Token.{lexemes_of, lexeme_of}
 use Rattle.kc_expr.proofs.ParseSteps.{whole_refused, whole_too_long, whole_parsed}
 use Rattle.kc_expr.proofs.ReaderSteps.{drop_one}
 use Rattle.kc_expr.proofs.SingleWords.{word_whole}

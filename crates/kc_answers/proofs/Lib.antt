@@ -1,0 +1,4 @@
+pub mod TableLemmas
+pub mod RecordLemmas
+pub mod AnswerFileLemmas
+pub mod EntryLemmas

@@ -1,0 +1,105 @@
+-- Questions and answers, through the map that holds them.
+use Rattle.std.proofs.Common.{◌≡◌, ℕ, zero, suc, Bool, true, false, cond, List, [], ◌∷◌, ◌++◌, length, take, map, Option, Some, None, refl, sym, ap, ◌∙◌}
+use Rattle.std.specs.Prelude.{Vec, bytes_eq, option_map, is_some, IfOk, Result, Ok, Err, ◌||◌}
+use Rattle.kc_tree_model.specs.Limits.{is_in_list}
+use Rattle.kc_macros_model.specs.AnswerFiles.{RecordedAnswers}
+use Rattle.kc_answers.specs.RunStates.{questions_of, with_question}
+use Rattle.std.specs.declared.alloc.Global.{Global}
+use Rattle.std.proofs.lemmas.Slice.Eq.{bytes_eq-Decides}
+use Rattle.indexmap.specs.IndexMap.{insert_entry}
+use Rattle.std.specs.Map.{keys_of, lookup}
+use Rattle.kc_tree_model.specs.Keywords.{keyword_in_table}
+use Rattle.kc_macros_model.specs.Programs.{Answer}
+use Rattle.kc_answers.specs.checker.TableView.{answer_of_entry}
+
+pub bytes_eq_turned : (x y : List ℕ) → bytes_eq x y ≡ bytes_eq y x
+bytes_eq_turned x y = by_tests (bytes_eq x y) (bytes_eq y x) refl refl
+  where
+    by_tests : (b c : Bool) → bytes_eq x y ≡ b → bytes_eq y x ≡ c → b ≡ c
+    by_tests true true e f = refl
+    by_tests false false e f = refl
+    by_tests true false e f = let z : true ≡ false = sym ((bytes_eq-Decides y x).1 (sym ((bytes_eq-Decides x y).0 e))) ∙ f in cc
+    by_tests false true e f = let z : true ≡ false = sym ((bytes_eq-Decides x y).1 (sym ((bytes_eq-Decides y x).0 f))) ∙ e in cc
+
+-- an entry of the code's table of answers: the bytes of a question, and its answer, `None` for a name that isn't set
+abbrev pub Entry : Type 0
+Entry = Vec ℕ Global × Option (Vec ℕ Global)
+
+abbrev pub answer_items : Option (Vec ℕ Global) → Answer
+answer_items a = option_map (λ (t : Vec ℕ Global). t.items) a
+
+found_by : (b : Bool) (e : Entry) (o : Option (Option (Vec ℕ Global))) → cond b (Some (answer_items e.1)) (option_map answer_items o)
+    ≡ option_map answer_items (cond b (Some e.1) o)
+found_by true e o = refl
+found_by false e o = refl
+
+-- the answer to a question is what a look-up of its bytes in the code's table of answers finds
+pub find_answer : (question : List ℕ) (es : List Entry) → keyword_in_table (map answer_of_entry es) question
+    ≡ option_map answer_items (lookup (λ (k : Vec ℕ Global). bytes_eq question k.items) es)
+find_answer question [] = refl
+find_answer question (e ∷ es) =
+    ap (λ b. cond b (Some (answer_items e.1)) (keyword_in_table (map answer_of_entry es) question)) (bytes_eq_turned e.0.items question)
+    ∙ ap (λ o. cond (bytes_eq question e.0.items) (Some (answer_items e.1)) o) (find_answer question es)
+    ∙ found_by (bytes_eq question e.0.items) e (lookup (λ (k : Vec ℕ Global). bytes_eq question k.items) es)
+
+-- a question that a table of answers doesn't have is inserted at its end
+pub insert_absent : (es : List Entry) (k : Vec ℕ Global) (v : Option (Vec ℕ Global)) → keyword_in_table (map answer_of_entry es) k.items ≡ None
+    → map answer_of_entry (insert_entry (λ (a b : Vec ℕ Global). bytes_eq a.items b.items) es k v) ≡ map answer_of_entry es ++ (k.items, answer_items v) ∷ []
+insert_absent [] k v h = refl
+insert_absent (e ∷ es) k v h = by_test (bytes_eq e.0.items k.items) (bytes_eq_turned k.items e.0.items) h (insert_absent es k v)
+  where
+    by_test : (b : Bool) → bytes_eq k.items e.0.items ≡ b → cond b (Some (answer_items e.1)) (keyword_in_table (map answer_of_entry es) k.items) ≡ None
+        → (keyword_in_table (map answer_of_entry es) k.items ≡ None → map answer_of_entry
+        (insert_entry (λ (a b : Vec ℕ Global). bytes_eq a.items b.items) es k v) ≡ map answer_of_entry es ++ (k.items, answer_items v) ∷ [])
+        → map answer_of_entry (cond (bytes_eq k.items e.0.items) ((e.0, v) ∷ es) (e ∷ insert_entry (λ (a b : Vec ℕ Global). bytes_eq a.items b.items) es k v))
+        ≡ answer_of_entry e ∷ (map answer_of_entry es ++ (k.items, answer_items v) ∷ [])
+    by_test true e2 h ih = absurd (let z : ⊥ = cc in z)
+    by_test false e2 h ih =
+        ap (λ b. map answer_of_entry (cond b ((e.0, v) ∷ es) (e ∷ insert_entry (λ (a b : Vec ℕ Global). bytes_eq a.items b.items) es k v))) e2
+        ∙ ap (λ xs. answer_of_entry e ∷ xs) (ih h)
+
+pub take_entries : (n : ℕ) (es : List Entry) → map answer_of_entry (take n es) ≡ take n (map answer_of_entry es)
+take_entries zero es = refl
+take_entries (suc n) [] = refl
+take_entries (suc n) (e ∷ es) = ap (λ xs. answer_of_entry e ∷ xs) (take_entries n es)
+
+pub length_entries : (es : List Entry) → length (map answer_of_entry es) ≡ length es
+length_entries [] = refl
+length_entries (e ∷ es) = ap suc (length_entries es)
+
+-- a question is among those of a table of answers if the table has an answer to it
+pub listed_is_found : (es : RecordedAnswers) (question : List ℕ) → is_in_list question (questions_of es) ≡ is_some (keyword_in_table es question)
+listed_is_found [] question = refl
+listed_is_found (e ∷ es) question = by_test (bytes_eq e.0 question) (listed_is_found es question)
+  where
+    by_test : (b : Bool) → is_in_list question (questions_of es) ≡ is_some (keyword_in_table es question)
+        → (b || is_in_list question (questions_of es)) ≡ is_some (cond b (Some e.1) (keyword_in_table es question))
+    by_test true ih = refl
+    by_test false ih = ih
+
+pub is_some_map : {A B : Type 0} (f : A → B) (o : Option A) → is_some (option_map f o) ≡ is_some o
+is_some_map f None = refl
+is_some_map f (Some x) = refl
+
+-- the questions of a table of answers after noting one: the same if the table has it, otherwise those and the new one
+pub noted : {A : Type 0} (es : RecordedAnswers) (question : List ℕ) (f : A → Answer) (found : Option A) (b : Bool)
+    → option_map f found ≡ keyword_in_table es question
+    → is_some found ≡ b
+    → with_question (questions_of es) question ≡ cond b (questions_of es) (questions_of es ++ question ∷ [])
+noted es question f found b e h = ap (λ t. cond t (questions_of es) (questions_of es ++ question ∷ []))
+    (listed_is_found es question ∙ ap is_some (sym e) ∙ is_some_map f found ∙ h)
+
+pub questions_of_append : (es fs : RecordedAnswers) → questions_of (es ++ fs) ≡ questions_of es ++ questions_of fs
+questions_of_append [] fs = refl
+questions_of_append (e ∷ es) fs = ap (λ qs. e.0 ∷ qs) (questions_of_append es fs)
+
+questions_of_keys : (es : List Entry) → map (λ (q : Vec ℕ Global). q.items) (keys_of es) ≡ questions_of (map answer_of_entry es)
+questions_of_keys [] = refl
+questions_of_keys (e ∷ es) = ap (λ xs. e.0.items ∷ xs) (questions_of_keys es)
+
+-- the keys of the code's table of answers, collected in a vector, are the questions of the table
+pub questions_collected : {E : Type 0} (r : Result (Vec (Vec ℕ Global) Global) E) (es : List Entry) (table : RecordedAnswers) → map answer_of_entry es ≡ table
+    → IfOk r (λ qs. qs.items ≡ keys_of es)
+    → IfOk r (λ qs. map (λ (q : Vec ℕ Global). q.items) qs.items ≡ questions_of table)
+questions_collected (Ok qs) es table e h = ap (λ ks. map (λ (q : Vec ℕ Global). q.items) ks) h ∙ questions_of_keys es ∙ ap questions_of e
+questions_collected (Err x) es table e h = tt

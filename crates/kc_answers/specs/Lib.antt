@@ -1,0 +1,3 @@
+pub mod checker
+pub mod RunStates
+pub mod ReadAnswers

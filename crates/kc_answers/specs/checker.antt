@@ -1,0 +1,4 @@
+pub mod AnswerFaults
+pub mod TableView
+pub mod LineView
+pub mod LinesView

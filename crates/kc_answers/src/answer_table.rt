@@ -1,0 +1,127 @@
+//! A table of questions with their answers.
+ghost use Rattle.std.specs.Prelude.{◌≡◌, ℕ, List, [], ◌∷◌, ◌++◌, length, take, Some, None, OnOk, OnErr, IfOk, Vec, bytes_eq, map, option_map, if◌then◌else◌};
+ghost use Rattle.std.specs.declared.alloc.Global.{Global};
+ghost use Rattle.kc_tree_model.specs.Keywords.{keyword_in_table};
+ghost use Rattle.kc_answers.specs.RunStates.{questions_of, with_question};
+
+use indexmap::IndexMap;
+use kc_value::Seed;
+use std::alloc::{AllocError, Global};
+use std::marker::Model;
+
+/// Questions with their answers, in order of insertion; a name that isn't set has the answer `None`.
+#[derive(Drop)]
+pub struct AnswerTable {
+    alloc: Global,
+    entries: IndexMap<Vec<u8>, Option<Vec<u8>>, Seed>,
+}
+
+impl Model for AnswerTable {
+    ghost use Rattle.std.specs.Prelude.{map};
+    ghost use Rattle.kc_macros_model.specs.AnswerFiles.{RecordedAnswers};
+
+    ghost Value = { RecordedAnswers };
+
+    ghost use Rattle.kc_answers.specs.checker.TableView.{answer_of_entry};
+
+    ghost view = { λ a. map answer_of_entry a.entries.entries };
+}
+
+/// A copy of an answer.
+fn copy_of_answer(alloc: Global, answer: Option<&[u8]>) -> Result<Option<Vec<u8>>, AllocError>
+    ensures { IfOk result (λ copy. option_map (λ (t : Vec ℕ Global). t.items) copy ≡ option_map (λ t. t.now) answer.entry) }
+{
+    match answer {
+        Some(text) => Ok(Some(Vec::from_slice(alloc, text)?)),
+        None => Ok(None),
+    }
+}
+
+impl AnswerTable {
+    /// A table of answers without questions; `seed` seeds the hashes of its questions.
+    pub fn new(alloc: Global, seed: Seed) -> AnswerTable
+        ensures { result ≡ [] }
+    {
+        AnswerTable {
+            alloc,
+            entries: IndexMap::with_hasher(alloc, seed),
+        }
+    }
+
+    /// The answer to a question, if the table has the question; `Some(None)` for a name that isn't set.
+    pub fn get(&self, question: &[u8]) -> Option<Option<&[u8]>>
+        ensures { option_map (λ a. option_map (λ t. t.now) a) result ≡ keyword_in_table self.now question.now }
+    {
+        match self.entries.get(question)? {
+            Some(text) => Some(Some(text.as_slice())),
+            None => Some(None),
+        }
+    }
+
+    /// Appends a question that the table doesn't have, with its answer; both are copied.
+    ///
+    /// # Errors
+    ///
+    /// Where memory runs out, nothing is changed.
+    pub fn insert(&mut self, question: &[u8], answer: Option<&[u8]>) -> Result<(), AllocError>
+        requires absent { keyword_in_table self.old question.now ≡ None }
+        ensures ok { OnOk result (self.new ≡ self.old ++ (question.now, option_map (λ t. t.now) answer.entry) ∷ []) }
+        ensures err { OnErr result (self.new ≡ self.old) }
+    {
+        let question = Vec::from_slice(self.alloc, question)?;
+        let answer = copy_of_answer(self.alloc, answer)?;
+        self.entries.insert(question, answer)?;
+        Ok(())
+    }
+
+    /// Gives a question this answer, in place of an earlier one; both are copied.
+    ///
+    /// # Errors
+    ///
+    /// Where memory runs out, nothing is changed.
+    pub(crate) fn set(&mut self, question: &[u8], answer: Option<&[u8]>) -> Result<(), AllocError>
+        ensures ok { OnOk result ((other : List ℕ) → keyword_in_table self.new other ≡ (if bytes_eq other question.now then Some (option_map (λ t. t.now) answer.entry) else keyword_in_table self.old other)) }
+        ensures err { OnErr result (self.new ≡ self.old) }
+    {
+        let question = Vec::from_slice(self.alloc, question)?;
+        let answer = copy_of_answer(self.alloc, answer)?;
+        self.entries.insert(question, answer)?;
+        Ok(())
+    }
+
+    /// Appends a question without an answer, unless the table has the question.
+    ///
+    /// # Errors
+    ///
+    /// Memory ran out.
+    pub fn note(&mut self, question: &[u8]) -> Result<(), AllocError>
+        ensures { OnOk result (questions_of self.new ≡ with_question (questions_of self.old) question.now) }
+    {
+        if self.get(question).is_none() {
+            self.insert(question, None)?;
+        }
+        Ok(())
+    }
+
+    /// The questions of the table, in order of insertion.
+    pub fn into_questions(self) -> Result<Vec<Vec<u8>>, AllocError>
+        ensures { IfOk result (λ qs. map (λ (q : Vec ℕ Global). q.items) qs.items ≡ questions_of self) }
+    {
+        let alloc = self.alloc;
+        self.entries.into_keys().collect(alloc)
+    }
+
+    /// The number of questions of the table.
+    pub fn len(&self) -> usize
+        ensures { result ≡ length self.now }
+    {
+        self.entries.len()
+    }
+
+    /// Drops the questions of the table after the first `len`, with their answers.
+    pub(crate) fn truncate(&mut self, len: usize)
+        ensures { self.new ≡ take len self.old }
+    {
+        self.entries.truncate(len);
+    }
+}

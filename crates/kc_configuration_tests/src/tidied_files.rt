@@ -1,0 +1,266 @@
+//! Configuration files that are each replaced by their minimal file, over a disk in memory.
+use super::test_trees::settled;
+use kc_dotconfig::Format;
+use kc_rules::Profile;
+use kmin_fakes::{Bounded, MemoryDisk, twice};
+use kmin_tidy::{TidyOptions, tidy_files};
+use std::test::Fail;
+
+const TREE: &str = "config A
+    bool \"a\"
+    default y
+config B
+    bool \"b\"
+config N
+    int \"n\"
+    default 10
+";
+
+const MINIMAL: &[u8] = b"CONFIG_B=y\n";
+
+/// The minimal files that a run may write.
+const TEXTS: &[&[u8]] = &[MINIMAL, b""];
+
+const FILES: [(&str, &[u8]); 6] = [
+    ("minimal", MINIMAL),
+    ("longer", b"CONFIG_A=y\nCONFIG_B=y\n"),
+    ("ends", b"CONFIG_B=y\r\n"),
+    ("unknown", b"CONFIG_B=y\nCONFIG_C=y\n"),
+    ("malformed", b"\nCONFIG_B=y\nB=y\n"),
+    ("other", b"# comment\nCONFIG_N=10\n"),
+];
+
+const NOTHING: TidyOptions = TidyOptions {
+    write: false,
+    drop: false,
+    strict: false,
+};
+
+const WRITE: TidyOptions = TidyOptions {
+    write: true,
+    drop: false,
+    strict: false,
+};
+
+const DROP: TidyOptions = TidyOptions {
+    write: true,
+    drop: true,
+    strict: false,
+};
+
+const STRICT: TidyOptions = TidyOptions {
+    write: false,
+    drop: false,
+    strict: true,
+};
+
+/// A disk with seven changes: the files, and a link. A write takes at most four bytes.
+fn disk_with_files(rt: &HostRuntime) -> Result<MemoryDisk<'static>, Fail> {
+    let mut disk = MemoryDisk::new(rt.alloc(), TEXTS, 4);
+    for (path, bytes) in FILES {
+        twice!(disk.add_file(path, bytes));
+    }
+    twice!(disk.add_special("link"));
+    Ok(disk)
+}
+
+/// Whether a run ends with this status and writes these texts.
+fn ends_as(
+    rt: &HostRuntime,
+    disk: &mut MemoryDisk<'_>,
+    options: TidyOptions,
+    paths: &[&str],
+    ends: (u8, &str, &str),
+) -> Result<bool, Fail> {
+    let (status, text, errors) = ends;
+    let tree = twice!(settled(rt.alloc(), TREE.as_bytes(), Profile::Present));
+    let mut out = twice!(Bounded::new(rt.alloc(), 256, true));
+    let mut err = twice!(Bounded::new(rt.alloc(), 256, true));
+    let ended = tidy_files(
+        rt.alloc(),
+        &tree,
+        &Format::plain(),
+        options,
+        paths,
+        disk,
+        &mut out,
+        &mut err,
+    );
+    drop(tree);
+    Ok(ended == status && out.bytes() == text.as_bytes() && err.bytes() == errors.as_bytes())
+}
+
+/// Whether a run that replaces nothing lists the files that aren't minimal.
+fn lists_files(rt: &HostRuntime) -> Result<bool, Fail> {
+    let mut disk = disk_with_files(rt)?;
+    let mut holds = ends_as(rt, &mut disk, NOTHING, &["minimal"], (0, "", ""))?;
+    let text = "longer: 1 out, 0 in\nends: order\n";
+    let paths = ["longer", "minimal", "ends"];
+    holds &= ends_as(rt, &mut disk, NOTHING, &paths, (1, text, ""))?;
+    let text = "unknown: 1 out, 0 in\n";
+    let errors = "unknown:2: UnknownSymbol\n";
+    holds &= ends_as(rt, &mut disk, NOTHING, &["unknown"], (1, text, errors))?;
+    Ok(holds && disk.changes() == 7)
+}
+
+// Where an allocation is refused a run ends, so each test tries once more, over a new disk.
+#[test]
+fn files_that_are_not_minimal_are_listed(rt: HostRuntime) -> Result<(), Fail> {
+    let holds = lists_files(&rt)? || lists_files(&rt)?;
+    assert!(rt; holds);
+    Ok(())
+}
+
+/// Whether files are replaced, and a second run leaves them as they are.
+fn replaces_files(rt: &HostRuntime) -> Result<bool, Fail> {
+    let mut disk = disk_with_files(rt)?;
+    let paths = ["longer", "other", "minimal", "ends"];
+    let text = "longer: 1 out, 0 in\nother: 2 out, 0 in\nends: order\n";
+    let mut holds = ends_as(rt, &mut disk, WRITE, &paths, (0, text, ""))?;
+    holds &= disk.bytes_at("longer") == Some(MINIMAL) && disk.bytes_at("other") == Some(b"");
+    holds &= disk.bytes_at("ends") == Some(MINIMAL) && disk.changes() == 13;
+    holds &= ends_as(rt, &mut disk, WRITE, &paths, (0, "", ""))?;
+    Ok(holds && disk.changes() == 13)
+}
+
+#[test]
+fn files_are_replaced_once(rt: HostRuntime) -> Result<(), Fail> {
+    let holds = replaces_files(&rt)? || replaces_files(&rt)?;
+    assert!(rt; holds);
+    Ok(())
+}
+
+/// Whether a file with a notice is refused where it would be written, and under `strict`.
+fn refuses_notices(rt: &HostRuntime) -> Result<bool, Fail> {
+    let mut disk = disk_with_files(rt)?;
+    let errors = "unknown:2: UnknownSymbol\n";
+    let mut holds = ends_as(rt, &mut disk, WRITE, &["unknown"], (4, "", errors))?;
+    holds &= ends_as(rt, &mut disk, STRICT, &["unknown"], (4, "", errors))?;
+    holds &= disk.changes() == 7;
+    let text = "unknown: 1 out, 0 in\n";
+    holds &= ends_as(rt, &mut disk, DROP, &["unknown"], (0, text, errors))?;
+    Ok(holds && disk.bytes_at("unknown") == Some(MINIMAL))
+}
+
+#[test]
+fn lines_with_notices_are_lost_if_asked(rt: HostRuntime) -> Result<(), Fail> {
+    let holds = refuses_notices(&rt)? || refuses_notices(&rt)?;
+    assert!(rt; holds);
+    Ok(())
+}
+
+/// Whether refused files stay as they are, the run goes on, and the first of them decides the status.
+fn passes_refused_files(rt: &HostRuntime) -> Result<bool, Fail> {
+    let mut disk = disk_with_files(rt)?;
+    let text = "longer: 1 out, 0 in\n";
+    let errors = "malformed:3: Malformed\nnone:0: Read\n";
+    let paths = ["malformed", "none", "longer"];
+    let mut holds = ends_as(rt, &mut disk, WRITE, &paths, (4, text, errors))?;
+    holds &= disk.bytes_at("longer") == Some(MINIMAL) && disk.changes() == 9;
+    let errors = "link:0: NotRegular\nmalformed:3: Malformed\n";
+    holds &= ends_as(
+        rt,
+        &mut disk,
+        WRITE,
+        &["link", "malformed"],
+        (5, "", errors),
+    )?;
+    let errors = "link:0: Read\n";
+    holds &= ends_as(
+        rt,
+        &mut disk,
+        NOTHING,
+        &["link", "ends"],
+        (5, "ends: order\n", errors),
+    )?;
+    Ok(holds && disk.changes() == 9)
+}
+
+#[test]
+fn the_first_refused_file_decides(rt: HostRuntime) -> Result<(), Fail> {
+    let holds = passes_refused_files(&rt)? || passes_refused_files(&rt)?;
+    assert!(rt; holds);
+    Ok(())
+}
+
+/// Whether a file stays where a call fails, and the run goes on to the next. The calls are a creation, three writes, a
+/// sync and a rename; the folder is synced last, when the new bytes are in place.
+fn goes_on_after(rt: &HostRuntime, calls: u64) -> Result<bool, Fail> {
+    let mut disk = disk_with_files(rt)?;
+    disk.fail_after(calls, 1);
+    let text = "longer: 1 out, 0 in\nends: order\n";
+    let paths = ["longer", "ends"];
+    let mut holds = ends_as(rt, &mut disk, WRITE, &paths, (5, text, "longer: Write\n"))?;
+    let kept = disk.bytes_at("longer") == Some(b"CONFIG_A=y\nCONFIG_B=y\n");
+    holds &= kept == (calls < 6) && disk.bytes_at("ends") == Some(MINIMAL);
+    Ok(holds && disk.failures() == 1)
+}
+
+#[test]
+fn each_call_of_the_disk_fails_in_turn(rt: HostRuntime) -> Result<(), Fail> {
+    for calls in 0..7 {
+        let holds = goes_on_after(&rt, calls)? || goes_on_after(&rt, calls)?;
+        assert!(rt; holds);
+    }
+    Ok(())
+}
+
+/// Whether a run ends where the new file can't be removed: nothing is listed, and the next file isn't replaced.
+fn ends_at_a_remaining_file(rt: &HostRuntime) -> Result<bool, Fail> {
+    let mut disk = disk_with_files(rt)?;
+    disk.fail_after(2, 2);
+    let tree = twice!(settled(rt.alloc(), TREE.as_bytes(), Profile::Present));
+    let mut out = twice!(Bounded::new(rt.alloc(), 64, true));
+    let mut err = twice!(Bounded::new(rt.alloc(), 64, true));
+    let ended = tidy_files(
+        rt.alloc(),
+        &tree,
+        &Format::plain(),
+        WRITE,
+        &["longer", "ends"],
+        &mut disk,
+        &mut out,
+        &mut err,
+    );
+    drop(tree);
+    let mut holds = ended == 5 && out.bytes().is_empty() && disk.failures() == 2;
+    holds &= err.bytes().starts_with(b".kmin-") && err.bytes().ends_with(b": Left\n");
+    Ok(holds && disk.bytes_at("ends") == Some(b"CONFIG_B=y\r\n"))
+}
+
+#[test]
+fn a_new_file_that_remains_ends_the_run(rt: HostRuntime) -> Result<(), Fail> {
+    let holds = ends_at_a_remaining_file(&rt)? || ends_at_a_remaining_file(&rt)?;
+    assert!(rt; holds);
+    Ok(())
+}
+
+/// Whether a run whose output can't be written has the status 5, and has replaced its files.
+fn ends_at_a_failed_write(rt: &HostRuntime) -> Result<bool, Fail> {
+    let mut disk = disk_with_files(rt)?;
+    let tree = twice!(settled(rt.alloc(), TREE.as_bytes(), Profile::Present));
+    let mut out = twice!(Bounded::new(rt.alloc(), 6, true));
+    let mut err = twice!(Bounded::new(rt.alloc(), 64, true));
+    let ended = tidy_files(
+        rt.alloc(),
+        &tree,
+        &Format::plain(),
+        WRITE,
+        &["longer"],
+        &mut disk,
+        &mut out,
+        &mut err,
+    );
+    drop(tree);
+    let holds = ended == 5
+        && out.bytes() == "longer".as_bytes()
+        && err.bytes() == "output: Write\n".as_bytes();
+    Ok(holds && disk.bytes_at("longer") == Some(MINIMAL))
+}
+
+#[test]
+fn a_failed_output_decides(rt: HostRuntime) -> Result<(), Fail> {
+    let holds = ends_at_a_failed_write(&rt)? || ends_at_a_failed_write(&rt)?;
+    assert!(rt; holds);
+    Ok(())
+}

@@ -1,0 +1,5 @@
+pub mod Pushes
+pub mod Needs
+pub mod OrderedLists
+pub mod Chains
+pub mod ModulesLemmas

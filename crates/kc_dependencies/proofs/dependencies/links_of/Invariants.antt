@@ -1,0 +1,9 @@
+use Rattle.std.proofs.Common.{◌≡◌, length}
+use Rattle.kc_dependencies.specs.checker.Links.{LinksBelow}
+use Rattle.kc_dependencies.proofs.dependencies.links_of.Given as goal
+
+abbrev pub invariant-loop-u : goal.invariant-loop-u
+invariant-loop-u l = record {
+  links : LinksBelow l.tree.tree l.u l.made.starts.items l.made.links.items;
+  room : length l.walk ≡ length l.tree.exprs.nodes;
+}

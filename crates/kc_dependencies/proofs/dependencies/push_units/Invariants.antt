@@ -1,0 +1,13 @@
+use Rattle.std.proofs.Common.{◌≡◌, ℕ, ◌||◌, [], take}
+use Rattle.std.specs.Prelude.{slice_index_or}
+use Rattle.std.specs.List.{list_any}
+use Rattle.kc_dependencies.specs.checker.Links.{has, is_of, AreUnits}
+use Rattle.kc_dependencies.proofs.dependencies.push_units.Given as goal
+
+abbrev pub invariant-loop-name : goal.invariant-loop-name
+invariant-loop-name l = record {
+  units : (d : ℕ)
+      → has l.units.items d ≡ (has l.initial.units.items d || list_any (λ (i : ℕ). is_of l.tree.tree d (slice_index_or l.tree.exprs.names i []))
+      (take l.name-index l.names));
+  below : AreUnits l.tree.tree l.initial.units.items → AreUnits l.tree.tree l.units.items;
+}

@@ -1,0 +1,3 @@
+pub mod ModulesSymbol
+pub mod StoredRules
+pub mod Links

@@ -1,9 +1,0 @@
-use Rattle.std.proofs.Common.{◌≡◌, ◌++◌, map, drop}
-use Rattle.std.specs.Prelude.{filter}
-use Rattle.kc_macros_model.specs.PathPatterns.{matches_name}
-use Rattle.kc_expansion.specs.TextViews.{items_of, texts_of}
-use Rattle.kc_expansion.proofs.patterns.push_matching.Given as goal
-
-abbrev pub invariant-loop-name : goal.invariant-loop-name
-invariant-loop-name l = texts_of l.initial.paths ++ map (λ n. l.folder ++ n) (filter (matches_name l.piece) (items_of l.names))
-    ≡ texts_of l.paths ++ map (λ n. l.folder ++ n) (filter (matches_name l.piece) (items_of (drop l.name-index l.names)))

@@ -1,7 +1,0 @@
-use Rattle.std.proofs.Common.{◌≡◌, drop, false}
-use Rattle.kc_value.proofs.ClosingSteps.{further}
-use Rattle.kc_expr.specs.Token.{bare_dollar}
-use Rattle.kc_expr.proofs.token.bare_dollar.Given as goal
-
-abbrev pub invariant-loop-i : goal.invariant-loop-i
-invariant-loop-i l = further l.i (bare_dollar l.escaped (drop l.i l.text)) ≡ bare_dollar false l.fn.text

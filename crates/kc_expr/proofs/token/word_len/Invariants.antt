@@ -1,7 +1,0 @@
-use Rattle.std.proofs.Common.{◌≡◌, ◌+◌, drop, length}
-use Rattle.std.specs.Prelude.{take_while}
-use Rattle.kc_expr.specs.Token.{is_word_byte}
-use Rattle.kc_expr.proofs.token.word_len.Given as goal
-
-abbrev pub invariant-loop-i : goal.invariant-loop-i
-invariant-loop-i l = l.i + length (take_while is_word_byte (drop l.i l.bytes)) ≡ length (take_while is_word_byte l.bytes)

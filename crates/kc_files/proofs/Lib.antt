@@ -1,0 +1,7 @@
+pub mod PathLemmas
+pub mod MatchLemmas
+pub mod TableLemmas
+pub mod StoreLemmas
+pub mod ProgramLemmas
+pub mod PatternLemmas
+pub mod SortLemmas

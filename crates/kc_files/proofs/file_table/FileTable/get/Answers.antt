@@ -1,0 +1,13 @@
+use Rattle.std.proofs.Common.{ap, ◌∙◌, sym}
+use Rattle.std.specs.Prelude.{option_map}
+use Rattle.kc_tree_model.specs.Keywords.{keyword_in_table}
+use Rattle.kc_files.specs.checker.FileViews.{file_of}
+use Rattle.kc_files.proofs.TableLemmas.{copied_view, found}
+use Rattle.kc_files.proofs.file_table.FileTable.get.Goals as goal
+
+pub returns : goal.returns
+returns c =
+    copied_view file_of c.get.result
+    ∙ ap (λ o. option_map file_of o) c.get.ensures.value
+    ∙ sym (found file_of c.args.path.now c.self.inside.entries.entries)
+    ∙ ap (λ t. keyword_in_table t c.args.path.now) c.self.view_is

@@ -1,0 +1,18 @@
+use Rattle.std.proofs.Common.{◌≡◌, drop}
+use Rattle.kc_macros_model.specs.Programs.{Place}
+use Rattle.kc_macros_model.specs.PathPatterns.{paths_in_folders}
+use Rattle.kc_files.specs.TextViews.{items_of}
+use Rattle.kc_files.specs.between.KnownFiles.{Grows}
+use Rattle.kc_files.specs.between.FileRuns.{HaveSameOutcome}
+use Rattle.kc_files.specs.checker.FileViews.{known_of}
+use Rattle.kc_files.specs.checker.PatternRuns.{found_of}
+use Rattle.kc_files.proofs.PatternLemmas.{rest_of_paths}
+use Rattle.kc_files.proofs.patterns.paths_in_folders.Given as goal
+
+abbrev pub invariant-loop-folder : goal.invariant-loop-folder
+invariant-loop-folder g l = record {
+  same : g.F.TreeFiles.contents l.files ≡ g.F.TreeFiles.contents l.fn.files;
+  grows : Grows (g.F.TreeFiles.contents l.fn.files) (known_of l.fn.store) (known_of l.store);
+  rest : (at : Place) → HaveSameOutcome (known_of l.store) (paths_in_folders at l.piece (items_of l.folders) l.fn.listed)
+      (rest_of_paths at l.piece (items_of (drop l.folder-index l.folders)) (found_of l.found));
+}

@@ -1,0 +1,4 @@
+pub mod between
+pub mod checker
+pub mod TextViews
+pub mod TreeContents

@@ -1,0 +1,74 @@
+-- The files and folders of a tree that were read so far.
+use Rattle.std.specs.Prelude.{◌≡◌, ℕ, ◌<◌, Bool, true, false, List, length, Option, Some, None}
+use Rattle.kc_tree_model.specs.Keywords.{keyword_in_table}
+use Rattle.kc_value.specs.declared.limits.TheConstants.{MAX_TREE_BYTES, MAX_LISTED_NAMES}
+use Rattle.kc_macros_model.specs.Worlds.{World}
+use Rattle.kc_files.specs.TreeContents.{FileContent, FolderContent, TreeContents}
+
+-- the result of reading a file: it is missing, has these bytes, or has more bytes than may be read
+pub data FileRead : Type 0 where
+  missing : FileRead
+  whole : List ℕ → FileRead
+  too_long : FileRead
+
+-- the result of listing a folder: it has these names, or more than may be listed
+pub data FolderRead : Type 0 where
+  names : List (List ℕ) → FolderRead
+  too_many : FolderRead
+
+-- the files that were read, by their paths, and the folders that were listed
+pub record KnownFiles : Type 0 where
+  pub files : List (List ℕ × FileRead)
+  pub folders : List (List ℕ × FolderRead)
+
+-- the bytes of the file of a path, none where it can't be read, agree with the result of reading it
+abbrev pub AreBytes : FileRead → Option (List ℕ) → Type 0
+AreBytes missing bytes = bytes ≡ None
+AreBytes (whole read) bytes = bytes ≡ Some read
+AreBytes too_long bytes = (more : List ℕ) × (bytes ≡ Some more) × (MAX_TREE_BYTES < length more)
+
+-- the names in a folder agree with the result of listing it
+abbrev pub AreNames : FolderRead → List (List ℕ) → Type 0
+AreNames (names read) all = all ≡ read
+AreNames too_many all = MAX_LISTED_NAMES < length all
+
+-- a world has all files and folders that were read, as they were read
+pub record Agrees (w : World) (known : KnownFiles) : Type 0 where
+  pub files : (path : List ℕ) (read : FileRead) → keyword_in_table known.files path ≡ Some read → AreBytes read (w.bytes path)
+  pub folders : (folder : List ℕ) (read : FolderRead) → keyword_in_table known.folders folder ≡ Some read → AreNames read (w.names folder)
+
+-- the result of reading a file agrees with its known content; a known file may also be missing, since its reading may fail
+abbrev pub MatchFile : FileContent → FileRead → Type 0
+MatchFile None read = Unit {0}
+MatchFile (Some None) read = read ≡ missing
+MatchFile (Some (Some known)) missing = Unit {0}
+MatchFile (Some (Some known)) (whole bytes) = bytes ≡ known
+MatchFile (Some (Some known)) too_long = MAX_TREE_BYTES < length known
+
+-- the known content of the file that a reader reads, from the bytes that the reader is known to have left
+abbrev pub content_of_reader : Option (List ℕ) → FileContent
+content_of_reader None = None
+content_of_reader (Some bytes) = Some (Some bytes)
+
+-- the result of listing a folder agrees with its known content
+abbrev pub MatchFolder : FolderContent → FolderRead → Type 0
+MatchFolder None read = Unit {0}
+MatchFolder (Some known) (names read) = read ≡ known
+MatchFolder (Some known) too_many = MAX_LISTED_NAMES < length known
+
+-- all files and folders that were read agree with the known contents of the tree
+pub record AreAsKnown (contents : TreeContents) (known : KnownFiles) : Type 0 where
+  pub files : (path : List ℕ) (read : FileRead) → keyword_in_table known.files path ≡ Some read → MatchFile (contents.file path) read
+  pub folders : (folder : List ℕ) (read : FolderRead) → keyword_in_table known.folders folder ≡ Some read → MatchFolder (contents.folder folder) read
+
+-- files and folders that were read grow from `old` to `new`: none is forgotten, and all agree with the known contents if those of
+-- `old` do
+pub record Grows (contents : TreeContents) (old new : KnownFiles) : Type 0 where
+  pub worlds : (w : World) → Agrees w new → Agrees w old
+  pub matched : AreAsKnown contents old → AreAsKnown contents new
+
+-- whether a file was read and isn't missing, by the result of reading it
+abbrev pub is_read : FileRead → Bool
+is_read missing = false
+is_read (whole bytes) = true
+is_read too_long = true

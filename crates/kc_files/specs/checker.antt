@@ -1,0 +1,4 @@
+pub mod PathViews
+pub mod EndMatches
+pub mod FileViews
+pub mod PatternRuns

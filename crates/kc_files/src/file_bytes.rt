@@ -1,0 +1,81 @@
+//! The bytes of a file, as far as they are read.
+ghost use Rattle.std.specs.Prelude.{◌≡◌, ◌⊎◌, ◌≤◌, IfOk, IfSome, length};
+ghost use Rattle.std.specs.Io.KnownBytes.{Consumes, IsAtEnd};
+ghost use Rattle.kc_files.specs.between.KnownFiles.{MatchFile, content_of_reader};
+ghost use Rattle.kc_files.specs.checker.FileViews.{file_of};
+
+use super::files::TreeFiles;
+use kc_value::{MAX_BLOCK_BYTES, MAX_FILE_BYTES, Source};
+use std::alloc::{AllocError, Global};
+use std::rc::Rc;
+
+/// The result of reading a file: it is missing, has these bytes, or has more bytes than may be read.
+#[derive(Drop)]
+pub enum FileRead {
+    Missing,
+    Whole(Rc<Vec<u8>>),
+    TooLong,
+}
+
+/// All bytes of a reader, or the first `MAX_FILE_BYTES` of more; nothing where a read fails. Room is made for `room` bytes at
+/// once, and `block` is read into.
+fn read_front<S: Source>(
+    alloc: Global,
+    source: &mut S,
+    room: usize,
+    block: &mut [u8; MAX_BLOCK_BYTES],
+) -> Result<Option<Vec<u8>>, AllocError>
+    ensures bytes { IfOk result (λ found. IfSome found (λ bytes. Consumes (S.left source.old) (S.left source.new) bytes.items × (length bytes.items ≤ MAX_FILE_BYTES) × ((length bytes.items ≡ MAX_FILE_BYTES) ⊎ IsAtEnd (S.left source.new)))) }
+{
+    let mut bytes = Vec::with_capacity(alloc, room)?;
+    while bytes.len() < MAX_FILE_BYTES {
+        let most = (MAX_FILE_BYTES - bytes.len()).min(MAX_BLOCK_BYTES);
+        let Ok(count) = source.read_some(&mut block[..most]) else {
+            return Ok(None);
+        };
+        if count == 0 {
+            return Ok(Some(bytes));
+        }
+        bytes.extend_from_slice(&block[..count])?;
+    }
+    Ok(Some(bytes))
+}
+
+/// The result of reading the file of a reader; where a read fails, the file is missing.
+fn read_bytes<S: Source>(
+    alloc: Global,
+    source: &mut S,
+    room: usize,
+    block: &mut [u8; MAX_BLOCK_BYTES],
+) -> Result<FileRead, AllocError>
+    ensures { IfOk result (λ read. MatchFile (content_of_reader (S.left source.old)) (file_of read)) }
+{
+    match read_front(alloc, source, room, block)? {
+        None => Ok(FileRead::Missing),
+        Some(bytes) if bytes.len() < MAX_FILE_BYTES => Ok(FileRead::Whole(Rc::new(alloc, bytes)?)),
+        Some(_) => Ok(FileRead::TooLong),
+    }
+}
+
+/// Opens the file of a path, and reads it block by block into `block`. A file that can't be opened or read is missing.
+///
+/// # Errors
+///
+/// Memory runs out.
+pub(crate) fn read_file<F: TreeFiles>(
+    alloc: Global,
+    files: &mut F,
+    path: &[u8],
+    block: &mut [u8; MAX_BLOCK_BYTES],
+) -> Result<FileRead, AllocError>
+    ensures same { F.contents files.new ≡ F.contents files.old }
+    ensures matched { IfOk result (λ read. MatchFile ((F.contents files.old).file path.now) (file_of read)) }
+{
+    match files.open(alloc, path)? {
+        Some(mut reader) => {
+            let room = files.size_of(&reader).min(MAX_FILE_BYTES);
+            read_bytes(alloc, &mut reader, room, block)
+        }
+        None => Ok(FileRead::Missing),
+    }
+}

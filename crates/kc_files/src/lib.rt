@@ -1,0 +1,18 @@
+//! The files of a tree: each is opened at most once, each folder is listed at most once, and patterns find files in order.
+#![tactic(auto)]
+
+mod file_bytes;
+mod file_table;
+mod files;
+mod folder_table;
+mod name_matches;
+mod paths;
+mod patterns;
+mod store;
+
+pub use file_bytes::FileRead;
+pub use files::TreeFiles;
+pub use name_matches::is_utf8;
+pub use paths::{has_bracket, is_pattern, list_name, path_meant};
+pub use patterns::{FoundPaths, PatternStop, files_of_pattern, readable_paths};
+pub use store::Store;

@@ -1,0 +1,137 @@
+//! The store of the files and folders of a tree: each path is opened at most once, and each folder listed at most once.
+ghost use Rattle.std.specs.Prelude.{◌≡◌, [], ◌≢◌, None, Some, IfOk, is_some, option_map};
+ghost use Rattle.kc_tree_model.specs.Keywords.{keyword_in_table};
+ghost use Rattle.kc_macros_model.specs.Worlds.{World};
+ghost use Rattle.kc_files.specs.between.KnownFiles.{is_read, Agrees, Grows};
+ghost use Rattle.kc_files.specs.checker.FileViews.{file_of, folder_of_items, known_of};
+
+use super::file_bytes::{FileRead, read_file};
+use super::file_table::FileTable;
+use super::files::TreeFiles;
+use super::folder_table::FolderTable;
+use kc_value::{MAX_BLOCK_BYTES, MAX_LISTED_NAMES, Seed};
+use std::alloc::{AllocError, Global};
+use std::rc::Rc;
+
+/// The store of a reading of a tree: the files that were read, the folders that were listed, and a buffer for the bytes that are
+/// read at once.
+#[derive(Drop)]
+pub struct Store {
+    files: FileTable,
+    folders: FolderTable,
+    block: [u8; MAX_BLOCK_BYTES],
+}
+
+/// The result of reading a file once more; its bytes are shared.
+fn shared(read: &FileRead) -> Result<FileRead, AllocError>
+    ensures { IfOk result (λ copy. file_of copy ≡ file_of read.now) }
+{
+    match read {
+        FileRead::Missing => Ok(FileRead::Missing),
+        FileRead::Whole(bytes) => Ok(FileRead::Whole(bytes.clone()?)),
+        FileRead::TooLong => Ok(FileRead::TooLong),
+    }
+}
+
+/// Whether a file that was read isn't missing.
+fn is_read(read: &FileRead) -> bool
+    ensures { result ≡ is_read (file_of read.now) }
+{
+    match read {
+        FileRead::Missing => false,
+        FileRead::Whole(_) => true,
+        FileRead::TooLong => true,
+    }
+}
+
+impl Store {
+    /// A store without files and folders; `seed` will hash their paths.
+    pub fn new(alloc: Global, seed: Seed) -> Store
+        ensures files { result.files ≡ [] }
+        ensures folders { result.folders ≡ [] }
+    {
+        Store {
+            files: FileTable::new(alloc, seed),
+            folders: FolderTable::new(alloc, seed),
+            block: [0; MAX_BLOCK_BYTES],
+        }
+    }
+
+    /// The result of reading the file of a path, which is opened only the first time.
+    ///
+    /// # Errors
+    ///
+    /// Memory runs out.
+    pub fn file<F: TreeFiles>(
+        &mut self,
+        alloc: Global,
+        files: &mut F,
+        path: &[u8],
+    ) -> Result<FileRead, AllocError>
+        ensures same { F.contents files.new ≡ F.contents files.old }
+        ensures grows { Grows (F.contents files.old) (known_of self.old) (known_of self.new) }
+        ensures read { IfOk result (λ read. keyword_in_table (known_of self.new).files path.now ≡ Some (file_of read)) }
+        ensures once { keyword_in_table (known_of self.old).files path.now ≢ None → files.new ≡ files.old }
+    {
+        if let Some(read) = self.files.get(path) {
+            return shared(read);
+        }
+        let read = read_file(alloc, files, path, &mut self.block)?;
+        let kept = shared(&read)?;
+        self.files.insert(path, kept)?;
+        Ok(read)
+    }
+
+    /// Lists a folder, unless it was listed before; its path is empty or ends in a slash.
+    ///
+    /// # Errors
+    ///
+    /// Memory runs out.
+    pub(crate) fn list<F: TreeFiles>(
+        &mut self,
+        alloc: Global,
+        files: &mut F,
+        folder: &[u8],
+    ) -> Result<(), AllocError>
+        ensures same { F.contents files.new ≡ F.contents files.old }
+        ensures grows { Grows (F.contents files.old) (known_of self.old) (known_of self.new) }
+        ensures listed { IfOk result (λ _. keyword_in_table (known_of self.new).folders folder.now ≢ None) }
+        ensures once { keyword_in_table (known_of self.old).folders folder.now ≢ None → files.new ≡ files.old }
+    {
+        if self.folders.get(folder).is_some() {
+            return Ok(());
+        }
+        let names = files.names_in(alloc, folder, MAX_LISTED_NAMES)?;
+        self.folders.insert(folder, names)
+    }
+
+    /// The names in a folder that was listed; `None` where there are more than may be listed.
+    pub(crate) fn names_in(&self, folder: &[u8]) -> Option<&[Vec<u8>]>
+        requires listed { keyword_in_table self.now.folders folder.now ≢ None }
+        ensures value { keyword_in_table self.now.folders folder.now ≡ Some (folder_of_items (option_map (λ ns. ns.now) result)) }
+    {
+        match self.folders.get(folder)? {
+            Some(names) => Some(names.as_slice()),
+            None => None,
+        }
+    }
+
+    /// Whether the file of a path can be read.
+    ///
+    /// # Errors
+    ///
+    /// Memory runs out.
+    pub(crate) fn is_readable<F: TreeFiles>(
+        &mut self,
+        alloc: Global,
+        files: &mut F,
+        path: &[u8],
+    ) -> Result<bool, AllocError>
+        ensures same { F.contents files.new ≡ F.contents files.old }
+        ensures grows { Grows (F.contents files.old) (known_of self.old) (known_of self.new) }
+        ensures readable { IfOk result (λ readable. (w : World) → Agrees w (known_of self.new) → is_some (w.bytes path.now) ≡ readable) }
+    {
+        let read = self.file(alloc, files, path)?;
+        Ok(is_read(&read))
+    }
+}

@@ -1,0 +1,188 @@
+//! Trees in memory, expanded.
+use kc_answers::Answers;
+use kc_expansion::{ExpandedTree, Expansion, expand, wants};
+use kc_files::TreeFiles;
+use kc_macros::{MacroFault, MacroKind};
+use kc_value::Seed;
+use kmin_fakes::{Script, Then, twice};
+use std::alloc::{AllocError, Global};
+
+/// A tree in memory: the texts of paths, and the names in folders. It counts how often a path is tried, also a missing one.
+#[derive(Drop)]
+struct MemoryTree {
+    texts: &'static [(&'static str, &'static str)],
+    names: &'static [(&'static str, &'static str)],
+    opened: usize,
+}
+
+impl TreeFiles for MemoryTree {
+    ghost use Rattle.std.specs.Prelude.{None};
+
+    type File = Script;
+
+    ghost contents = { λ _. record { file = λ _. None; folder = λ _. None; beside = λ _. None; reference = 0 } };
+
+    fn seed(&self) -> Seed {
+        Seed::fixed()
+    }
+
+    fn open(&mut self, alloc: Global, path: &[u8]) -> Result<Option<Script>, AllocError> {
+        self.opened = self.opened.saturating_add(1);
+        for (name, text) in self.texts {
+            if name.as_bytes() == path {
+                let bytes = Vec::from_slice(alloc, text.as_bytes())?;
+                return Ok(Some(Script::new(bytes, 100, Then::End)));
+            }
+        }
+        Ok(None)
+    }
+
+    fn names_in(
+        &mut self,
+        alloc: Global,
+        folder: &[u8],
+        _most: usize,
+    ) -> Result<Option<Vec<Vec<u8>>>, AllocError> {
+        let mut names = Vec::new(alloc);
+        for (place, name) in self.names {
+            if place.as_bytes() == folder {
+                names.push(Vec::from_slice(alloc, name.as_bytes())?)?;
+            }
+        }
+        Ok(Some(names))
+    }
+}
+
+/// A tree with an assignment, a help text, a joined line, a file that is read twice, one that is missing, and a pattern.
+const TEXTS: &[(&str, &str)] = &[
+    (
+        "Kconfig",
+        "name := A\nconfig $(name)\n\tbool \"hello $(name)\"\n\thelp\n\t  $(c) := $d\n\nconfig B\\\n_$(name)\n\tbool \"b\"\nsource \"a/Kconfig\"\nosource \"none\"\nrsource \"a/Kconfig\"\nsource \"b/K*\"\n",
+    ),
+    ("a/Kconfig", "config C_$(name)\n\tbool \"c\"\nname := X\n"),
+    ("b/K1", "config D\n\tbool \"d\"\nrsource \"other\"\n"),
+    ("b/K2", "config E\n\tbool \"$(name)\"\n"),
+    ("b/other", "config F\n\tbool \"f\"\n"),
+];
+
+/// The names of its folder that the pattern is matched with.
+const NAMES: &[(&str, &str)] = &[("b/", "K2"), ("b/", "other"), ("b/", "K1")];
+
+/// The keys of the expanded tree, the paths that were read for them, and the expanded texts.
+const EXPANDED: &[(&str, &str, &str)] = &[
+    ("a/Kconfig", "a/Kconfig", "config C_A\n\tbool \"c\"\n\n"),
+    ("Kconfig:11", "Kconfig:11", ""),
+    ("a/Kconfig#2", "a/Kconfig", "config C_X\n\tbool \"c\"\n\n"),
+    ("b/other", "b/other", "config F\n\tbool \"f\"\n"),
+    (
+        "b/K1",
+        "b/K1",
+        "config D\n\tbool \"d\"\nsource \"b/other\"\n",
+    ),
+    ("b/K2", "b/K2", "config E\n\tbool \"X\"\n"),
+    (
+        "Kconfig:13",
+        "Kconfig:13",
+        "source \"b/K1\"\nsource \"b/K2\"\n",
+    ),
+    (
+        "Kconfig",
+        "Kconfig",
+        "\nconfig A\n\tbool \"hello A\"\n\thelp\n\t  $(c) := $d\n\nconfig B_A\n\n\tbool \"b\"\nsource \"a/Kconfig\"\nsource \"Kconfig:11\"\nsource \"a/Kconfig#2\"\nsource \"Kconfig:13\"\n",
+    ),
+];
+
+/// A tree with two questions and a missing file.
+const ASKING: &[(&str, &str)] = &[(
+    "Kconfig",
+    "config A\n\tdefault $(ARCH)\n\tbool \"$(FLAG)\"\n\tdefault $(ARCH)\nsource \"none\"\n",
+)];
+
+/// Whether this path was read for a key.
+fn has_path(tree: &ExpandedTree, parts: &(&str, &str, &str)) -> bool {
+    match tree.path_of(parts.0.as_bytes()) {
+        Some(path) => path == parts.1.as_bytes(),
+        None => false,
+    }
+}
+
+/// Whether an expanded file has this key, path and text.
+fn is_file(tree: &ExpandedTree, at: usize, parts: &(&str, &str, &str)) -> bool {
+    match tree.get(at) {
+        Some(file) => {
+            file.key == parts.0.as_bytes()
+                && file.path == parts.1.as_bytes()
+                && file.text == parts.2.as_bytes()
+        }
+        None => false,
+    }
+}
+
+/// A tree in memory whose files weren't opened yet.
+fn memory_tree(
+    texts: &'static [(&'static str, &'static str)],
+    names: &'static [(&'static str, &'static str)],
+) -> MemoryTree {
+    MemoryTree {
+        texts,
+        names,
+        opened: 0,
+    }
+}
+
+/// The expansion of the first tree, and how many paths were tried for it.
+fn expanded(alloc: Global) -> Result<(Expansion, usize), AllocError> {
+    let mut files = memory_tree(TEXTS, NAMES);
+    let answers = Answers::new(alloc, Seed::fixed());
+    let expansion = expand(alloc, &mut files, b"Kconfig", &answers)?;
+    Ok((expansion, files.opened))
+}
+
+/// The questions of the second tree.
+fn asked(alloc: Global, answers: &Answers) -> Result<Result<Vec<Vec<u8>>, MacroFault>, AllocError> {
+    let mut files = memory_tree(ASKING, &[]);
+    wants(alloc, &mut files, b"Kconfig", answers)
+}
+
+#[test]
+fn trees_are_expanded(rt: HostRuntime) -> Result<(), std::test::Fail> {
+    let (expansion, opened) = twice!(expanded(rt.alloc()));
+    assert_eq!(rt; opened, 6);
+    assert_eq!(rt; expansion.notices.len(), 0);
+    match &expansion.tree {
+        Ok(tree) => {
+            assert_eq!(rt; tree.len(), EXPANDED.len());
+            for (at, parts) in EXPANDED.iter().enumerate() {
+                assert!(rt; is_file(tree, at, parts));
+                assert!(rt; has_path(tree, parts));
+            }
+            assert!(rt; tree.path_of(b"none").is_none());
+        }
+        Err(_) => assert!(rt; false),
+    }
+    Ok(())
+}
+
+#[test]
+fn questions_come_before_the_fault(rt: HostRuntime) -> Result<(), std::test::Fail> {
+    let mut answers = Answers::new(rt.alloc(), Seed::fixed());
+    match twice!(asked(rt.alloc(), &answers)) {
+        Ok(questions) => {
+            assert_eq!(rt; questions.len(), 2);
+            for (question, name) in questions.iter().zip([&b"ARCH"[..], b"FLAG"]) {
+                assert_eq!(rt; question.as_slice(), name);
+            }
+        }
+        Err(_) => assert!(rt; false),
+    }
+    twice!(answers.set(b"ARCH", Some(b"x86")));
+    twice!(answers.set(b"FLAG", None));
+    match twice!(asked(rt.alloc(), &answers)) {
+        Ok(_) => assert!(rt; false),
+        Err(fault) => {
+            assert_eq!(rt; fault.line, 5);
+            assert!(rt; matches!(fault.kind, MacroKind::MissingFile));
+        }
+    }
+    Ok(())
+}

@@ -1,0 +1,20 @@
+use Rattle.std.proofs.Common.{◌∙◌, sym, ap, refl, cond, false}
+use Rattle.std.specs.List.{list_any}
+use Rattle.kc_macros_model.specs.Assignments.{is_unknown}
+use Rattle.kc_macro_forms.specs.between.WrittenTokens.{token_of}
+use Rattle.kc_macro_forms.specs.checker.RealTokens.{real_tokens}
+use Rattle.kc_macro_forms.proofs.RealTokenLemmas.{undecided_is, unknown_real}
+use Rattle.kc_macro_forms.proofs.forms.is_undecided.Goals as goal
+
+pub returns-then-not-is_decisive : goal.returns-then-not-is_decisive
+returns-then-not-is_decisive c =
+    let unknown = list_any is_unknown (real_tokens c.in-Some.after.now) in
+    ap (λ d. cond d unknown false) (sym c.if-not-is_decisive.true)
+    ∙ undecided_is (real_tokens c.args.tokens.now) (token_of c.in-Some.first.now) (real_tokens c.in-Some.after.now) c.is_decisive.result unknown
+    c.in-Some.ensures.some c.is_decisive.ensures refl
+
+pub returns : goal.returns
+returns c =
+    ap (λ d. cond d c.has_unknown.result false) (sym c.if-not-is_decisive.false)
+    ∙ undecided_is (real_tokens c.args.tokens.now) (token_of c.in-Some.first.now) (real_tokens c.in-Some.after.now) c.is_decisive.result c.has_unknown.result
+    c.in-Some.ensures.some c.is_decisive.ensures (c.has_unknown.ensures ∙ unknown_real c.in-Some.after.now)

@@ -1,0 +1,2 @@
+pub mod WrittenTokens
+pub mod LineFormViews

@@ -1,0 +1,29 @@
+use Rattle.std.proofs.Common.{◌∙◌, get_or, refl, sym}
+use Rattle.kc_macros_model.specs.References.{byte, escaped}
+use Rattle.kc_macros.specs.Runs.{place_of}
+use Rattle.kc_macros.specs.between.Variables.{bindings_of}
+use Rattle.kc_macro_lines.specs.checker.Bodies.{body_of_code}
+use Rattle.kc_macros.proofs.ProgramLemmas.{steps_out}
+use Rattle.kc_macro_lines.proofs.TokenLemmas.{pair_front, byte_front}
+use Rattle.kc_macro_lines.proofs.BodyLemmas.{item_written}
+use Rattle.kc_macro_lines.proofs.quoted_tokens.next_item.Goals as goal
+
+pub returns-in_err-push_pair-clause-steps : goal.returns-in_err-push_pair-clause-steps
+returns-in_err-push_pair-clause-steps c = steps_out _ _ _ _ _ c.from_residual.ensures.1
+
+pub returns-then-is_pair-clause-steps : goal.returns-then-is_pair-clause-steps
+returns-then-is_pair-clause-steps c =
+    item_written (place_of c.args.at) (bindings_of c.args.bindings.now) c.args.quote c.args.run.now (body_of_code c.args.out.now) c.args.text.now
+    (escaped (get_or c.args.text.now 1 0)) _ (body_of_code c.push_pair.new.out) _
+    (pair_front c.args.text.now c.requires.not_empty (sym c.begins_reference_at.ensures.value ∙ c.if-begins_reference_at.false)
+    (sym c.is_pair.ensures.value ∙ c.if-is_pair.true)) refl c.in_ok-push_pair.ensures
+
+pub returns-in_err-push_byte-clause-steps : goal.returns-in_err-push_byte-clause-steps
+returns-in_err-push_byte-clause-steps c = steps_out _ _ _ _ _ c.from_residual-in_err-push_byte.ensures.1
+
+pub returns-clause-steps : goal.returns-clause-steps
+returns-clause-steps c =
+    item_written (place_of c.args.at) (bindings_of c.args.bindings.now) c.args.quote c.args.run.now (body_of_code c.args.out.now) c.args.text.now
+    (byte (get_or c.args.text.now 0 0)) _ (body_of_code c.push_byte.new.out) _
+    (byte_front c.args.text.now c.requires.not_empty (sym c.begins_reference_at.ensures.value ∙ c.if-begins_reference_at.false)
+    (sym c.is_pair.ensures.value ∙ c.if-is_pair.false)) refl c.in_ok-push_byte.ensures

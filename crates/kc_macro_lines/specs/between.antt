@@ -1,0 +1,2 @@
+pub mod LineContents
+pub mod CopiedLines

@@ -1,0 +1,4 @@
+pub mod Bodies
+pub mod LineTexts
+pub mod LineFronts
+pub mod QuietLines

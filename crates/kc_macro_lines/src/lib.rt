@@ -1,0 +1,12 @@
+//! Lines of trees with macros: an assignment or written tokens, and which lines nothing acts on.
+#![tactic(auto)]
+
+mod assignment_syntax;
+mod copied_lines;
+mod line_content;
+mod line_tokens;
+mod quoted_tokens;
+mod token_values;
+
+pub use copied_lines::is_copied;
+pub use line_content::{LineContent, read_line};

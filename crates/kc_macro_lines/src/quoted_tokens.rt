@@ -1,0 +1,171 @@
+//! Quoted tokens, and all tokens of a line, with the values of their references.
+ghost use Rattle.std.specs.Prelude.{◌≡◌, ◌<◌, [], true, length, IfOk};
+ghost use Rattle.kc_macros_model.specs.References.{items};
+ghost use Rattle.kc_macros_model.specs.ExpansionRules.{begins_reference};
+ghost use Rattle.kc_macros_model.specs.WrittenTokens.{body_of, written_items, written_token, token_of_body};
+ghost use Rattle.kc_macros.specs.between.Variables.{bindings_of};
+ghost use Rattle.kc_macro_forms.specs.between.WrittenTokens.{token_of};
+ghost use Rattle.kc_macros.specs.Runs.{place_of, Runs, end_of};
+ghost use Rattle.kc_macro_lines.specs.checker.Bodies.{body_of_code, has_dollar_or_backslash, bodies_left, quoted_written};
+ghost use Rattle.kc_macros.specs.checker.ProgramSteps.{Steps};
+ghost use Rattle.kc_macro_lines.specs.checker.LineTexts.{token_view};
+
+use super::line_tokens::{LineToken, is_pair};
+use super::token_values::{Body, push_byte, push_pair, push_reference, written_run};
+use kc_macro_forms::{WrittenToken, new_token};
+use kc_macros::{
+    Bindings, Bytes, Place, Run, Stop, begins_reference_at, fault, reference_at_front, text_value,
+};
+use kc_macros_model::{MacroKind, TokenSort};
+use std::alloc::{AllocError, Global};
+
+/// Appends the value of the reference at the front of a text between quotes to `out`; returns the rest.
+fn next_reference<'t>(
+    run: &mut Run<'_>,
+    at: Place<'_>,
+    bindings: &Bindings,
+    quote: u8,
+    text: &'t [u8],
+    out: &mut Body,
+) -> Result<&'t [u8], Stop>
+    requires begins { begins_reference text.now ≡ true }
+    ensures steps { Steps run.old run.new (bodies_left (place_of at.entry) (bindings_of bindings.now) quote (body_of_code out.old) (items true 0 text.now)) (λ rest. bodies_left (place_of at.entry) (bindings_of bindings.now) quote (body_of_code out.new) (items true 0 rest.now)) result }
+    ensures shorter { IfOk result (λ rest. length rest.now < length text.now) }
+{
+    let Some((inside, after)) = reference_at_front(text) else {
+        return Err(fault(run.alloc(), at, MacroKind::Unterminated, b""));
+    };
+    let value = text_value(run, at, bindings, &text[..inside.len() + 3])?;
+    push_reference(out, quote, &value)?;
+    Ok(after)
+}
+
+/// Appends the item at the front of a text between quotes to `out`, as it is written; returns the rest.
+fn next_item<'t>(
+    run: &mut Run<'_>,
+    at: Place<'_>,
+    bindings: &Bindings,
+    quote: u8,
+    text: &'t [u8],
+    out: &mut Body,
+) -> Result<&'t [u8], Stop>
+    requires not_empty { 0 < length text.now }
+    ensures steps { Steps run.old run.new (bodies_left (place_of at.entry) (bindings_of bindings.now) quote (body_of_code out.old) (items true 0 text.now)) (λ rest. bodies_left (place_of at.entry) (bindings_of bindings.now) quote (body_of_code out.new) (items true 0 rest.now)) result }
+    ensures shorter { IfOk result (λ rest. length rest.now < length text.now) }
+{
+    if begins_reference_at(text, 0) {
+        return next_reference(run, at, bindings, quote, text, out);
+    }
+    if is_pair(text, true) {
+        push_pair(out, text[1])?;
+        return Ok(&text[2..]);
+    }
+    push_byte(out, text[0])?;
+    Ok(&text[1..])
+}
+
+/// Whether a text has a `$` or a `\`.
+fn has_dollar_or_backslash(text: &[u8]) -> bool
+    ensures { result ≡ has_dollar_or_backslash text.now }
+{
+    let mut found = false;
+    for byte in text {
+        found |= *byte == b'$' || *byte == b'\\';
+    }
+    found
+}
+
+/// Bytes between quotes that are written as they are.
+fn plain_body(alloc: Global, text: &[u8]) -> Result<Body, AllocError>
+    ensures { IfOk result (λ body. body_of_code body ≡ body_of text.now text.now) }
+{
+    Ok(Body {
+        bytes: Vec::from_slice(alloc, text)?,
+        meaning: Vec::from_slice(alloc, text)?,
+        known: true,
+    })
+}
+
+/// No bytes between quotes, with room for `room` bytes.
+fn empty_body(alloc: Global, room: usize) -> Result<Body, AllocError>
+    ensures { IfOk result (λ body. body_of_code body ≡ body_of [] []) }
+{
+    Ok(Body {
+        bytes: Vec::with_capacity(alloc, room)?,
+        meaning: Vec::with_capacity(alloc, room)?,
+        known: true,
+    })
+}
+
+/// The bytes between quotes as they are written.
+fn written_body(
+    run: &mut Run<'_>,
+    at: Place<'_>,
+    bindings: &Bindings,
+    quote: u8,
+    text: &[u8],
+) -> Result<Body, Stop>
+    ensures { Runs run.old run.new (written_items (place_of at.entry) (bindings_of bindings.now) quote (items true 0 text.now)) (end_of body_of_code result) }
+{
+    if !has_dollar_or_backslash(text) {
+        return Ok(plain_body(run.alloc(), text)?);
+    }
+    let mut out = empty_body(run.alloc(), text.len())?;
+    let mut rest = text;
+    'items: while !rest.is_empty() {
+        rest = next_item(run, at, bindings, quote, rest, &mut out)?;
+    }
+    Ok(out)
+}
+
+/// Bytes between quotes as a token.
+fn token_of_body(alloc: Global, quote: u8, body: Body) -> Result<WrittenToken, AllocError>
+    ensures { IfOk result (λ t. token_of t ≡ token_of_body quote (body_of_code body)) }
+{
+    let mut bytes = Vec::with_capacity(alloc, body.bytes.len().saturating_add(2))?;
+    bytes.push(quote)?;
+    bytes.extend_from_slice(body.bytes.as_slice())?;
+    bytes.push(quote)?;
+    let meaning = if body.known {
+        Some(Bytes::from_vec(body.meaning))
+    } else {
+        None
+    };
+    Ok(WrittenToken {
+        sort: TokenSort::Quoted,
+        bytes: Bytes::from_vec(bytes),
+        meaning,
+    })
+}
+
+/// A quoted token as it is written.
+fn written_quoted(
+    run: &mut Run<'_>,
+    at: Place<'_>,
+    bindings: &Bindings,
+    quote: u8,
+    text: &[u8],
+) -> Result<WrittenToken, Stop>
+    ensures { Runs run.old run.new (quoted_written (place_of at.entry) (bindings_of bindings.now) quote text.now) (end_of token_of result) }
+{
+    let body = written_body(run, at, bindings, quote, text)?;
+    Ok(token_of_body(run.alloc(), quote, body)?)
+}
+
+/// A token of a line as the expansion writes it, with the values of its references.
+pub(crate) fn written_token(
+    run: &mut Run<'_>,
+    at: Place<'_>,
+    bindings: &Bindings,
+    token: LineToken<'_>,
+) -> Result<WrittenToken, Stop>
+    ensures { Runs run.old run.new (written_token (place_of at.entry) (bindings_of bindings.now) (token_view token.entry)) (end_of token_of result) }
+{
+    match token {
+        LineToken::Gap(text) => Ok(new_token(run.alloc(), TokenSort::Gap, text, b"")?),
+        LineToken::Run(text) => written_run(run, at, bindings, text),
+        LineToken::Quoted(quote, text) => written_quoted(run, at, bindings, quote, text),
+        LineToken::Other(text) => Ok(new_token(run.alloc(), TokenSort::Other, text, b"")?),
+        LineToken::Broken(_) => Err(fault(run.alloc(), at, MacroKind::Unterminated, b"")),
+    }
+}

@@ -1,4 +1,0 @@
-use Rattle.kc_macros.proofs.form_words.is_condition_word.Goals as goal
-
-pub returns : goal.returns
-returns c = c.is_among.ensures

@@ -1,4 +1,0 @@
-use Rattle.kc_macros.proofs.keywords.is_line_keyword.Goals as goal
-
-pub returns : goal.returns
-returns c = c.is_among.ensures

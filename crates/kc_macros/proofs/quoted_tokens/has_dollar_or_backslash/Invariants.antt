@@ -1,7 +1,0 @@
-use Rattle.std.proofs.Common.{◌≡◌, take}
-use Rattle.kc_macros.specs.checker.Bodies.{has_dollar_or_backslash}
-use Rattle.kc_macros.proofs.quoted_tokens.has_dollar_or_backslash.Given as goal
-
--- `found` is whether a `$` or a `\` is among the bytes passed so far
-abbrev pub invariant-loop-byte : goal.invariant-loop-byte
-invariant-loop-byte l = l.found ≡ has_dollar_or_backslash (take l.byte-index l.text)

@@ -1,5 +1,0 @@
-use Rattle.std.proofs.Common.{rules}
-use Rattle.kc_rules.proofs.dependencies.push_modules.Goals as goal
-
-pub returns-in-Tristate-clause-units : goal.returns-in-Tristate-clause-units
-returns-in-Tristate-clause-units c = search rules

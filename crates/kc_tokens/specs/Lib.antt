@@ -1,0 +1,4 @@
+pub mod FaultNames
+pub mod Token
+pub mod TokenGrammar
+pub mod checker

@@ -1,0 +1,10 @@
+//! The tokens of a line, and the languages of a tree.
+#![tactic(auto)]
+
+mod fault;
+mod language;
+mod token;
+
+pub use fault::{ExprFault, ExprKind};
+pub use language::Language;
+pub use token::{NextToken, Relop, Token, TokenKind, push_tokens, tokens};

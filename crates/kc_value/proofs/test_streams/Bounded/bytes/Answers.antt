@@ -1,5 +1,0 @@
-use Rattle.std.proofs.Common.{Some, sym, ap}
-use Rattle.kc_value.proofs.test_streams.Bounded.bytes.Goals as goal
-
-pub returns : goal.returns
-returns c = ap Some (sym c.deref.ensures.value)

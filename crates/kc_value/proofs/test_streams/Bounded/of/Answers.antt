@@ -1,5 +1,0 @@
-use Rattle.std.proofs.Common.{Some, ap}
-use Rattle.kc_value.proofs.test_streams.Bounded.of.Goals as goal
-
-pub returns-clause-taken : goal.returns-clause-taken
-returns-clause-taken c = ap Some c.in_ok-with_capacity.ensures.items

@@ -1,0 +1,2 @@
+pub mod TestScripts
+pub mod MemoryDisks

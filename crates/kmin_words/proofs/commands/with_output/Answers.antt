@@ -1,5 +1,0 @@
-use Rattle.kmin_words.proofs.CommandParts.{argument_kept}
-use Rattle.kmin_words.proofs.commands.with_output.Goals as goal
-
-pub returns-in-min : goal.returns-in-min
-returns-in-min c = argument_kept _ c.args.command _ c.arg.result c.arg.ensures c.output.ensures (λ h. h)

@@ -1,6 +1,0 @@
-use Rattle.std.proofs.Common.{rules}
-use Rattle.kmin_words.proofs.CommandParts.{argument_kept}
-use Rattle.kmin_words.proofs.commands.with_tidy_flags.Goals as goal
-
-pub returns : goal.returns
-returns c = argument_kept _ _ _ c.arg-2.result c.arg-2.ensures (search rules) (λ h. search rules)

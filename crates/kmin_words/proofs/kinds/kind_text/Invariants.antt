@@ -1,7 +1,0 @@
-use Rattle.std.proofs.Common.{◌≡◌, take}
-use Rattle.kmin_words.specs.Messages.{kind_text}
-use Rattle.kmin_words.proofs.kinds.kind_text.Given as goal
-
--- `text` is the help of the tables before this one
-abbrev pub invariant-loop-table : goal.invariant-loop-table
-invariant-loop-table l = l.text.bytes.items ≡ kind_text l.kind (take l.table-index l.tables)
