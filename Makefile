@@ -4,7 +4,7 @@ PROGRAM ?= build/kmin
 PREFIX ?= /usr/local
 DESTDIR ?=
 
-.PHONY: help run check edits test bench install dist clean
+.PHONY: help run check edits test bench docs install dist clean
 
 help:            # lists the targets
 	@sed -n 's/^\([a-z/]*\):[^#]*# \(.*\)$$/make \1|\2/p' Makefile | awk -F '|' '{ printf "%-18s%s\n", $$1, $$2 }'
@@ -13,7 +13,7 @@ run:             # a first look: a small bundle, by a program that checks while 
 	@if make --silent --question build/kmin; then \
 	    build/kmin < $(BUNDLE); \
 	else \
-	    echo "make run: not proved: this build checks while it runs what a proof shows before; 'make build/kmin' proves and builds kmin, in one to two hours of processor time" >&2; \
+	    echo "make run: not proved: this build checks while it runs what a proof shows before; 'make build/kmin' proves and builds kmin, in about an hour of processor time" >&2; \
 	    mkdir -p build; \
 	    (cd crates/kmin && rt try < stdin 2> ../../build/try.log) || { cat build/try.log >&2; exit 1; }; \
 	fi
@@ -44,6 +44,8 @@ test:            # the gate: tries the wrong bodies that changed, proves all, ru
 	tests/run_examples
 	tests/kill_runs
 	tests/check_outputs
+	tests/check_replacements
+	tests/check_streams
 	tests/random_macros
 	tests/cut_expansions
 	tests/answer_questions
@@ -52,6 +54,9 @@ test:            # the gate: tries the wrong bodies that changed, proves all, ru
 
 bench:           # time, memory and instructions of the libraries and the program, beside other programs
 	bench/run
+
+docs: $(PROGRAM) # writes the parts of the manual page, the completions and FAULTS.md that are made of the program's help
+	tests/documents.py $(PROGRAM)
 
 install: $(PROGRAM) # program, script of answers, manual page, completions and two documents, below DESTDIR and PREFIX
 	install -D -m 755 $(PROGRAM) $(DESTDIR)$(PREFIX)/bin/kmin

@@ -1,6 +1,4 @@
 # Completions of kmin for fish: put this file into ~/.config/fish/completions.
-set -l commands min full missed check compare tidy wants
-set -l over_files min full missed check compare tidy
 
 # the last value of an option among the words so far, or a default
 function __kmin_value
@@ -31,34 +29,36 @@ function __kmin_tree_files
     end
 end
 
-complete -c kmin -f -n "__fish_is_first_arg" -a min -d "Write the minimal file"
-complete -c kmin -f -n "__fish_is_first_arg" -a full -d "Write the full file"
-complete -c kmin -f -n "__fish_is_first_arg" -a missed -d "List the symbols that don't have their assigned value"
-complete -c kmin -f -n "__fish_is_first_arg" -a check -d "List the symbols that are selected against their dependencies"
-complete -c kmin -f -n "__fish_is_first_arg" -a compare -d "List the symbols whose values differ between two files"
-complete -c kmin -f -n "__fish_is_first_arg" -a tidy -d "List or rewrite the files that aren't minimal"
-complete -c kmin -f -n "__fish_is_first_arg" -a wants -d "List the questions of macros that have no answer"
-complete -c kmin -f -n "__fish_is_first_arg" -a help -d "Print help"
-complete -c kmin -f -n "not __fish_seen_subcommand_from $commands"
+# made by make docs: words
+complete -c kmin -f -n "__fish_is_first_arg" -a min -d "Writes the minimal file: the lines that a tree's defaults don't give"
+complete -c kmin -f -n "__fish_is_first_arg" -a full -d "Writes the full file: the symbols that are visible, selected, implied or have a default"
+complete -c kmin -f -n "__fish_is_first_arg" -a missed -d "Lists the symbols that don't have the value that a FILE assigns"
+complete -c kmin -f -n "__fish_is_first_arg" -a check -d "Lists the symbols that are selected against their dependencies"
+complete -c kmin -f -n "__fish_is_first_arg" -a compare -d "Lists the symbols whose values differ between two files"
+complete -c kmin -f -n "__fish_is_first_arg" -a tidy -d "Lists, or rewrites, the files that aren't their own minimal file"
+complete -c kmin -f -n "__fish_is_first_arg" -a wants -d "Lists the questions of a tree's macros that have no answer"
+complete -c kmin -f -n "__fish_is_first_arg" -a help -d "Print this message or the help of the given subcommand(s)"
+complete -c kmin -f -n "not __fish_seen_subcommand_from min full missed check compare tidy wants help"
+complete -c kmin -f -n "__fish_seen_subcommand_from help" -a "min full missed check compare tidy wants help NotUtf8 LineTooLong BadToken UnclosedQuote UnknownStatement Malformed Unclosed StrayEnd Misplaced NoType TypeConflict SecondPrompt DefaultShape RangeType SelectType ChoiceMember ChoiceDefault ModulesType MissingFile SourceLoop TooDeep TooMany Cycle LeftOut Unterminated Undefined Recursion Arguments Error Unanswered JoinedAssignment Info Warning TwoAnswers TooManyLines TooLarge Read UnknownSymbol NotOfType NotRegular Write Left NamedTwice"
 complete -c kmin -f -n "__fish_seen_subcommand_from wants"
-complete -c kmin -f -n "__fish_seen_subcommand_from help" -a "$commands help"
-
-complete -c kmin -x -n "__fish_seen_subcommand_from $commands" -l root -d "Folder of the tree" -a "(__kmin_folders)"
-complete -c kmin -x -n "__fish_seen_subcommand_from $commands" -l tree -d "First file of the tree, below the folder" -a "(__kmin_tree_files)"
-complete -c kmin -x -n "__fish_seen_subcommand_from $over_files" -l language -d "Forms that the tree may have" -a "strict linux"
-complete -c kmin -x -n "__fish_seen_subcommand_from $over_files" -l prefix -d "Text before each name in a FILE"
-complete -c kmin -x -n "__fish_seen_subcommand_from $over_files" -l strings -d "Form of strings in a FILE" -a "escaped raw"
-complete -c kmin -x -n "__fish_seen_subcommand_from $over_files" -l imply -d "How an implied value counts" -a "present classic"
-complete -c kmin -n "__fish_seen_subcommand_from $over_files" -l strict -d "Refuse a file with a line that the tree can't read"
-complete -c kmin -n "__fish_seen_subcommand_from $commands" -l expand -d "Expand the macros of the tree"
-complete -c kmin -r -n "__fish_seen_subcommand_from $commands" -l answers -d "File of answers to the questions of macros"
-complete -c kmin -x -n "__fish_seen_subcommand_from $commands" -l define -d "Value of a name, as NAME=VALUE"
-complete -c kmin -x -n "__fish_seen_subcommand_from $commands" -l env -d "Name that the environment answers" -a "(set --names --export)"
-complete -c kmin -r -n "__fish_seen_subcommand_from min full" -s o -l output -d "File to write in place of standard output"
-complete -c kmin -n "__fish_seen_subcommand_from missed check" -l exit-code -d "End with status 1 where a symbol is listed"
-complete -c kmin -n "__fish_seen_subcommand_from tidy" -l write -d "Replace each file that isn't minimal"
-complete -c kmin -n "__fish_seen_subcommand_from tidy" -l drop -d "Write files without the lines that the tree can't read"
-complete -c kmin -r -n "__fish_seen_subcommand_from tidy" -l from -d "File of further paths"
-complete -c kmin -n "__fish_seen_subcommand_from tidy" -s z -d "Each path in that file ends with NUL"
-complete -c kmin -s h -l help -d "Print help"
-complete -c kmin -s V -l version -n "__fish_is_first_arg" -d "Print version"
+complete -c kmin -n "__fish_seen_subcommand_from min full missed check compare tidy wants" -l root -d "Folder of the tree" -x -a "(__kmin_folders)"
+complete -c kmin -n "__fish_seen_subcommand_from min full missed check compare tidy wants" -l tree -d "First file of the tree, below DIR" -x -a "(__kmin_tree_files)"
+complete -c kmin -n "__fish_seen_subcommand_from min full missed check compare tidy wants" -l expand -d "Expands the tree's macros, as each of the next three does"
+complete -c kmin -n "__fish_seen_subcommand_from min full missed check compare tidy wants" -l answers -d "File of answers to the questions of macros; repeatable" -r
+complete -c kmin -n "__fish_seen_subcommand_from min full missed check compare tidy wants" -l define -d "Value of a name, in place of any in a file; repeatable" -x
+complete -c kmin -n "__fish_seen_subcommand_from min full missed check compare tidy wants" -l env -d "Name that the environment answers where no file does; repeatable" -x -a "(set --names --export)"
+complete -c kmin -n "__fish_seen_subcommand_from min full missed check compare tidy wants" -s h -l help -d "Print help"
+complete -c kmin -n "__fish_seen_subcommand_from min full missed check compare tidy" -l language -d "Forms that the tree may have" -x -a "strict linux"
+complete -c kmin -n "__fish_seen_subcommand_from min full missed check compare tidy" -l prefix -d "Text before each name in a file" -x
+complete -c kmin -n "__fish_seen_subcommand_from min full missed check compare tidy" -l strings -d "Form of strings" -x -a "escaped raw"
+complete -c kmin -n "__fish_seen_subcommand_from min full missed check compare tidy" -l imply -d "Rule of imply" -x -a "present classic"
+complete -c kmin -n "__fish_seen_subcommand_from min full missed check compare tidy" -l strict -d "Refuses a file with a line that the tree can't read"
+complete -c kmin -n "__fish_seen_subcommand_from min full" -s o -l output -d "File to write in place of standard output" -r
+complete -c kmin -n "__fish_seen_subcommand_from missed check" -l exit-code -d "Ends with status 1 where a symbol is listed"
+complete -c kmin -n "__fish_seen_subcommand_from tidy" -l write -d "Replaces each file that isn't minimal by its minimal file"
+complete -c kmin -n "__fish_seen_subcommand_from tidy" -l drop -d "Writes files without the lines that the tree can't read; with --write"
+complete -c kmin -n "__fish_seen_subcommand_from tidy" -l from -d "File of further paths, a line each; - is standard input" -r
+complete -c kmin -n "__fish_seen_subcommand_from tidy" -s z -d "Each path in LIST ends with NUL, not with a newline"
+complete -c kmin -n "__fish_is_first_arg" -s h -l help -d "Print help"
+complete -c kmin -n "__fish_is_first_arg" -s V -l version -d "Print version"
+# made by make docs up to here

@@ -7,67 +7,91 @@ _kmin_tree_files() {
     _files -W roots
 }
 
-# the options for the place of the tree and its macros
-_kmin_tree_options() {
-    _arguments -S \
-        '--root=[folder of the tree]:folder:_files -/' \
-        '--tree=[first file of the tree, below the folder]:file:_kmin_tree_files' \
-        "--expand[expand the tree's macros]" \
-        '*--answers=[file of answers to the questions of macros]:file:_files' \
-        '*--define=[value of a name]:NAME=VALUE:' \
-        '*--env=[name that the environment answers]:name:_parameters -g "*export*"' \
-        '(- *)'{-h,--help}'[print help]' \
-        "$@"
+# made by make docs: words
+_kmin_commands() {
+    local -a commands=(
+        'min:Writes the minimal file\: the lines that a tree'\''s defaults don'\''t give'
+        'full:Writes the full file\: the symbols that are visible, selected, implied or have a default'
+        'missed:Lists the symbols that don'\''t have the value that a FILE assigns'
+        'check:Lists the symbols that are selected against their dependencies'
+        'compare:Lists the symbols whose values differ between two files'
+        'tidy:Lists, or rewrites, the files that aren'\''t their own minimal file'
+        'wants:Lists the questions of a tree'\''s macros that have no answer'
+        'help:Print this message or the help of the given subcommand(s)'
+    )
+    _describe command commands
 }
 
-_kmin_options() {
-    _kmin_tree_options \
-        '--language=[forms that the tree may have]:language:(strict linux)' \
-        '--prefix=[text before each name in a FILE]:text:' \
-        '--strings=[form of strings in a FILE]:form:(escaped raw)' \
-        '--imply=[how an implied value counts]:profile:(present classic)' \
-        '(--drop)--strict[refuse a file with a line that the tree cannot read]' \
-        "$@"
+_kmin_explained() {
+    local -a kinds=(NotUtf8 LineTooLong BadToken UnclosedQuote UnknownStatement Malformed Unclosed StrayEnd Misplaced NoType TypeConflict SecondPrompt DefaultShape RangeType SelectType ChoiceMember ChoiceDefault ModulesType MissingFile SourceLoop TooDeep TooMany Cycle LeftOut Unterminated Undefined Recursion Arguments Error Unanswered JoinedAssignment Info Warning TwoAnswers TooManyLines TooLarge Read UnknownSymbol NotOfType NotRegular Write Left NamedTwice)
+    _kmin_commands
+    _describe kind kinds
 }
 
-_kmin_output_options() {
-    _kmin_options \
-        '(-o --output)'{-o+,--output=}'[file to write in place of standard output]:file:_files' \
-        "$@"
+# adds to `specs` the options and the files of a command; '' stands for none
+_kmin_specs() {
+    case $1 in
+        '') specs+=(
+            '(- *)'{-h,--help}'[Print help]'
+            '(- *)'{-V,--version}'[Print version]'
+        ) ;;
+    esac
+    case $1 in
+        min|full|missed|check|compare|tidy|wants) specs+=(
+            '--root=[Folder of the tree]:DIR:_files -/'
+            '--tree=[First file of the tree, below DIR]:PATH:_kmin_tree_files'
+            '--expand[Expands the tree'\''s macros, as each of the next three does]'
+            '*--answers=[File of answers to the questions of macros; repeatable]:FILE:_files'
+            '*--define=[Value of a name, in place of any in a file; repeatable]:NAME=VALUE:'
+            '*--env=[Name that the environment answers where no file does; repeatable]:NAME:_parameters -g "*export*"'
+            '(- *)'{-h,--help}'[Print help]'
+        ) ;;
+    esac
+    case $1 in
+        min|full|missed|check|compare|tidy) specs+=(
+            '--language=[Forms that the tree may have]:LANGUAGE:(strict linux)'
+            '--prefix=[Text before each name in a file]:TEXT:'
+            '--strings=[Form of strings]:FORM:(escaped raw)'
+            '--imply=[Rule of imply]:PROFILE:(present classic)'
+            '(--drop)--strict[Refuses a file with a line that the tree can'\''t read]'
+        ) ;;
+    esac
+    case $1 in
+        min|full) specs+=(
+            '(-o --output)'{-o+,--output=}'[File to write in place of standard output]:FILE:_files'
+        ) ;;
+    esac
+    case $1 in
+        missed|check) specs+=(
+            '--exit-code[Ends with status 1 where a symbol is listed]'
+        ) ;;
+    esac
+    case $1 in
+        tidy) specs+=(
+            '--write[Replaces each file that isn'\''t minimal by its minimal file]'
+            '(--strict)--drop[Writes files without the lines that the tree can'\''t read; with --write]'
+            '--from=[File of further paths, a line each; - is standard input]:LIST:_files'
+            '-z[Each path in LIST ends with NUL, not with a newline]'
+        ) ;;
+    esac
+    case $1 in
+        min|full|missed|check|tidy) specs+=('*:FILE:_files') ;;
+        compare) specs+=('1:LEFT:_files' '2:RIGHT:_files') ;;
+    esac
 }
-
-_kmin_list_options() {
-    _kmin_options \
-        '--exit-code[end with status 1 where a symbol is listed]' \
-        "$@"
-}
-
-_kmin_tidy_options() {
-    _kmin_options \
-        '--write[replace each file that is not minimal]' \
-        '(--strict)--drop[write files without the lines that the tree cannot read]' \
-        '--from=[file of further paths]:file:_files' \
-        '-z[each path in that file ends with NUL]' \
-        "$@"
-}
+# made by make docs up to here
 
 _kmin() {
     local context state line
-    _arguments -C \
-        '(- *)'{-h,--help}'[print help]' \
-        '(- *)'{-V,--version}'[print version]' \
-        '1:command:((min\:"write the minimal file" full\:"write the full file" missed\:"list the symbols that do not have their assigned value" check\:"list the symbols that are selected against their dependencies" compare\:"list the symbols whose values differ between two files" tidy\:"list or rewrite the files that are not minimal" wants\:"list the questions of macros that have no answer" help\:"print help"))' \
-        '*::word:->words'
-    case $state in
-        words)
-            case $line[1] in
-                min|full) _kmin_output_options '*:file:_files' ;;
-                missed|check) _kmin_list_options '*:file:_files' ;;
-                compare) _kmin_options '1:left file:_files' '2:right file:_files' ;;
-                tidy) _kmin_tidy_options '*:file:_files' ;;
-                wants) _kmin_tree_options ;;
-                help) _values command min full missed check compare tidy wants help ;;
-            esac ;;
+    local -a specs
+    _kmin_specs ''
+    _arguments -C $specs '1:command:_kmin_commands' '*::word:->words'
+    [[ $state == words ]] || return
+    specs=()
+    _kmin_specs $line[1]
+    case $line[1] in
+        help) _arguments '1:command or kind:_kmin_explained' ;;
+        *) _arguments -S $specs ;;
     esac
 }
 

@@ -154,7 +154,7 @@ body_without (pair {c = c} {bs = bs} r) d = body_pair (body_without r (neither_s
 
 body_of_quoted : (language : Language) {q : ℕ} {body means : List ℕ} → IsBody q body means → HasDollarsOf language body → IsQuotedBody q body
 body_of_quoted Strict b d = body_without b d
-body_of_quoted Linux b d = body_in_pairs b d
+body_of_quoted (Linux version) b d = body_in_pairs b d
 
 body_text : {q : ℕ} {body means : List ℕ} → IsBody q body means → IsQuotedBody q body → text_of_items (items true 0 body) ≡ means
 body_text none d = refl

@@ -6,6 +6,7 @@ use Rattle.std.specs.Map.{lookup}
 use Rattle.std.specs.Fmt.{digits}
 use Rattle.std.proofs.lemmas.List.Elements.{All-weaker}
 use Rattle.kc_tokens.specs.Token.{next_token}
+use Rattle.kc_tokens.specs.declared.language.LinuxVersion.{LinuxVersion}
 use Rattle.kc_expr.specs.Grammar.{read_expr}
 use Rattle.kc_tree_model.specs.LogicalLines.{lines_of}
 use Rattle.kc_tree_model.specs.Limits.{is_in_list, source_fault}
@@ -20,7 +21,7 @@ use Rattle.kc_expansion.proofs.AcceptedLines.{turned}
 use Rattle.kc_expansion.proofs.AcceptedTrees.{accepted_trees_stay}
 
 pub expanded_trees_stay : ExpandedTreesStay
-expanded_trees_stay w again root files e accepted among = accepted_trees_stay again (by_key files) root accepted among
+expanded_trees_stay version w again root files e accepted among = accepted_trees_stay again (by_key version files) root accepted among
 
 -- a key that no file has
 no_text : (files : List ExpandedFile) (key : List ℕ) → has_key files key ≡ false → text_of_key files key ≡ None
@@ -33,21 +34,21 @@ no_text (f ∷ fs) key h = by_test (bytes_eq f.key key) refl h (no_text fs key)
     by_test false e h ih = ap (λ b. cond b (Some f.text) (text_of_key fs key)) (turned key f.key ∙ e) ∙ ih h
 
 pub all_files_stay : AllFilesStay
-all_files_stay w again root files e accepted among each =
-    let g = expanded_trees_stay w again root files e accepted among in
+all_files_stay version w again root files e accepted among each =
+    let g = expanded_trees_stay version w again root files e accepted among in
     record {
       expanded = g.expanded;
       ending = g.ending;
-      paths = All-weaker (IsFileOf (by_key files)) (λ (f : ExpandedFile). f.key ≡ f.path)
+      paths = All-weaker (IsFileOf (by_key version files)) (λ (f : ExpandedFile). f.key ≡ f.path)
           (λ f h. h.key) g.expanded g.own;
-      texts = λ key. g.texts key ∙ by_test key (is_in_list key (paths_read (by_key files) root)) refl;
+      texts = λ key. g.texts key ∙ by_test key (is_in_list key (paths_read (by_key version files) root)) refl;
     }
   where
-    by_key_there : (key : List ℕ) (b : Bool) → has_key files key ≡ b → is_in_list key (paths_read (by_key files) root) ≡ false → b ≡ false
+    by_key_there : (key : List ℕ) (b : Bool) → has_key files key ≡ b → is_in_list key (paths_read (by_key version files) root) ≡ false → b ≡ false
     by_key_there key false h n = refl
     by_key_there key true h n = let z = each key h in cc
 
-    by_test : (key : List ℕ) (b : Bool) → is_in_list key (paths_read (by_key files) root) ≡ b → cond b (text_of_key files key) None ≡ text_of_key files key
+    by_test : (key : List ℕ) (b : Bool) → is_in_list key (paths_read (by_key version files) root) ≡ b → cond b (text_of_key files key) None ≡ text_of_key files key
     by_test key true h = refl
     by_test key false h = sym (no_text files key (by_key_there key (has_key files key) refl h))
 
@@ -66,7 +67,7 @@ lost_files =
       text = codes "config A\n\tbool\n\thelp\n\t  text\n \n\t  source \"b\"\n";
     } ∷ []
 
-pub loses_a_file : LosesAFile
+pub loses_a_file : (version : LinuxVersion) → LosesAFile version
 unfolding lost_list lost_world lost_files tree_read text_value expansion next_token read_expr lines_of source_fault statement_on_line reading tree_faults
     first_tree_fault is_utf8 chars digits lib.Utf8.encode
-loses_a_file = record { world = lost_world; root = codes "a"; files = lost_files; key = codes "b"; ending = refl; accepted = refl; there = refl; lost = refl }
+loses_a_file version = record { world = lost_world; root = codes "a"; files = lost_files; key = codes "b"; ending = refl; accepted = refl; there = refl; lost = refl }

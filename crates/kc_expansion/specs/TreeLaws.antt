@@ -1,7 +1,9 @@
 -- Laws of the expansion of trees that the reader accepts: they stay as they are.
 use Rattle.std.specs.Prelude.{◌≡◌, ℕ, Bool, true, false, List, [], ◌∷◌, map, filter_map, Option, Some, None, Ok, bytes_eq, if◌then◌else◌}
 use Rattle.std.specs.List.{All}
+use Rattle.std.specs.Map.{lookup}
 use Rattle.kc_tokens.specs.declared.language.Language.{Language}
+use Rattle.kc_tokens.specs.declared.language.LinuxVersion.{LinuxVersion}
 use Rattle.kc_tree_model.specs.TreeFiles.{Files, linux_files, file_at, index_of_file}
 use Rattle.kc_tree_model.specs.LogicalLines.{LogicalLine, begins_help}
 use Rattle.kc_tree_model.specs.Statements.{Statement}
@@ -20,13 +22,17 @@ use Rattle.kc_macros_model.specs.Worlds.{World, returned, Outcome, expansion, wa
 abbrev pub paths_read : Files → List ℕ → List (List ℕ)
 paths_read files root = root ∷ filter_map sourced_path (reading files root).read
 
--- the tree of expanded files with their keys as paths, to be read in the language of Linux
-abbrev pub by_key : List ExpandedFile → Files
-by_key expanded = linux_files (map (λ (f : ExpandedFile). (f.key, f.text)) expanded)
+-- the keys of expanded files with the texts of these files
+abbrev pub keyed_texts : List ExpandedFile → List (List ℕ × List ℕ)
+keyed_texts expanded = map (λ (f : ExpandedFile). (f.key, f.text)) expanded
+
+-- the tree of expanded files with their keys as paths, to be read in the language of a version of Linux
+abbrev pub by_key : LinuxVersion → List ExpandedFile → Files
+by_key version expanded = linux_files version (keyed_texts expanded)
 
 -- the text of the expanded file with a key, if there is one
 abbrev pub text_of_key : List ExpandedFile → List ℕ → Option (List ℕ)
-text_of_key expanded key = file_at (by_key expanded) key
+text_of_key expanded key = lookup (bytes_eq key) (keyed_texts expanded)
 
 -- whether the statement of a line, if it has one, sources this path
 abbrev pub is_sourced_by : Option Statement → List ℕ → Bool
@@ -72,14 +78,14 @@ ReadingsStay = (w : World) (files : Files) (root : List ℕ) (expanded : List Ex
     → reading_from (record { language = files.language; bytes = text_of_key expanded; number = index_of_file files; root = root }) ≡ reading files root
 
 -- The expansion of expanded files, whatever the answers, returns exactly those of them that the reader reads, if it accepts them,
--- with their keys as paths, in the language of Linux.
+-- with their keys as paths, in the language of each version of Linux.
 abbrev pub ExpandedTreesStay : Type 0
-ExpandedTreesStay = (w again : World) (root : List ℕ) (files : List ExpandedFile) → (expansion w root).ending ≡ returned files
-    → first_tree_fault (by_key files) root ≡ None → AreAmong (text_of_key files) again.bytes → IsGivenBack (by_key files) root (expansion again root)
+ExpandedTreesStay = (version : LinuxVersion) (w again : World) (root : List ℕ) (files : List ExpandedFile) → (expansion w root).ending ≡ returned files
+    → first_tree_fault (by_key version files) root ≡ None → AreAmong (text_of_key files) again.bytes → IsGivenBack (by_key version files) root (expansion again root)
 
 -- the reader, which begins with the first file, reads each of the expanded files
-abbrev pub MeetsEach : List ExpandedFile → List ℕ → Type 0
-MeetsEach files root = (key : List ℕ) → has_key files key ≡ true → is_in_list key (paths_read (by_key files) root) ≡ true
+abbrev pub MeetsEach : LinuxVersion → List ExpandedFile → List ℕ → Type 0
+MeetsEach version files root = (key : List ℕ) → has_key files key ≡ true → is_in_list key (paths_read (by_key version files) root) ≡ true
 
 -- an outcome of an expansion returns just these expanded files: the same texts under the same keys, and each key is also the path
 pub record IsSameTree (files : List ExpandedFile) (o : Outcome (List ExpandedFile)) : Type 0 where
@@ -90,17 +96,17 @@ pub record IsSameTree (files : List ExpandedFile) (o : Outcome (List ExpandedFil
 
 -- the expansion of expanded files returns all of them, where the reader accepts them and reads each
 abbrev pub AllFilesStay : Type 0
-AllFilesStay = (w again : World) (root : List ℕ) (files : List ExpandedFile) → (expansion w root).ending ≡ returned files
-    → first_tree_fault (by_key files) root ≡ None → AreAmong (text_of_key files) again.bytes → MeetsEach files root → IsSameTree files (expansion again root)
+AllFilesStay = (version : LinuxVersion) (w again : World) (root : List ℕ) (files : List ExpandedFile) → (expansion w root).ending ≡ returned files
+    → first_tree_fault (by_key version files) root ≡ None → AreAmong (text_of_key files) again.bytes → MeetsEach version files root → IsSameTree files (expansion again root)
 
 -- An expansion whose files the reader accepts without reading each. Such expansions exist: if a line after a help text expands to
 -- nothing, it is blank, and the help text goes on over the indented lines after it, which may include a `source` line.
-pub record LosesAFile : Type 0 where
+pub record LosesAFile (version : LinuxVersion) : Type 0 where
   pub world : World
   pub root : List ℕ
   pub files : List ExpandedFile
   pub key : List ℕ
   pub ending : (expansion world root).ending ≡ returned files
-  pub accepted : first_tree_fault (by_key files) root ≡ None
+  pub accepted : first_tree_fault (by_key version files) root ≡ None
   pub there : has_key files key ≡ true
-  pub lost : is_in_list key (paths_read (by_key files) root) ≡ false
+  pub lost : is_in_list key (paths_read (by_key version files) root) ≡ false

@@ -1,4 +1,5 @@
 //! Laws of the expansion of trees that the reader accepts.
+ghost use Rattle.kc_tokens.specs.declared.language.LinuxVersion.{LinuxVersion};
 ghost use Rattle.kc_expansion.specs.TreeLaws.{AcceptedLinesStay, AcceptedTreesStay, AcceptedTreesWantNothing, ReadingsStay, ExpandedTreesStay, AllFilesStay, LosesAFile};
 
 /// A line that the reader accepts has nothing to expand, is no assignment, and is of no form that the expansion writes anew,
@@ -22,5 +23,5 @@ pub fn accepted_trees_stay()
 pub fn expanded_trees_stay()
     ensures trees { ExpandedTreesStay }
     ensures all { AllFilesStay }
-    ensures fewer { LosesAFile }
+    ensures fewer { (version : LinuxVersion) → LosesAFile version }
 {}

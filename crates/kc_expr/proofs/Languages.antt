@@ -4,6 +4,7 @@ use Rattle.kc_value.specs.QuotedTexts.{closing}
 use Rattle.kc_tokens.specs.declared.fault.ExprFault.{ExprFault}
 use Rattle.kc_tokens.specs.declared.language.Language.{Language}
 use Rattle.kc_tokens.specs.declared.language.Language.TheVariants.{Strict, Linux}
+use Rattle.kc_tokens.specs.declared.language.LinuxVersion.{LinuxVersion}
 use Rattle.kc_tokens.specs.declared.token.NextToken.{NextToken}
 use Rattle.kc_tokens.specs.declared.token.NextToken.TheVariants.{White, Comment, Token, Fault}
 use Rattle.kc_tokens.specs.declared.token.TokenKind.{TokenKind}
@@ -98,20 +99,20 @@ no_dollar_of n (Some k) p Comment f g h = cc
 no_dollar_of n (Some k) p (Token kind len) f g h = cc
 no_dollar_of n (Some k) p (Fault kind ahead) f g h = absurd g
 
-closed_in_linux : (bytes : List ℕ) (o : Option ℕ) (x : NextToken) → IsGood (λ _. Unit {0}) x → quoted_up_to Strict bytes o ≡ x → quoted_up_to Linux bytes o ≡ x
-closed_in_linux bytes None x g h = h
-closed_in_linux bytes (Some n) x g h = no_dollar_of (n + 1) (dollar_left_out Strict (take (n + 1) bytes)) (dollar_left_out Linux (take (n + 1) bytes)) x
-    (bare_of_none (take (n + 1) bytes)) g h
+closed_in_linux : (version : LinuxVersion) (bytes : List ℕ) (o : Option ℕ) (x : NextToken) → IsGood (λ _. Unit {0}) x → quoted_up_to Strict bytes o ≡ x → quoted_up_to (Linux version) bytes o ≡ x
+closed_in_linux version bytes None x g h = h
+closed_in_linux version bytes (Some n) x g h = no_dollar_of (n + 1) (dollar_left_out Strict (take (n + 1) bytes)) (dollar_left_out (Linux version) (take (n + 1) bytes)) x
+    (bare_of_none version (take (n + 1) bytes)) g h
 
 all_kinds : (ts : List Lexeme) → AllKinds (λ _. Unit {0}) ts
 all_kinds [] = tt
 all_kinds (t ∷ ts) = (tt, all_kinds ts)
 
-pub strict_in_linux : (skip at : ℕ) (bytes : List ℕ) (ts : List Lexeme) → lexemes_from Strict skip at bytes ≡ Ok ts → lexemes_from Linux skip at bytes ≡ Ok ts
-strict_in_linux skip at bytes ts h = line_alike Strict Linux (λ _. Unit {0}) (λ b bs x good e. by_quote b bs x (is_quote b) good e refl) skip at bytes ts
+pub strict_in_linux : (version : LinuxVersion) (skip at : ℕ) (bytes : List ℕ) (ts : List Lexeme) → lexemes_from Strict skip at bytes ≡ Ok ts → lexemes_from (Linux version) skip at bytes ≡ Ok ts
+strict_in_linux version skip at bytes ts h = line_alike Strict (Linux version) (λ _. Unit {0}) (λ b bs x good e. by_quote b bs x (is_quote b) good e refl) skip at bytes ts
     (all_kinds ts) h
   where
     by_quote : (b : ℕ) (bs : List ℕ) (x : NextToken) (t : Bool) → IsGood (λ _. Unit {0}) x → next_token Strict (b ∷ bs) ≡ x → is_quote b ≡ t
-        → next_token Linux (b ∷ bs) ≡ x
-    by_quote b bs x false good e q = unquoted_alike Linux Strict b bs q ∙ e
-    by_quote b bs x true good e q = lead_quoted Linux b bs q ∙ closed_in_linux (b ∷ bs) (closing b false bs) x good (sym (lead_quoted Strict b bs q) ∙ e)
+        → next_token (Linux version) (b ∷ bs) ≡ x
+    by_quote b bs x false good e q = unquoted_alike (Linux version) Strict b bs q ∙ e
+    by_quote b bs x true good e q = lead_quoted (Linux version) b bs q ∙ closed_in_linux version (b ∷ bs) (closing b false bs) x good (sym (lead_quoted Strict b bs q) ∙ e)

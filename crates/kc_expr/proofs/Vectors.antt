@@ -8,6 +8,7 @@ use Rattle.kc_tokens.specs.declared.token.Relop.TheVariants.{Equal}
 use Rattle.kc_tokens.specs.declared.token.TokenKind.TheVariants.{Word, Quoted}
 use Rattle.kc_tokens.specs.declared.fault.ExprKind.TheVariants.{UnclosedQuote, LeftOut}
 use Rattle.kc_tokens.specs.declared.language.Language.TheVariants.{Strict, Linux}
+use Rattle.kc_tokens.specs.declared.language.LinuxVersion.TheVariants.{Unknown}
 use Rattle.kc_tokens.specs.Token.{lexemes_from, next_token, Lexeme}
 use Rattle.kc_tokens.specs.TokenGrammar.{IsFirstTokenFault}
 use Rattle.kc_tokens.specs.declared.fault.ExprFault.{ExprFault}
@@ -54,7 +55,7 @@ dollar_in_a_pair_is_left_out : lexemes_from Strict 0 0 (codes "a \"b\\$\"") ≡ 
 unfolding next_token
 dollar_in_a_pair_is_left_out = refl
 
-bare_dollar_in_linux : lexemes_from Linux 0 0 (codes "a $b") ≡ Err (record { offset = 2; kind = LeftOut })
+bare_dollar_in_linux : lexemes_from (Linux Unknown) 0 0 (codes "a $b") ≡ Err (record { offset = 2; kind = LeftOut })
 unfolding next_token
 bare_dollar_in_linux = refl
 
@@ -62,9 +63,9 @@ bare_dollar_in_linux = refl
 dollar_between_quotes_is_first : IsFirstTokenFault Strict 0 (codes "a \"b\\$\"") (record { offset = 5; kind = LeftOut })
 dollar_between_quotes_is_first = read_fault Strict 7 0 (codes "a \"b\\$\"") _ (omega arith) dollar_in_a_pair_is_left_out
 
-later_fault_is_not_first : IsFirstTokenFault Linux 0 (codes "a $b") (record { offset = 3; kind = LeftOut }) → ⊥
+later_fault_is_not_first : IsFirstTokenFault (Linux Unknown) 0 (codes "a $b") (record { offset = 3; kind = LeftOut }) → ⊥
 later_fault_is_not_first h =
-    let same = one_fault Linux (codes "a $b") _ _ (read_fault Linux 4 0 (codes "a $b") _ (omega arith) bare_dollar_in_linux) h in
+    let same = one_fault (Linux Unknown) (codes "a $b") _ _ (read_fault (Linux Unknown) 4 0 (codes "a $b") _ (omega arith) bare_dollar_in_linux) h in
     omega (arith, ap (λ (f : ExprFault). f.offset) same)
 
 -- the expression of a text

@@ -4,6 +4,7 @@ ghost use Rattle.kc_value.specs.declared.limits.TheConstants.{MAX_EXPR_DEPTH};
 ghost use Rattle.kc_tokens.specs.declared.fault.ExprFault.{ExprFault};
 ghost use Rattle.kc_tokens.specs.declared.language.Language.{Language};
 ghost use Rattle.kc_tokens.specs.declared.language.Language.TheVariants.{Strict, Linux};
+ghost use Rattle.kc_tokens.specs.declared.language.LinuxVersion.{LinuxVersion};
 ghost use Rattle.kc_tokens.specs.Token.{Lexeme, lexemes_from};
 ghost use Rattle.kc_tokens.specs.TokenGrammar.{IsCut, IsFirstTokenFault};
 ghost use Rattle.kc_tokens.specs.declared.fault.ExprKind.{ExprKind};
@@ -29,9 +30,9 @@ pub fn each_line_has_one_reading()
     ensures fault { (language : Language) (line : List ℕ) (e f : ExprFault) → IsFirstTokenFault language 0 line e → IsFirstTokenFault language 0 line f → e ≡ f }
 {}
 
-/// If the strict language reads a line as tokens, the language of Linux reads the line as the same tokens.
+/// If the strict language reads a line as tokens, that of each version of Linux reads the line as the same tokens.
 pub fn linux_reads_strict_lines()
-    ensures { (line : List ℕ) (ps : List Lexeme) → lexemes_from Strict 0 0 line ≡ Ok ps → lexemes_from Linux 0 0 line ≡ Ok ps }
+    ensures { (version : LinuxVersion) (line : List ℕ) (ps : List Lexeme) → lexemes_from Strict 0 0 line ≡ Ok ps → lexemes_from (Linux version) 0 0 line ≡ Ok ps }
 {}
 
 /// Tokens are read as an expression exactly where the grammar has them as that expression.

@@ -1,4 +1,4 @@
--- Each expanded file has the newlines of the file that was read for it.
+-- Each expanded file has the lines of the file that was read for it under their numbers.
 use Rattle.std.proofs.Common.{◌≡◌, ℕ, zero, suc, ◌+◌, Bool, true, false, ◌&&◌, ◌||◌, cond, List, [], ◌∷◌, ◌++◌, length, take, drop, map, Option, Some, None, refl, sym, ap, ◌∙◌, subst, arith}
 use Rattle.std.specs.Prelude.{not, nat_lt, is_some, filter, bytes_eq, codes, decimal, slice_index, reverse, ◌==◌}
 use Rattle.std.specs.List.{All, list_any, onto_first, prefix_len}
@@ -11,7 +11,7 @@ use Rattle.kc_tree_model.specs.LogicalLines.{PhysicalLine, split_at_newlines, wi
 use Rattle.kc_macros_model.specs.declared.fault.MacroKind.{MacroKind}
 use Rattle.kc_macros_model.specs.declared.fault.MacroKind.TheVariants.{MissingFile, TooMany, LineTooLong, SourceLoop}
 use Rattle.kc_value.specs.declared.limits.TheConstants.{MAX_TEXT_BYTES, MAX_TREE_BYTES, MAX_OPEN_FILES, MAX_LISTED_NAMES}
-use Rattle.kc_macros_model.specs.Programs.{Place, Event, Program, returns, stops, list_folder, does, ◌>>=◌}
+use Rattle.kc_macros_model.specs.Programs.{Place, Event, Program, returns, fails, stops, list_folder, does, ◌>>=◌}
 use Rattle.kc_macros_model.specs.Variables.{Value, Variable}
 use Rattle.kc_macros_model.specs.Expansion.{fault}
 use Rattle.kc_macros_model.specs.LineTokens.{line_tokens}
@@ -22,13 +22,16 @@ use Rattle.kc_macros_model.specs.LineForms.{SourceSort, LineForm, plain, bare_pr
 use Rattle.kc_macros_model.specs.PathPatterns.{is_pattern, is_writable_name, matches_name, path_pieces, is_in_order, inserted, sorted, FoundPaths, found, matching_names, paths_in_folder, paths_in_folders, paths_below, readable_paths, files_of_pattern, matches}
 use Rattle.kc_macros_model.specs.ReadingStates.{ExpandedFile, ReadingState, initial_state, Progress, progress, WrittenLine, written_line, bound, with_choice, with_listed, counted, has_key, is_taken, free_key, key_of, stored_file}
 use Rattle.kc_macros_model.specs.TreeExpansion.{place, SourceTarget, one_file, file_list, SourceReader, folder_of, begins_with_slash, path_meant, list_name, source_line, pattern_read, path_read, source_followed, form_written, short_line, tokens_written, content_written, line_written, bytes_of_lines, lines_written, help_after, lines_read, list_read, source_fault, contents_read, sourced_read, source_read, root_read, tree_read}
-use Rattle.kc_macros_model.specs.Worlds.{World}
+use Rattle.kc_macros_model.specs.Worlds.{World, reply, returned}
+use Rattle.kc_macros_model.specs.ExpansionRules.{ending_in}
+use Rattle.kc_macros_model.specs.LinePlaces.{line_of, IsWrittenFor, written_for, AreInPlace, no_more, logical_line}
 use Rattle.kc_value.specs.Lines.{newline_count, has_newline}
 use Rattle.kc_macros_model.specs.TreeLaws.{HasItsLines, of_file, of_list}
 use Rattle.kc_macros_model.proofs.RunInvariants.{Along, along_then}
 use Rattle.kc_macros_model.proofs.CleanTexts.{IsClean, clean, clean_none, clean_cons, clean_first, clean_rest, clean_append, clean_drop, clean_reverse, clean_decimal, IsCleanValue, text_clean, IsCleanVariable, CleanBindings, CleanAnswers, AreClean, no_texts, next_text, unknown_clean}
 use Rattle.kc_macros_model.proofs.CleanLines.{tokens_clean, in_quotes_clean, IsCleanToken, AreCleanWritten, none_written, next_written, IsCleanContent, clean_assignment, clean_tokens, content_clean, variable_clean}
 use Rattle.kc_macros_model.proofs.LineCounts.{count_both, AreCleanLines, no_lines, next_line, split_clean, split_bytes, lines_both, taken_clean, written_count, returns_clean, joined_lines_clean, drop_twice}
+use Rattle.kc_macros_model.proofs.LinePlaces.{AreEnded, split_ended, rest_ended, dropped_ended, dropped_clean, nothing_after, sum_of, sum_none, sum_next, AreFrom, from_same, pass_as_read, line_stands}
 
 -- lines of tokens
 line_bytes_clean : {ts : List WrittenToken} → AreCleanWritten ts → IsClean (line_bytes ts)
@@ -266,7 +269,24 @@ module _ (w : World) (answers : CleanAnswers w) where
   abbrev ReadsWell : SourceReader → Type 0
   ReadsWell sub = (at : Place) (what : SourceTarget) (s : ReadingState) → IsClean at.file → IsCleanTarget what → IsGood s → Gives GoodProgress (sub at what s)
 
-  module _ (sub : SourceReader) (reads : ReadsWell sub) where
+  -- a reader of what `source` lines source, as the reading of a tree has it
+  data IsOfTree : SourceReader → Type 0 where
+    of_tree : (more : ℕ) (root : List ℕ) (open_files : List (List ℕ)) → IsOfTree (source_read more root open_files)
+
+  -- a fact about the ending of a program holds of the value that the program returns along its run
+  along_returned : {A : Type 0} (P Q : A → Type 0) (p : Program A) → ((x : A) → ending_in w p ≡ returned x → Q x) → Gives P p
+      → Gives (λ x. P x × Q x) p
+  along_returned P Q (returns x) f h = (h, f x refl)
+  along_returned P Q (fails g) f h = tt
+  along_returned P Q stops f h = tt
+  along_returned P Q (does e k) f h = (tt, along_returned P Q (k (reply w e)) f h.1)
+
+  written_line_for : {sub : SourceReader} → IsOfTree sub → (file : List ℕ) (n : ℕ) (l : PhysicalLine) (ls : List PhysicalLine) (s : ReadingState)
+      (line : WrittenLine) → ending_in w (line_written sub (place file n) (is_continued (without_return l)) (joined_bytes (map without_return (l ∷ ls))) s)
+      ≡ returned line → IsWrittenFor w file n l ls line
+  written_line_for (of_tree more root open_files) file n l ls s line e = written_for more root open_files s e
+
+  module _ (sub : SourceReader) (from : IsOfTree sub) (reads : ReadsWell sub) where
     path_good : (at : Place) (sort : SourceSort) (path : List ℕ) (s : ReadingState) → IsClean at.file → IsClean path → IsGood s
         → Gives GoodProgress (path_read sub at sort path s)
     path_good at sort path s f h g = by_tests (is_pattern path) sort.optional
@@ -384,25 +404,41 @@ module _ (w : World) (answers : CleanAnswers w) where
             along_then w E IsCleanContent GoodLine (line_content at s.bindings true (line_tokens 0 text)) (content_written sub at continued s)
             (content_clean w answers at k s.bindings g.bindings true (tokens_clean 0 text h)) (λ x r. content_good at continued s k r g)
 
-    -- the lines of a file keep its newlines
-    record KeepsLines (ls : List PhysicalLine) (p : Progress) : Type 0 where
+    -- the lines of a file from the number `n` on keep their numbers and its newlines
+    record KeepsLines (file : List ℕ) (n : ℕ) (ls : List PhysicalLine) (p : Progress) : Type 0 where
       count : newline_count p.text ≡ newline_count (bytes_of_lines ls)
+      end : ls ≡ [] → p.text ≡ []
+      places : (written : ℕ → List ℕ) → AreFrom written n p.text → AreInPlace w file written n ls
       state : IsGood p.state
 
-    lines_good : (file : List ℕ) → IsClean file → (skip n : ℕ) {ls : List PhysicalLine} (s : ReadingState) → AreCleanLines ls → IsGood s
-        → Gives (KeepsLines (drop skip ls)) (lines_read sub file skip n ls s)
-    lines_good file k zero n s no_lines g = record { count = refl; state = g }
-    lines_good file k (suc skip) n s no_lines g = record { count = refl; state = g }
-    lines_good file k (suc skip) n s (next_line h r) g = lines_good file k skip (n + 1) s r g
-    lines_good file k zero n s (next_line {l = l} {ls = ls} h r) g =
-        along_then w E GoodLine (KeepsLines (l ∷ ls)) (line_written sub (place file n) (is_continued (without_return l)) (joined_bytes all) s)
+    abbrev none_left : (file : List ℕ) (n : ℕ) (s : ReadingState) → IsGood s → KeepsLines file n [] (progress [] s)
+    none_left file n s g = record { count = refl; end = λ e. refl; places = λ written f. no_more; state = g }
+
+    lines_good : (file : List ℕ) → IsClean file → (skip n : ℕ) {ls : List PhysicalLine} (s : ReadingState) → AreCleanLines ls → AreEnded ls → IsGood s
+        → Gives (KeepsLines file (n + skip) (drop skip ls)) (lines_read sub file skip n ls s)
+    lines_good file k zero n s no_lines d g = none_left file (n + 0) s g
+    lines_good file k (suc skip) n s no_lines d g = none_left file (n + suc skip) s g
+    lines_good file k (suc skip) n s (next_line {l = l} {ls = ls} h r) d g =
+        subst (λ m. Gives (KeepsLines file m (drop skip ls)) (lines_read sub file skip (n + 1) ls s)) (sum_next n skip)
+        (lines_good file k skip (n + 1) s r (rest_ended d) g)
+    lines_good file k zero n s (next_line {l = l} {ls = ls} h r) d g =
+        subst (λ m. Gives (KeepsLines file m (l ∷ ls)) (lines_read sub file 0 n (l ∷ ls) s)) (sum_none n)
+        (along_then w E (λ line. GoodLine line × IsWrittenFor w file n l ls line) (KeepsLines file n (l ∷ ls)) line_program
         (λ line. let help = help_after line.begins_help (drop more ls) in
         lines_read sub file (more + help) (n + 1) ls line.state >>= λ rest. returns (progress (written line.text help rest.text) rest.state))
-        (line_good (place file n) (is_continued (without_return l)) (joined_bytes all) s k (joined_lines_clean (returns_clean (next_line h r))) g)
+        (along_returned GoodLine (IsWrittenFor w file n l ls) line_program (written_line_for from file n l ls s)
+        (line_good (place file n) (is_continued (without_return l)) (joined_bytes all) s k (joined_lines_clean (returns_clean (next_line h r))) g))
         (λ line q. let help = help_after line.begins_help (drop more ls) in
-        along_then w E (KeepsLines (drop (more + help) ls)) (KeepsLines (l ∷ ls)) (lines_read sub file (more + help) (n + 1) ls line.state)
-        (λ rest. returns (progress (written line.text help rest.text) rest.state)) (lines_good file k (more + help) (n + 1) line.state r q.state)
-        (λ rest x. record { count = counted_lines line.text help rest.text q.text x.count; state = x.state }))
+        along_then w E (KeepsLines file (n + 1 + (more + help)) (drop (more + help) ls)) (KeepsLines file n (l ∷ ls))
+        (lines_read sub file (more + help) (n + 1) ls line.state)
+        (λ rest. returns (progress (written line.text help rest.text) rest.state))
+        (lines_good file k (more + help) (n + 1) line.state r (rest_ended d) q.0.state)
+        (λ rest x. record {
+          count = counted_lines line.text help rest.text q.0.text x.count;
+          end = λ e. let z : ⊥ = cc in absurd z;
+          places = λ lines f. in_place line rest.text q.1 q.0.text x.end x.places lines f;
+          state = x.state;
+        })))
       where
         all : List PhysicalLine
         all = map without_return (l ∷ ls)
@@ -412,6 +448,22 @@ module _ (w : World) (answers : CleanAnswers w) where
 
         written : List ℕ → ℕ → List ℕ → List ℕ
         written text help rest = lines_written (l ∷ take more ls) (joined_bytes all) text ++ (bytes_of_lines (take help (drop more ls)) ++ rest)
+
+        line_program : Program WrittenLine
+        line_program = line_written sub (place file n) (is_continued (without_return l)) (joined_bytes all) s
+
+        in_place : (line : WrittenLine) (rest : List ℕ) → let help = help_after line.begins_help (drop more ls) in
+            IsWrittenFor w file n l ls line → IsClean line.text → (drop (more + help) ls ≡ [] → rest ≡ [])
+            → ((lines : ℕ → List ℕ) → AreFrom lines (n + 1 + (more + help)) rest → AreInPlace w file lines (n + 1 + (more + help)) (drop (more + help) ls))
+            → (lines : ℕ → List ℕ) → AreFrom lines n (written line.text help rest) → AreInPlace w file lines n (l ∷ ls)
+        in_place line rest for c e places lines f =
+            let help = help_after line.begins_help (drop more ls) in
+            let middle = bytes_of_lines (take help (drop more ls)) in
+            let e1 : drop help (drop more ls) ≡ [] → rest ≡ [] = λ z. e (drop_twice more help ls ∙ z) in
+            let e2 : drop more ls ≡ [] → middle ++ rest ≡ [] = λ z. nothing_after (drop more ls) help rest z e1 in
+            let first = line_stands lines more n (joined_bytes all) line.text (middle ++ rest) (next_line h r) d c e2 f in
+            let second = pass_as_read lines help (n + 1 + more) rest (dropped_clean more r) (dropped_ended more (rest_ended d)) e1 first.1 in
+            logical_line line refl refl for first.0 second.0 (places lines (from_same (sum_of (n + 1) more help) second.1))
 
         counted_lines : (text : List ℕ) (help : ℕ) (rest : List ℕ) → IsClean text → newline_count rest ≡ newline_count (bytes_of_lines (drop (more + help) ls))
             → newline_count (written text help rest) ≡ newline_count (bytes_of_lines (l ∷ ls))
@@ -431,6 +483,12 @@ module _ (w : World) (answers : CleanAnswers w) where
             let e8 = count_both (bytes_of_lines (l ∷ take more ls)) (bytes_of_lines (drop more ls)) in
             let e9 = count_both middle (bytes_of_lines (drop (more + help) ls)) in
             omega (arith, e, e1, e2, e3, e6, e7, e8, e9)
+
+    -- all lines of a file keep their numbers
+    file_kept : (path bytes : List ℕ) → w.bytes path ≡ Some bytes → (p : Progress) → KeepsLines path 1 (split_at_newlines bytes) p → {key : List ℕ}
+        → HasItsLines w (record { key = key; path = path; text = p.text })
+    file_kept path bytes e p x = of_file bytes e (x.count ∙ ap newline_count (split_bytes bytes))
+        (x.places (line_of p.text) (record { each = λ k. ap (line_of p.text) (let e : 1 + k ≡ suc k = omega (arith) in e) }))
 
     list_good : (at : Place) {paths : List (List ℕ)} (s : ReadingState) → IsClean at.file → AreClean paths → IsGood s
         → Gives (λ p. IsGood p.state) (list_read sub at paths s)
@@ -481,10 +539,10 @@ module _ (w : World) (answers : CleanAnswers w) where
         ])
         by_fault (Some kind) = tt
         by_fault None =
-            along_then w E (KeepsLines (split_at_newlines bytes)) GoodProgress (lines_read sub path 0 1 (split_at_newlines bytes) (counted (length bytes) s))
-            (λ p. returns (stored_file root path p)) (lines_good path h 0 1 (counted (length bytes) s) (split_clean bytes)
+            along_then w E (KeepsLines path 1 (split_at_newlines bytes)) GoodProgress (lines_read sub path 0 1 (split_at_newlines bytes) (counted (length bytes) s))
+            (λ p. returns (stored_file root path p)) (lines_good path h 0 1 (counted (length bytes) s) (split_clean bytes) (split_ended bytes)
             (counted_good (length bytes) s g))
-            (λ p x. kept_good root path p h (record { lines = λ key. of_file bytes e (x.count ∙ ap newline_count (split_bytes bytes)); state = x.state }))
+            (λ p x. kept_good root path p h (record { lines = λ key. file_kept path bytes e p x; state = x.state }))
 
     sourced_list_good : (root : List ℕ) (open_files : List (List ℕ)) (at from : Place) {paths : List (List ℕ)} (s : ReadingState) → IsClean at.file
         → IsClean from.file → AreClean paths → IsGood s → Gives GoodProgress
@@ -505,11 +563,11 @@ module _ (w : World) (answers : CleanAnswers w) where
   source_good zero root open_files at what s k c g = record { text = clean_none; state = g }
   source_good (suc depth) root open_files at (one_file path) s k (clean_file h) g = (
     tt,
-    file_good (source_read depth root (path ∷ open_files)) (source_good depth root (path ∷ open_files)) root open_files at path s h g
+    file_good (source_read depth root (path ∷ open_files)) (of_tree depth root (path ∷ open_files)) (source_good depth root (path ∷ open_files)) root open_files at path s h g
         (w.bytes path) refl,
   )
   source_good (suc depth) root open_files at (file_list name paths) s k (clean_list from h r) g =
-      sourced_list_good (source_read depth root (list_name from ∷ open_files)) (source_good depth root (list_name from ∷ open_files)) root open_files at from
+      sourced_list_good (source_read depth root (list_name from ∷ open_files)) (of_tree depth root (list_name from ∷ open_files)) (source_good depth root (list_name from ∷ open_files)) root open_files at from
       s k h r g
 
   root_good : (root : List ℕ) → IsClean root → (s : ReadingState) → IsGood s → (bytes : Option (List ℕ)) → w.bytes root ≡ bytes
@@ -523,6 +581,9 @@ module _ (w : World) (answers : CleanAnswers w) where
       reads : ReadsWell sub
       reads = source_good MAX_OPEN_FILES root (root ∷ [])
 
+      from : IsOfTree sub
+      from = of_tree MAX_OPEN_FILES root (root ∷ [])
+
       by_test : (b : Bool) → Gives (All (HasItsLines w)) (elim b as (λ z. Program (List ExpandedFile)) [
         | true ↦ fault (place root 0) TooMany []
         | false ↦ lines_read sub root 0 1 (split_at_newlines bytes) (counted (length bytes) s) >>= λ p. returns
@@ -530,15 +591,15 @@ module _ (w : World) (answers : CleanAnswers w) where
       ])
       by_test true = tt
       by_test false =
-          along_then w E (KeepsLines sub reads (split_at_newlines bytes)) (All (HasItsLines w))
+          along_then w E (KeepsLines sub from reads root 1 (split_at_newlines bytes)) (All (HasItsLines w))
           (lines_read sub root 0 1 (split_at_newlines bytes) (counted (length bytes) s))
           (λ p. returns (p.state.expanded ++ record { key = root; path = root; text = p.text } ∷ []))
-          (lines_good sub reads root h 0 1 (counted (length bytes) s) (split_clean bytes) (counted_good sub reads (length bytes) s g))
+          (lines_good sub from reads root h 0 1 (counted (length bytes) s) (split_clean bytes) (split_ended bytes) (counted_good sub from reads (length bytes) s g))
           (λ p x. All-append (HasItsLines w) p.state.expanded (record { key = root; path = root; text = p.text } ∷ []) x.state.files
-          (All-cons (HasItsLines w) (record { key = root; path = root; text = p.text }) [] (of_file bytes e (x.count ∙ ap newline_count (split_bytes bytes)))
+          (All-cons (HasItsLines w) (record { key = root; path = root; text = p.text }) [] (file_kept sub from reads root bytes e p x)
           (All-nil (HasItsLines w))))
 
-  -- the reading of a tree returns only files that have the newlines of their files, or are lists of files
+  -- the reading of a tree returns only files that have the lines of their files, or are lists of files
   pub tree_good : (root : List ℕ) → IsClean root → Along w (λ e. Unit {0}) (All (HasItsLines w)) (tree_read root)
   unfolding tree_read
   tree_good root h = (

@@ -20,6 +20,7 @@ pub mod WantedQuestions
 pub mod CleanTexts
 pub mod CleanLines
 pub mod LineCounts
+pub mod LinePlaces
 pub mod KeptLines
 pub mod TreeLines
 pub mod Keys

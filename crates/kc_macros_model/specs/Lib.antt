@@ -15,6 +15,7 @@ pub mod ExpansionRules
 pub mod AnswerFiles
 pub mod ProgramLaws
 pub mod ExpansionLaws
+pub mod LinePlaces
 pub mod TreeLaws
 pub mod ReadingLaws
 pub mod PlainLines

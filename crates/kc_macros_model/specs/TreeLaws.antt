@@ -1,12 +1,14 @@
 -- Laws of the expansion of a tree.
 use Rattle.std.specs.Prelude.{◌≡◌, ℕ, true, false, List, [], Some, None, Ok}
 use Rattle.std.specs.List.{All}
+use Rattle.kc_tree_model.specs.LogicalLines.{split_at_newlines}
 use Rattle.kc_tree_model.specs.Limits.{is_in_list}
 use Rattle.kc_macros_model.specs.Programs.{Place, Fault}
 use Rattle.kc_macros_model.specs.ReadingStates.{ExpandedFile}
 use Rattle.kc_macros_model.specs.TreeExpansion.{list_name}
 use Rattle.kc_macros_model.specs.Worlds.{World, returned, failed, stopped, expansion, wanted}
 use Rattle.kc_macros_model.specs.ProgramLaws.{Extends, is_unanswered}
+use Rattle.kc_macros_model.specs.LinePlaces.{line_of, AreInPlace}
 use Rattle.kc_value.specs.Lines.{newline_count, has_newline}
 
 -- more answers than an expansion needs change nothing of its files, fault, notices and work
@@ -30,13 +32,15 @@ abbrev pub WantedIsNeeded : Type 0
 WantedIsNeeded = (w more : World) (root question : List ℕ) (questions : List (List ℕ)) (files : List ExpandedFile) → wanted w root ≡ Ok questions → is_in_list question questions ≡ true
     → Extends w more → more.answer question ≡ None → (expansion more root).ending ≡ returned files → ⊥
 
--- an expanded file has as many newlines as the file that was read for its path, or is the list of files of a `source` line
+-- an expanded file has the logical lines of the file that was read for its path under their numbers, and as many newlines as that
+-- file; or it is the list of files of a `source` line
 pub data HasItsLines (w : World) (f : ExpandedFile) : Type 0 where
-  of_file : (bytes : List ℕ) → w.bytes f.path ≡ Some bytes → newline_count f.text ≡ newline_count bytes → HasItsLines w f
+  of_file : (bytes : List ℕ) → w.bytes f.path ≡ Some bytes → newline_count f.text ≡ newline_count bytes
+      → AreInPlace w f.path (line_of f.text) 1 (split_at_newlines bytes) → HasItsLines w f
   of_list : (at : Place) → f.path ≡ list_name at → HasItsLines w f
 
--- where neither an answer nor the first file's path has a newline, each expanded file has as many newlines as its file, or is a
--- list of files
+-- where neither an answer nor the first file's path has a newline, each expanded file has the logical lines of its file under
+-- their numbers, or is a list of files
 abbrev pub LinesAreKept : Type 0
 LinesAreKept = (w : World) (root : List ℕ) (files : List ExpandedFile)
     → ((question text : List ℕ) → w.answer question ≡ Some (Some text) → has_newline text ≡ false) → has_newline root ≡ false

@@ -1,4 +1,3 @@
-pub mod WrittenParts
 pub mod RangeLines
 pub mod SymbolLines
 pub mod DraftSteps

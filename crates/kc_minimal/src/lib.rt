@@ -6,13 +6,12 @@ mod difference;
 mod full;
 mod minimal;
 mod minimisation;
-mod output;
 mod symbol_line;
 mod texts;
 
 pub use comparison::compare;
 pub use difference::Difference;
+pub use kc_output::WriteFault;
 pub use minimisation::{RunFault, minimise};
-pub use output::{WriteFault, write_out};
 pub use symbol_line::push_spelled;
 pub use texts::{full_text, minimal_text};

@@ -1,6 +1,7 @@
 -- Dependencies, and a cycle among them.
 use Rattle.std.proofs.Common.{◌≡◌, false, [], ◌∷◌, Some, refl}
 use Rattle.std.specs.Prelude.{codes}
+use Rattle.kc_tokens.specs.declared.language.Language.TheVariants.{Strict}
 use Rattle.kc_expr.specs.Expr.{shown, both}
 use Rattle.kc_tree_model.specs.Trees.{Tree, choice_begins, definition}
 use Rattle.kc_tree_model.specs.declared.ids.Unit.TheVariants.{Choice as of_choice}
@@ -18,6 +19,7 @@ tree_choice_cycle = record {
   choices = record { file = 0; line = 1; members = 0 ∷ 1 ∷ []; prompt = Some always; defaults = []; optional = false } ∷ [];
   entries = choice_begins 0 ∷ definition 0 ∷ definition 1 ∷ [];
   units = of_choice 0 ∷ [];
+  language = Strict;
 }
 
 cycle_within_a_choice : dependencies tree_choice_cycle 0 ≡ 0 ∷ []

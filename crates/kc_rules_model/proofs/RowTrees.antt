@@ -7,6 +7,7 @@ use Rattle.kc_value.specs.declared.tri.Tri.{Tri}
 use Rattle.kc_value.specs.declared.tri.Tri.TheVariants.{N, M, Y}
 use Rattle.kc_value.specs.declared.value.Kind.{Kind}
 use Rattle.kc_value.specs.declared.value.Kind.TheVariants.{Bool as Boolean, Tristate, Text, Int}
+use Rattle.kc_tokens.specs.declared.language.Language.TheVariants.{Strict}
 use Rattle.kc_expr.specs.Expr.{Expr, alone, both, shown, constant, named, quoted}
 use Rattle.kc_tree_model.specs.Trees.{Tree, Symbol, Default, definition, choice_begins, menu_begins, menu_ends, comment}
 use Rattle.kc_tree_model.specs.declared.ids.Unit.TheVariants.{Symbol as of_symbol, Choice as of_choice}
@@ -69,10 +70,10 @@ plain x kind prompts defaults =
     }
 
 abbrev pub one_symbol : Symbol → Tree
-one_symbol symbol = record { symbols = symbol ∷ []; choices = []; entries = definition 0 ∷ []; units = of_symbol 0 ∷ [] }
+one_symbol symbol = record { symbols = symbol ∷ []; choices = []; entries = definition 0 ∷ []; units = of_symbol 0 ∷ []; language = Strict }
 
 abbrev pub two_symbols : Symbol → Symbol → Tree
-two_symbols a b = record { symbols = a ∷ b ∷ []; choices = []; entries = definition 0 ∷ definition 1 ∷ []; units = of_symbol 0 ∷ of_symbol 1 ∷ [] }
+two_symbols a b = record { symbols = a ∷ b ∷ []; choices = []; entries = definition 0 ∷ definition 1 ∷ []; units = of_symbol 0 ∷ of_symbol 1 ∷ []; language = Strict }
 
 abbrev pub three_symbols : Symbol → Symbol → Symbol → Tree
 three_symbols a b c =
@@ -82,6 +83,7 @@ three_symbols a b c =
       entries = definition 0 ∷ definition 1 ∷ definition 2 ∷ [];
       units = of_symbol 0 ∷ of_symbol 1 ∷ of_symbol 2
           ∷ [];
+      language = Strict;
     }
 
 -- the tree of: config A / bool "a"
@@ -134,6 +136,7 @@ tree_pick = record {
   } ∷ [];
   entries = choice_begins 0 ∷ definition 0 ∷ definition 1 ∷ definition 2 ∷ definition 3 ∷ [];
   units = of_choice 0 ∷ of_symbol 3 ∷ [];
+  language = Strict;
 }
 
 -- the tree of: choice / prompt "pick" / optional / default B / config A / bool "a" / config B / bool "b" / config C / bool "c" /
@@ -158,6 +161,7 @@ tree_shown_if = record {
   choices = record { file = 0; line = 1; members = 0 ∷ []; prompt = Some (name (codes "X")); defaults = []; optional = false } ∷ [];
   entries = choice_begins 0 ∷ definition 0 ∷ definition 1 ∷ definition 2 ∷ [];
   units = of_choice 0 ∷ of_symbol 1 ∷ of_symbol 2 ∷ [];
+  language = Strict;
 }
 
 -- the tree of: config S / bool "s" / select T / config T / tristate / depends on NO
@@ -177,6 +181,7 @@ tree_imply = record {
   choices = [];
   entries = definition 0 ∷ definition 1 ∷ definition 2 ∷ definition 3 ∷ [];
   units = of_symbol 0 ∷ of_symbol 1 ∷ of_symbol 2 ∷ of_symbol 3 ∷ [];
+  language = Strict;
 }
 
 -- the tree of: config A / bool "a" / config B / bool / default A / config C / bool "c" / depends on B
@@ -191,6 +196,7 @@ tree_hidden = record {
   choices = [];
   entries = menu_begins (codes "hid") always (name (codes "NO")) ∷ definition 0 ∷ menu_ends (codes "hid") always (name (codes "NO")) ∷ [];
   units = of_symbol 0 ∷ [];
+  language = Strict;
 }
 
 -- the tree of: config A / bool "a" / menu "Net" / config B / bool "b" / endmenu / config C / bool "c" / comment "done"
@@ -201,4 +207,5 @@ tree_menu = record {
   entries = definition 0 ∷ menu_begins (codes "Net") always always ∷ definition 1 ∷ menu_ends (codes "Net") always always ∷ definition 2 ∷ comment
       (codes "done") always ∷ [];
   units = of_symbol 0 ∷ of_symbol 1 ∷ of_symbol 2 ∷ [];
+  language = Strict;
 }

@@ -85,7 +85,7 @@ fn is_strict(language: Language) -> bool
 {
     match language {
         Language::Strict => true,
-        Language::Linux => false,
+        Language::Linux(_) => false,
     }
 }
 
@@ -96,7 +96,7 @@ fn is_default_type_left_out(language: Language, kind: Kind) -> bool
 {
     match language {
         Language::Strict => !matches!(kind, Kind::Bool | Kind::Tristate),
-        Language::Linux => false,
+        Language::Linux(_) => false,
     }
 }
 

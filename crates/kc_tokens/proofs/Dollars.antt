@@ -7,6 +7,7 @@ use Rattle.kc_value.proofs.ClosingSteps.{further}
 use Rattle.kc_value.specs.QuotedTexts.{IsBody, none, plain, pair}
 use Rattle.kc_tokens.specs.declared.language.Language.{Language}
 use Rattle.kc_tokens.specs.declared.language.Language.TheVariants.{Strict, Linux}
+use Rattle.kc_tokens.specs.declared.language.LinuxVersion.{LinuxVersion}
 use Rattle.kc_tokens.specs.Token.{bare_dollar, dollar_left_out}
 use Rattle.kc_tokens.specs.TokenGrammar.{HasDollarsInPairs, empty, other, paired, HasDollarsOf}
 
@@ -50,8 +51,8 @@ bare_of_any escaped [] h = refl
 bare_of_any true (c ∷ cs) h = let (f, r) = or_parts (eqb c 36) (list_any (λ c. eqb c 36) cs) h in ap (option_map suc) (bare_of_any false cs r)
 bare_of_any false (c ∷ cs) h = let (f, r) = or_parts (eqb c 36) (list_any (λ c. eqb c 36) cs) h in rw f (ap (option_map suc) (bare_of_any (eqb c 92) cs r))
 
-pub bare_of_none : (text : List ℕ) → dollar_left_out Strict text ≡ None → dollar_left_out Linux text ≡ None
-bare_of_none text h = bare_of_any false text (none_any (λ c. eqb c 36) text (list_any (λ c. eqb c 36) text) refl h)
+pub bare_of_none : (version : LinuxVersion) (text : List ℕ) → dollar_left_out Strict text ≡ None → dollar_left_out (Linux version) text ≡ None
+bare_of_none version text h = bare_of_any false text (none_any (λ c. eqb c 36) text (list_any (λ c. eqb c 36) text) refl h)
 
 -- a body with its `$` in pairs has no other
 bare_none : (body rest : List ℕ) → HasDollarsInPairs body → bare_dollar false rest ≡ None → bare_dollar false (body ++ rest) ≡ None
@@ -105,22 +106,22 @@ first_at k h = cc
 dollar_first : (language : Language) (c k : ℕ) (bs : List ℕ) → HasDollarsOf language [] → eqb c 36 ≡ true → k ≡ 0 → IsFirstDollar language (c ∷ bs) k
 dollar_first language c k bs h d e = record { front = []; back = bs; parts = ap (λ x. x ∷ bs) (eqb-true c 36 d); is_place = e; dollars = h }
 
-bare_found : (quote : ℕ) (body means : List ℕ) (k : ℕ) → eqb quote 36 ≡ false → IsBody quote body means → bare_dollar false (body ++ quote ∷ []) ≡ Some k
-    → IsFirstDollar Linux body k
-bare_found quote body means k q none h = let g : None ≡ Some k = rw q at h in cc
-bare_found quote body means k q (plain {c = c} {bs = bs} {cs = cs} n s p) h = by_dollar (eqb c 36) refl (rw s at h) (λ m e. bare_found quote bs cs m q p e)
+bare_found : (version : LinuxVersion) (quote : ℕ) (body means : List ℕ) (k : ℕ) → eqb quote 36 ≡ false → IsBody quote body means → bare_dollar false (body ++ quote ∷ []) ≡ Some k
+    → IsFirstDollar (Linux version) body k
+bare_found version quote body means k q none h = let g : None ≡ Some k = rw q at h in cc
+bare_found version quote body means k q (plain {c = c} {bs = bs} {cs = cs} n s p) h = by_dollar (eqb c 36) refl (rw s at h) (λ m e. bare_found version quote bs cs m q p e)
   where
     by_dollar : (t : Bool) → eqb c 36 ≡ t → cond t (Some 0) (option_map suc (bare_dollar false (bs ++ quote ∷ []))) ≡ Some k
-        → ((m : ℕ) → bare_dollar false (bs ++ quote ∷ []) ≡ Some m → IsFirstDollar Linux bs m) → IsFirstDollar Linux (c ∷ bs) k
-    by_dollar true d g ih = dollar_first Linux c k bs empty d (first_at k g)
+        → ((m : ℕ) → bare_dollar false (bs ++ quote ∷ []) ≡ Some m → IsFirstDollar (Linux version) bs m) → IsFirstDollar (Linux version) (c ∷ bs) k
+    by_dollar true d g ih = dollar_first (Linux version) c k bs empty d (first_at k g)
     by_dollar false d g ih =
         let (m, e, l) = some_under (bare_dollar false (bs ++ quote ∷ [])) k g in
         let f = ih m e in
         record { front = c ∷ f.front; back = f.back; parts = ap (λ x. c ∷ x) f.parts; is_place = l ∙ ap suc f.is_place; dollars = other d s f.dollars }
-bare_found quote body means k q (pair {c = c} {bs = bs} {cs = cs} p) h =
+bare_found version quote body means k q (pair {c = c} {bs = bs} {cs = cs} p) h =
     let (m, e, l) = some_under (option_map suc (bare_dollar false (bs ++ quote ∷ []))) k h in
     let (i, g, j) = some_under (bare_dollar false (bs ++ quote ∷ [])) m e in
-    let f = bare_found quote bs cs i q p g in
+    let f = bare_found version quote bs cs i q p g in
     let place = l ∙ ap suc (j ∙ ap suc f.is_place) in
     record { front = 92 ∷ c ∷ f.front; back = f.back; parts = ap (λ x. 92 ∷ c ∷ x) f.parts; is_place = place; dollars = paired f.dollars }
 
@@ -159,7 +160,7 @@ module _ (q : ℕ) (body : List ℕ) (dollar : eqb q 36 ≡ false) (slash : eqb 
   none_left_out Strict h =
       let clean : list_any (λ c. eqb c 36) (q ∷ (body ++ q ∷ [])) ≡ false = rw dollar (any_append (λ c. eqb c 36) body (q ∷ []) h (rw dollar refl)) in
       position_none (λ c. eqb c 36) (q ∷ (body ++ q ∷ [])) clean
-  none_left_out Linux h =
+  none_left_out (Linux version) h =
       let last : bare_dollar false (q ∷ []) ≡ None = rw dollar refl in
       rw (dollar, slash) (ap (option_map suc) (bare_none body (q ∷ []) h last))
 
@@ -169,7 +170,7 @@ module _ (q : ℕ) (body : List ℕ) (dollar : eqb q 36 ≡ false) (slash : eqb 
       let clean = none_any (λ c. eqb c 36) (q ∷ (body ++ q ∷ [])) (list_any (λ c. eqb c 36) (q ∷ (body ++ q ∷ []))) refl h in
       let (f, r) = or_parts (eqb q 36) (list_any (λ c. eqb c 36) (body ++ q ∷ [])) clean in
       any_front (λ c. eqb c 36) body (q ∷ []) r
-  dollars_between Linux means b h =
+  dollars_between (Linux version) means b h =
       let g = rw (dollar, slash) at h in
       bare_body q body means (q ∷ []) b (none_under (bare_dollar false (body ++ q ∷ [])) g)
 
@@ -181,7 +182,7 @@ module _ (q : ℕ) (body : List ℕ) (dollar : eqb q 36 ≡ false) (slash : eqb 
       let place : dollar_place (q ∷ text) ≡ suc (length front) = rw dollar (omega (arith, place_first front (back ++ q ∷ []) h)) in
       let there : ltb (dollar_place (q ∷ text)) (length (q ∷ text)) ≡ true = lt-ltb _ _ (omega (arith, place, length-append front (36 ∷ (back ++ q ∷ [])))) in
       ap (λ x. position (λ c. eqb c 36) (q ∷ x)) whole ∙ ap (λ t. cond t (Some (dollar_place (q ∷ text))) None) there ∙ ap Some place
-  left_out_first Linux front back e h =
+  left_out_first (Linux version) front back e h =
       let whole : body ++ q ∷ [] ≡ front ++ 36 ∷ (back ++ q ∷ []) = ap (λ x. x ++ q ∷ []) e ∙ append_assoc front (36 ∷ back) (q ∷ []) in
       ap (λ x. bare_dollar false (q ∷ x)) whole ∙ rw (dollar, slash) (ap (option_map suc) (bare_first front (back ++ q ∷ []) h))
 
@@ -192,9 +193,9 @@ module _ (q : ℕ) (body : List ℕ) (dollar : eqb q 36 ≡ false) (slash : eqb 
       let before = rw dollar at l in
       let one : dollar_place (q ∷ (body ++ q ∷ [])) ≡ suc (dollar_place (body ++ q ∷ [])) = rw dollar (omega arith) in
       (dollar_place (body ++ q ∷ []), sym e ∙ one, place_found q body dollar (omega (arith, before)))
-  first_left_out Linux means k b h =
+  first_left_out (Linux version) means k b h =
       let (m, e, l) = some_under (bare_dollar false (body ++ q ∷ [])) k (rw (dollar, slash) at h) in
-      (m, l, bare_found q body means m dollar b e)
+      (m, l, bare_found version q body means m dollar b e)
 
 -- one byte on, after a backslash or not
 further_more : (n : ℕ) (o : Option ℕ) → further n (option_map suc o) ≡ further (n + 1) o

@@ -1,4 +1,5 @@
 pub mod FaultNames
+pub mod Languages
 pub mod Token
 pub mod TokenGrammar
 pub mod checker

@@ -53,7 +53,7 @@ bare_dollar false (c ∷ cs) = if c == 36 then Some 0 else option_map suc (bare_
 -- pair of a backslash and a character
 abbrev pub dollar_left_out : Language → List ℕ → Option ℕ
 dollar_left_out Strict text = position (λ c. c == 36) text
-dollar_left_out Linux text = bare_dollar false text
+dollar_left_out (Linux version) text = bare_dollar false text
 
 -- the quoted token of a length, or the fault `LeftOut` at the place of a `$` in it that the language forbids, if one is given
 abbrev pub quoted_or_left_out : ℕ → Option ℕ → NextToken

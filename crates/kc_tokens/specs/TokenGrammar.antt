@@ -26,7 +26,7 @@ pub data HasDollarsInPairs : List ℕ → Type 0 where
 -- backslash and a character
 abbrev pub HasDollarsOf : Language → List ℕ → Type 0
 HasDollarsOf Strict body = list_any (λ c. c == 36) body ≡ false
-HasDollarsOf Linux body = HasDollarsInPairs body
+HasDollarsOf (Linux version) body = HasDollarsInPairs body
 
 -- a text is a quoted token: a body between two quotes of one sort, with no `$` that the language leaves out
 pub record IsQuotedToken (language : Language) (text : List ℕ) : Type 0 where

@@ -6,5 +6,5 @@ mod language;
 mod token;
 
 pub use fault::{ExprFault, ExprKind};
-pub use language::Language;
+pub use language::{Language, LinuxVersion};
 pub use token::{NextToken, Relop, Token, TokenKind, push_tokens, tokens};

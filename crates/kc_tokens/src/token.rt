@@ -110,7 +110,7 @@ fn dollar_left_out(language: Language, text: &[u8]) -> Option<usize>
 {
     match language {
         Language::Strict => first_dollar(text),
-        Language::Linux => bare_dollar(text),
+        Language::Linux(_) => bare_dollar(text),
     }
 }
 

@@ -5,13 +5,14 @@ use Rattle.std.specs.Option.{option_or}
 use Rattle.std.specs.List.{cons_option}
 use Rattle.std.proofs.lemmas.List.{length-map}
 use Rattle.std.proofs.lemmas.List.Elements.{All-append, All-cons, All-nil}
+use Rattle.kc_tokens.specs.declared.language.Language.{Language}
 use Rattle.kc_expr.specs.between.Arena.{Exprs}
 use Rattle.kc_expr.specs.Lookup.{index_of_name}
 use Rattle.kc_tree_model.specs.Trees as tree
 use Rattle.kc_tree_model.specs.TreeFiles.{Files}
 use Rattle.kc_tree_model.specs.Blocks.{Group, defined_name}
 use Rattle.kc_tree_model.specs.Conditions.{GroupInContext}
-use Rattle.kc_tree_model.specs.Contents.{Contents, contents_of, symbol_of, choice_of, choice_number, tree_of_groups, tree_of_files}
+use Rattle.kc_tree_model.specs.Contents.{Contents, begins_symbol, contents_of, symbol_of, choice_of, choice_number, tree_of_groups, tree_of_files}
 use Rattle.kc_tree_model.specs.Limits.{names_defined}
 use Rattle.kc_tree_model.proofs.Consistency.Definitions.{IsSound, sound_contents, no_first}
 use Rattle.kc_tree_model.proofs.Consistency.Consistent.{tree_is_consistent}
@@ -39,20 +40,20 @@ use Rattle.kc_tree.specs.checker.GatheredView.{symbol_gathered, choice_gathered,
 use Rattle.kc_tree.specs.checker.GroupedItems.{items_of}
 use Rattle.kc_tree.specs.checker.PartsView.{from_rows, entry_from_row}
 use Rattle.kc_tree.specs.checker.Rows.{IsRowOf, AreRowsOf}
-use Rattle.kc_tree.specs.checker.Summaries.{IsSummary, enclosing_choice, member_in, members_at, member_keys_at}
+use Rattle.kc_tree.specs.checker.Summaries.{AreOwnMembers, IsSummary, own_choice, member_in, members_at, member_keys_at}
 use Rattle.kc_tree.specs.checker.UnitList.{unit_read, units_read}
 use Rattle.kc_tree.specs.declared.builder.ChoiceParts.{ChoiceParts}
 use Rattle.kc_tree.specs.declared.builder.SymbolParts.{SymbolParts}
 use Rattle.kc_tree.specs.declared.tree_lists.TreeLists.{TreeLists}
-use Rattle.kc_tree.specs.declared.summary.Summary.{Summary}
+use Rattle.kc_tree.specs.declared.items_with_keys.ItemsWithKeys.{ItemsWithKeys}
 use Rattle.kc_tree.specs.declared.parts.ChoiceRow.{ChoiceRow}
 use Rattle.kc_tree.specs.declared.parts.SymbolRow.{SymbolRow}
 use Rattle.kc_tree.proofs.GroupPlaces.{placed_count, count_is}
-use Rattle.kc_tree.proofs.MemberLaw.{members_are}
+use Rattle.kc_tree.proofs.MemberLaw.{own_members_are}
 
 -- symbols
-module _ (g : TreeLists) (c : Contents) (a : AreAttributes g.arena c g.attributes) where
-  symbol_same : (s : ℕ) (name : List ℕ) (r : SymbolRow) → slice_get c.names s ≡ Some name → IsRowOf g.arena c name r → symbol_gathered g s r ≡ symbol_of c name
+module _ (language : Language) (g : TreeLists) (c : Contents) (a : AreAttributes language g.arena c g.attributes) where
+  symbol_same : (s : ℕ) (name : List ℕ) (r : SymbolRow) → slice_get c.names s ≡ Some name → IsRowOf g.arena c name r → symbol_gathered g s r ≡ symbol_of language c name
   symbol_same s name r e h =
       rw (
         h.name_is,
@@ -71,16 +72,16 @@ module _ (g : TreeLists) (c : Contents) (a : AreAttributes g.arena c g.attribute
 
   symbols_from : (n : ℕ) (names : List (List ℕ)) (rows : List SymbolRow)
       → ((i : ℕ) (x : List ℕ) → slice_get names i ≡ Some x → slice_get c.names (n + i) ≡ Some x) → AreRowsOf g.arena c names rows
-      → from_rows (symbol_gathered g) n rows ≡ map (symbol_of c) names
+      → from_rows (symbol_gathered g) n rows ≡ map (symbol_of language c) names
   symbols_from n [] [] at h = refl
   symbols_from n [] (r ∷ rows) at h = absurd h
   symbols_from n (x ∷ names) [] at h = absurd h
   symbols_from n (x ∷ names) (r ∷ rows) at h =
       let here : slice_get c.names n ≡ Some x = ap (slice_get c.names) (let e : n ≡ n + 0 = omega arith in e) ∙ at 0 x refl in
       let rest = symbols_from (suc n) names rows (λ i y e. ap (slice_get c.names) (let m : suc n + i ≡ n + suc i = omega arith in m) ∙ at (suc i) y e) h.1 in
-      ap (λ k. k ∷ from_rows (symbol_gathered g) (suc n) rows) (symbol_same n x r here h.0) ∙ ap (λ ks. symbol_of c x ∷ ks) rest
+      ap (λ k. k ∷ from_rows (symbol_gathered g) (suc n) rows) (symbol_same n x r here h.0) ∙ ap (λ ks. symbol_of language c x ∷ ks) rest
 
-  pub symbols_are : (rows : List SymbolRow) → AreRowsOf g.arena c c.names rows → from_rows (symbol_gathered g) 0 rows ≡ map (symbol_of c) c.names
+  pub symbols_are : (rows : List SymbolRow) → AreRowsOf g.arena c c.names rows → from_rows (symbol_gathered g) 0 rows ≡ map (symbol_of language c) c.names
   symbols_are rows h = symbols_from 0 c.names rows (λ i x e. ap (slice_get c.names) (let m : 0 + i ≡ i = omega arith in m) ∙ e) h
 
 as_many_rows : (e : Exprs) (c : Contents) (names : List (List ℕ)) (rows : List SymbolRow) → AreRowsOf e c names rows → length rows ≡ length names
@@ -97,29 +98,29 @@ rows_held e c (x ∷ names) [] h = absurd h
 rows_held e c (x ∷ names) (r ∷ rows) h = All-cons (λ (r : SymbolRow). r.name < length e.names) r rows h.0.held (rows_held e c names rows h.1)
 
 -- choices
-module _ (g : TreeLists) (c : Contents) (sound : IsSound c) (keys : g.members.keys.items ≡ flat_map (member_keys_at c) c.places)
-    (items : g.members.items.items ≡ flat_map (members_at c) c.places)
+module _ (language : Language) (g : TreeLists) (c : Contents) (sound : IsSound c) (keys : g.members.keys.items ≡ flat_map (member_keys_at (own_choice c) c) c.places)
+    (items : g.members.items.items ≡ flat_map (members_at (own_choice c) c) c.places)
     (d : (k : ℕ) → map (member_default_view g.arena) (items_of k g.member_defaults.keys.items g.member_defaults.items.items)
-    ≡ elim (slice_get (filter opens c.places) k) as (λ _. List tree.MemberDefault) [ None ↦ [] | Some p ↦ (choice_of c p).defaults ]) where
+    ≡ elim (slice_get (filter opens c.places) k) as (λ _. List tree.MemberDefault) [ None ↦ [] | Some p ↦ (choice_of language c p).defaults ]) where
   members_same : (k : ℕ) (p : GroupInContext) → slice_get (filter opens c.places) k ≡ Some p
-      → items_of k g.members.keys.items g.members.items.items ≡ (choice_of c p).members
+      → items_of k g.members.keys.items g.members.items.items ≡ (choice_of language c p).members
   members_same k p e =
       let number : choice_number c p.group.number ≡ Some k = number_is c sound p.group.number k
       (ap (λ ns. slice_get ns k) sound.choices ∙ map-get (λ (q : GroupInContext). q.group.number) (filter opens c.places) k p e) in
       ap (λ ks. items_of k ks g.members.items.items) keys
-      ∙ ap (items_of k (flat_map (member_keys_at c) c.places)) items
-      ∙ members_are c k p.group.number number
+      ∙ ap (items_of k (flat_map (member_keys_at (own_choice c) c) c.places)) items
+      ∙ own_members_are c k p.group.number number
 
-  choice_same : (k : ℕ) (p : GroupInContext) (r : ChoiceRow) → slice_get (filter opens c.places) k ≡ Some p → IsChoiceRow g.arena p r
-      → choice_gathered g k r ≡ choice_of c p
+  choice_same : (k : ℕ) (p : GroupInContext) (r : ChoiceRow) → slice_get (filter opens c.places) k ≡ Some p → IsChoiceRow language g.arena p r
+      → choice_gathered g k r ≡ choice_of language c p
   choice_same k p r e h =
-      let defaults : map (member_default_view g.arena) (items_of k g.member_defaults.keys.items g.member_defaults.items.items) ≡ (choice_of c p).defaults =
-      d k ∙ ap (λ o. elim o as (λ _. List tree.MemberDefault) [ None ↦ [] | Some q ↦ (choice_of c q).defaults ]) e in
+      let defaults : map (member_default_view g.arena) (items_of k g.member_defaults.keys.items g.member_defaults.items.items) ≡ (choice_of language c p).defaults =
+      d k ∙ ap (λ o. elim o as (λ _. List tree.MemberDefault) [ None ↦ [] | Some q ↦ (choice_of language c q).defaults ]) e in
       rw (h.file_is, h.line_is, h.prompt_is, h.optional_is, members_same k p e, defaults) refl
 
   choices_from : (n : ℕ) (ps : List GroupInContext) (rows : List ChoiceRow)
-      → ((i : ℕ) (p : GroupInContext) → slice_get ps i ≡ Some p → slice_get (filter opens c.places) (n + i) ≡ Some p) → AreChoiceRows g.arena ps rows
-      → from_rows (choice_gathered g) n rows ≡ map (choice_of c) ps
+      → ((i : ℕ) (p : GroupInContext) → slice_get ps i ≡ Some p → slice_get (filter opens c.places) (n + i) ≡ Some p) → AreChoiceRows language g.arena ps rows
+      → from_rows (choice_gathered g) n rows ≡ map (choice_of language c) ps
   choices_from n [] [] at h = refl
   choices_from n [] (r ∷ rows) at h = absurd h
   choices_from n (p ∷ ps) [] at h = absurd h
@@ -127,26 +128,26 @@ module _ (g : TreeLists) (c : Contents) (sound : IsSound c) (keys : g.members.ke
       let here : slice_get (filter opens c.places) n ≡ Some p = ap (slice_get (filter opens c.places)) (let e : n ≡ n + 0 = omega arith in e) ∙ at 0 p refl in
       let rest = choices_from (suc n) ps rows (λ i y e. ap (slice_get (filter opens c.places)) (let m : suc n + i ≡ n + suc i = omega arith in m)
       ∙ at (suc i) y e) h.1 in
-      ap (λ k. k ∷ from_rows (choice_gathered g) (suc n) rows) (choice_same n p r here h.0) ∙ ap (λ ks. choice_of c p ∷ ks) rest
+      ap (λ k. k ∷ from_rows (choice_gathered g) (suc n) rows) (choice_same n p r here h.0) ∙ ap (λ ks. choice_of language c p ∷ ks) rest
 
-  pub choices_are : (rows : List ChoiceRow) → AreChoiceRows g.arena (filter opens c.places) rows
-      → from_rows (choice_gathered g) 0 rows ≡ map (choice_of c) (filter opens c.places)
+  pub choices_are : (rows : List ChoiceRow) → AreChoiceRows language g.arena (filter opens c.places) rows
+      → from_rows (choice_gathered g) 0 rows ≡ map (choice_of language c) (filter opens c.places)
   choices_are rows h =
       choices_from 0 (filter opens c.places) rows (λ i p e. ap (slice_get (filter opens c.places)) (let m : 0 + i ≡ i = omega arith in m) ∙ e) h
 
-as_many_choices : (e : Exprs) (ps : List GroupInContext) (rows : List ChoiceRow) → AreChoiceRows e ps rows → length rows ≡ length ps
-as_many_choices e [] [] h = refl
-as_many_choices e [] (r ∷ rows) h = absurd h
-as_many_choices e (p ∷ ps) [] h = absurd h
-as_many_choices e (p ∷ ps) (r ∷ rows) h = ap suc (as_many_choices e ps rows h.1)
+as_many_choices : (language : Language) (e : Exprs) (ps : List GroupInContext) (rows : List ChoiceRow) → AreChoiceRows language e ps rows → length rows ≡ length ps
+as_many_choices language e [] [] h = refl
+as_many_choices language e [] (r ∷ rows) h = absurd h
+as_many_choices language e (p ∷ ps) [] h = absurd h
+as_many_choices language e (p ∷ ps) (r ∷ rows) h = ap suc (as_many_choices _ e ps rows h.1)
 
-prompts_held : (e : Exprs) (ps : List GroupInContext) (rows : List ChoiceRow) → AreChoiceRows e ps rows → (k i : ℕ) (r : ChoiceRow) → slice_get rows k ≡ Some r
+prompts_held : (language : Language) (e : Exprs) (ps : List GroupInContext) (rows : List ChoiceRow) → AreChoiceRows language e ps rows → (k i : ℕ) (r : ChoiceRow) → slice_get rows k ≡ Some r
     → r.prompt ≡ Some i → i < length e.nodes
-prompts_held e [] [] h k i r at is = cc
-prompts_held e [] (x ∷ rows) h k i r at is = absurd h
-prompts_held e (p ∷ ps) [] h k i r at is = absurd h
-prompts_held e (p ∷ ps) (x ∷ rows) h zero i r at is = let same : x ≡ r = cc in h.0.held i (ap (λ (y : ChoiceRow). y.prompt) same ∙ is)
-prompts_held e (p ∷ ps) (x ∷ rows) h (suc k) i r at is = prompts_held e ps rows h.1 k i r at is
+prompts_held language e [] [] h k i r at is = cc
+prompts_held language e [] (x ∷ rows) h k i r at is = absurd h
+prompts_held language e (p ∷ ps) [] h k i r at is = absurd h
+prompts_held language e (p ∷ ps) (x ∷ rows) h zero i r at is = let same : x ≡ r = cc in h.0.held i (ap (λ (y : ChoiceRow). y.prompt) same ∙ is)
+prompts_held language e (p ∷ ps) (x ∷ rows) h (suc k) i r at is = prompts_held _ e ps rows h.1 k i r at is
 
 -- members are symbols under choices
 module _ (c : Contents) where
@@ -165,10 +166,10 @@ module _ (c : Contents) where
   members_fit_at None x = All-nil (λ s. s < length c.names)
   members_fit_at (Some k) x = place_fits (option_and_then (λ y. index_of_name y c.names) x) (named_fits x)
 
-  pub members_fit : (ps : List GroupInContext) → All (λ s. s < length c.names) (flat_map (members_at c) ps)
+  pub members_fit : (ps : List GroupInContext) → All (λ s. s < length c.names) (flat_map (members_at (own_choice c) c) ps)
   members_fit [] = All-nil (λ s. s < length c.names)
   members_fit (p ∷ ps) =
-      All-append (λ s. s < length c.names) (members_at c p) (flat_map (members_at c) ps) (members_fit_at (enclosing_choice c p) (defined_name p.group))
+      All-append (λ s. s < length c.names) (members_at (own_choice c) c p) (flat_map (members_at (own_choice c) c) ps) (members_fit_at (own_choice c p) (defined_name p.group))
       (members_fit ps)
 
   mapped_keys : (k : ℕ) (xs : List ℕ) → k < length c.choices → All (λ n. n < length c.choices) (map (λ _. k) xs)
@@ -184,11 +185,15 @@ module _ (c : Contents) where
   enclosing_fits None k e = cc
   enclosing_fits (Some n) k e = get_below c.choices k n (number-get n c.choices k e)
 
-  pub keys_fit : (ps : List GroupInContext) → All (λ n. n < length c.choices) (flat_map (member_keys_at c) ps)
+  own_fits : (b : Bool) (o : Option ℕ) (k : ℕ) → cond b (option_and_then (choice_number c) o) None ≡ Some k → k < length c.choices
+  own_fits true o k e = enclosing_fits o k e
+  own_fits false o k e = cc
+
+  pub keys_fit : (ps : List GroupInContext) → All (λ n. n < length c.choices) (flat_map (member_keys_at (own_choice c) c) ps)
   keys_fit [] = All-nil (λ n. n < length c.choices)
   keys_fit (p ∷ ps) =
-      All-append (λ n. n < length c.choices) (member_keys_at c p) (flat_map (member_keys_at c) ps)
-      (keys_fit_at (enclosing_choice c p) (defined_name p.group) (enclosing_fits p.enclosing.choice)) (keys_fit ps)
+      All-append (λ n. n < length c.choices) (member_keys_at (own_choice c) c p) (flat_map (member_keys_at (own_choice c) c) ps)
+      (keys_fit_at (own_choice c p) (defined_name p.group) (own_fits (begins_symbol c p) p.choice)) (keys_fit ps)
 
 keys_of_all : (n : ℕ) (ks : List ℕ) → All (λ k. k < n) ks → AreKeys n ks
 keys_of_all n ks h i l = h i 0 l
@@ -224,14 +229,14 @@ faultless_of files root h = (
 )
 
 -- the whole, part by part
-module _ (files : Files) (root : List ℕ) (l : Listing) (symbols : SymbolParts) (choices : ChoiceParts) (summary : Summary) (g : TreeLists)
+module _ (files : Files) (root : List ℕ) (l : Listing) (symbols : SymbolParts) (choices : ChoiceParts) (members : ItemsWithKeys ℕ) (g : TreeLists)
     (arena_is : g.arena ≡ l.names.arena) (symbols_is : g.symbols ≡ symbols.rows) (attributes_is : g.attributes ≡ symbols.attributes)
-    (choices_is : g.choices ≡ choices.rows) (members_is : g.members ≡ summary.members)
+    (choices_is : g.choices ≡ choices.rows) (members_is : g.members ≡ members)
     (defaults_is : g.member_defaults ≡ choices.defaults) (entries_is : g.entries ≡ choices.entries) (titles_is : g.titles ≡ l.texts)
-    (units_is : g.units ≡ symbols.units)
-    (shows : RepresentsListing l (reading files root).read) (s : AreSymbolParts l.names.arena (reading files root).read symbols)
-    (k : AreChoiceParts l (reading files root).read choices)
-    (m : IsSummary (reading files root).read summary) (few : length l.groups.items < 2 ^ 32) where
+    (units_is : g.units ≡ symbols.units) (language_is : g.language ≡ files.language)
+    (shows : RepresentsListing l (reading files root).read) (s : AreSymbolParts files.language l.names.arena (reading files root).read symbols)
+    (k : AreChoiceParts l files.language (reading files root).read choices)
+    (m : AreOwnMembers (contents_of (reading files root).read) members) (few : length l.groups.items < 2 ^ 32) where
   abbrev read : List Group
   read = (reading files root).read
 
@@ -244,46 +249,44 @@ module _ (files : Files) (root : List ℕ) (l : Listing) (symbols : SymbolParts)
   rows : AreRowsOf g.arena c c.names g.symbols.items
   rows = rw (arena_is, symbols_is) s.rows
 
-  attributes : AreAttributes g.arena c g.attributes
+  attributes : AreAttributes files.language g.arena c g.attributes
   attributes = rw (arena_is, attributes_is) s.attributes
 
-  choice_rows : AreChoiceRows g.arena (filter opens c.places) g.choices.items
+  choice_rows : AreChoiceRows files.language g.arena (filter opens c.places) g.choices.items
   choice_rows = rw (arena_is, choices_is) k.rows
 
-  keys : g.members.keys.items ≡ flat_map (member_keys_at c) c.places
-  unfolding IsSummary
+  keys : g.members.keys.items ≡ flat_map (member_keys_at (own_choice c) c) c.places
   keys = ap (λ v. v.keys.items) members_is ∙ m.member_keys
 
-  items : g.members.items.items ≡ flat_map (members_at c) c.places
-  unfolding IsSummary
+  items : g.members.items.items ≡ flat_map (members_at (own_choice c) c) c.places
   items = ap (λ v. v.items.items) members_is ∙ m.members
 
-  defaults_by : (o : Option GroupInContext) → choice_defaults_of c o ≡ elim o as (λ _. List tree.MemberDefault)
-      [ None ↦ [] | Some p ↦ (choice_of c p).defaults ]
+  defaults_by : (o : Option GroupInContext) → choice_defaults_of files.language c o ≡ elim o as (λ _. List tree.MemberDefault)
+      [ None ↦ [] | Some p ↦ (choice_of files.language c p).defaults ]
   defaults_by None = refl
   defaults_by (Some p) = refl
 
   defaults : (j : ℕ)
       → map (member_default_view g.arena) (items_of j g.member_defaults.keys.items g.member_defaults.items.items)
-      ≡ elim (slice_get (filter opens c.places) j) as (λ _. List tree.MemberDefault) [ None ↦ [] | Some p ↦ (choice_of c p).defaults ]
+      ≡ elim (slice_get (filter opens c.places) j) as (λ _. List tree.MemberDefault) [ None ↦ [] | Some p ↦ (choice_of files.language c p).defaults ]
   defaults j = rw (arena_is, defaults_is) (k.defaults.are j ∙ defaults_by (slice_get (filter opens c.places) j))
 
-  entries : map (entry_from_row g.arena g.titles.items) g.entries.items ≡ (tree_of_groups read).entries
+  entries : map (entry_from_row g.arena g.titles.items) g.entries.items ≡ (tree_of_groups files.language read).entries
   entries = rw (arena_is, titles_is, entries_is) k.entries
 
   units : g.units.items ≡ units_read c
   units = rw units_is s.units
 
-  pub whole : gathered_tree g ≡ tree_of_groups read
+  pub whole : gathered_tree g ≡ tree_of_groups files.language read
   unfolding tree_of_groups
-  whole = rw (symbols_are g c attributes g.symbols.items rows, choices_are g c sound keys items defaults g.choices.items choice_rows, entries, units) refl
+  whole = rw (symbols_are _ g c attributes g.symbols.items rows, choices_are _ g c sound keys items defaults g.choices.items choice_rows, entries, units, language_is) refl
 
   many_symbols : length g.symbols.items ≡ length c.names
   many_symbols = as_many_rows g.arena c c.names g.symbols.items rows
 
   many_choices : length g.choices.items ≡ length c.choices
   many_choices =
-      as_many_choices g.arena (filter opens c.places) g.choices.items choice_rows
+      as_many_choices _ g.arena (filter opens c.places) g.choices.items choice_rows
       ∙ sym (length-map (filter opens c.places) (λ (p : GroupInContext). p.group.number))
 
   many_names : length l.names.symbols.items ≡ length c.names
@@ -297,7 +300,7 @@ module _ (files : Files) (root : List ℕ) (l : Listing) (symbols : SymbolParts)
   few_choices : length g.choices.items < 2 ^ 32
   few_choices =
       let a = few_filtered opens c.places in
-      omega (arith, a, many_places, few, as_many_choices g.arena (filter opens c.places) g.choices.items choice_rows)
+      omega (arith, a, many_places, few, as_many_choices _ g.arena (filter opens c.places) g.choices.items choice_rows)
 
   few_units : length g.units.items < 2 ^ 32
   few_units =
@@ -307,7 +310,7 @@ module _ (files : Files) (root : List ℕ) (l : Listing) (symbols : SymbolParts)
 
   few_names : length c.names < 2 ^ 32
   unfolding tree_of_files tree_of_groups
-  few_names = let n = few_defined files root in omega (arith, n, length-map c.names (symbol_of c))
+  few_names = let n = few_defined files root in omega (arith, n, length-map c.names (symbol_of files.language c))
 
   pub fits : GatheredFit g
   fits = record {
@@ -316,7 +319,7 @@ module _ (files : Files) (root : List ℕ) (l : Listing) (symbols : SymbolParts)
     few_units = few_units;
     names = rows_held g.arena c c.names g.symbols.items rows;
     keys = rw many_symbols attributes.keys;
-    member_keys = rw (many_choices, keys) (keys_of_all (length c.choices) (flat_map (member_keys_at c) c.places) (keys_fit c c.places));
+    member_keys = rw (many_choices, keys) (keys_of_all (length c.choices) (flat_map (member_keys_at (own_choice c) c) c.places) (keys_fit c c.places));
     member_default_keys = rw (many_choices, defaults_is) k.defaults.keys;
     prompts = attributes.prompts_fit;
     defaults = attributes.defaults_fit;
@@ -325,23 +328,23 @@ module _ (files : Files) (root : List ℕ) (l : Listing) (symbols : SymbolParts)
     selectors = rw many_symbols attributes.selectors_fit;
     impliers = rw many_symbols attributes.impliers_fit;
     direct = attributes.direct_fit;
-    choice_prompts = λ j i r at is. prompts_held g.arena (filter opens c.places) g.choices.items choice_rows j i r at is;
+    choice_prompts = λ j i r at is. prompts_held _ g.arena (filter opens c.places) g.choices.items choice_rows j i r at is;
     members = rw (many_symbols, items) (members_fit c c.places);
     member_defaults = rw (many_symbols, ← many_names, arena_is, defaults_is) k.defaults.fits;
     entries = rw (many_symbols, ← many_names, many_choices, arena_is, titles_is, entries_is) k.entries_fit;
   }
 
-  pub is_gathering : IsGathering (reading files root).read g
+  pub is_gathering : IsGathering files.language (reading files root).read g
   is_gathering = record { whole = whole; fits = fits }
 
 -- the tree of the collected lists is consistent if the files have no fault
-pub consistent_of : (files : Files) (root : List ℕ) (g : TreeLists) → first_tree_fault files root ≡ None → IsGathering (reading files root).read g
+pub consistent_of : (files : Files) (root : List ℕ) (g : TreeLists) → first_tree_fault files root ≡ None → IsGathering files.language (reading files root).read g
     → IsConsistent (gathered_tree g)
 unfolding tree_of_files
 consistent_of files root g h k = subst IsConsistent (sym k.whole) (tree_is_consistent files root h)
 
 -- a tree with the value of the collected lists is the tree of the files
-pub whole_is : (files : Files) (root : List ℕ) (g : TreeLists) (t : TreeModel) → IsGathering (reading files root).read g
+pub whole_is : (files : Files) (root : List ℕ) (g : TreeLists) (t : TreeModel) → IsGathering files.language (reading files root).read g
     → t ≡ record { exprs = g.arena; tree = gathered_tree g } → t.tree ≡ tree_of_files files root
 unfolding tree_of_files
 whole_is files root g t k e = ap (λ (h : TreeModel). h.tree) e ∙ k.whole

@@ -29,7 +29,7 @@ use Rattle.kc_tree_model.specs.declared.fault.TreeKind.{TreeKind}
 use Rattle.kc_tree_model.specs.declared.fault.TreeKind.TheVariants.{ChoiceDefault}
 use Rattle.kc_tree_model.specs.Statements.{DefaultAttribute, default_of, choice}
 use Rattle.kc_tree_model.specs.Blocks.{Group, Line, of_head, open_blocks}
-use Rattle.kc_tree_model.specs.Conditions.{GroupInContext, group_in_context, groups_in_context, attribute_condition}
+use Rattle.kc_tree_model.specs.Conditions.{context_of, GroupInContext, group_in_context, groups_in_context, attribute_condition}
 use Rattle.kc_tree_model.specs.Contents.{Contents, contents_of, bare_name, member_named, member_names, member_default, name_among}
 use Rattle.kc_tree_model.proofs.Consistency.Lists.{place-get}
 use Rattle.kc_tree_model.specs.TreeFaults.{when, second_prompt, choice_faults, is_no_member, faults_at, faults_of_lines, faults_of_group, tree_faults}
@@ -176,23 +176,23 @@ view_option : (e : Exprs) (o : Option ℕ) (x : ℕ) (y : Expr) → node_expr e 
 view_option e None x y h = refl
 view_option e (Some s) x y h = ap (λ z. (let d : Option tree.MemberDefault = Some (record { member = s; condition = z }) in d)) h
 
-module _ (n : SymbolTable) (symbols : List ℕ) (c : Contents) (has : HasNames n.arena symbols n.numbers.items c.names) where
+module _ (language : Language) (n : SymbolTable) (symbols : List ℕ) (c : Contents) (has : HasNames n.arena symbols n.numbers.items c.names) where
   default_value : (p : GroupInContext) (v : ℕ) (d : DefaultAttribute) (x : ℕ) → node_expr n.arena v ≡ d.value
-      → node_expr n.arena x ≡ attribute_condition p.enclosing p.group d.condition → NamesMember (member_names c p.group.number) (Some d)
+      → node_expr n.arena x ≡ attribute_condition (context_of language p) p.group d.condition → NamesMember (member_names c p.group.number) (Some d)
       → option_map (member_default_view n.arena) (option_map (λ s. (let m : MemberDefault = record { member = s; condition = x } in m)) (symbol_bare n v))
-      ≡ member_default c p d
+      ≡ member_default language c p d
   default_value p v d x e f m =
       let alone : name_alone (node_expr n.arena v) ≡ Some m.0 = ap name_alone e ∙ bare_is d.value ∙ m.2 in
       let symbol : symbol_bare n v ≡ index_of_name m.0 c.names = ap (option_and_then (number_in n.arena.names n.numbers.items)) alone ∙ has.numbered m.0 in
-      view_option n.arena (symbol_bare n v) x (attribute_condition p.enclosing p.group d.condition) f
-      ∙ ap (option_map (λ s. (let m : tree.MemberDefault = record { member = s; condition = attribute_condition p.enclosing p.group d.condition } in m)))
+      view_option n.arena (symbol_bare n v) x (attribute_condition (context_of language p) p.group d.condition) f
+      ∙ ap (option_map (λ s. (let m : tree.MemberDefault = record { member = s; condition = attribute_condition (context_of language p) p.group d.condition } in m)))
       (symbol ∙ sym (ap (option_and_then (λ y. index_of_name y c.names)) m.1))
 
   one_default : (p : GroupInContext) (k : ℕ) (a : CodeAttribute) (x : ℕ)
-      → node_expr n.arena x ≡ condition_at p (record { number = k; attribute = attribute_in n.arena a })
+      → node_expr n.arena x ≡ condition_at language p (record { number = k; attribute = attribute_in n.arena a })
       → NamesMember (member_names c p.group.number) (default_of (attribute_in n.arena a))
       → option_map (member_default_view n.arena) (option_map (λ s. (let m : MemberDefault = record { member = s; condition = x } in m))
-      (option_and_then (symbol_bare n) (default_value_view a))) ≡ option_and_then (member_default c p) (default_of (attribute_in n.arena a))
+      (option_and_then (symbol_bare n) (default_value_view a))) ≡ option_and_then (member_default language c p) (default_of (attribute_in n.arena a))
   one_default p k (attributes.Typed t) x f m = refl
   one_default p k (attributes.TypedPrompt t q) x f m = refl
   one_default p k (attributes.TypedDefault t d) x f m = default_value p d.value (default_in n.arena d) x refl f m
@@ -213,25 +213,25 @@ module _ (n : SymbolTable) (symbols : List ℕ) (c : Contents) (has : HasNames n
   view_cons (Some x) xs = refl
 
   statement_cons : (p : GroupInContext) (o : Option DefaultAttribute) (l : Line) (ls : List Line) → default_of l.attribute ≡ o
-      → filter_map (member_default c p) (filter_map (λ (l : Line). default_of l.attribute) (l ∷ ls)) ≡ cons_option (option_and_then (member_default c p) o)
-      (filter_map (member_default c p) (filter_map (λ (l : Line). default_of l.attribute) ls))
+      → filter_map (member_default language c p) (filter_map (λ (l : Line). default_of l.attribute) (l ∷ ls)) ≡ cons_option (option_and_then (member_default language c p) o)
+      (filter_map (member_default language c p) (filter_map (λ (l : Line). default_of l.attribute) ls))
   statement_cons p None l ls e = rw e refl
   statement_cons p (Some d) l ls e = rw e refl
 
   pub all_defaults : (p : GroupInContext) (ls : List CodeLine) (xs : List ℕ) (prompted : Bool)
-      → map (node_expr n.arena) xs ≡ map (condition_at p) (map (line_in n.arena) ls)
+      → map (node_expr n.arena) xs ≡ map (condition_at language p) (map (line_in n.arena) ls)
       → faults_of_lines p.group (choice_faults (member_names c p.group.number)) prompted (map (line_in n.arena) ls) ≡ []
-      → map (member_default_view n.arena) (member_default_rows n ls xs) ≡ filter_map (member_default c p)
+      → map (member_default_view n.arena) (member_default_rows n ls xs) ≡ filter_map (member_default language c p)
       (filter_map (λ (l : Line). default_of l.attribute) (map (line_in n.arena) ls))
   all_defaults p [] xs prompted e f = refl
-  all_defaults p (l ∷ ls) [] prompted e f = absurd (let k : 0 ≡ suc (length (map (condition_at p) (map (line_in n.arena) ls))) = ap length e in cc)
+  all_defaults p (l ∷ ls) [] prompted e f = absurd (let k : 0 ≡ suc (length (map (condition_at language p) (map (line_in n.arena) ls))) = ap length e in cc)
   all_defaults p (l ∷ ls) (x ∷ xs) prompted e f =
-      let rest : map (node_expr n.arena) xs ≡ map (condition_at p) (map (line_in n.arena) ls) = cc in
-      let here : node_expr n.arena x ≡ condition_at p (line_in n.arena l) = cc in
+      let rest : map (node_expr n.arena) xs ≡ map (condition_at language p) (map (line_in n.arena) ls) = cc in
+      let here : node_expr n.arena x ≡ condition_at language p (line_in n.arena l) = cc in
       let q = no_line_faults p.group (member_names c p.group.number) prompted (line_in n.arena l) (map (line_in n.arena) ls) f in
       view_cons (member_default_row n l x) (member_default_rows n ls xs)
       ∙ ap (λ o. cons_option o (map (member_default_view n.arena) (member_default_rows n ls xs))) (one_default p l.number l.attribute x here q.0)
-      ∙ ap (cons_option (option_and_then (member_default c p) (default_of (attribute_in n.arena l.attribute)))) (all_defaults p ls xs q.1.0 rest q.1.1)
+      ∙ ap (cons_option (option_and_then (member_default language c p) (default_of (attribute_in n.arena l.attribute)))) (all_defaults p ls xs q.1.0 rest q.1.1)
       ∙ sym (statement_cons p (default_of (attribute_in n.arena l.attribute)) (line_in n.arena l) (map (line_in n.arena) ls) refl)
 
   -- their numbers are there
@@ -343,41 +343,41 @@ choice_group_faults : (language : Language) (c : Contents) (p : GroupInContext) 
 choice_group_faults language c p e = rw e refl
 
 -- the defaults of the choices among the groups that were visited
-module _ (l : Listing) (groups : List GroupConditions) (conditions : List ℕ) (read : List Group) (w : IsWalkOf l groups conditions read) where
+module _ (language : Language) (l : Listing) (groups : List GroupConditions) (conditions : List ℕ) (read : List Group) (w : IsWalkOf language l groups conditions read) where
   abbrev pub AreTo : ℕ → ℕ → ItemsWithKeys MemberDefault → Type 0
-  AreTo i n found = AreDefaultsOf l (contents_of read) (groups_in_context (read_before i read)) n found
+  AreTo i n found = AreDefaultsOf language l (contents_of read) (groups_in_context (read_before i read)) n found
 
   pub as_many : length groups ≡ length l.groups.items
-  as_many = as_many_conditions l l.names.arena groups conditions read w.shows w.shown
+  as_many = as_many_conditions _ l l.names.arena groups conditions read w.shows w.shown
 
   pub as_long_own : (i : ℕ) → i < length l.groups.items → length (own_conditions groups conditions i) ≡ length (own_lines l i)
-  as_long_own i h = as_long l l.names.arena groups conditions read w.shows w.shown i h
+  as_long_own i h = as_long _ l l.names.arena groups conditions read w.shows w.shown i h
 
   pub no_defaults : (found : ItemsWithKeys MemberDefault) → found.keys.items ≡ [] → found.items.items ≡ [] → AreTo 0 0 found
   no_defaults found e f = record {
     keys = rw e (λ i h. absurd (omega arith));
     fits = rw f (All-nil (MemberDefaultFits (length l.names.arena.nodes) (length l.names.symbols.items)));
-    are = λ k. rw e (ap (λ r. choice_defaults_of (contents_of read) (slice_get (filter opens (groups_in_context r)) k)) (sym (none_before read)));
+    are = λ k. rw e (ap (λ r. choice_defaults_of language (contents_of read) (slice_get (filter opens (groups_in_context r)) k)) (sym (none_before read)));
   }
 
   same_defaults : (i n : ℕ) (old new : ItemsWithKeys MemberDefault) → i < length l.groups.items → is_choice_code (group_at l.groups.items i).head ≡ false
       → new.keys.items ≡ old.keys.items → new.items.items ≡ old.items.items → AreTo i n old → AreTo (i + 1) n new
   same_defaults i n old new h b e f d =
-      let same = places_more l l.names.arena groups conditions read w.shows w.shown i h false b
+      let same = places_more _ l l.names.arena groups conditions read w.shows w.shown i h false b
       ∙ append-nil (filter opens (groups_in_context (read_before i read))) in
       record {
         keys = rw e d.keys;
         fits = rw f d.fits;
-        are = λ k. rw (e, f) (d.are k) ∙ ap (λ ps. choice_defaults_of (contents_of read) (slice_get ps k)) (sym same);
+        are = λ k. rw (e, f) (d.are k) ∙ ap (λ ps. choice_defaults_of language (contents_of read) (slice_get ps k)) (sym same);
       }
 
   own_defaults : (i : ℕ) (h : i < length l.groups.items) → is_choice_code (group_at l.groups.items i).head ≡ true → HasNoFaults read
       → map (member_default_view l.names.arena) (member_default_rows l.names (own_lines l i) (own_conditions groups conditions i))
-      ≡ choice_defaults_of (contents_of read) (Some (group_in_context (open_blocks 0 (read_before i read))
-      (both_at l l.names.arena groups conditions read w.shows w.shown i h).group))
+      ≡ choice_defaults_of language (contents_of read) (Some (group_in_context (open_blocks 0 (read_before i read))
+      (both_at _ l l.names.arena groups conditions read w.shows w.shown i h).group))
   unfolding RepresentsListing tree_faults
   own_defaults i h b none =
-      let x = both_at l l.names.arena groups conditions read w.shows w.shown i h in
+      let x = both_at _ l l.names.arena groups conditions read w.shows w.shown i h in
       let p : GroupInContext = group_in_context (open_blocks 0 (read_before i read)) x.group in
       let n = count_is l.names.arena (names_defined read) l.texts.items l.lines.items l.groups.items read w.shows.groups_are in
       let faults = flat_none (faults_of_group none.0 (contents_of read)) (groups_in_context read) i p none.1
@@ -385,36 +385,36 @@ module _ (l : Listing) (groups : List GroupConditions) (conditions : List ℕ) (
       let what = choice_given l.names.arena (names_defined read) l.texts.items (group_at l.groups.items i).head x.group x.shown.head b in
       let lines : faults_of_lines p.group (choice_faults (member_names (contents_of read) p.group.number)) false p.group.attributes ≡ [] =
       sym (choice_group_faults none.0 (contents_of read) p what) ∙ faults in
-      let own : map (node_expr l.names.arena) (own_conditions groups conditions i) ≡ map (condition_at p) (map (line_in l.names.arena) (own_lines l i)) =
-      x.conditioned.own_are ∙ ap (map (condition_at p)) x.shown.attributes in
-      all_defaults l.names l.names.symbols.items (contents_of read) w.shows.names p (own_lines l i) (own_conditions groups conditions i) false own
+      let own : map (node_expr l.names.arena) (own_conditions groups conditions i) ≡ map (condition_at language p) (map (line_in l.names.arena) (own_lines l i)) =
+      x.conditioned.own_are ∙ ap (map (condition_at language p)) x.shown.attributes in
+      all_defaults _ l.names l.names.symbols.items (contents_of read) w.shows.names p (own_lines l i) (own_conditions groups conditions i) false own
       (ap (λ ls. faults_of_lines p.group (choice_faults (member_names (contents_of read) p.group.number)) false ls) (sym x.shown.attributes) ∙ lines)
-      ∙ ap (λ ls. filter_map (member_default (contents_of read) p) (filter_map (λ (l : Line). default_of l.attribute) ls)) (sym x.shown.attributes)
+      ∙ ap (λ ls. filter_map (member_default language (contents_of read) p) (filter_map (λ (l : Line). default_of l.attribute) ls)) (sym x.shown.attributes)
 
   own_fit : (i : ℕ) → i < length l.groups.items
       → All (MemberDefaultFits (length l.names.arena.nodes) (length l.names.symbols.items))
       (member_default_rows l.names (own_lines l i) (own_conditions groups conditions i))
   unfolding RepresentsListing
   own_fit i h =
-      let x = both_at l l.names.arena groups conditions read w.shows w.shown i h in
+      let x = both_at language l l.names.arena groups conditions read w.shows w.shown i h in
       let many = as_many_names l.names.arena l.names.symbols.items l.names.numbers.items (names_defined read) w.shows.names in
       subst (λ m. All (MemberDefaultFits (length l.names.arena.nodes) m) (member_default_rows l.names (own_lines l i) (own_conditions groups conditions i)))
       (sym many)
-      (all_fit l.names l.names.symbols.items (contents_of read) w.shows.names (own_lines l i) (own_conditions groups conditions i) x.conditioned.held)
+      (all_fit language l.names l.names.symbols.items (contents_of read) w.shows.names (own_lines l i) (own_conditions groups conditions i) x.conditioned.held)
 
   by_key : (m k : ℕ) (b : Bool) (F : List GroupInContext) (p : GroupInContext) (old : List tree.MemberDefault) (xs : List MemberDefault) → (m == k) ≡ b
       → m ≡ length F
-      → old ≡ choice_defaults_of (contents_of read) (slice_get F k) → map (member_default_view l.names.arena) xs ≡ choice_defaults_of (contents_of read)
+      → old ≡ choice_defaults_of language (contents_of read) (slice_get F k) → map (member_default_view l.names.arena) xs ≡ choice_defaults_of language (contents_of read)
       (Some p)
-      → old ++ map (member_default_view l.names.arena) (cond b xs []) ≡ choice_defaults_of (contents_of read) (slice_get (F ++ p ∷ []) k)
+      → old ++ map (member_default_view l.names.arena) (cond b xs []) ≡ choice_defaults_of language (contents_of read) (slice_get (F ++ p ∷ []) k)
   by_key m k true F p old xs e n o x =
       let same : k ≡ length F = sym (eqb-true m k e) ∙ n in
       let none : slice_get F k ≡ None = slice_get_past F k (omega arith) in
-      let empty : old ≡ [] = o ∙ ap (choice_defaults_of (contents_of read)) none in
+      let empty : old ≡ [] = o ∙ ap (choice_defaults_of language (contents_of read)) none in
       ap (λ ys. ys ++ map (member_default_view l.names.arena) xs) empty ∙ x
-      ∙ ap (choice_defaults_of (contents_of read)) (sym (ap (slice_get (F ++ p ∷ [])) same ∙ get_last F p))
+      ∙ ap (choice_defaults_of language (contents_of read)) (sym (ap (slice_get (F ++ p ∷ [])) same ∙ get_last F p))
   by_key m k false F p old xs e n o x =
-      append-nil old ∙ o ∙ ap (choice_defaults_of (contents_of read)) (sym (get_other F p k (λ same. false≢true (sym e ∙ eq-eqb m k (n ∙ sym same)))))
+      append-nil old ∙ o ∙ ap (choice_defaults_of language (contents_of read)) (sym (get_other F p k (λ same. false≢true (sym e ∙ eq-eqb m k (n ∙ sym same)))))
 
   more_defaults : (i n : ℕ) (old new : ItemsWithKeys MemberDefault) → i < length l.groups.items → is_choice_code (group_at l.groups.items i).head ≡ true
       → n ≡ length (filter opens (groups_in_context (read_before i read))) → HasNoFaults read
@@ -424,9 +424,9 @@ module _ (l : Listing) (groups : List GroupConditions) (conditions : List ℕ) (
   more_defaults i n old new h b c none e f d =
       let xs = member_default_rows l.names (own_lines l i) (own_conditions groups conditions i) in
       let p : GroupInContext = group_in_context (open_blocks 0 (read_before i read))
-      (both_at l l.names.arena groups conditions read w.shows w.shown i h).group in
+      (both_at _ l l.names.arena groups conditions read w.shows w.shown i h).group in
       let F : List GroupInContext = filter opens (groups_in_context (read_before i read)) in
-      let places = places_more l l.names.arena groups conditions read w.shows w.shown i h true b in
+      let places = places_more _ l l.names.arena groups conditions read w.shows w.shown i h true b in
       record {
         keys = rw e (keys_after n old.keys.items xs d.keys);
         fits = rw f (All-append (MemberDefaultFits (length l.names.arena.nodes) (length l.names.symbols.items)) old.items.items xs d.fits (own_fit i h));
@@ -436,7 +436,7 @@ module _ (l : Listing) (groups : List GroupConditions) (conditions : List ℕ) (
             (cond (n == k) xs [])
             ∙ by_key n k (n == k) F p (map (member_default_view l.names.arena) (items_of k old.keys.items old.items.items)) xs refl c (d.are k)
             (own_defaults i h b none)
-            ∙ ap (λ ps. choice_defaults_of (contents_of read) (slice_get ps k)) (sym places));
+            ∙ ap (λ ps. choice_defaults_of language (contents_of read) (slice_get ps k)) (sym places));
       }
 
   -- the defaults collected from the first `i` groups, with those of the next group, are those of the first `i + 1`
@@ -467,11 +467,11 @@ module _ (l : Listing) (groups : List GroupConditions) (conditions : List ℕ) (
 
   pub all_gathered : (i n : ℕ) (found : ItemsWithKeys MemberDefault) → i ≡ length l.groups.items → n ≡ length (numbers_of_choices (read_before i read))
       → AreTo i n found
-      → AreDefaultsOf l (contents_of read) (groups_in_context read) (length (contents_of read).choices) found
+      → AreDefaultsOf language l (contents_of read) (groups_in_context read) (length (contents_of read).choices) found
   unfolding RepresentsListing
   all_gathered i n found e c d =
       let k = count_is l.names.arena (names_defined read) l.texts.items l.lines.items l.groups.items read w.shows.groups_are in
       let j : i ≡ length read = e ∙ k in
       let all : read_before i read ≡ read = ap (λ m. read_before m read) j ∙ all_before read in
-      subst (λ r. AreDefaultsOf l (contents_of read) (groups_in_context r) (length (contents_of read).choices) found) all
+      subst (λ r. AreDefaultsOf language l (contents_of read) (groups_in_context r) (length (contents_of read).choices) found) all
       (subst (λ m. AreTo i m found) (c ∙ all_counted read i j) d)

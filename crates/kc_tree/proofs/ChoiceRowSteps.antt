@@ -4,6 +4,7 @@ use Rattle.std.specs.Prelude.{All, filter, filter_map, slice_get, option_map}
 use Rattle.std.proofs.lemmas.List.{length-map}
 use Rattle.std.proofs.lemmas.List.Elements.{filter-append}
 use Rattle.std.specs.List.{list_any}
+use Rattle.kc_tokens.specs.declared.language.Language.{Language}
 use Rattle.kc_expr.specs.between.Arena.{Exprs, node_expr}
 use Rattle.kc_expr.specs.Expr.{Expr}
 use Rattle.kc_statements.specs.between.StatementViews.{attribute_in}
@@ -11,7 +12,7 @@ use Rattle.kc_statements.specs.declared.statement.Attribute.{Attribute as CodeAt
 use Rattle.kc_statements.specs.declared.statement.Attribute.TheVariants as attributes
 use Rattle.kc_tree_model.specs.Statements.{prompt_of, is_optional}
 use Rattle.kc_tree_model.specs.Blocks.{Group, Line, open_blocks}
-use Rattle.kc_tree_model.specs.Conditions.{GroupInContext, group_in_context, groups_in_context, prompt_condition, prompts_of}
+use Rattle.kc_tree_model.specs.Conditions.{context_of, GroupInContext, group_in_context, groups_in_context, prompt_condition, prompts_of}
 use Rattle.kc_listing.specs.declared.listing.Line.{Line as CodeLine}
 use Rattle.kc_listing.specs.declared.listing.Listing.{Listing}
 use Rattle.kc_listing.specs.between.ListingView.{RepresentsListing, line_in, RepresentsGroup}
@@ -32,18 +33,18 @@ pub shown_of : (l : Listing) (groups : List GroupConditions) (conditions : List 
 shown_of l groups conditions g = record { read = g.read; shows = g.shows }
 
 pub conditioned_of : (l : Listing) (groups : List GroupConditions) (conditions : List ℕ) → IsGoneThrough l groups conditions → IsConditioned groups conditions
-conditioned_of l groups conditions g = record { exprs = g.exprs; texts = l.texts.items; read = g.read; shown = g.walked }
+conditioned_of l groups conditions g = record { language = g.language; exprs = g.exprs; texts = l.texts.items; read = g.read; shown = g.walked }
 
 same_group : (m n : Group) (a b : List Group) → m ∷ a ≡ n ∷ b → m ≡ n
 same_group m n a b e = cc
 
 -- the first prompt
-module _ (old far : Exprs) (p : GroupInContext) where
+module _ (language : Language) (old far : Exprs) (p : GroupInContext) where
   abbrev prompts_among : List Line → List Expr
-  prompts_among lines = map (prompt_condition p.enclosing p.group) (filter_map (λ (l : Line). prompt_of l.attribute) lines)
+  prompts_among lines = map (prompt_condition (context_of language p) p.group) (filter_map (λ (l : Line). prompt_of l.attribute) lines)
 
   prompt_one : (n : ℕ) (a : CodeAttribute) (o : ℕ) (os : List ℕ) (ls : List CodeLine) (rest : List Line)
-      → node_expr far o ≡ condition_at p (record { number = n; attribute = attribute_in old a })
+      → node_expr far o ≡ condition_at language p (record { number = n; attribute = attribute_in old a })
       → option_map (node_expr far) (first_prompt ls os) ≡ slice_get (prompts_among rest) 0
       → option_map (node_expr far) (first_prompt (record { number = n; attribute = a } ∷ ls) (o ∷ os)) ≡ slice_get
       (prompts_among (record { number = n; attribute = attribute_in old a } ∷ rest)) 0
@@ -61,19 +62,19 @@ module _ (old far : Exprs) (p : GroupInContext) where
   prompt_one n attributes.Modules o os ls rest e h = h
   prompt_one n attributes.Optional o os ls rest e h = h
 
-  prompt_first : (ls : List CodeLine) (os : List ℕ) → map (node_expr far) os ≡ map (condition_at p) (map (line_in old) ls)
+  prompt_first : (ls : List CodeLine) (os : List ℕ) → map (node_expr far) os ≡ map (condition_at language p) (map (line_in old) ls)
       → option_map (node_expr far) (first_prompt ls os) ≡ slice_get (prompts_among (map (line_in old) ls)) 0
   prompt_first [] os e = refl
-  prompt_first (l ∷ ls) [] e = absurd (let k : 0 ≡ suc (length (map (condition_at p) (map (line_in old) ls))) = ap length e in cc)
+  prompt_first (l ∷ ls) [] e = absurd (let k : 0 ≡ suc (length (map (condition_at language p) (map (line_in old) ls))) = ap length e in cc)
   prompt_first (l ∷ ls) (o ∷ os) e =
-      let rest : map (node_expr far) os ≡ map (condition_at p) (map (line_in old) ls) = cc in
-      let here : node_expr far o ≡ condition_at p (line_in old l) = cc in
+      let rest : map (node_expr far) os ≡ map (condition_at language p) (map (line_in old) ls) = cc in
+      let here : node_expr far o ≡ condition_at language p (line_in old l) = cc in
       prompt_one l.number l.attribute o os ls (map (line_in old) ls) here (prompt_first ls os rest)
 
   pub prompt_shown : (ls : List CodeLine) (os : List ℕ) → p.group.attributes ≡ map (line_in old) ls
-      → map (node_expr far) os ≡ map (condition_at p) p.group.attributes
-      → option_map (node_expr far) (first_prompt ls os) ≡ slice_get (prompts_of p.enclosing p.group) 0
-  prompt_shown ls os a e = prompt_first ls os (e ∙ ap (map (condition_at p)) a) ∙ sym (ap (λ xs. slice_get (prompts_among xs) 0) a)
+      → map (node_expr far) os ≡ map (condition_at language p) p.group.attributes
+      → option_map (node_expr far) (first_prompt ls os) ≡ slice_get (prompts_of (context_of language p) p.group) 0
+  prompt_shown ls os a e = prompt_first ls os (e ∙ ap (map (condition_at language p)) a) ∙ sym (ap (λ xs. slice_get (prompts_among xs) 0) a)
 
 -- the attribute `optional`
 optional_one : (old : Exprs) (a : CodeAttribute) → is_optional_code a ≡ is_optional (attribute_in old a)
@@ -106,20 +107,20 @@ prompt_held n (l ∷ ls) (o ∷ os) h i e = by (is_prompt l.attribute) (λ j f. 
     by false k e = k i e
 
 -- one row more
-rows_pushed : (exprs : Exprs) (ps : List GroupInContext) (rows : List ChoiceRow) (p : GroupInContext) (r : ChoiceRow) → AreChoiceRows exprs ps rows
-    → IsChoiceRow exprs p r → AreChoiceRows exprs (ps ++ p ∷ []) (rows ++ r ∷ [])
-rows_pushed exprs [] [] p r h k = (k, tt)
-rows_pushed exprs [] (s ∷ rows) p r h k = absurd h
-rows_pushed exprs (q ∷ ps) [] p r h k = absurd h
-rows_pushed exprs (q ∷ ps) (s ∷ rows) p r h k = (h.0, rows_pushed exprs ps rows p r h.1 k)
+rows_pushed : (language : Language) (exprs : Exprs) (ps : List GroupInContext) (rows : List ChoiceRow) (p : GroupInContext) (r : ChoiceRow) → AreChoiceRows language exprs ps rows
+    → IsChoiceRow language exprs p r → AreChoiceRows language exprs (ps ++ p ∷ []) (rows ++ r ∷ [])
+rows_pushed language exprs [] [] p r h k = (k, tt)
+rows_pushed language exprs [] (s ∷ rows) p r h k = absurd h
+rows_pushed language exprs (q ∷ ps) [] p r h k = absurd h
+rows_pushed language exprs (q ∷ ps) (s ∷ rows) p r h k = (h.0, rows_pushed _ exprs ps rows p r h.1 k)
 
 -- a group and its conditions
-module _ (l : Listing) (exprs : Exprs) (groups : List GroupConditions) (conditions : List ℕ) (read : List Group) (s : RepresentsListing l read)
-    (k : RepresentsAllConditions exprs l.texts.items conditions (length conditions) (reverse groups) read) where
+module _ (language : Language) (l : Listing) (exprs : Exprs) (groups : List GroupConditions) (conditions : List ℕ) (read : List Group) (s : RepresentsListing l read)
+    (k : RepresentsAllConditions language exprs l.texts.items conditions (length conditions) (reverse groups) read) where
   pub as_many_conditions : length groups ≡ length l.groups.items
   unfolding RepresentsListing
   as_many_conditions =
-      conditions_count exprs l.texts.items conditions groups read k ∙ sym
+      conditions_count _ exprs l.texts.items conditions groups read k ∙ sym
       (count_is l.names.arena (names_defined read) l.texts.items l.lines.items l.groups.items read s.groups_are)
 
   -- the listing represents the group with number `i` that was read, and the walk its conditions
@@ -127,20 +128,20 @@ module _ (l : Listing) (exprs : Exprs) (groups : List GroupConditions) (conditio
     pub group : Group
     pub now : read_before (i + 1) read ≡ group ∷ read_before i read
     pub shown : RepresentsGroup l.names.arena (names_defined read) l.texts.items (own_lines l i) i (group_at l.groups.items i) group
-    pub conditioned : RepresentsConditions exprs l.texts.items (own_conditions groups conditions i) (conditions_at groups i)
+    pub conditioned : RepresentsConditions language exprs l.texts.items (own_conditions groups conditions i) (conditions_at groups i)
         (group_in_context (open_blocks 0 (read_before i read)) group)
 
   pub both_at : (i : ℕ) → i < length l.groups.items → IsBoth i
   unfolding RepresentsListing
   both_at i h =
       let a = shown_at l.names.arena (names_defined read) l.texts.items l.lines.items l.groups.items read s.groups_are i h in
-      let b = conditioned_at exprs l.texts.items conditions groups read k i (omega (arith, as_many_conditions, h)) in
+      let b = conditioned_at _ exprs l.texts.items conditions groups read k i (omega (arith, as_many_conditions, h)) in
       let e : b.group ≡ a.group = same_group b.group a.group (read_before i read) (read_before i read) (sym b.now ∙ a.now) in
       record {
         group = a.group;
         now = a.now;
         shown = a.shown;
-        conditioned = subst (λ m. RepresentsConditions exprs l.texts.items (own_conditions groups conditions i) (conditions_at groups i)
+        conditioned = subst (λ m. RepresentsConditions language exprs l.texts.items (own_conditions groups conditions i) (conditions_at groups i)
             (group_in_context (open_blocks 0 (read_before i read)) m)) e b.shown;
       }
 
@@ -150,12 +151,12 @@ module _ (l : Listing) (exprs : Exprs) (groups : List GroupConditions) (conditio
       let p : GroupInContext = group_in_context (open_blocks 0 (read_before i read)) b.group in
       sym (length-map (own_conditions groups conditions i) (node_expr exprs))
       ∙ ap length b.conditioned.own_are
-      ∙ length-map b.group.attributes (condition_at p)
+      ∙ length-map b.group.attributes (condition_at language p)
       ∙ ap length b.shown.attributes
       ∙ length-map (own_lines l i) (line_in l.names.arena)
 
   pub row_shown : (i : ℕ) (h : i < length l.groups.items)
-      → IsChoiceRow exprs (group_in_context (open_blocks 0 (read_before i read)) (both_at i h).group)
+      → IsChoiceRow language exprs (group_in_context (open_blocks 0 (read_before i read)) (both_at i h).group)
       (choice_row (group_at l.groups.items i) (own_lines l i) (own_conditions groups conditions i))
   row_shown i h =
       let b = both_at i h in
@@ -163,13 +164,13 @@ module _ (l : Listing) (exprs : Exprs) (groups : List GroupConditions) (conditio
       record {
         file_is = sym b.shown.file_is;
         line_is = sym b.shown.line_is;
-        prompt_is = prompt_shown l.names.arena exprs p (own_lines l i) (own_conditions groups conditions i) b.shown.attributes b.conditioned.own_are;
+        prompt_is = prompt_shown _ l.names.arena exprs p (own_lines l i) (own_conditions groups conditions i) b.shown.attributes b.conditioned.own_are;
         optional_is = optional_shown l.names.arena (own_lines l i) ∙ ap (list_any (λ (x : Line). is_optional x.attribute)) (sym b.shown.attributes);
         held = prompt_held (length exprs.nodes) (own_lines l i) (own_conditions groups conditions i) b.conditioned.held;
       }
 
   abbrev pub AreRowsTo : ℕ → List ChoiceRow → Type 0
-  AreRowsTo i rows = AreChoiceRows exprs (filter opens (groups_in_context (read_before i read))) rows
+  AreRowsTo i rows = AreChoiceRows language exprs (filter opens (groups_in_context (read_before i read))) rows
 
   pub places_more : (i : ℕ) (h : i < length l.groups.items) (b : Bool) → is_choice_code (group_at l.groups.items i).head ≡ b
       → filter opens (groups_in_context (read_before (i + 1) read)) ≡ filter opens (groups_in_context (read_before i read)) ++ cond b
@@ -187,20 +188,20 @@ module _ (l : Listing) (exprs : Exprs) (groups : List GroupConditions) (conditio
   rows_more i rows h e r =
       let p : GroupInContext = group_in_context (open_blocks 0 (read_before i read)) (both_at i h).group in
       let row = choice_row (group_at l.groups.items i) (own_lines l i) (own_conditions groups conditions i) in
-      subst (λ ps. AreChoiceRows exprs ps (rows ++ row ∷ [])) (sym (places_more i h true e))
-      (rows_pushed exprs (filter opens (groups_in_context (read_before i read))) rows p row r (row_shown i h))
+      subst (λ ps. AreChoiceRows language exprs ps (rows ++ row ∷ [])) (sym (places_more i h true e))
+      (rows_pushed _ exprs (filter opens (groups_in_context (read_before i read))) rows p row r (row_shown i h))
 
   pub rows_same : (i : ℕ) (rows : List ChoiceRow) → i < length l.groups.items → is_choice_code (group_at l.groups.items i).head ≡ false → AreRowsTo i rows
       → AreRowsTo (i + 1) rows
   rows_same i rows h e r =
-      subst (λ ps. AreChoiceRows exprs ps rows) (sym (places_more i h false e ∙ append-nil (filter opens (groups_in_context (read_before i read))))) r
+      subst (λ ps. AreChoiceRows language exprs ps rows) (sym (places_more i h false e ∙ append-nil (filter opens (groups_in_context (read_before i read))))) r
 
   pub no_rows : AreRowsTo 0 []
-  no_rows = subst (λ ms. AreChoiceRows exprs (filter opens (groups_in_context ms)) []) (sym (none_before read)) tt
+  no_rows = subst (λ ms. AreChoiceRows language exprs (filter opens (groups_in_context ms)) []) (sym (none_before read)) tt
 
   pub all_rows : (i : ℕ) (rows : List ChoiceRow) → i ≡ length l.groups.items → AreRowsTo i rows
-      → AreChoiceRows exprs (filter opens (groups_in_context read)) rows
+      → AreChoiceRows language exprs (filter opens (groups_in_context read)) rows
   unfolding RepresentsListing
   all_rows i rows e r =
       let n : i ≡ length read = e ∙ count_is l.names.arena (names_defined read) l.texts.items l.lines.items l.groups.items read s.groups_are in
-      subst (λ ms. AreChoiceRows exprs (filter opens (groups_in_context ms)) rows) (ap (λ j. read_before j read) n ∙ all_before read) r
+      subst (λ ms. AreChoiceRows language exprs (filter opens (groups_in_context ms)) rows) (ap (λ j. read_before j read) n ∙ all_before read) r

@@ -6,13 +6,14 @@ use Rattle.std.proofs.lemmas.List.{length-map, map-append, reverse-append, rever
 use Rattle.std.proofs.lemmas.List.Elements.{All-append, All-cons, All-nil}
 use Rattle.std.proofs.lemmas.Option.{get_or_from_slice_get}
 use Rattle.std.proofs.Math.Seq.{drop-length}
+use Rattle.kc_tokens.specs.declared.language.Language.{Language}
 use Rattle.kc_expr.specs.between.Arena.{Exprs, Represents, node_expr}
 use Rattle.kc_expr.specs.Expr.{Expr}
 use Rattle.kc_tree_model.specs.declared.keyword.Block.TheVariants as blocks
 use Rattle.kc_tree_model.specs.Trees as tree
 use Rattle.kc_tree_model.specs.Statements.{block_of_head, title_of_head, visible_of}
 use Rattle.kc_tree_model.specs.Blocks.{Group, GroupHead, opening, closing, side_of, from_head, is_some_block, open_blocks, opens_choice}
-use Rattle.kc_tree_model.specs.Conditions.{GroupInContext, group_in_context, groups_in_context, dependency_of, conjunction_of, attribute_values}
+use Rattle.kc_tree_model.specs.Conditions.{context_of, GroupInContext, group_in_context, groups_in_context, dependency_of, conjunction_of, attribute_values}
 use Rattle.kc_tree_model.specs.Contents.{Contents, contents_of, choice_number, index_of_number, entry_of_head, menu_end_of, tree_of_groups}
 use Rattle.kc_tree_model.specs.Limits.{names_defined}
 use Rattle.kc_tree_model.proofs.Consistency.Lists.{Differ, Differ-once, get_below, number_of_more}
@@ -208,13 +209,13 @@ module _ (C : Contents) (m : Group) (ms : List Group) (rest : List ℕ) (c : C.c
   before : C.choices ≡ numbers ms ++ (cond (opens_choice m) (m.number ∷ []) [] ++ rest)
   before = c ∙ ap (λ ns. ns ++ rest) (numbers_more m ms) ∙ append_assoc (numbers ms) (cond (opens_choice m) (m.number ∷ []) []) rest
 
-abbrev entry_at : Contents → GroupInContext → Option tree.Entry
-entry_at C p = from_head (entry_of_head C p) p.group.head
+abbrev entry_at : Language → Contents → GroupInContext → Option tree.Entry
+entry_at language C p = from_head (entry_of_head language C p) p.group.head
 
 -- an entry represents that of the definition
-module _ (e e2 : Exprs) (texts : List (List ℕ)) (C : Contents) (d : Differ C.names) (p : GroupInContext) (n : ℕ) where
+module _ (language : Language) (e e2 : Exprs) (texts : List (List ℕ)) (C : Contents) (d : Differ C.names) (p : GroupInContext) (n : ℕ) where
   abbrev at_place : GroupHead → Option tree.Entry
-  at_place = from_head (entry_of_head C p)
+  at_place = from_head (entry_of_head language C p)
 
   text_is : (t : ℕ) (title : List ℕ) → slice_get texts t ≡ Some title → slice_index_or texts t [] ≡ title
   text_is t title h = get_or_from_slice_get texts t title [] h
@@ -229,32 +230,32 @@ module _ (e e2 : Exprs) (texts : List (List ℕ)) (C : Contents) (d : Differ C.n
   end_shown None a v x h = sym h
   end_shown (Some t) a v x h = ap (λ title. Some (tree.menu_ends title (node_expr e2 a) (node_expr e2 v))) (text_is t h.0 h.1) ∙ sym h.4
 
-  pub entry_shown : (w : CodeHead) (c : GroupConditions) (own : List ℕ) → RepresentsHead e C.names texts w p.group.head → RepresentsConditions e2 texts own c p
-      → (opens_choice p.group ≡ true → choice_number C p.group.number ≡ Some n) → option_map (entry_from_row e2 texts) (entry_row w c n) ≡ entry_at C p
+  pub entry_shown : (w : CodeHead) (c : GroupConditions) (own : List ℕ) → RepresentsHead e C.names texts w p.group.head → RepresentsConditions language e2 texts own c p
+      → (opens_choice p.group ≡ true → choice_number C p.group.number ≡ Some n) → option_map (entry_from_row e2 texts) (entry_row w c n) ≡ entry_at language C p
   entry_shown (codes.Config s) c own h k o = sym (ap at_place h.2 ∙ ap (option_map tree.definition) (place_is C.names h.0 s d h.1))
   entry_shown codes.Choice c own h k o =
       let opened : opens_choice p.group ≡ true = ap (λ v. is_some_block blocks.Choice (from_head block_of_head v)) h in
       sym (ap at_place h ∙ ap (option_map tree.choice_begins) (o opened))
   entry_shown (codes.Menu t) c own h k o =
       let away : side_of p.group.head ≡ closing → ⊥ = λ q. let z : opening ≡ closing = sym (ap side_of h.2) ∙ q in cc in
-      let a = represented_unless_closing c.dependency (dependency_of p.enclosing p.group) k.dependency_is away in
-      let v = represented_unless_closing c.visible (conjunction_of (p.enclosing.visibles ++ attribute_values visible_of p.group)) k.visible_is away in
+      let a = represented_unless_closing c.dependency (dependency_of (context_of language p) p.group) k.dependency_is away in
+      let v = represented_unless_closing c.visible (conjunction_of ((context_of language p).visibles ++ attribute_values visible_of p.group)) k.visible_is away in
       ap (λ title. Some (tree.menu_begins title (node_expr e2 c.dependency) (node_expr e2 c.visible))) (text_is t h.0 h.1)
       ∙ ap (λ x. Some (tree.menu_begins h.0 x (node_expr e2 c.visible))) a.is
-      ∙ ap (λ x. Some (tree.menu_begins h.0 (dependency_of p.enclosing p.group) x)) v.is
-      ∙ sym (ap at_place h.2 ∙ ap (λ w. option_map (λ title. tree.menu_begins title (dependency_of p.enclosing p.group)
-      (conjunction_of (p.enclosing.visibles ++ attribute_values visible_of p.group))) (from_head title_of_head w)) h.2)
+      ∙ ap (λ x. Some (tree.menu_begins h.0 (dependency_of (context_of language p) p.group) x)) v.is
+      ∙ sym (ap at_place h.2 ∙ ap (λ w. option_map (λ title. tree.menu_begins title (dependency_of (context_of language p) p.group)
+      (conjunction_of ((context_of language p).visibles ++ attribute_values visible_of p.group))) (from_head title_of_head w)) h.2)
   entry_shown (codes.Condition id) c own h k o = sym (ap at_place h.1)
   entry_shown (codes.Comment t) c own h k o =
       let away : side_of p.group.head ≡ closing → ⊥ = λ q. let z = sym (ap side_of h.2) ∙ q in cc in
-      let a = represented_unless_closing c.dependency (dependency_of p.enclosing p.group) k.dependency_is away in
+      let a = represented_unless_closing c.dependency (dependency_of (context_of language p) p.group) k.dependency_is away in
       ap (λ title. Some (tree.comment title (node_expr e2 c.dependency))) (text_is t h.0 h.1)
       ∙ ap (λ x. Some (tree.comment h.0 x)) a.is
       ∙ sym (ap at_place h.2)
   entry_shown (codes.Source t) c own h k o = sym (ap at_place h.2)
   entry_shown codes.Mainmenu c own h k o = sym (ap at_place h)
   entry_shown (codes.Ends blocks.Menu) c own h k o =
-      end_shown c.ended c.dependency c.visible (menu_end_of p.opened) (k.ended_is (ap side_of h)) ∙ sym (ap at_place h)
+      end_shown c.ended c.dependency c.visible (menu_end_of language p.opened) (k.ended_is (ap side_of h)) ∙ sym (ap at_place h)
   entry_shown (codes.Ends blocks.If) c own h k o = sym (ap at_place h)
   entry_shown (codes.Ends blocks.Choice) c own h k o = sym (ap at_place h)
   entry_shown codes.FileEnd c own h k o = sym (ap at_place h)
@@ -270,7 +271,7 @@ module _ (e e2 : Exprs) (texts : List (List ℕ)) (C : Contents) (d : Differ C.n
   end_fits None a v x h = All-nil Fits
   end_fits (Some t) a v x h = one_fits (MenuEnds t a v) (get_below texts t h.0 h.1, h.2, h.3)
 
-  pub entry_fits : (w : CodeHead) (c : GroupConditions) (own : List ℕ) → RepresentsHead e C.names texts w p.group.head → RepresentsConditions e2 texts own c p
+  pub entry_fits : (w : CodeHead) (c : GroupConditions) (own : List ℕ) → RepresentsHead e C.names texts w p.group.head → RepresentsConditions language e2 texts own c p
       → (opens_choice p.group ≡ true → n < length C.choices) → All Fits (option_to_list (entry_row w c n))
   entry_fits (codes.Config s) c own h k o = one_fits (Definition s) (get_below C.names s h.0 h.1)
   entry_fits codes.Choice c own h k o =
@@ -280,27 +281,27 @@ module _ (e e2 : Exprs) (texts : List (List ℕ)) (C : Contents) (d : Differ C.n
       let away : side_of p.group.head ≡ closing → ⊥ = λ q. let z : opening ≡ closing = sym (ap side_of h.2) ∙ q in cc in
       one_fits (MenuBegins t c.dependency c.visible) (
         get_below texts t h.0 h.1,
-        (represented_unless_closing c.dependency (dependency_of p.enclosing p.group) k.dependency_is away).within,
-        (represented_unless_closing c.visible (conjunction_of (p.enclosing.visibles ++ attribute_values visible_of p.group)) k.visible_is away).within,
+        (represented_unless_closing c.dependency (dependency_of (context_of language p) p.group) k.dependency_is away).within,
+        (represented_unless_closing c.visible (conjunction_of ((context_of language p).visibles ++ attribute_values visible_of p.group)) k.visible_is away).within,
       )
   entry_fits (codes.Condition id) c own h k o = All-nil Fits
   entry_fits (codes.Comment t) c own h k o =
       let away : side_of p.group.head ≡ closing → ⊥ = λ q. let z = sym (ap side_of h.2) ∙ q in cc in
       one_fits (Comment t c.dependency)
-      (get_below texts t h.0 h.1, (represented_unless_closing c.dependency (dependency_of p.enclosing p.group) k.dependency_is away).within)
+      (get_below texts t h.0 h.1, (represented_unless_closing c.dependency (dependency_of (context_of language p) p.group) k.dependency_is away).within)
   entry_fits (codes.Source t) c own h k o = All-nil Fits
   entry_fits codes.Mainmenu c own h k o = All-nil Fits
-  entry_fits (codes.Ends blocks.Menu) c own h k o = end_fits c.ended c.dependency c.visible (menu_end_of p.opened) (k.ended_is (ap side_of h))
+  entry_fits (codes.Ends blocks.Menu) c own h k o = end_fits c.ended c.dependency c.visible (menu_end_of language p.opened) (k.ended_is (ap side_of h))
   entry_fits (codes.Ends blocks.If) c own h k o = All-nil Fits
   entry_fits (codes.Ends blocks.Choice) c own h k o = All-nil Fits
   entry_fits codes.FileEnd c own h k o = All-nil Fits
 
 -- all entries
-module _ (e e2 : Exprs) (texts : List (List ℕ)) (lines : List CodeLine) (conditions : List ℕ) (C : Contents) (d : Differ C.names) where
+module _ (language : Language) (e e2 : Exprs) (texts : List (List ℕ)) (lines : List CodeLine) (conditions : List ℕ) (C : Contents) (d : Differ C.names) where
   all_entries : (end end2 : ℕ) (gs : List CodeGroup) (cs : List GroupConditions) (ms : List Group) (rest : List ℕ)
       → RepresentsGroups e C.names texts lines end gs ms
-      → RepresentsAllConditions e2 texts conditions end2 cs ms → C.choices ≡ numbers ms ++ rest
-      → map (entry_from_row e2 texts) (entries_back gs cs) ≡ filter_map (entry_at C) (groups_in_context ms)
+      → RepresentsAllConditions language e2 texts conditions end2 cs ms → C.choices ≡ numbers ms ++ rest
+      → map (entry_from_row e2 texts) (entries_back gs cs) ≡ filter_map (entry_at language C) (groups_in_context ms)
   all_entries end end2 [] [] [] rest h k c = refl
   all_entries end end2 (g ∷ gs) (x ∷ xs) (m ∷ ms) rest h k c =
       let f = entry_from_row e2 texts in
@@ -310,10 +311,10 @@ module _ (e e2 : Exprs) (texts : List (List ℕ)) (lines : List CodeLine) (condi
       map-append f (entries_back gs xs) (option_to_list (entry_row g.head x (count_back gs)))
       ∙ ap (λ t. t ++ map f (option_to_list (entry_row g.head x (count_back gs))))
       (all_entries g.attributes x.first gs xs ms (cond (opens_choice m) (m.number ∷ []) [] ++ rest) h.2 k.2 (before C m ms rest c))
-      ∙ ap (λ t. filter_map (entry_at C) (groups_in_context ms) ++ t) (map_option f (entry_row g.head x (count_back gs)))
-      ∙ ap (λ o. filter_map (entry_at C) (groups_in_context ms) ++ option_to_list o)
-      (entry_shown e e2 texts C d p (count_back gs) g.head x _ h.0.head k.0 (λ o. numbered C m ms rest c h.0.number_is b o ∙ ap Some (sym n)))
-      ∙ sym (filter_map-snoc (entry_at C) (groups_in_context ms) p)
+      ∙ ap (λ t. filter_map (entry_at language C) (groups_in_context ms) ++ t) (map_option f (entry_row g.head x (count_back gs)))
+      ∙ ap (λ o. filter_map (entry_at language C) (groups_in_context ms) ++ option_to_list o)
+      (entry_shown _ e e2 texts C d p (count_back gs) g.head x _ h.0.head k.0 (λ o. numbered C m ms rest c h.0.number_is b o ∙ ap Some (sym n)))
+      ∙ sym (filter_map-snoc (entry_at language C) (groups_in_context ms) p)
   all_entries end end2 [] cs (m ∷ ms) rest h k c = absurd h
   all_entries end end2 (g ∷ gs) cs [] rest h k c = absurd h
   all_entries end end2 [] (x ∷ xs) [] rest h k c = absurd k
@@ -321,7 +322,7 @@ module _ (e e2 : Exprs) (texts : List (List ℕ)) (lines : List CodeLine) (condi
 
   all_fit : (end end2 : ℕ) (gs : List CodeGroup) (cs : List GroupConditions) (ms : List Group) (rest : List ℕ)
       → RepresentsGroups e C.names texts lines end gs ms
-      → RepresentsAllConditions e2 texts conditions end2 cs ms → C.choices ≡ numbers ms ++ rest
+      → RepresentsAllConditions language e2 texts conditions end2 cs ms → C.choices ≡ numbers ms ++ rest
       → All (EntryRowFits (length e2.nodes) (length C.names) (length C.choices) (length texts)) (entries_back gs cs)
   all_fit end end2 [] [] [] rest h k c = All-nil (EntryRowFits (length e2.nodes) (length C.names) (length C.choices) (length texts))
   all_fit end end2 (g ∷ gs) (x ∷ xs) (m ∷ ms) rest h k c =
@@ -330,7 +331,7 @@ module _ (e e2 : Exprs) (texts : List (List ℕ)) (lines : List CodeLine) (condi
       All-append (EntryRowFits (length e2.nodes) (length C.names) (length C.choices) (length texts)) (entries_back gs xs)
       (option_to_list (entry_row g.head x (count_back gs)))
       (all_fit g.attributes x.first gs xs ms (cond (opens_choice m) (m.number ∷ []) [] ++ rest) h.2 k.2 (before C m ms rest c))
-      (entry_fits e e2 texts C d p (count_back gs) g.head x _ h.0.head k.0 (λ o. let t = there C m ms rest c o in omega (arith, t, n)))
+      (entry_fits _ e e2 texts C d p (count_back gs) g.head x _ h.0.head k.0 (λ o. let t = there C m ms rest c o in omega (arith, t, n)))
   all_fit end end2 [] cs (m ∷ ms) rest h k c = absurd h
   all_fit end end2 (g ∷ gs) cs [] rest h k c = absurd h
   all_fit end end2 [] (x ∷ xs) [] rest h k c = absurd k
@@ -349,20 +350,21 @@ rows_are gs cs rows n i m a e b =
     ∙ ap (λ xs. entries_from 0 (reverse (reverse gs)) xs) (sym (reverse-reverse cs))
     ∙ from_reverse (reverse gs) (reverse cs) (length-reverse gs ∙ sym m ∙ sym (length-reverse cs))
 
-module _ (l : Listing) (e2 : Exprs) (conditions : List ℕ) (end : ℕ) (cs : List GroupConditions) (read : List Group) (s : RepresentsListing l read)
-    (k : RepresentsAllConditions e2 l.texts.items conditions end (reverse cs) read) (rows : List EntryRow)
+module _ (l : Listing) (language : Language) (e2 : Exprs) (conditions : List ℕ) (end : ℕ) (cs : List GroupConditions) (read : List Group)
+    (s : RepresentsListing l read)
+    (k : RepresentsAllConditions language e2 l.texts.items conditions end (reverse cs) read) (rows : List EntryRow)
     (r : rows ≡ entries_back (reverse l.groups.items) (reverse cs)) where
-  pub entries_are : map (entry_from_row e2 l.texts.items) rows ≡ (tree_of_groups read).entries
+  pub entries_are : map (entry_from_row e2 l.texts.items) rows ≡ (tree_of_groups language read).entries
   unfolding RepresentsListing tree_of_groups
   entries_are =
       ap (map (entry_from_row e2 l.texts.items)) r
-      ∙ all_entries l.names.arena e2 l.texts.items l.lines.items conditions (contents_of read) (Differ-once (filter_map defined_name read))
+      ∙ all_entries language l.names.arena e2 l.texts.items l.lines.items conditions (contents_of read) (Differ-once (filter_map defined_name read))
       (length l.lines.items) end (reverse l.groups.items) (reverse cs) read [] s.groups_are k (sym (append-nil (numbers read)))
 
   pub entries_fit : All (EntryRowFits (length e2.nodes) (length l.names.symbols.items) (length (contents_of read).choices) (length l.texts.items)) rows
   unfolding RepresentsListing
   entries_fit =
-      let f = all_fit l.names.arena e2 l.texts.items l.lines.items conditions (contents_of read) (Differ-once (filter_map defined_name read))
+      let f = all_fit language l.names.arena e2 l.texts.items l.lines.items conditions (contents_of read) (Differ-once (filter_map defined_name read))
       (length l.lines.items) end (reverse l.groups.items) (reverse cs) read [] s.groups_are k (sym (append-nil (numbers read))) in
       let n : length (names_defined read) ≡ length l.names.symbols.items = sym (ap length s.names.words)
       ∙ length-map l.names.symbols.items (text_of_name l.names.arena) in

@@ -17,7 +17,7 @@ use Rattle.kc_tree_model.specs.Statements.{Attribute, default_of, prompt_of}
 use Rattle.kc_tree_model.specs.Blocks.{Group, Line}
 use Rattle.kc_tree_model.specs.Conditions.{GroupInContext}
 use Rattle.kc_tree_model.specs.Contents.{Contents, choice_of_symbol, is_first_definition, type_given}
-use Rattle.kc_tree_model.specs.TreeFaults.{is_added_attribute, may_follow_member, when, definition_faults, attribute_faults, choice_faults, faults_at, faults_of_lines, is_no_member, is_wrong_reverse_dependency}
+use Rattle.kc_tree_model.specs.TreeFaults.{is_added_attribute, is_again_in_choice, is_no_member_kind, may_follow_member, when, definition_faults, attribute_faults, choice_faults, faults_at, faults_of_lines, is_no_member, is_wrong_reverse_dependency}
 use Rattle.kc_statements.specs.between.StatementViews.{attribute_in}
 use Rattle.kc_statements.specs.declared.statement.Attribute.{Attribute as CodeAttribute}
 use Rattle.kc_statements.specs.declared.statement.Attribute.TheVariants as attributes
@@ -82,22 +82,26 @@ not_some : (o : Option ℕ) → not (is_some o) ≡ is_none o
 not_some None = refl
 not_some (Some n) = refl
 
-pub follow_is : (language : Language) (old : Exprs) (p : GroupInContext) (is_member : Bool) (ls : List CodeLine) → is_member ≡ is_some p.enclosing.choice
-    → p.group.attributes ≡ map (line_in old) ls → may_follow_code language is_member ls ≡ may_follow_member language p
-follow_is Strict old p is_member ls m a = refl
-follow_is Linux old p is_member ls m a =
-    ap (λ b. not b && list_all is_added_line ls) m
-    ∙ ap (λ b. b && list_all is_added_line ls) (not_some p.enclosing.choice)
-    ∙ ap (λ b. is_none p.enclosing.choice && b) (added_all old ls ∙ ap (list_all (λ (l : Line). is_added_attribute l.attribute)) (sym a))
+pub follow_is : (language : Language) (old : Exprs) (c : Contents) (name : List ℕ) (p : GroupInContext) (is_member is_again : Bool) (ls : List CodeLine)
+    → is_member ≡ is_some p.choice → is_again ≡ is_again_in_choice c name p → p.group.attributes ≡ map (line_in old) ls
+    → may_follow_code language is_member is_again ls ≡ may_follow_member language c name p
+follow_is Strict old c name p is_member is_again ls m g a = refl
+follow_is (Linux version) old c name p is_member is_again ls m g a =
+    ap (λ b. (not is_member && list_all is_added_line ls) || b) g
+    ∙ ap (λ b. b || is_again_in_choice c name p)
+    (ap (λ b. not b && list_all is_added_line ls) m
+    ∙ ap (λ b. b && list_all is_added_line ls) (not_some p.choice)
+    ∙ ap (λ b. is_none p.choice && b) (added_all old ls ∙ ap (list_all (λ (l : Line). is_added_attribute l.attribute)) (sym a)))
 
 -- the kind of fault found in a definition from its symbol's summary is the first of the model's faults of the definition
 pub definition_is : (language : Language) (c : Contents) (p : GroupInContext) (name : List ℕ) (about : SymbolSummary)
-    (is_member is_first is_modules may_follow : Bool)
-    → about.given ≡ type_given c name → is_some about.choice ≡ is_some (choice_of_symbol c name) → is_member ≡ is_some p.enclosing.choice
-    → is_first ≡ is_first_definition c name p → is_modules ≡ bytes_eq name modules_name → may_follow ≡ may_follow_member language p
-    → definition_kind about is_member is_first is_modules may_follow ≡ slice_get (definition_faults language c p name) 0
-definition_is language c p name about is_member is_first is_modules may_follow given choice member first modules follow =
-    rw (given, choice, member, first, modules, follow) (sym (three _ _ _ _ _ _))
+    (is_misfit is_first is_modules may_follow : Bool)
+    → about.given ≡ type_given c name → is_some about.choice ≡ is_some (choice_of_symbol c name)
+    → is_misfit ≡ (is_some p.choice && is_no_member_kind language (type_given c name))
+    → is_first ≡ is_first_definition c name p → is_modules ≡ bytes_eq name modules_name → may_follow ≡ may_follow_member language c name p
+    → definition_kind about is_misfit is_first is_modules may_follow ≡ slice_get (definition_faults language c p name) 0
+definition_is language c p name about is_misfit is_first is_modules may_follow given choice misfit first modules follow =
+    rw (given, choice, misfit, first, modules, follow) (sym (three _ _ _ _ _ _))
 
 -- the kind of fault found in an attribute of a typed symbol is the first of the model's faults of the attribute
 pub typed_is : (c : Contents) (name : List ℕ) (k : Kind) (prompted is_modules is_wrong : Bool) (a : Attribute) → is_modules ≡ bytes_eq name modules_name

@@ -1,5 +1,5 @@
 -- The faults of a group, from the summary of its symbol.
-use Rattle.std.proofs.Common.{◌≡◌, ℕ, zero, suc, ◌+◌, ◌-◌, ◌<◌, ◌≤◌, ◌==◌, Bool, true, false, cond, List, [], ◌∷◌, length, get_or, map, replicate, reverse, Option, Some, None, refl, ap, sym, subst, ◌∙◌, arith, filter}
+use Rattle.std.proofs.Common.{◌≡◌, inl, ◌&&◌, ℕ, zero, suc, ◌+◌, ◌-◌, ◌<◌, ◌≤◌, ◌==◌, Bool, true, false, cond, List, [], ◌∷◌, length, get_or, map, replicate, reverse, Option, Some, None, refl, ap, sym, subst, ◌∙◌, arith, filter}
 use Rattle.std.specs.Prelude.{slice_get, slice_index, slice_range, filter_map, flat_map, is_some, nat_lt, option_and_then, option_map, bytes_eq, All}
 use Rattle.std.specs.List.{list_any}
 use Rattle.std.specs.Option.{option_or}
@@ -15,10 +15,10 @@ use Rattle.kc_tree_model.specs.declared.fault.TreeFault.{TreeFault}
 use Rattle.kc_tree_model.specs.Statements.{config, choice}
 use Rattle.kc_tree_model.specs.Blocks.{Group, GroupHead, of_head, file_end, defined_name, open_blocks, opens_choice}
 use Rattle.kc_tree_model.specs.Conditions.{GroupInContext, group_in_context, groups_in_context}
-use Rattle.kc_tree_model.specs.Contents.{Contents, contents_of, choice_number, definitions_of, is_first_definition, member_names}
+use Rattle.kc_tree_model.specs.Contents.{Contents, contents_of, choice_number, choice_of_first_definition, defines, definitions_of, is_first_definition, member_names}
 use Rattle.kc_tree_model.specs.Limits.{names_defined}
-use Rattle.kc_tree_model.specs.TreeFaults.{may_follow_member, attribute_faults, choice_faults, definition_faults, faults_at, faults_of_group, faults_of_head, faults_of_lines, kind_of}
-use Rattle.kc_tree_model.proofs.Consistency.Lists.{Has, Differ-once, get-map, get_below, has-at, map-get, number-get}
+use Rattle.kc_tree_model.specs.TreeFaults.{is_again_in_choice, is_no_member_kind, is_same_choice, may_follow_member, attribute_faults, choice_faults, definition_faults, faults_at, faults_of_group, faults_of_head, faults_of_lines, kind_of}
+use Rattle.kc_tree_model.proofs.Consistency.Lists.{Has, Differ-once, at-has, get-map, get_below, has-at, has-filter, map-get, number-get}
 use Rattle.kc_listing.specs.declared.listing.Group.{Group as CodeGroup}
 use Rattle.kc_listing.specs.declared.listing.Line.{Line as CodeLine}
 use Rattle.kc_listing.specs.declared.listing.GroupHead.{GroupHead as CodeHead}
@@ -26,7 +26,8 @@ use Rattle.kc_listing.specs.declared.listing.GroupHead.TheVariants as codes
 use Rattle.kc_listing.specs.between.SymbolTable.{HasNames, text_of_name}
 use Rattle.kc_listing.specs.between.ListingView.{RepresentsGroups, RepresentsHead, line_in}
 use Rattle.kc_tree.specs.checker.GroupedItems.{items_at, items_of}
-use Rattle.kc_tree.specs.checker.Kinds.{definition_kind}
+use Rattle.kc_tree_model.proofs.Consistency.Units.{first_of_choice}
+use Rattle.kc_tree.specs.checker.Kinds.{choice_around, definition_kind}
 use Rattle.kc_tree.specs.checker.Marks.{AreMarked, WereMarked}
 use Rattle.kc_tree.specs.checker.FaultSearch.{AreSmall, HasMembers, choices_before}
 use Rattle.kc_tree.specs.checker.Summaries.{IsSummaryOf, summary_in, attributes_end, enclosing_choice, first_is, first_in_definitions, group_at, member_keys_at, number_at, read_before}
@@ -37,7 +38,7 @@ use Rattle.kc_tree.proofs.GroupPlaces.{all_before, are_numbers, count_is, none_b
 use Rattle.kc_tree.proofs.FaultKinds.{definition_is, fault_of, first_mapped}
 use Rattle.kc_tree.proofs.Rounds.{begins_is, number_counts, enclosing_numbered}
 use Rattle.kc_tree.proofs.MemberMarks.{are_marked, keys_small, member_defined}
-use Rattle.kc_tree.proofs.MemberLaw.{members_are}
+use Rattle.kc_tree.proofs.MemberLaw.{members_are, same_choice}
 use Rattle.kc_tree.proofs.Symbols.{choice_is, place_is, statement_by}
 
 -- the stored group `i` and its lines represent the group of `p`, which was read with this number
@@ -105,25 +106,79 @@ enclosing_by c None k = refl
 enclosing_by c (Some n) k = let j = k n refl in ap is_some j.1
 
 pub enclosing_some : (read : List Group) (p : GroupInContext) → Has p (groups_in_context read)
-    → is_some (enclosing_choice (contents_of read) p) ≡ is_some p.enclosing.choice
-enclosing_some read p h = enclosing_by (contents_of read) p.enclosing.choice (λ n e. enclosing_numbered read p n h e)
+    → is_some (enclosing_choice (contents_of read) p) ≡ is_some p.choice
+enclosing_some read p h = enclosing_by (contents_of read) p.choice (λ n e. enclosing_numbered read p n h e)
 
 pub first_reported : (c : Contents) (name : List ℕ) (p : GroupInContext) (i : ℕ) → p.group.number ≡ i
     → first_is (first_in_definitions number_at c.places name) i ≡ is_first_definition c name p
 first_reported c name p i e = ap (first_is (first_in_definitions number_at c.places name)) (sym e) ∙ first_number_is (definitions_of c name) p.group.number
 
+-- two places are in the same choice exactly if the choices around them have the same number
+same_by : (c : Contents) (a b : Option ℕ) → ((n : ℕ) → a ≡ Some n → (k : ℕ) × (choice_number c n ≡ Some k))
+    → ((n : ℕ) → b ≡ Some n → (k : ℕ) × (choice_number c n ≡ Some k))
+    → is_same_choice (option_and_then (choice_number c) a) (option_and_then (choice_number c) b) ≡ is_same_choice a b
+same_by c None None f g = refl
+same_by c None (Some m) f g = let y = g m refl in ap (λ o. is_same_choice None o) y.1
+same_by c (Some n) None f g = let x = f n refl in ap (λ o. is_same_choice o None) x.1
+same_by c (Some n) (Some m) f g =
+    let x = f n refl in
+    let y = g m refl in
+    ap (λ o. is_same_choice o (choice_number c m)) x.1 ∙ ap (is_same_choice (Some x.0)) y.1 ∙ same_choice c y.0 m y.1 n x.0 x.1
+
+-- the number of the choice around the first definition of a symbol
+first_choice_by : (read : List Group) (name : List ℕ) (ds : List GroupInContext) → definitions_of (contents_of read) name ≡ ds
+    → ((d : GroupInContext) → Has d (definitions_of (contents_of read) name) → slice_get (groups_in_context read) d.group.number ≡ Some d)
+    → choice_around (map (enclosing_choice (contents_of read)) (groups_in_context read)) (slice_get (flat_map number_at ds) 0)
+    ≡ option_and_then (choice_number (contents_of read)) (option_and_then (λ (p : GroupInContext). p.choice) (slice_get ds 0))
+first_choice_by read name [] e at = refl
+first_choice_by read name (d ∷ ds) e at =
+    ap (option_and_then (λ o. o)) (map-get (enclosing_choice (contents_of read)) (groups_in_context read) d.group.number d
+    (at d (subst (Has d) (sym e) (inl refl))))
+
+module _ (e : Exprs) (names texts : List (List ℕ)) (lines : List CodeLine) (groups : List CodeGroup) (read : List Group)
+    (h : RepresentsGroups e names texts lines (length lines) (reverse groups) read) where
+  numbered_at : (name : List ℕ) (d : GroupInContext) → Has d (definitions_of (contents_of read) name)
+      → slice_get (groups_in_context read) d.group.number ≡ Some d
+  numbered_at name d own =
+      let i = at-has d (groups_in_context read) (has-filter (defines name) (groups_in_context read) d own).0 in
+      let n = count_is e names texts lines groups read h in
+      let below = get_below (groups_in_context read) i.0 d i.1 in
+      let many = placed_count read in
+      let a = place_at e names texts lines groups read h i.0 d (omega arith) i.1 in
+      ap (slice_get (groups_in_context read)) a.number ∙ i.1
+
+  first_choice_numbered : (name : List ℕ) (n : ℕ) → choice_of_first_definition (contents_of read) name ≡ Some n
+      → (k : ℕ) × (choice_number (contents_of read) n ≡ Some k)
+  first_choice_numbered name n f =
+      let d = first_of_choice (contents_of read) name n f in
+      enclosing_numbered read d.0 n d.1 d.4
+
+  -- a definition is in the choice of its symbol's first definition exactly if the numbers of the choices around them are the same
+  pub again_is : (name : List ℕ) (p : GroupInContext) (first here : Option ℕ) (is_again : Bool) → Has p (groups_in_context read)
+      → first ≡ choice_around (map (enclosing_choice (contents_of read)) (groups_in_context read))
+      (summary_in (contents_of read) (groups_in_context read) name).first
+      → here ≡ enclosing_choice (contents_of read) p → is_again ≡ is_same_choice first here → is_again ≡ is_again_in_choice (contents_of read) name p
+  again_is name p first here is_again has f g w =
+      let c = contents_of read in
+      w
+      ∙ ap (λ o. is_same_choice o here) (f ∙ first_choice_by read name (definitions_of c name) refl (numbered_at name))
+      ∙ ap (is_same_choice (option_and_then (choice_number c) (choice_of_first_definition c name))) g
+      ∙ same_by c (choice_of_first_definition c name) p.choice (first_choice_numbered name) (λ n o. enclosing_numbered read p n has o)
+
 -- the kind of fault found in a definition that was read is the first of the model's faults of the definition
 pub definition_reported : (language : Language) (read : List Group) (p : GroupInContext) (name : List ℕ) (i : ℕ) (about : SymbolSummary)
-    (is_member is_first is_modules may_follow : Bool) → Has p (groups_in_context read) → p.group.number ≡ i
+    (is_member is_misfit is_first is_modules may_follow : Bool) → Has p (groups_in_context read) → p.group.number ≡ i
     → about ≡ summary_in (contents_of read) (groups_in_context read) name
-    → is_member ≡ is_some (enclosing_choice (contents_of read) p) → is_first ≡ first_is about.first i → is_modules ≡ bytes_eq name modules_name
-    → may_follow ≡ may_follow_member language p → definition_kind about is_member is_first is_modules may_follow
+    → is_member ≡ is_some (enclosing_choice (contents_of read) p) → is_misfit ≡ (is_member && is_no_member_kind language about.given)
+    → is_first ≡ first_is about.first i → is_modules ≡ bytes_eq name modules_name
+    → may_follow ≡ may_follow_member language (contents_of read) name p → definition_kind about is_misfit is_first is_modules may_follow
     ≡ slice_get (definition_faults language (contents_of read) p name) 0
-definition_reported language read p name i about is_member is_first is_modules may_follow has n a m f o w =
-    definition_is language (contents_of read) p name about is_member is_first is_modules may_follow
+definition_reported language read p name i about is_member is_misfit is_first is_modules may_follow has n a m s f o w =
+    definition_is language (contents_of read) p name about is_misfit is_first is_modules may_follow
     (ap (λ (x : SymbolSummary). x.given) a)
     (ap (λ (x : SymbolSummary). is_some x.choice) a ∙ ap is_some (choice_is read name))
-    (m ∙ enclosing_some read p has)
+    (s ∙ ap (λ b. b && is_no_member_kind language about.given) (m ∙ enclosing_some read p has)
+    ∙ ap (λ (x : SymbolSummary). is_some p.choice && is_no_member_kind language x.given) a)
     (f ∙ ap (λ (x : SymbolSummary). first_is x.first i) a ∙ first_reported (contents_of read) name p i n)
     o
     w
@@ -179,7 +234,7 @@ module _ (e : Exprs) (texts : List (List ℕ)) (lines : List CodeLine) (groups :
       let count = known.choices in
       m.of_key choices (omega arith)
       ∙ ap (λ ks. items_of choices ks s.members.items.items) known.member_keys
-      ∙ ap (items_of choices (flat_map (member_keys_at (contents_of read)) (groups_in_context read))) known.members
+      ∙ ap (items_of choices (flat_map (member_keys_at (enclosing_choice (contents_of read)) (contents_of read)) (groups_in_context read))) known.members
       ∙ members_are (contents_of read) choices p.group.number (choice_counted i choices p l w at c)
 
 pub are_marked_in : (read : List Group) (p : GroupInContext) (members old new : List ℕ) (choices : ℕ)

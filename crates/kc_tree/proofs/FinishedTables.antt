@@ -129,6 +129,7 @@ gathered_in p A M D =
       titles =
           p.titles;
       units = p.units;
+      language = p.language;
     }
 
 abbrev pub grouped_in : Parts → GroupedAttributes
@@ -156,6 +157,7 @@ module _ (p : Parts) (A : Attributes) (M : ItemsWithKeys ℕ) (D : ItemsWithKeys
         entries = (tree_from_rows p).entries;
         units =
             (tree_from_rows p).units;
+        language = p.language;
       } in
       ap (λ s. made s (tree_from_rows p).choices) (seen_same (symbol_from_row p) (symbol_gathered (gathered_in p A M D)) 0 p.symbols.items same_symbol)
       ∙ ap (made (gathered_tree (gathered_in p A M D)).symbols) (seen_same (choice_from_row p) (choice_gathered (gathered_in p A M D)) 0 p.choices.items

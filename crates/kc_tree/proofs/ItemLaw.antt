@@ -6,11 +6,12 @@ use Rattle.std.proofs.lemmas.Bool.{eqb-true, eq-eqb}
 use Rattle.std.proofs.lemmas.List.{map-append}
 use Rattle.std.proofs.lemmas.List.Elements.{All-nil, All-append}
 use Rattle.std.proofs.lemmas.Grind.{flat_map-append}
+use Rattle.kc_tokens.specs.declared.language.Language.{Language}
 use Rattle.kc_expr.specs.Lookup.{index_of_name}
 use Rattle.kc_tree_model.specs.Trees.{ReverseDependency}
 use Rattle.kc_tree_model.specs.Statements.{Attribute, TargetAttribute}
 use Rattle.kc_tree_model.specs.Blocks.{Group, Line, defined_name}
-use Rattle.kc_tree_model.specs.Conditions.{GroupInContext, groups_in_context, attribute_values, attribute_condition}
+use Rattle.kc_tree_model.specs.Conditions.{context_of, GroupInContext, groups_in_context, attribute_values, attribute_condition}
 use Rattle.kc_tree_model.specs.Contents.{Contents, contents_of, defines, definitions_of, reverse_dependencies_of, reverse_dependencies_by}
 use Rattle.kc_tree_model.specs.Limits.{names_defined}
 use Rattle.kc_tree_model.proofs.Consistency.Lists.{Has, has-at, has-place, place-get, same_text, text_same, Differ, Differ-once, at_most_once}
@@ -265,45 +266,45 @@ direct_law view f P count read keys items t name l at =
 abbrev pub force_key_of : (Attribute → Option TargetAttribute) → List (List ℕ) → Line → Option ℕ
 force_key_of S names l = option_and_then (λ (a : TargetAttribute). index_of_name a.name names) (S l.attribute)
 
-abbrev pub force_by : ℕ → GroupInContext → TargetAttribute → ReverseDependency
-force_by s p a = record { by = s; condition = attribute_condition p.enclosing p.group a.condition }
+abbrev pub force_by : Language → ℕ → GroupInContext → TargetAttribute → ReverseDependency
+force_by language s p a = record { by = s; condition = attribute_condition (context_of language p) p.group a.condition }
 
-abbrev pub force_item_of : (Attribute → Option TargetAttribute) → List (List ℕ) → GroupInContext → List ℕ → Line → Option ReverseDependency
-force_item_of S names p x l =
-    option_and_then (λ (a : TargetAttribute). option_map (λ _. force_by (number_of names x) p a) (index_of_name a.name names)) (S l.attribute)
+abbrev pub force_item_of : Language → (Attribute → Option TargetAttribute) → List (List ℕ) → GroupInContext → List ℕ → Line → Option ReverseDependency
+force_item_of language S names p x l =
+    option_and_then (λ (a : TargetAttribute). option_map (λ _. force_by language (number_of names x) p a) (index_of_name a.name names)) (S l.attribute)
 
 abbrev pub force_keys : (Attribute → Option TargetAttribute) → List (List ℕ) → GroupInContext → List ℕ
 force_keys S names p = by_name (λ x. filter_map (force_key_of S names) p.group.attributes) (defined_name p.group)
 
-abbrev pub force_items : (Attribute → Option TargetAttribute) → List (List ℕ) → GroupInContext → List ReverseDependency
-force_items S names p = by_name (λ x. filter_map (force_item_of S names p x) p.group.attributes) (defined_name p.group)
+abbrev pub force_items : Language → (Attribute → Option TargetAttribute) → List (List ℕ) → GroupInContext → List ReverseDependency
+force_items language S names p = by_name (λ x. filter_map (force_item_of language S names p x) p.group.attributes) (defined_name p.group)
 
-module _ (S : Attribute → Option TargetAttribute) (names : List (List ℕ)) where
+module _ (language : Language) (S : Attribute → Option TargetAttribute) (names : List (List ℕ)) where
   selected_by : {A B : Type 0} (o : Option A) (y : B) (ks : List A) (xs : List B) → length ks ≡ length xs
       → length (cons_option o ks) ≡ length (cons_option (option_map (λ _. y) o) xs)
   selected_by None y ks xs e = e
   selected_by (Some a) y ks xs e = ap suc e
 
   selected_many : (p : GroupInContext) (x : List ℕ) (ls : List Line)
-      → length (filter_map (force_key_of S names) ls) ≡ length (filter_map (force_item_of S names p x) ls)
+      → length (filter_map (force_key_of S names) ls) ≡ length (filter_map (force_item_of language S names p x) ls)
   selected_many p x [] = refl
   selected_many p x (l ∷ ls) = by_aim (S l.attribute) (selected_many p x ls)
     where
-      by_aim : (o : Option TargetAttribute) → length (filter_map (force_key_of S names) ls) ≡ length (filter_map (force_item_of S names p x) ls)
+      by_aim : (o : Option TargetAttribute) → length (filter_map (force_key_of S names) ls) ≡ length (filter_map (force_item_of language S names p x) ls)
           → length (cons_option (option_and_then (λ (a : TargetAttribute). index_of_name a.name names) o) (filter_map (force_key_of S names) ls))
-          ≡ length (cons_option (option_and_then (λ (a : TargetAttribute). option_map (λ _. force_by (number_of names x) p a) (index_of_name a.name names)) o)
-          (filter_map (force_item_of S names p x) ls))
+          ≡ length (cons_option (option_and_then (λ (a : TargetAttribute). option_map (λ _. force_by language (number_of names x) p a) (index_of_name a.name names)) o)
+          (filter_map (force_item_of language S names p x) ls))
       by_aim None e = e
       by_aim (Some a) e =
-          selected_by (index_of_name a.name names) (force_by (number_of names x) p a) (filter_map (force_key_of S names) ls)
-          (filter_map (force_item_of S names p x) ls) e
+          selected_by (index_of_name a.name names) (force_by language (number_of names x) p a) (filter_map (force_key_of S names) ls)
+          (filter_map (force_item_of language S names p x) ls) e
 
-  pub reverse_dependency_many : (p : GroupInContext) → length (force_keys S names p) ≡ length (force_items S names p)
+  pub reverse_dependency_many : (p : GroupInContext) → length (force_keys S names p) ≡ length (force_items language S names p)
   reverse_dependency_many p = by_case (defined_name p.group)
     where
       by_case : (o : Option (List ℕ))
           → length (by_name (λ x. filter_map (force_key_of S names) p.group.attributes) o)
-          ≡ length (by_name (λ x. filter_map (force_item_of S names p x) p.group.attributes) o)
+          ≡ length (by_name (λ x. filter_map (force_item_of language S names p x) p.group.attributes) o)
       by_case None = refl
       by_case (Some x) = selected_many p x p.group.attributes
 
@@ -319,63 +320,63 @@ module _ (S : Attribute → Option TargetAttribute) (names : List (List ℕ)) wh
             cc
 
     selected_here : (b : Bool) (o : Option ℕ) (a : TargetAttribute) (ks : List ℕ) (xs : List ReverseDependency) (us : List TargetAttribute)
-        → bytes_eq a.name name ≡ b → index_of_name a.name names ≡ o → items_of t ks xs ≡ map (force_by s p) us
-        → items_of t (cons_option o ks) (cons_option (option_map (λ _. force_by s p a) o) xs) ≡ map (force_by s p) (cond b (a ∷ us) us)
+        → bytes_eq a.name name ≡ b → index_of_name a.name names ≡ o → items_of t ks xs ≡ map (force_by language s p) us
+        → items_of t (cons_option o ks) (cons_option (option_map (λ _. force_by language s p a) o) xs) ≡ map (force_by language s p) (cond b (a ∷ us) us)
     selected_here true None a ks xs us u e ih = let f = no_place a e in cc
     selected_here false None a ks xs us u e ih = ih
-    selected_here true (Some j) a ks xs us u e ih = rw (same_number names a.name name j t d e at ∙ u) (ap (λ r. force_by s p a ∷ r) ih)
+    selected_here true (Some j) a ks xs us u e ih = rw (same_number names a.name name j t d e at ∙ u) (ap (λ r. force_by language s p a ∷ r) ih)
     selected_here false (Some j) a ks xs us u e ih = rw (same_number names a.name name j t d e at ∙ u) ih
 
     selected_lines : (x : List ℕ) (ls : List Line) → number_of names x ≡ s
-        → items_of t (filter_map (force_key_of S names) ls) (filter_map (force_item_of S names p x) ls)
-        ≡ map (force_by s p) (filter (λ (a : TargetAttribute). bytes_eq a.name name) (filter_map (λ (l : Line). S l.attribute) ls))
+        → items_of t (filter_map (force_key_of S names) ls) (filter_map (force_item_of language S names p x) ls)
+        ≡ map (force_by language s p) (filter (λ (a : TargetAttribute). bytes_eq a.name name) (filter_map (λ (l : Line). S l.attribute) ls))
     selected_lines x [] e = refl
     selected_lines x (l ∷ ls) e = by_aim (S l.attribute) (selected_lines x ls e)
       where
         by_aim : (o : Option TargetAttribute)
-            → items_of t (filter_map (force_key_of S names) ls) (filter_map (force_item_of S names p x) ls)
-            ≡ map (force_by s p) (filter (λ (a : TargetAttribute). bytes_eq a.name name) (filter_map (λ (q : Line). S q.attribute) ls))
+            → items_of t (filter_map (force_key_of S names) ls) (filter_map (force_item_of language S names p x) ls)
+            ≡ map (force_by language s p) (filter (λ (a : TargetAttribute). bytes_eq a.name name) (filter_map (λ (q : Line). S q.attribute) ls))
             → items_of t (cons_option (option_and_then (λ (a : TargetAttribute). index_of_name a.name names) o) (filter_map (force_key_of S names) ls))
-            (cons_option (option_and_then (λ (a : TargetAttribute). option_map (λ _. force_by (number_of names x) p a) (index_of_name a.name names)) o)
-            (filter_map (force_item_of S names p x) ls))
-            ≡ map (force_by s p) (filter (λ (a : TargetAttribute). bytes_eq a.name name) (cons_option o (filter_map (λ (q : Line). S q.attribute) ls)))
+            (cons_option (option_and_then (λ (a : TargetAttribute). option_map (λ _. force_by language (number_of names x) p a) (index_of_name a.name names)) o)
+            (filter_map (force_item_of language S names p x) ls))
+            ≡ map (force_by language s p) (filter (λ (a : TargetAttribute). bytes_eq a.name name) (cons_option o (filter_map (λ (q : Line). S q.attribute) ls)))
         by_aim None ih = ih
         by_aim (Some a) ih =
             ap (λ n. items_of t (cons_option (index_of_name a.name names) (filter_map (force_key_of S names) ls))
-            (cons_option (option_map (λ _. force_by n p a) (index_of_name a.name names)) (filter_map (force_item_of S names p x) ls))) e
+            (cons_option (option_map (λ _. force_by language n p a) (index_of_name a.name names)) (filter_map (force_item_of language S names p x) ls))) e
             ∙ selected_here (bytes_eq a.name name) (index_of_name a.name names) a (filter_map (force_key_of S names) ls)
-            (filter_map (force_item_of S names p x) ls) (filter (λ (b : TargetAttribute). bytes_eq b.name name)
+            (filter_map (force_item_of language S names p x) ls) (filter (λ (b : TargetAttribute). bytes_eq b.name name)
             (filter_map (λ (q : Line). S q.attribute) ls)) refl refl ih
 
 -- the items under a symbol are its reverse dependencies
-reverse_dependency_here : (S : Attribute → Option TargetAttribute) (c : Contents) (p : GroupInContext) (o : Option (List ℕ)) (name : List ℕ) (t : ℕ)
+reverse_dependency_here : (language : Language) (S : Attribute → Option TargetAttribute) (c : Contents) (p : GroupInContext) (o : Option (List ℕ)) (name : List ℕ) (t : ℕ)
     → Differ c.names → slice_get c.names t ≡ Some name → ((x : List ℕ) → o ≡ Some x → Has x c.names)
     → items_of t (by_name (λ x. filter_map (force_key_of S c.names) p.group.attributes) o)
-    (by_name (λ x. filter_map (force_item_of S c.names p x) p.group.attributes) o)
+    (by_name (λ x. filter_map (force_item_of language S c.names p x) p.group.attributes) o)
     ≡ elim o as (λ _. List ReverseDependency) [
       | None ↦ []
-      | Some by ↦ reverse_dependencies_by c p
+      | Some by ↦ reverse_dependencies_by language c p
           (filter (λ (a : TargetAttribute). bytes_eq a.name name) (attribute_values S p.group)) by
     ]
-reverse_dependency_here S c p None name t d at named = refl
-reverse_dependency_here S c p (Some x) name t d at named =
+reverse_dependency_here language S c p None name t d at named = refl
+reverse_dependency_here language S c p (Some x) name t d at named =
     let j = has-place x c.names (named x refl) in
     let n : number_of c.names x ≡ j.0 = ap (λ o. unwrap_or o 0) j.1 in
-    selected_lines S c.names p j.0 t name d at x p.group.attributes n
+    selected_lines _ S c.names p j.0 t name d at x p.group.attributes n
     ∙ sym (ap (λ o. elim o as (λ _. List ReverseDependency) [
       | None ↦ []
-      | Some s ↦ map (force_by s p)
+      | Some s ↦ map (force_by language s p)
           (filter (λ (a : TargetAttribute). bytes_eq a.name name) (attribute_values S p.group))
     ]) j.1)
 
-pub reverse_dependency_law : {T : Type 0} (view : T → ReverseDependency) (S : Attribute → Option TargetAttribute) (P : T → Type 0) (count : ℕ)
+pub reverse_dependency_law : (language : Language) {T : Type 0} (view : T → ReverseDependency) (S : Attribute → Option TargetAttribute) (P : T → Type 0) (count : ℕ)
     (read : List Group) (keys : List ℕ) (items : List T) (t : ℕ) (name : List ℕ)
-    → AreListed view (force_keys S (names_defined read)) (force_items S (names_defined read)) P count (groups_in_context read) keys items
+    → AreListed view (force_keys S (names_defined read)) (force_items language S (names_defined read)) P count (groups_in_context read) keys items
     → slice_get (names_defined read) t ≡ Some name
-    → map view (items_of t keys items) ≡ flat_map (reverse_dependencies_of S (contents_of read) name) (groups_in_context read)
-reverse_dependency_law view S P count read keys items t name l at =
+    → map view (items_of t keys items) ≡ flat_map (reverse_dependencies_of language S (contents_of read) name) (groups_in_context read)
+reverse_dependency_law language view S P count read keys items t name l at =
     let names = names_defined read in
-    listed_law view (force_keys S names) (force_items S names) (reverse_dependencies_of S (contents_of read) name) P count (groups_in_context read) keys items t
-    l (reverse_dependency_many S names)
-    (λ p k. reverse_dependency_here S (contents_of read) p (defined_name p.group) name t (Differ-once (filter_map defined_name read))
+    listed_law view (force_keys S names) (force_items language S names) (reverse_dependencies_of language S (contents_of read) name) P count (groups_in_context read) keys items t
+    l (reverse_dependency_many _ S names)
+    (λ p k. reverse_dependency_here _ S (contents_of read) p (defined_name p.group) name t (Differ-once (filter_map defined_name read))
     at (λ x e. named_there read p x k e))

@@ -3,6 +3,7 @@ use Rattle.std.proofs.Common.{◌≡◌, ℕ, suc, ◌<◌, Bool, true, false, c
 use Rattle.std.specs.Prelude.{filter_map, option_map, option_and_then, All, IfSome, is_some}
 use Rattle.std.specs.List.{cons_option}
 use Rattle.std.proofs.lemmas.List.Elements.{All-nil, All-cons}
+use Rattle.kc_tokens.specs.declared.language.Language.{Language}
 use Rattle.kc_expr.specs.between.Arena.{Exprs, node_expr}
 use Rattle.kc_expr.specs.Expr.{Expr, Operand}
 use Rattle.kc_expr.specs.Lookup.{index_of_name}
@@ -14,7 +15,7 @@ use Rattle.kc_statements.specs.between.StatementViews as statement_views
 use Rattle.kc_tree_model.specs.Trees as tree
 use Rattle.kc_tree_model.specs.Statements.{Attribute, DefaultAttribute, RangeAttribute, TargetAttribute, prompt_of, default_of, range_of, select_of, imply_of}
 use Rattle.kc_tree_model.specs.Blocks.{Line}
-use Rattle.kc_tree_model.specs.Conditions.{GroupInContext, prompt_condition, attribute_condition}
+use Rattle.kc_tree_model.specs.Conditions.{context_of, GroupInContext, prompt_condition, attribute_condition}
 use Rattle.kc_tree_model.proofs.Consistency.Lists.{get_below, place-get}
 use Rattle.kc_listing.specs.declared.listing.Line.{Line as CodeLine}
 use Rattle.kc_listing.specs.declared.listing.SymbolTable.{SymbolTable}
@@ -71,9 +72,9 @@ pairs_fit P item e (l ∷ ls) (i ∷ cs) w v h =
     (pairs_fit P item e ls cs (λ k d j. w (suc k) d (omega arith)) (λ k d j. v (suc k) d (omega arith)) h)
 
 -- prompts
-module _ (e : Exprs) (p : GroupInContext) where
-  prompt_by : (a : CodeAttribute) (number i : ℕ) → node_expr e i ≡ condition_at p (record { number = number; attribute = attribute_in e a })
-      → option_map (node_expr e) (cond (is_prompt a) (Some i) None) ≡ option_map (prompt_condition p.enclosing p.group) (prompt_of (attribute_in e a))
+module _ (language : Language) (e : Exprs) (p : GroupInContext) where
+  prompt_by : (a : CodeAttribute) (number i : ℕ) → node_expr e i ≡ condition_at language p (record { number = number; attribute = attribute_in e a })
+      → option_map (node_expr e) (cond (is_prompt a) (Some i) None) ≡ option_map (prompt_condition (context_of language p) p.group) (prompt_of (attribute_in e a))
   prompt_by (attributes.Typed k) n i s = refl
   prompt_by (attributes.TypedPrompt k c) n i s = ap Some s
   prompt_by (attributes.TypedDefault k d) n i s = refl
@@ -88,22 +89,22 @@ module _ (e : Exprs) (p : GroupInContext) where
   prompt_by attributes.Modules n i s = refl
   prompt_by attributes.Optional n i s = refl
 
-  pub prompt_item : (l : CodeLine) (i : ℕ) → LineNodesExist e l → node_expr e i ≡ condition_at p (line_in e l)
-      → option_map (node_expr e) (gathered_prompt l i) ≡ own_item_of prompt_of (λ q. prompt_condition q.enclosing q.group) p (line_in e l)
+  pub prompt_item : (l : CodeLine) (i : ℕ) → LineNodesExist e l → node_expr e i ≡ condition_at language p (line_in e l)
+      → option_map (node_expr e) (gathered_prompt l i) ≡ own_item_of prompt_of (λ q. prompt_condition (context_of language q) q.group) p (line_in e l)
   prompt_item l i w s = prompt_by l.attribute l.number i s
 
   -- defaults
-  default_by : (a : CodeAttribute) (number i : ℕ) → node_expr e i ≡ condition_at p (record { number = number; attribute = attribute_in e a })
+  default_by : (a : CodeAttribute) (number i : ℕ) → node_expr e i ≡ condition_at language p (record { number = number; attribute = attribute_in e a })
       → option_map (views.default_view e) (gathered_default (record { number = number; attribute = a }) i) ≡ option_map
-      (λ (d : DefaultAttribute). let x : tree.Default = record { value = d.value; condition = attribute_condition p.enclosing p.group d.condition } in x)
+      (λ (d : DefaultAttribute). let x : tree.Default = record { value = d.value; condition = attribute_condition (context_of language p) p.group d.condition } in x)
       (default_of (attribute_in e a))
   default_by (attributes.TypedDefault k d) n i s = ap (λ x. let y : tree.Default = record { value = node_expr e d.value; condition = x } in Some y) s
   default_by (attributes.Default d) n i s = ap (λ x. let y : tree.Default = record { value = node_expr e d.value; condition = x } in Some y) s
   default_by a n i s = refl
 
-  pub default_item : (l : CodeLine) (i : ℕ) → LineNodesExist e l → node_expr e i ≡ condition_at p (line_in e l)
+  pub default_item : (l : CodeLine) (i : ℕ) → LineNodesExist e l → node_expr e i ≡ condition_at language p (line_in e l)
       → option_map (views.default_view e) (gathered_default l i) ≡ own_item_of default_of
-      (λ q (d : DefaultAttribute). let x : tree.Default = record { value = d.value; condition = attribute_condition q.enclosing q.group d.condition } in x)
+      (λ q (d : DefaultAttribute). let x : tree.Default = record { value = d.value; condition = attribute_condition (context_of language q) q.group d.condition } in x)
       p (line_in e l)
   default_item l i w s = default_by l.attribute l.number i s
 
@@ -112,12 +113,12 @@ module _ (e : Exprs) (p : GroupInContext) where
   operand_same id h = ap views.operand_or_empty h.is
 
   range_by : (a : CodeAttribute) (number i : ℕ) → AttributeNodesExist e a
-      → node_expr e i ≡ condition_at p (record { number = number; attribute = attribute_in e a })
+      → node_expr e i ≡ condition_at language p (record { number = number; attribute = attribute_in e a })
       → option_map (views.range_view e) (gathered_range (record { number = number; attribute = a }) i) ≡ option_map
       (λ (b : RangeAttribute). let x : tree.Range = record {
         low = b.low;
         high = b.high;
-        condition = attribute_condition p.enclosing p.group b.condition;
+        condition = attribute_condition (context_of language p) p.group b.condition;
       } in x) (range_of (attribute_in e a))
   range_by (attributes.Range r) n i h s =
       let made = λ (a b : Operand) (x : Expr). let y : tree.Range = record { low = a; high = b; condition = x } in Some y in
@@ -126,12 +127,12 @@ module _ (e : Exprs) (p : GroupInContext) where
       ∙ ap (made (statement_views.operand_or_n e r.low) (statement_views.operand_or_n e r.high)) s
   range_by a n i h s = refl
 
-  pub range_item : (l : CodeLine) (i : ℕ) → LineNodesExist e l → node_expr e i ≡ condition_at p (line_in e l)
+  pub range_item : (l : CodeLine) (i : ℕ) → LineNodesExist e l → node_expr e i ≡ condition_at language p (line_in e l)
       → option_map (views.range_view e) (gathered_range l i) ≡ own_item_of range_of
       (λ q (b : RangeAttribute). let x : tree.Range = record {
         low = b.low;
         high = b.high;
-        condition = attribute_condition q.enclosing q.group b.condition;
+        condition = attribute_condition (context_of language q) q.group b.condition;
       } in x) p (line_in e l)
   range_item l i w s = range_by l.attribute l.number i w s
 
@@ -214,7 +215,7 @@ abbrev pub aim_of : ReverseKind → Attribute → Option TargetAttribute
 aim_of Select a = select_of a
 aim_of Imply a = imply_of a
 
-module _ (n : SymbolTable) (names : List (List ℕ)) (h : HasNames n.arena n.symbols.items n.numbers.items names) where
+module _ (language : Language) (n : SymbolTable) (names : List (List ℕ)) (h : HasNames n.arena n.symbols.items n.numbers.items names) where
   target_by : (f : ReverseKind) (a : CodeAttribute)
       → option_and_then (λ id. number_in n.arena.names n.numbers.items (text_of_name n.arena id)) (gathered_target_name f a)
       ≡ option_and_then (λ (b : TargetAttribute). index_of_name b.name names) (aim_of f (attribute_in n.arena a))
@@ -226,32 +227,32 @@ module _ (n : SymbolTable) (names : List (List ℕ)) (h : HasNames n.arena n.sym
   pub reverse_dependency_key : (f : ReverseKind) (l : CodeLine) (i : ℕ) → target_key n f l i ≡ force_key_of (aim_of f) names (line_in n.arena l)
   reverse_dependency_key f l i = target_by f l.attribute
 
-  made_by : (s i : ℕ) (p : GroupInContext) (o : Option ℕ) (a : TargetAttribute) → node_expr n.arena i ≡ attribute_condition p.enclosing p.group a.condition
+  made_by : (s i : ℕ) (p : GroupInContext) (o : Option ℕ) (a : TargetAttribute) → node_expr n.arena i ≡ attribute_condition (context_of language p) p.group a.condition
       → option_map (views.reverse_dependency_view n.arena) (option_map (λ _. let y : ReverseDependency = record { by = s; condition = i } in y) o) ≡ option_map
-      (λ _. force_by s p a) o
+      (λ _. force_by language s p a) o
   made_by s i p None a e = refl
   made_by s i p (Some t) a e = ap (λ c. let y : tree.ReverseDependency = record { by = s; condition = c } in Some y) e
 
   reverse_dependency_item_by : (f : ReverseKind) (a : CodeAttribute) (number s i : ℕ) (p : GroupInContext)
-      → node_expr n.arena i ≡ condition_at p (record { number = number; attribute = attribute_in n.arena a })
+      → node_expr n.arena i ≡ condition_at language p (record { number = number; attribute = attribute_in n.arena a })
       → option_map (views.reverse_dependency_view n.arena) (option_map (λ _. let y : ReverseDependency = record { by = s; condition = i } in y)
       (option_and_then (λ id. number_in n.arena.names n.numbers.items (text_of_name n.arena id)) (gathered_target_name f a)))
-      ≡ option_and_then (λ (b : TargetAttribute). option_map (λ _. force_by s p b) (index_of_name b.name names)) (aim_of f (attribute_in n.arena a))
+      ≡ option_and_then (λ (b : TargetAttribute). option_map (λ _. force_by language s p b) (index_of_name b.name names)) (aim_of f (attribute_in n.arena a))
   reverse_dependency_item_by Select (attributes.Select a) number s i p e =
       made_by s i p (number_in n.arena.names n.numbers.items (text_of_name n.arena a.name)) (statement_views.target_in n.arena a) e
-      ∙ ap (option_map (λ _. force_by s p (statement_views.target_in n.arena a))) (h.numbered (text_of_name n.arena a.name))
+      ∙ ap (option_map (λ _. force_by language s p (statement_views.target_in n.arena a))) (h.numbered (text_of_name n.arena a.name))
   reverse_dependency_item_by Select a number s i p e = refl
   reverse_dependency_item_by Imply (attributes.Imply a) number s i p e =
       made_by s i p (number_in n.arena.names n.numbers.items (text_of_name n.arena a.name)) (statement_views.target_in n.arena a) e
-      ∙ ap (option_map (λ _. force_by s p (statement_views.target_in n.arena a))) (h.numbered (text_of_name n.arena a.name))
+      ∙ ap (option_map (λ _. force_by language s p (statement_views.target_in n.arena a))) (h.numbered (text_of_name n.arena a.name))
   reverse_dependency_item_by Imply a number s i p e = refl
 
   pub reverse_dependency_item : (f : ReverseKind) (x : List ℕ) (s : ℕ) (p : GroupInContext) → number_of names x ≡ s → (l : CodeLine) (i : ℕ)
-      → LineNodesExist n.arena l → node_expr n.arena i ≡ condition_at p (line_in n.arena l)
-      → option_map (views.reverse_dependency_view n.arena) (gathered_reverse_dependency n f s l i) ≡ force_item_of (aim_of f) names p x (line_in n.arena l)
+      → LineNodesExist n.arena l → node_expr n.arena i ≡ condition_at language p (line_in n.arena l)
+      → option_map (views.reverse_dependency_view n.arena) (gathered_reverse_dependency n f s l i) ≡ force_item_of language (aim_of f) names p x (line_in n.arena l)
   reverse_dependency_item f x s p number l i w e =
       reverse_dependency_item_by f l.attribute l.number s i p e
-      ∙ ap (λ k. option_and_then (λ (b : TargetAttribute). option_map (λ _. force_by k p b) (index_of_name b.name names))
+      ∙ ap (λ k. option_and_then (λ (b : TargetAttribute). option_map (λ _. force_by language k p b) (index_of_name b.name names))
       (aim_of f (attribute_in n.arena l.attribute))) (sym number)
 
   pub reverse_dependency_fit : (f : ReverseKind) (s count : ℕ) → s < count → (l : CodeLine) (i : ℕ) → LineNodesExist n.arena l → i < length n.arena.nodes

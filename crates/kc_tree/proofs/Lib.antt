@@ -12,6 +12,7 @@ pub mod Growth
 pub mod FinishedTables
 pub mod MemberMarks
 pub mod MemberLaw
+pub mod OwnMembers
 pub mod SymbolNames
 pub mod Rounds
 pub mod FaultSearch

@@ -34,17 +34,17 @@ key_in c p (Some j) x s e h = (j, e)
 no_round : (c : Contents) (j : ℕ) → option_and_then (choice_number c) None ≡ Some j → ⊥
 no_round c j h = cc
 
-enclosing_below : (c : Contents) (p : GroupInContext) (j : ℕ) (o : Option ℕ) → p.enclosing.choice ≡ o → option_and_then (choice_number c) o ≡ Some j
+enclosing_below : (c : Contents) (p : GroupInContext) (j : ℕ) (o : Option ℕ) → p.choice ≡ o → option_and_then (choice_number c) o ≡ Some j
     → j < length c.choices
 enclosing_below c p j None e h = absurd (no_round c j h)
 enclosing_below c p j (Some n) e h = get_below c.choices j n (number-get n c.choices j h)
 
-pub keys_small : (c : Contents) (ps : List GroupInContext) → All (λ k. k < length c.choices) (flat_map (member_keys_at c) ps)
-keys_small c ps = all_has (λ k. k < length c.choices) (flat_map (member_keys_at c) ps) (λ k h.
-    let r = has_flat_map (member_keys_at c) ps k h in
-    let m = has_mapped (λ _. member_key c r.0) (members_at c r.0) k r.2 in
+pub keys_small : (c : Contents) (ps : List GroupInContext) → All (λ k. k < length c.choices) (flat_map (member_keys_at (enclosing_choice c) c) ps)
+keys_small c ps = all_has (λ k. k < length c.choices) (flat_map (member_keys_at (enclosing_choice c) c) ps) (λ k h.
+    let r = has_flat_map (member_keys_at (enclosing_choice c) c) ps k h in
+    let m = has_mapped (λ _. member_key (enclosing_choice c) r.0) (members_at (enclosing_choice c) c r.0) k r.2 in
     let j = key_in c r.0 (enclosing_choice c r.0) (defined_name r.0.group) m.0 refl m.1 in
-    let below = enclosing_below c r.0 j.0 r.0.enclosing.choice refl j.1 in
+    let below = enclosing_below c r.0 j.0 r.0.choice refl j.1 in
     let is : j.0 ≡ k = sym (ap (λ o. elim o as (λ _. ℕ) [ None ↦ 0 | Some i ↦ i ]) j.1) ∙ m.2 in
     omega arith)
 

@@ -61,8 +61,8 @@ module _ (files : Files) (root : List ℕ) (l : Listing) (given : Option TreeFau
   unfolding first_tree_fault
   reported_tree_fault o e h = after_none files.language (reading files root) (unfailed_of e) ∙ sym h
 
-  pub of_tree : given ≡ None → None ≡ slice_get (tree_faults files.language (reading files root).read) 0 → IsOfTree l
-  of_tree e h = record { files = files; root = root; untold = reported_tree_fault None e h; shows = shown_of_reading e }
+  pub of_tree : given ≡ None → None ≡ slice_get (tree_faults files.language (reading files root).read) 0 → IsOfTree files.language l
+  of_tree e h = record { files = files; root = root; written = refl; untold = reported_tree_fault None e h; shows = shown_of_reading e }
 
 -- a returned fault, if not out of memory but the first fault of the files, is their reported fault
 pub reported_or_memory : (files : Files) (root : List ℕ) (f : TreeFault) → (f ≡ no_memory) ⊎ (first_tree_fault files root ≡ Some f)

@@ -7,7 +7,7 @@ use Rattle.std.proofs.lemmas.List.Elements.{filter-append}
 use Rattle.kc_expr.specs.between.Arena.{Exprs}
 use Rattle.kc_tree_model.specs.Statements.{choice, menu, source}
 use Rattle.kc_tree_model.specs.Blocks.{Group, GroupHead, of_head, side_of, opening, closing, inside, open_blocks, opens_choice}
-use Rattle.kc_tree_model.specs.Conditions.{Context, context, inner_context_of_group_head, GroupInContext, group_in_context, groups_in_context}
+use Rattle.kc_tree_model.specs.Conditions.{choice_among, GroupInContext, group_in_context, groups_in_context}
 use Rattle.kc_tree_model.specs.Contents.{Contents, contents_of, choice_number, index_of_number}
 use Rattle.kc_tree_model.proofs.NestedTrees.OpenBlocks.{open_inside, popped, pushed}
 use Rattle.kc_tree_model.proofs.Consistency.Lists.{Has, filter-has, has-number, has-filter, number_of_more}
@@ -108,7 +108,7 @@ number_counts read i m a b now e =
     ∙ place_there m.number (numbers_of_choices prior) r.0 apart
 
 -- each choice that encloses a group has a number among the choices
-pub enclosing_numbered : (read : List Group) (p : GroupInContext) (n : ℕ) → Has p (groups_in_context read) → p.enclosing.choice ≡ Some n
+pub enclosing_numbered : (read : List Group) (p : GroupInContext) (n : ℕ) → Has p (groups_in_context read) → p.choice ≡ Some n
     → (k : ℕ) × (choice_number (contents_of read) n ≡ Some k)
 enclosing_numbered read p n h e =
     let q = choice_read p read n h e in
@@ -117,7 +117,7 @@ enclosing_numbered read p n h e =
     has-number n (numbers_of_choices read) (subst (λ m. Has m (numbers_of_choices read)) q.2 there)
 
 -- the first of the choices of the open blocks, innermost first, is the enclosing choice of the context inside these blocks
-pub innermost_is : (c : Contents) (opened : List Group) → innermost_choice (open_choices c opened) ≡ option_and_then (choice_number c) (context opened).choice
+pub innermost_is : (c : Contents) (opened : List Group) → innermost_choice (open_choices c opened) ≡ option_and_then (choice_number c) (choice_among opened)
 innermost_is c [] = refl
 innermost_is c (g ∷ outer) = refl
 
@@ -125,23 +125,21 @@ dropped : (c : Contents) (opened : List Group) → open_choices c (drop 1 opened
 dropped c [] = refl
 dropped c (g ∷ outer) = refl
 
-opens_same : (c : Contents) (g : Group) (before : List Group) (w : GroupHead) → g.head ≡ w → side_of w ≡ opening
-    → ((enclosing : Context) → (inner_context_of_group_head w enclosing g).choice ≡ enclosing.choice)
+opens_same : (c : Contents) (g : Group) (before : List Group) (w : GroupHead) → g.head ≡ w → side_of w ≡ opening → opens_choice g ≡ false
     → open_choices c (open_blocks 0 (g ∷ before)) ≡ innermost_choice (open_choices c (open_blocks 0 before)) ∷ open_choices c (open_blocks 0 before)
-opens_same c g before w e side stays =
+opens_same c g before w e side other =
     let outer : List Group = open_blocks 0 before in
     ap (open_choices c) (pushed g before (ap side_of e ∙ side))
     ∙ ap (λ o. o ∷ open_choices c outer)
-    (ap (option_and_then (choice_number c)) (ap (λ v. (inner_context_of_group_head v (context outer) g).choice) e ∙ stays (context outer))
-    ∙ sym (innermost_is c outer))
+    (ap (λ b. option_and_then (choice_number c) (cond b (Some g.number) (choice_among outer))) other ∙ sym (innermost_is c outer))
 
 opens_own : (c : Contents) (g : Group) (before : List Group) (n : ℕ) → g.head ≡ of_head choice → choice_number c g.number ≡ Some n
     → open_choices c (open_blocks 0 (g ∷ before)) ≡ Some n ∷ open_choices c (open_blocks 0 before)
 opens_own c g before n e number =
     let outer : List Group = open_blocks 0 before in
+    let own : opens_choice g ≡ true = rw e refl in
     ap (open_choices c) (pushed g before (ap side_of e))
-    ∙ ap (λ o. o ∷ open_choices c outer) (ap (option_and_then (choice_number c)) (ap (λ v. (inner_context_of_group_head v (context outer) g).choice) e)
-    ∙ number)
+    ∙ ap (λ o. o ∷ open_choices c outer) (ap (λ b. option_and_then (choice_number c) (cond b (Some g.number) (choice_among outer))) own ∙ number)
 
 closes : (c : Contents) (g : Group) (before : List Group) → side_of g.head ≡ closing
     → open_choices c (open_blocks 0 (g ∷ before)) ≡ drop 1 (open_choices c (open_blocks 0 before))
@@ -157,10 +155,10 @@ pub opened_is : (c : Contents) (e : Exprs) (names texts : List (List ℕ)) (what
     → open_choices c (open_blocks 0 (g ∷ before)) ≡ choices_opened_after what n (open_choices c (open_blocks 0 before))
 opened_is c e names texts (codes.Config s) g before n h number = stays c g before (ap side_of h.2)
 opened_is c e names texts codes.Choice g before n h number = opens_own c g before n h (number refl)
-opened_is c e names texts (codes.Menu t) g before n h number = opens_same c g before (of_head (menu h.0)) h.2 refl (λ enclosing. refl)
-opened_is c e names texts (codes.Condition id) g before n h number = opens_same c g before _ h.1 refl (λ enclosing. refl)
+opened_is c e names texts (codes.Menu t) g before n h number = opens_same c g before (of_head (menu h.0)) h.2 refl (rw h.2 refl)
+opened_is c e names texts (codes.Condition id) g before n h number = opens_same c g before _ h.1 refl (rw h.1 refl)
 opened_is c e names texts (codes.Comment t) g before n h number = stays c g before (ap side_of h.2)
-opened_is c e names texts (codes.Source t) g before n h number = opens_same c g before (of_head (source h.0)) h.2 refl (λ enclosing. refl)
+opened_is c e names texts (codes.Source t) g before n h number = opens_same c g before (of_head (source h.0)) h.2 refl (rw h.2 refl)
 opened_is c e names texts codes.Mainmenu g before n h number = stays c g before (ap side_of h)
 opened_is c e names texts (codes.Ends b) g before n h number = closes c g before (ap side_of h)
 opened_is c e names texts codes.FileEnd g before n h number = closes c g before (ap side_of h)

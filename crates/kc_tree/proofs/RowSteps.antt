@@ -6,7 +6,7 @@ use Rattle.std.proofs.lemmas.List.{length-reverse, reverse-append}
 use Rattle.kc_expr.specs.between.Arena.{Exprs}
 use Rattle.kc_tree_model.specs.Blocks.{Group}
 use Rattle.kc_tree_model.specs.Conditions.{GroupInContext, groups_in_context}
-use Rattle.kc_tree_model.specs.Contents.{contents_of, defines, definitions_of}
+use Rattle.kc_tree_model.specs.Contents.{contents_of, defines, definitions_of, kind_in_tree, type_given}
 use Rattle.kc_tree_model.specs.Limits.{names_defined}
 use Rattle.kc_tree_model.proofs.Consistency.Lists.{Has, has-filter}
 use Rattle.kc_tree_model.proofs.Consistency.Places.{group-placed}
@@ -97,7 +97,7 @@ module _ (e : Exprs) (symbols numbers : List ℕ) (texts : List (List ℕ)) (lin
   row_is name id l w = record {
     held = l;
     name_is = w;
-    kind_is = refl;
+    kind_is = ap (λ o. kind_in_tree o (type_given (contents_of read) name)) (choice_is read name);
     file_is = file_of_first groups (definitions_of (contents_of read) name) (definition_kept name);
     line_is = line_of_first groups (definitions_of (contents_of read) name) (definition_kept name);
     choice_is = choice_is read name;

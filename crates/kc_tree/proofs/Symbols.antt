@@ -55,7 +55,7 @@ no_definitions read name n = no_places read name (definitions_of (contents_of re
 abbrev kind_by : Contents → List GroupInContext → Option Kind
 kind_by c ds =
     kind_or_bool (slice_get (flat_map (λ (p : GroupInContext). attribute_values type_of p.group) ds) 0)
-    (is_some (option_and_then (choice_number c) (slice_get (filter_map (λ (p : GroupInContext). p.enclosing.choice) ds) 0)))
+    (is_some (option_and_then (choice_number c) (slice_get (filter_map (λ (p : GroupInContext). p.choice) ds) 0)))
 
 selectable_by : (o : Option Kind) → Bool
 selectable_by None = true
@@ -82,7 +82,7 @@ unfolding selectable_by
 selectable_none c name e = selectable_is c name ∙ ap selectable_by e
 
 -- the choice of a symbol
-choice_by : (c : Contents) (p : GroupInContext) (o : Option ℕ) → p.enclosing.choice ≡ o → ((n : ℕ) → o ≡ Some n → (k : ℕ) × (choice_number c n ≡ Some k))
+choice_by : (c : Contents) (p : GroupInContext) (o : Option ℕ) → p.choice ≡ o → ((n : ℕ) → o ≡ Some n → (k : ℕ) × (choice_number c n ≡ Some k))
     → (xs ys : List ℕ)
     → slice_get xs 0 ≡ option_and_then (choice_number c) (slice_get ys 0)
     → slice_get (option_to_list (option_and_then (choice_number c) o) ++ xs) 0 ≡ option_and_then (choice_number c) (slice_get (cons_option o ys) 0)
@@ -90,12 +90,12 @@ choice_by c p None e numbered xs ys ih = ih
 choice_by c p (Some n) e numbered xs ys ih = let k = numbered n refl in ap (λ m. slice_get (option_to_list m ++ xs) 0) k.1 ∙ sym k.1
 
 choice_first : (c : Contents) (ds : List GroupInContext)
-    → ((p : GroupInContext) (n : ℕ) → Has p ds → p.enclosing.choice ≡ Some n → (k : ℕ) × (choice_number c n ≡ Some k))
-    → slice_get (flat_map (choices_at c) ds) 0 ≡ option_and_then (choice_number c) (slice_get (filter_map (λ (p : GroupInContext). p.enclosing.choice) ds) 0)
+    → ((p : GroupInContext) (n : ℕ) → Has p ds → p.choice ≡ Some n → (k : ℕ) × (choice_number c n ≡ Some k))
+    → slice_get (flat_map (choices_at c) ds) 0 ≡ option_and_then (choice_number c) (slice_get (filter_map (λ (p : GroupInContext). p.choice) ds) 0)
 choice_first c [] numbered = refl
 choice_first c (p ∷ ds) numbered =
-    choice_by c p p.enclosing.choice refl (λ n e. numbered p n (inl refl) e) (flat_map (choices_at c) ds)
-    (filter_map (λ (q : GroupInContext). q.enclosing.choice) ds) (choice_first c ds (λ q n h e. numbered q n (inr h) e))
+    choice_by c p p.choice refl (λ n e. numbered p n (inl refl) e) (flat_map (choices_at c) ds)
+    (filter_map (λ (q : GroupInContext). q.choice) ds) (choice_first c ds (λ q n h e. numbered q n (inr h) e))
 
 pub choice_is : (read : List Group) (name : List ℕ)
     → (summary_in (contents_of read) (groups_in_context read) name).choice ≡ choice_of_symbol (contents_of read) name
@@ -266,27 +266,27 @@ statement_by f read i m now =
     ap (flat_map f) (placed_more read i m now) ∙ flat_map-append f (groups_in_context (read_before i read)) (p ∷ [])
     ∙ ap (λ xs. flat_map f (groups_in_context (read_before i read)) ++ xs) (append-nil (f p))
 
--- the collected members and the numbers of their choices are those that the first `i` groups define
-pub record AreMembers (read : List Group) (i : ℕ) (keys members : List ℕ) : Type 0 where
-  pub keys_are : keys ≡ flat_map (member_keys_at (contents_of read)) (groups_in_context (read_before i read))
-  pub members_are : members ≡ flat_map (members_at (contents_of read)) (groups_in_context (read_before i read))
+-- the collected members and the numbers of their choices, as a function gives these, are those that the first `i` groups define
+pub record AreMembers (f : GroupInContext → Option ℕ) (read : List Group) (i : ℕ) (keys members : List ℕ) : Type 0 where
+  pub keys_are : keys ≡ flat_map (member_keys_at f (contents_of read)) (groups_in_context (read_before i read))
+  pub members_are : members ≡ flat_map (members_at f (contents_of read)) (groups_in_context (read_before i read))
 
-pub no_members : (read : List Group) → AreMembers read 0 [] []
-no_members read =
+pub no_members : (f : GroupInContext → Option ℕ) (read : List Group) → AreMembers f read 0 [] []
+no_members f read =
     let e = none_before read in
     record {
-      keys_are = sym (ap (λ r. flat_map (member_keys_at (contents_of read)) (groups_in_context r)) e);
-      members_are = sym (ap (λ r. flat_map (members_at (contents_of read)) (groups_in_context r)) e);
+      keys_are = sym (ap (λ r. flat_map (member_keys_at f (contents_of read)) (groups_in_context r)) e);
+      members_are = sym (ap (λ r. flat_map (members_at f (contents_of read)) (groups_in_context r)) e);
     }
 
-pub all_members : (read : List Group) (i : ℕ) (keys members : List ℕ) → i ≡ length read → AreMembers read i keys members
-    → (keys ≡ flat_map (member_keys_at (contents_of read)) (groups_in_context read))
-    × (members ≡ flat_map (members_at (contents_of read)) (groups_in_context read))
-all_members read i keys members e a =
+pub all_members : (f : GroupInContext → Option ℕ) (read : List Group) (i : ℕ) (keys members : List ℕ) → i ≡ length read → AreMembers f read i keys members
+    → (keys ≡ flat_map (member_keys_at f (contents_of read)) (groups_in_context read))
+    × (members ≡ flat_map (members_at f (contents_of read)) (groups_in_context read))
+all_members f read i keys members e a =
     let all = ap (λ n. read_before n read) e ∙ all_before read in (
-      a.keys_are ∙ ap (λ r. flat_map (member_keys_at (contents_of read)) (groups_in_context r)) all,
+      a.keys_are ∙ ap (λ r. flat_map (member_keys_at f (contents_of read)) (groups_in_context r)) all,
       a.members_are
-          ∙ ap (λ r. flat_map (members_at (contents_of read)) (groups_in_context r)) all,
+          ∙ ap (λ r. flat_map (members_at f (contents_of read)) (groups_in_context r)) all,
     )
 
 -- in a list of distinct names, the index found for the name at index `s` is `s`
@@ -296,72 +296,71 @@ place_is names name s differ at =
     r.1 ∙ ap Some (at_most_once name names r.0 s differ (place-get name names r.0 r.1) at)
 
 module _ (e : Exprs) (texts : List (List ℕ)) (lines : List CodeLine) (groups : List CodeGroup) (read : List Group)
-    (h : RepresentsGroups e (names_defined read) texts lines (length lines) (reverse groups) read) where
+    (h : RepresentsGroups e (names_defined read) texts lines (length lines) (reverse groups) read) (f : GroupInContext → Option ℕ) where
   here_more : (i : ℕ) (m : Group) (ks ms keys members : List ℕ) → read_before (i + 1) read ≡ m ∷ read_before i read
-      → member_keys_at (contents_of read) (group_in_context (open_blocks 0 (read_before i read)) m) ≡ ks
-      → members_at (contents_of read) (group_in_context (open_blocks 0 (read_before i read)) m) ≡ ms
-      → AreMembers read i keys members → AreMembers read (i + 1) (keys ++ ks) (members ++ ms)
+      → member_keys_at f (contents_of read) (group_in_context (open_blocks 0 (read_before i read)) m) ≡ ks
+      → members_at f (contents_of read) (group_in_context (open_blocks 0 (read_before i read)) m) ≡ ms
+      → AreMembers f read i keys members → AreMembers f read (i + 1) (keys ++ ks) (members ++ ms)
   here_more i m ks ms keys members now k s a =
       let c = contents_of read in
       record {
-        keys_are = ap (λ xs. xs ++ ks) a.keys_are ∙ ap (λ xs. flat_map (member_keys_at c) (groups_in_context (read_before i read)) ++ xs) (sym k)
-            ∙ sym (statement_by (member_keys_at c) read i m now);
-        members_are = ap (λ xs. xs ++ ms) a.members_are ∙ ap (λ xs. flat_map (members_at c) (groups_in_context (read_before i read)) ++ xs) (sym s)
-            ∙ sym (statement_by (members_at c) read i m now);
+        keys_are = ap (λ xs. xs ++ ks) a.keys_are ∙ ap (λ xs. flat_map (member_keys_at f c) (groups_in_context (read_before i read)) ++ xs) (sym k)
+            ∙ sym (statement_by (member_keys_at f c) read i m now);
+        members_are = ap (λ xs. xs ++ ms) a.members_are ∙ ap (λ xs. flat_map (members_at f c) (groups_in_context (read_before i read)) ++ xs) (sym s)
+            ∙ sym (statement_by (members_at f c) read i m now);
       }
 
   none_more : (i : ℕ) (m : Group) (keys members : List ℕ) → read_before (i + 1) read ≡ m ∷ read_before i read
-      → members_at (contents_of read) (group_in_context (open_blocks 0 (read_before i read)) m) ≡ []
-      → AreMembers read i keys members → AreMembers read (i + 1) keys members
+      → members_at f (contents_of read) (group_in_context (open_blocks 0 (read_before i read)) m) ≡ []
+      → AreMembers f read i keys members → AreMembers f read (i + 1) keys members
   none_more i m keys members now s a =
       let p : GroupInContext = group_in_context (open_blocks 0 (read_before i read)) m in
-      let r = here_more i m [] [] keys members now (ap (map (λ _. member_key (contents_of read) p)) s) s a in
+      let r = here_more i m [] [] keys members now (ap (map (λ _. member_key f p)) s) s a in
       record { keys_are = sym (append-nil keys) ∙ r.keys_are; members_are = sym (append-nil members) ∙ r.members_are }
 
   unnamed : (c : Contents) (o : Option ℕ) → member_in c o None ≡ []
   unnamed c None = refl
   unnamed c (Some k) = refl
 
-  -- a `config` inside a choice adds its symbol to the collected members, under the number of the choice
-  pub member_more : (i s k : ℕ) (enclosing : List (Option ℕ)) (keys members : List ℕ) → i < length groups → (group_at groups i).head ≡ codes.Config s
-      → enclosing ≡ map (enclosing_choice (contents_of read)) (groups_in_context read) → get_or enclosing i None ≡ Some k
-      → AreMembers read i keys members → AreMembers read (i + 1) (keys ++ k ∷ []) (members ++ s ∷ [])
-  member_more i s k enclosing keys members l w r a m =
+  -- a `config` to which the function gives a choice adds its symbol to the collected members, under the number of the choice
+  pub member_more : (i s k : ℕ) (keys members : List ℕ) → i < length groups → (group_at groups i).head ≡ codes.Config s
+      → ((p : GroupInContext) → slice_get (groups_in_context read) i ≡ Some p → f p ≡ Some k)
+      → AreMembers f read i keys members → AreMembers f read (i + 1) (keys ++ k ∷ []) (members ++ s ∷ [])
+  member_more i s k keys members l w given m =
       let c = contents_of read in
       let t = shown_at e (names_defined read) texts lines groups read h i l in
       let n = count_is e (names_defined read) texts lines groups read h in
       let what = subst (λ v. RepresentsHead e (names_defined read) texts v t.group.head) w t.shown.head in
       let p : GroupInContext = group_in_context (open_blocks 0 (read_before i read)) t.group in
       let at = place_numbered read i t.group (omega arith) t.now in
-      let chosen : enclosing_choice c p ≡ Some k = sym (enclosing_at e texts lines groups read h i enclosing p r at) ∙ a in
+      let chosen : f p ≡ Some k = given p at in
       let named : defined_name p.group ≡ Some what.0 = ap (from_head name_of_head) what.2 in
-      let is : members_at c p ≡ s ∷ [] =
+      let is : members_at f c p ≡ s ∷ [] =
       ap (λ o. member_in c o (defined_name p.group)) chosen ∙ ap (member_in c (Some k)) named
       ∙ ap option_to_list (place_is (names_defined read) what.0 s (Differ-once (filter_map defined_name read)) what.1) in
-      let key : member_keys_at c p ≡ k ∷ [] = ap (map (λ _. member_key c p)) is ∙ ap (λ o. elim o as (λ _. ℕ) [ None ↦ 0 | Some j ↦ j ] ∷ []) chosen in
+      let key : member_keys_at f c p ≡ k ∷ [] = ap (map (λ _. member_key f p)) is ∙ ap (λ o. elim o as (λ _. ℕ) [ None ↦ 0 | Some j ↦ j ] ∷ []) chosen in
       here_more i t.group (k ∷ []) (s ∷ []) keys members t.now key is m
 
-  pub outside_more : (i : ℕ) (enclosing : List (Option ℕ)) (keys members : List ℕ) → i < length groups
-      → enclosing ≡ map (enclosing_choice (contents_of read)) (groups_in_context read) → get_or enclosing i None ≡ None → AreMembers read i keys members
-      → AreMembers read (i + 1) keys members
-  outside_more i enclosing keys members l r a m =
+  pub outside_more : (i : ℕ) (keys members : List ℕ) → i < length groups
+      → ((p : GroupInContext) → slice_get (groups_in_context read) i ≡ Some p → f p ≡ None) → AreMembers f read i keys members
+      → AreMembers f read (i + 1) keys members
+  outside_more i keys members l given m =
       let c = contents_of read in
       let t = shown_at e (names_defined read) texts lines groups read h i l in
       let n = count_is e (names_defined read) texts lines groups read h in
       let p : GroupInContext = group_in_context (open_blocks 0 (read_before i read)) t.group in
       let at = place_numbered read i t.group (omega arith) t.now in
-      none_more i t.group keys members t.now (ap (λ o. member_in c o (defined_name p.group))
-      (sym (enclosing_at e texts lines groups read h i enclosing p r at) ∙ a)) m
+      none_more i t.group keys members t.now (ap (λ o. member_in c o (defined_name p.group)) (given p at)) m
 
   pub nameless_more : (i : ℕ) (keys members : List ℕ) → i < length groups → ((s : ℕ) → (group_at groups i).head ≡ codes.Config s → ⊥)
-      → AreMembers read i keys members → AreMembers read (i + 1) keys members
+      → AreMembers f read i keys members → AreMembers f read (i + 1) keys members
   nameless_more i keys members l w m =
       let c = contents_of read in
       let t = shown_at e (names_defined read) texts lines groups read h i l in
       let p : GroupInContext = group_in_context (open_blocks 0 (read_before i read)) t.group in
-      none_more i t.group keys members t.now (ap (member_in c (enclosing_choice c p))
-      (nameless e (names_defined read) texts (group_at groups i).head t.group.head t.shown.head w) ∙ unnamed c (enclosing_choice c p)) m
+      none_more i t.group keys members t.now (ap (member_in c (f p))
+      (nameless e (names_defined read) texts (group_at groups i).head t.group.head t.shown.head w) ∙ unnamed c (f p)) m
 
-pub members_same : (read : List Group) (i : ℕ) (keys members keys2 members2 : List ℕ) → keys2 ≡ keys → members2 ≡ members → AreMembers read i keys members
-    → AreMembers read i keys2 members2
-members_same read i keys members keys2 members2 k m a = record { keys_are = k ∙ a.keys_are; members_are = m ∙ a.members_are }
+pub members_same : (f : GroupInContext → Option ℕ) (read : List Group) (i : ℕ) (keys members keys2 members2 : List ℕ) → keys2 ≡ keys → members2 ≡ members → AreMembers f read i keys members
+    → AreMembers f read i keys2 members2
+members_same f read i keys members keys2 members2 k m a = record { keys_are = k ∙ a.keys_are; members_are = m ∙ a.members_are }

@@ -62,13 +62,18 @@ pub(crate) fn is_modules(attribute: &Attribute) -> bool
     matches!(*attribute, Attribute::Modules)
 }
 
-/// Whether a later definition of a choice member may have an attribute: `depends on`, `select`, `imply` or help text.
+/// Whether a later definition of a choice member may have an attribute: a type without a prompt, `depends on`, `select`, `imply` or
+/// help text.
 pub(crate) fn is_added(attribute: &Attribute) -> bool
     ensures { result ≡ is_added_code attribute.now }
 {
     matches!(
         *attribute,
-        Attribute::Depends(_) | Attribute::Select(_) | Attribute::Imply(_) | Attribute::Help
+        Attribute::Typed(_)
+            | Attribute::Depends(_)
+            | Attribute::Select(_)
+            | Attribute::Imply(_)
+            | Attribute::Help
     )
 }
 

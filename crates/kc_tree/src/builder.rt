@@ -18,14 +18,15 @@ use super::items_with_keys::ItemsWithKeys;
 use super::listing_walk::{WalkedListing, walk_all};
 use super::parts::{ChoiceRow, EntryRow, SymbolRow};
 use super::rows::symbol_rows;
-use super::summary::Summary;
+use super::summary::{Summary, own_members};
 use super::symbol::MemberDefault;
 use super::tree::Tree;
 use super::tree_lists::{Attributes, TreeLists};
 use super::unit_list::units_of;
 use kc_expr::Arena;
 use kc_listing::{Listing, SymbolTable};
-use kc_tree_model::Unit;
+use kc_tokens::Language;
+use kc_tree_model::{Sym, Unit};
 use kc_value::Text;
 use std::alloc::{AllocError, Global};
 
@@ -54,7 +55,7 @@ fn symbol_parts(
     requires few { AreFew walked.now }
     requires walk { (files : Files) × (root : List ℕ) × IsWalk walked.now files root }
     requires summary { (read : List ModelGroup) → RepresentsListing walked.now.listing read → IsSummary read summary.now }
-    ensures ok { (files : Files) (root : List ℕ) → IsWalk walked.now files root → IfOk result (AreSymbolParts walked.now.listing.names.arena (reading files root).read) }
+    ensures ok { (files : Files) (root : List ℕ) → IsWalk walked.now files root → IfOk result (AreSymbolParts files.language walked.now.listing.names.arena (reading files root).read) }
 {
     let listing = &walked.listing;
     let symbols = summary.symbols.as_slice();
@@ -69,7 +70,7 @@ fn symbol_parts(
 fn choice_parts(alloc: Global, walked: &WalkedListing) -> Result<ChoiceParts, AllocError>
     requires few { AreFew walked.now }
     requires walk { (files : Files) × (root : List ℕ) × IsWalk walked.now files root }
-    ensures ok { (files : Files) (root : List ℕ) → IsWalk walked.now files root → IfOk result (AreChoiceParts walked.now.listing (reading files root).read) }
+    ensures ok { (files : Files) (root : List ℕ) → IsWalk walked.now files root → IfOk result (AreChoiceParts walked.now.listing files.language (reading files root).read) }
 {
     let listing = &walked.listing;
     let groups = walked.groups.as_slice();
@@ -84,21 +85,21 @@ fn choice_parts(alloc: Global, walked: &WalkedListing) -> Result<ChoiceParts, Al
 /// The parts of a tree that are collected from a walked listing.
 #[derive(Drop)]
 struct AllParts {
-    summary: Summary,
+    members: ItemsWithKeys<Sym>,
     symbols: SymbolParts,
     choices: ChoiceParts,
 }
 
-/// Collects the summary, the symbols and the choices of a walked listing. An `Err` means out of memory.
+/// Collects the symbols, the choices and their members of a walked listing. An `Err` means out of memory.
 fn all_parts(alloc: Global, walked: &WalkedListing) -> Result<AllParts, AllocError>
     requires walk { (files : Files) × (root : List ℕ) × IsWalk walked.now files root }
-    ensures ok { (files : Files) (root : List ℕ) → IsWalk walked.now files root → IfOk result (AreAllParts walked.now.listing (reading files root).read) }
+    ensures ok { (files : Files) (root : List ℕ) → IsWalk walked.now files root → IfOk result (AreAllParts walked.now.listing files.language (reading files root).read) }
 {
     let summary = Summary::new(alloc, &walked.listing)?;
     Ok(AllParts {
         choices: choice_parts(alloc, walked)?,
         symbols: symbol_parts(alloc, walked, &summary)?,
-        summary,
+        members: own_members(alloc, &walked.listing, &summary)?,
     })
 }
 
@@ -109,6 +110,7 @@ fn arena_and_titles(walked: WalkedListing) -> (Arena, Vec<Text>)
 {
     let WalkedListing {
         listing,
+        language: _language,
         groups: _conditions_of_groups,
         conditions: _conditions,
     } = walked;
@@ -132,24 +134,20 @@ fn gathered(walked: WalkedListing, parts: AllParts) -> TreeLists
     ensures symbols { result.symbols ≡ parts.symbols.rows }
     ensures attributes { result.attributes ≡ parts.symbols.attributes }
     ensures choices { result.choices ≡ parts.choices.rows }
-    ensures members { result.members ≡ parts.summary.members }
+    ensures members { result.members ≡ parts.members }
     ensures member_defaults { result.member_defaults ≡ parts.choices.defaults }
     ensures entries { result.entries ≡ parts.choices.entries }
     ensures titles { result.titles ≡ walked.listing.texts }
     ensures units { result.units ≡ parts.symbols.units }
+    ensures language { result.language ≡ walked.language }
 {
+    let language = walked.language;
     let (arena, titles) = arena_and_titles(walked);
     let AllParts {
-        summary,
+        members,
         symbols,
         choices,
     } = parts;
-    let Summary {
-        symbols: _symbol_summaries,
-        enclosing: _enclosing_choices,
-        choices: _choice_count,
-        members,
-    } = summary;
     TreeLists {
         arena,
         symbols: symbols.rows,
@@ -160,25 +158,30 @@ fn gathered(walked: WalkedListing, parts: AllParts) -> TreeLists
         entries: choices.entries,
         titles,
         units: symbols.units,
+        language,
     }
 }
 
 /// Collects the lists of a tree from a walked listing. An `Err` means out of memory.
 fn gathered_of(alloc: Global, walked: WalkedListing) -> Result<TreeLists, AllocError>
     requires walk { (files : Files) × (root : List ℕ) × IsWalk walked files root }
-    ensures ok { (files : Files) (root : List ℕ) → IsWalk walked files root → IfOk result (IsGathering (reading files root).read) }
+    ensures ok { (files : Files) (root : List ℕ) → IsWalk walked files root → IfOk result (IsGathering files.language (reading files root).read) }
 {
     let parts = all_parts(alloc, &walked)?;
     Ok(gathered(walked, parts))
 }
 
-/// The tree of a listing of files without a fault. An `Err` means out of memory.
-pub(crate) fn tree_of(alloc: Global, listing: Listing) -> Result<Tree, AllocError>
-    requires of_tree { IsOfTree listing }
-    ensures ok { (files : Files) (root : List ℕ) → first_tree_fault files root ≡ None → RepresentsListing listing (reading files root).read
+/// The tree of a listing of files in `language` without a fault. An `Err` means out of memory.
+pub(crate) fn tree_of(
+    alloc: Global,
+    language: Language,
+    listing: Listing,
+) -> Result<Tree, AllocError>
+    requires of_tree { IsOfTree language listing }
+    ensures ok { (files : Files) (root : List ℕ) → language ≡ files.language → first_tree_fault files root ≡ None → RepresentsListing listing (reading files root).read
         → IfOk result (λ t. t.tree ≡ tree_of_files files root) }
 {
-    let Ok(walked) = walk_all(alloc, listing) else {
+    let Ok(walked) = walk_all(alloc, language, listing) else {
         return Err(AllocError);
     };
     let gathered = gathered_of(alloc, walked)?;

@@ -1,5 +1,6 @@
 //! The defaults of choices.
 ghost use Rattle.std.specs.Prelude.{◌≡◌, ◌<◌, ◌++◌, ◌^◌, All, IfOk, List, OnOk, length, map, option_to_list};
+ghost use Rattle.kc_tokens.specs.declared.language.Language.{Language};
 ghost use Rattle.kc_listing.specs.between.ListingView.{LineNodesExist};
 ghost use Rattle.kc_tree_model.specs.Blocks.{Group as ModelGroup};
 ghost use Rattle.kc_tree_model.specs.Conditions.{groups_in_context};
@@ -110,10 +111,10 @@ pub(crate) fn member_defaults(
     groups: &[GroupConditions],
     conditions: &[ExprId],
 ) -> Result<ItemsWithKeys<MemberDefault>, AllocError>
-    requires walked { (read : List ModelGroup) × IsWalkOf listing.now groups.now conditions.now read }
+    requires walked { (language : Language) × (read : List ModelGroup) × IsWalkOf language listing.now groups.now conditions.now read }
     requires few { length listing.now.groups.items < 2 ^ 32 }
-    ensures ok { (read : List ModelGroup) → IsWalkOf listing.now groups.now conditions.now read → HasNoFaults read
-        → IfOk result (AreDefaultsOf listing.now (contents_of read) (groups_in_context read) (length (contents_of read).choices)) }
+    ensures ok { (language : Language) (read : List ModelGroup) → IsWalkOf language listing.now groups.now conditions.now read → HasNoFaults read
+        → IfOk result (AreDefaultsOf language listing.now (contents_of read) (groups_in_context read) (length (contents_of read).choices)) }
 {
     let mut found = ItemsWithKeys::new(alloc);
     let mut choices = 0;

@@ -1,6 +1,7 @@
 //! The rows of choices.
 ghost use Rattle.std.specs.Prelude.{◌≡◌, ◌<◌, List, IfOk, filter, length, reverse};
 ghost use Rattle.std.specs.List.{list_any};
+ghost use Rattle.kc_tokens.specs.declared.language.Language.{Language};
 ghost use Rattle.kc_expr.specs.between.Arena.{Exprs};
 ghost use Rattle.kc_tree_model.specs.Blocks.{Group as ModelGroup};
 ghost use Rattle.kc_tree_model.specs.Conditions.{groups_in_context};
@@ -64,9 +65,9 @@ pub(crate) fn choice_rows(
     conditions: &[ExprId],
 ) -> Result<Vec<ChoiceRow>, AllocError>
     requires visited { IsGoneThrough listing.now groups.now conditions.now }
-    ensures ok { (exprs : Exprs) (read : List ModelGroup) → RepresentsListing listing.now read
-        → RepresentsAllConditions exprs listing.now.texts.items conditions.now (length conditions.now) (reverse groups.now) read
-        → IfOk result (λ rows. AreChoiceRows exprs (filter opens (groups_in_context read)) rows.items) }
+    ensures ok { (language : Language) (exprs : Exprs) (read : List ModelGroup) → RepresentsListing listing.now read
+        → RepresentsAllConditions language exprs listing.now.texts.items conditions.now (length conditions.now) (reverse groups.now) read
+        → IfOk result (λ rows. AreChoiceRows language exprs (filter opens (groups_in_context read)) rows.items) }
 {
     let mut rows = Vec::new(alloc);
     for i in 0..listing.groups.len() {

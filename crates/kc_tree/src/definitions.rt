@@ -1,5 +1,6 @@
 //! The attributes of symbols, from all their definitions.
 ghost use Rattle.std.specs.Prelude.{◌≡◌, ◌<◌, [], List, All, IfOk, OnOk, length};
+ghost use Rattle.kc_tokens.specs.declared.language.Language.{Language};
 ghost use Rattle.kc_tree_model.specs.Blocks.{Group as ModelGroup};
 ghost use Rattle.kc_tree_model.specs.Contents.{contents_of};
 ghost use Rattle.kc_listing.specs.between.ListingView.{LineNodesExist};
@@ -89,8 +90,8 @@ pub(crate) fn gather_attributes(
     groups: &[GroupConditions],
     conditions: &[ExprId],
 ) -> Result<Attributes, AllocError>
-    requires walked { (read : List ModelGroup) × IsWalkOf listing.now groups.now conditions.now read }
-    ensures ok { (read : List ModelGroup) → IsWalkOf listing.now groups.now conditions.now read → IfOk result (AreAttributes listing.now.names.arena (contents_of read)) }
+    requires walked { (language : Language) × (read : List ModelGroup) × IsWalkOf language listing.now groups.now conditions.now read }
+    ensures ok { (language : Language) (read : List ModelGroup) → IsWalkOf language listing.now groups.now conditions.now read → IfOk result (AreAttributes language listing.now.names.arena (contents_of read)) }
 {
     let mut found = no_attributes(alloc);
     for i in 0..listing.groups.len() {

@@ -1,6 +1,7 @@
 //! The entries of a tree, in reading order.
 ghost use Rattle.std.specs.Prelude.{◌≡◌, ◌<◌, ◌+◌, ◌^◌, ◌++◌, ℕ, List, All, IfOk, OnOk, length, map, reverse, option_to_list};
 ghost use Rattle.kc_expr.specs.between.Arena.{Exprs};
+ghost use Rattle.kc_tokens.specs.declared.language.Language.{Language};
 ghost use Rattle.kc_tree_model.specs.Blocks.{Group as ModelGroup};
 ghost use Rattle.kc_tree_model.specs.Contents.{contents_of, tree_of_groups};
 ghost use Rattle.kc_listing.specs.between.ListingView.{RepresentsListing};
@@ -116,11 +117,11 @@ pub(crate) fn entries_of(
 ) -> Result<Vec<EntryRow>, AllocError>
     requires few { length listing.now.groups.items < 2 ^ 32 }
     requires many { length groups.now ≡ length listing.now.groups.items }
-    ensures entries { (exprs : Exprs) (conditions : List ℕ) (end : ℕ) (read : List ModelGroup) → RepresentsListing listing.now read
-        → RepresentsAllConditions exprs listing.now.texts.items conditions end (reverse groups.now) read
-        → IfOk result (λ rows. map (entry_from_row exprs listing.now.texts.items) rows.items ≡ (tree_of_groups read).entries) }
-    ensures fits { (exprs : Exprs) (conditions : List ℕ) (end : ℕ) (read : List ModelGroup) → RepresentsListing listing.now read
-        → RepresentsAllConditions exprs listing.now.texts.items conditions end (reverse groups.now) read
+    ensures entries { (language : Language) (exprs : Exprs) (conditions : List ℕ) (end : ℕ) (read : List ModelGroup) → RepresentsListing listing.now read
+        → RepresentsAllConditions language exprs listing.now.texts.items conditions end (reverse groups.now) read
+        → IfOk result (λ rows. map (entry_from_row exprs listing.now.texts.items) rows.items ≡ (tree_of_groups language read).entries) }
+    ensures fits { (language : Language) (exprs : Exprs) (conditions : List ℕ) (end : ℕ) (read : List ModelGroup) → RepresentsListing listing.now read
+        → RepresentsAllConditions language exprs listing.now.texts.items conditions end (reverse groups.now) read
         → IfOk result (λ rows. All (EntryRowFits (length exprs.nodes) (length listing.now.names.symbols.items) (length (contents_of read).choices) (length listing.now.texts.items)) rows.items) }
 {
     let mut rows = Vec::new(alloc);

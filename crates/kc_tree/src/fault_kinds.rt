@@ -14,21 +14,21 @@ use kc_statements::Attribute;
 use kc_tree_model::TreeKind;
 use kc_value::Kind;
 
-/// The kind of the first fault of a definition, from the summary of its symbol; `may_follow` is set if the definition may
-/// come after its symbol's definition as a choice member.
+/// The kind of the first fault of a definition, from the summary of its symbol; `is_misfit` is set if it is in a choice and the
+/// symbol's type isn't one of a member, `may_follow` if it may come after its symbol's definition as a choice member.
 pub(crate) fn definition_fault(
     about: &SymbolSummary,
-    is_member: bool,
+    is_misfit: bool,
     is_first: bool,
     is_modules: bool,
     may_follow: bool,
 ) -> Option<TreeKind>
-    ensures { result ≡ definition_kind about.now is_member is_first is_modules may_follow }
+    ensures { result ≡ definition_kind about.now is_misfit is_first is_modules may_follow }
 {
     let other = is_other_kind(Kind::Bool, about.given);
     if is_first && about.kind().is_none() {
         Some(TreeKind::NoType)
-    } else if (is_member && other) || (!is_first && about.choice.is_some() && !may_follow) {
+    } else if is_misfit || (!is_first && about.choice.is_some() && !may_follow) {
         Some(TreeKind::ChoiceMember)
     } else if is_first && is_modules && other {
         Some(TreeKind::ModulesType)

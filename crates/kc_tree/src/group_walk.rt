@@ -1,5 +1,7 @@
 //! The walk that joins each group's conditions with the enclosing ones.
 ghost use Rattle.std.specs.Prelude.{◌≡◌, ◌∷◌, ◌<◌, ◌++◌, ◌+◌, ℕ, [], List, All, Some, None, IfOk, IfSome, OnOk, Option, drop, length, map, option_map, option_to_list, reverse, slice_get, unwrap_or};
+ghost use Rattle.kc_tokens.specs.declared.language.Language.{Language};
+ghost use Rattle.kc_tokens.specs.Languages.{is_linux_6_12};
 ghost use Rattle.kc_value.specs.declared.tri.Tri.TheVariants.{N};
 ghost use Rattle.kc_expr.specs.between.Arena.{Grows, Represents, node_expr};
 ghost use Rattle.kc_expr.specs.Expr.{Expr, alone, constant, shown};
@@ -17,7 +19,7 @@ use super::conditions::{
 };
 use kc_expr::{Arena, ExprId};
 use kc_listing::{GroupHead, Line};
-use kc_tokens::ExprFault;
+use kc_tokens::{ExprFault, Language};
 use kc_value::Tri;
 use std::alloc::Global;
 
@@ -81,18 +83,29 @@ fn shown_condition(
     }
 }
 
-/// The conditions inside a choice whose prompt has this condition.
+/// The conditions inside a choice with these conditions, whose prompt has the condition `prompt`.
 fn inside_choice(
     arena: &mut Arena,
+    language: Language,
     no: ExprId,
+    entry: &EntryConditions,
     prompt: Option<ExprId>,
 ) -> Result<EnclosingConditions, ExprFault>
     requires there { IfSome prompt (λ i. i < length arena.old.nodes) }
     ensures grows { Grows arena.old arena.new }
     ensures represents { (texts : List (List ℕ)) (yes : ℕ) (m : ModelGroup) (opened : List ModelGroup)
-        → m.head ≡ of_head choice → RepresentsPrompt arena.old prompt (slice_get (prompts_of (context opened) m) 0) → Represents arena.old no (alone (constant N))
-        → IfOk result (λ a. RepresentsEnclosing arena.new texts yes a (m ∷ opened)) }
+        → m.head ≡ of_head choice
+        → AreJoined arena.old entry.now (dependencies_of (context (is_linux_6_12 language) opened) m) (context (is_linux_6_12 language) opened).visibles (attribute_values visible_of m)
+        → RepresentsPrompt arena.old prompt (slice_get (prompts_of (context (is_linux_6_12 language) opened) m) 0) → Represents arena.old no (alone (constant N))
+        → IfOk result (λ a. RepresentsEnclosing language arena.new texts yes a (m ∷ opened)) }
 {
+    if language.is_linux_6_12() {
+        return Ok(EnclosingConditions {
+            dependencies: entry.dependencies,
+            visibles: entry.visibles,
+            title: None,
+        });
+    }
     let shown = shown_condition(arena, no, prompt)?;
     Ok(EnclosingConditions {
         dependencies: Some(shown),
@@ -110,9 +123,9 @@ fn inside_if(
     requires enclosing { IfSome enclosing.now.dependencies (λ i. i < length arena.old.nodes) }
     requires condition { condition < length arena.old.nodes }
     ensures grows { Grows arena.old arena.new }
-    ensures represents { (texts : List (List ℕ)) (yes : ℕ) (m : ModelGroup) (opened : List ModelGroup)
-        → m.head ≡ of_head (condition_head (node_expr arena.old condition)) → RepresentsEnclosing arena.old texts yes enclosing.now opened
-        → IfOk result (λ a. RepresentsEnclosing arena.new texts yes a (m ∷ opened)) }
+    ensures represents { (language : Language) (texts : List (List ℕ)) (yes : ℕ) (m : ModelGroup) (opened : List ModelGroup)
+        → m.head ≡ of_head (condition_head (node_expr arena.old condition)) → RepresentsEnclosing language arena.old texts yes enclosing.now opened
+        → IfOk result (λ a. RepresentsEnclosing language arena.new texts yes a (m ∷ opened)) }
 {
     let dependencies = join_optional(arena, enclosing.dependencies, Some(condition))?;
     Ok(EnclosingConditions {
@@ -125,6 +138,7 @@ fn inside_if(
 /// The conditions inside the block that a group opens, if it opens one.
 fn inside(
     arena: &mut Arena,
+    language: Language,
     no: ExprId,
     head: &GroupHead,
     enclosing: &EnclosingConditions,
@@ -137,14 +151,14 @@ fn inside(
     ensures grows { Grows arena.old arena.new }
     ensures represents { (names texts : List (List ℕ)) (yes : ℕ) (m : ModelGroup) (opened : List ModelGroup)
         → RepresentsHead arena.old names texts head.now m.head
-        → RepresentsEnclosing arena.old texts yes enclosing.now opened
-        → AreJoined arena.old entry.now (dependencies_of (context opened) m) (context opened).visibles (attribute_values visible_of m)
-        → RepresentsPrompt arena.old prompt (slice_get (prompts_of (context opened) m) 0)
+        → RepresentsEnclosing language arena.old texts yes enclosing.now opened
+        → AreJoined arena.old entry.now (dependencies_of (context (is_linux_6_12 language) opened) m) (context (is_linux_6_12 language) opened).visibles (attribute_values visible_of m)
+        → RepresentsPrompt arena.old prompt (slice_get (prompts_of (context (is_linux_6_12 language) opened) m) 0)
         → Represents arena.old yes (conjunction_of []) → Represents arena.old no (alone (constant N))
-        → IfOk result (RepresentsInside arena.new texts yes m opened) }
+        → IfOk result (RepresentsInside language arena.new texts yes m opened) }
 {
     match *head {
-        GroupHead::Choice => Ok(Some(inside_choice(arena, no, prompt)?)),
+        GroupHead::Choice => Ok(Some(inside_choice(arena, language, no, entry, prompt)?)),
         GroupHead::Menu(title) => Ok(Some(EnclosingConditions {
             dependencies: entry.dependencies,
             visibles: entry.visibles,
@@ -175,7 +189,7 @@ impl GroupWalk {
     /// A walk before the first group of a listing, with the expressions `y` and `n` added to its arena.
     pub(crate) fn new(alloc: Global, arena: Arena) -> Result<GroupWalk, ExprFault>
         ensures grows { IfOk result (λ w. Grows arena w.arena) }
-        ensures walked { IfOk result (λ w. (texts : List (List ℕ)) → HasWalked texts w []) }
+        ensures walked { IfOk result (λ w. (language : Language) (texts : List (List ℕ)) → HasWalked language texts w []) }
         ensures empty { IfOk result (λ w. w.groups.items ≡ []) }
     {
         let mut arena = arena;
@@ -273,16 +287,21 @@ impl GroupWalk {
         }
     }
 
-    /// Walks the next group, given by its statement and its attribute lines: adds its joined conditions, and opens or ends a
+    /// Walks the next group of a tree in `language`, given by its statement and its attribute lines: adds its joined conditions, and opens or ends a
     /// block.
-    pub(crate) fn visit(&mut self, head: &GroupHead, lines: &[Line]) -> Result<(), ExprFault>
-        requires walked { (texts : List (List ℕ)) × (before : List ModelGroup) × HasWalked texts self.old before }
+    pub(crate) fn visit(
+        &mut self,
+        language: Language,
+        head: &GroupHead,
+        lines: &[Line],
+    ) -> Result<(), ExprFault>
+        requires walked { (texts : List (List ℕ)) × (before : List ModelGroup) × HasWalked language texts self.old before }
         requires head { GroupHeadNodesExist (length self.old.arena.nodes) head.now }
         requires lines { All (LineNodesExist self.old.arena) lines.now }
         ensures grows { Grows self.old.arena self.new.arena }
-        ensures walked { (names texts : List (List ℕ)) (before : List ModelGroup) (m : ModelGroup) → HasWalked texts self.old before
+        ensures walked { (names texts : List (List ℕ)) (before : List ModelGroup) (m : ModelGroup) → HasWalked language texts self.old before
             → RepresentsHead self.old.arena names texts head.now m.head → m.attributes ≡ map (line_in self.old.arena) lines.now
-            → OnOk result (HasWalked texts self.new (m ∷ before)) }
+            → OnOk result (HasWalked language texts self.new (m ∷ before)) }
         ensures more { OnOk result (length self.new.groups.items ≡ length self.old.groups.items + 1) }
     {
         let enclosing = self.enclosing();
@@ -299,7 +318,15 @@ impl GroupWalk {
             return self.end(&enclosing, first);
         }
         let prompt = self.first_prompt_condition(lines, first);
-        let opened = inside(&mut self.arena, self.no, head, &enclosing, &entry, prompt)?;
+        let opened = inside(
+            &mut self.arena,
+            language,
+            self.no,
+            head,
+            &enclosing,
+            &entry,
+            prompt,
+        )?;
         self.enter(opened)?;
         self.push_group(entry.dependencies, entry.visibles, None, first)
     }

@@ -10,14 +10,15 @@ use super::group_lines::{end_of, part};
 use super::group_walk::{GroupConditions, GroupWalk};
 use kc_expr::{Arena, ExprId};
 use kc_listing::{Group, Line, Listing, SymbolTable};
-use kc_tokens::ExprFault;
+use kc_tokens::{ExprFault, Language};
 use std::alloc::Global;
 
 /// A listing with its conditions joined with the enclosing ones: its arena also has the joined conditions, `groups` has
-/// those of each group, and `conditions` those of all groups' attributes, in reading order.
+/// those of each group, and `conditions` those of all groups' attributes, in reading order; `language` is that of the files.
 #[derive(Drop)]
 pub(crate) struct WalkedListing {
     pub listing: Listing,
+    pub language: Language,
     pub groups: Vec<GroupConditions>,
     pub conditions: Vec<ExprId>,
 }
@@ -32,9 +33,10 @@ fn lines_at<'a>(groups: &[Group], lines: &'a [Line], i: usize) -> &'a [Line]
     part(lines, groups[i].attributes, end_of(groups, lines, i))
 }
 
-/// Walks the groups with their attributes, which are in `lines`.
+/// Walks the groups of a tree in `language` with their attributes, which are in `lines`.
 fn walk_through(
     alloc: Global,
+    language: Language,
     arena: Arena,
     groups: &[Group],
     lines: &[Line],
@@ -43,21 +45,26 @@ fn walk_through(
     requires held { All (LineNodesExist arena) lines.now }
     ensures grows { IfOk result (λ w. Grows arena w.arena) }
     ensures walked { (names texts : List (List ℕ)) (read : List ModelGroup) → RepresentsGroups arena names texts lines.now (length lines.now) (reverse groups.now) read
-        → IfOk result (λ w. HasWalked texts w read) }
+        → IfOk result (λ w. HasWalked language texts w read) }
 {
     let mut walk = GroupWalk::new(alloc, arena)?;
     for i in 0..groups.len() {
-        walk.visit(&groups[i].head, lines_at(groups, lines, i))?;
+        walk.visit(language, &groups[i].head, lines_at(groups, lines, i))?;
     }
     Ok(walk)
 }
 
 /// Walks all groups of a listing and joins their conditions with the enclosing ones. An `Err` means out of memory.
-pub(crate) fn walk_all(alloc: Global, listing: Listing) -> Result<WalkedListing, ExprFault>
+pub(crate) fn walk_all(
+    alloc: Global,
+    language: Language,
+    listing: Listing,
+) -> Result<WalkedListing, ExprFault>
     requires shown { IsRepresented listing }
+    ensures language { IfOk result (λ w. w.language ≡ language) }
     ensures shows { (read : List ModelGroup) → RepresentsListing listing read → IfOk result (λ w. RepresentsListing w.listing read) }
     ensures walked { (read : List ModelGroup) → RepresentsListing listing read
-        → IfOk result (λ w. RepresentsAllConditions w.listing.names.arena w.listing.texts.items w.conditions.items (length w.conditions.items) (reverse w.groups.items) read) }
+        → IfOk result (λ w. RepresentsAllConditions language w.listing.names.arena w.listing.texts.items w.conditions.items (length w.conditions.items) (reverse w.groups.items) read) }
 {
     let Listing {
         names,
@@ -70,7 +77,7 @@ pub(crate) fn walk_all(alloc: Global, listing: Listing) -> Result<WalkedListing,
         symbols,
         numbers,
     } = names;
-    let walk = walk_through(alloc, arena, &groups, &lines)?;
+    let walk = walk_through(alloc, language, arena, &groups, &lines)?;
     let names = SymbolTable {
         arena: walk.arena,
         symbols,
@@ -83,6 +90,7 @@ pub(crate) fn walk_all(alloc: Global, listing: Listing) -> Result<WalkedListing,
             groups,
             lines,
         },
+        language,
         groups: walk.groups,
         conditions: walk.conditions,
     })

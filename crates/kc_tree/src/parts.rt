@@ -9,6 +9,7 @@ use super::entry::Entry;
 use super::items_by_number::ItemsByNumber;
 use super::symbol::{Choice, Default, MemberDefault, Range, ReverseDependency, Symbol};
 use kc_expr::{Arena, ExprId, NameId};
+use kc_tokens::Language;
 use kc_tree_model::{Sym, Unit};
 use kc_value::{Kind, Text};
 
@@ -54,8 +55,8 @@ pub(crate) enum EntryRow {
     },
 }
 
-/// The lists that store a tree, with the unit of each symbol and of each choice, and for each name of the arena the symbol of
-/// that name.
+/// The lists that store a tree, with the unit of each symbol and of each choice, for each name of the arena the symbol of that
+/// name, and the language of the files.
 #[derive(Drop)]
 pub(crate) struct Parts {
     pub arena: Arena,
@@ -75,6 +76,7 @@ pub(crate) struct Parts {
     pub unit_of_symbol: Vec<u32>,
     pub unit_of_choice: Vec<u32>,
     pub symbol_of_name: Vec<Option<Sym>>,
+    pub language: Language,
 }
 
 /// The dependencies of a symbol: of a member the first, else all.

@@ -7,11 +7,11 @@ ghost use Rattle.kc_listing.specs.between.ListingView.{RepresentsListing};
 ghost use Rattle.kc_tree.specs.checker.Rows.{place_of_group_number, row_of_symbol, AreRowsOf};
 ghost use Rattle.kc_tree.specs.checker.Summaries.{AreSymbolSummaries, IsRepresented};
 
+use super::kinds::kind_in_tree;
 use super::parts::SymbolRow;
 use super::summary::SymbolSummary;
 use kc_expr::NameId;
 use kc_listing::{Group, Listing};
-use kc_value::Kind;
 use std::alloc::{AllocError, Global};
 
 /// The file and the line of the group of that number.
@@ -34,7 +34,7 @@ fn row_of(groups: &[Group], name: NameId, about: &SymbolSummary) -> SymbolRow
     let (file, line) = place_of(groups, about.first);
     SymbolRow {
         name,
-        kind: about.given.unwrap_or(Kind::Bool),
+        kind: kind_in_tree(about.choice, about.given),
         file,
         line,
         choice: about.choice,

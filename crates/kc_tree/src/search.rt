@@ -1,5 +1,5 @@
 //! The first fault of the checks on a listing that was read without a fault.
-ghost use Rattle.std.specs.Prelude.{◌≡◌, ◌<◌, ◌+◌, ◌^◌, ℕ, List, IfOk, Some, bytes_eq, length, slice_get, if◌then◌else◌};
+ghost use Rattle.std.specs.Prelude.{◌≡◌, ◌<◌, ◌+◌, ◌^◌, ◌&&◌, ℕ, List, IfOk, Some, bytes_eq, length, slice_get, if◌then◌else◌};
 ghost use Rattle.kc_expr.specs.Expr.{modules as modules_name};
 ghost use Rattle.kc_tokens.specs.declared.language.Language.{Language as AnyLanguage};
 ghost use Rattle.std.specs.List.{list_all};
@@ -7,13 +7,13 @@ ghost use Rattle.kc_tree_model.specs.Blocks.{Group as ModelGroup};
 ghost use Rattle.kc_tree_model.specs.Conditions.{GroupInContext, groups_in_context};
 ghost use Rattle.kc_tree_model.specs.Contents.{contents_of, member_names};
 ghost use Rattle.kc_tree_model.specs.Limits.{names_defined};
-ghost use Rattle.kc_tree_model.specs.TreeFaults.{faults_of_group, tree_faults};
+ghost use Rattle.kc_tree_model.specs.TreeFaults.{faults_of_group, is_no_member_kind, is_same_choice, tree_faults};
 ghost use Rattle.kc_listing.specs.between.ListingView.{RepresentsListing};
 ghost use Rattle.kc_listing.specs.declared.listing.GroupHead.TheVariants as codes;
 ghost use Rattle.kc_tree.specs.checker.Marks.{AreMarked};
 ghost use Rattle.kc_tree.specs.checker.FaultSearch.{AreSmall, CountsChoices, HasMembers};
-ghost use Rattle.kc_tree.specs.checker.Kinds.{is_added_line, may_follow_code};
-ghost use Rattle.kc_tree.specs.checker.Summaries.{first_is, group_at, is_choice_code, IsRepresented, IsSummed};
+ghost use Rattle.kc_tree.specs.checker.Kinds.{choice_around, is_added_line, may_follow_code};
+ghost use Rattle.kc_tree.specs.checker.Summaries.{group_at, is_choice_code, IsRepresented, IsSummed};
 
 use super::attribute::is_added;
 use super::attribute_checks::{fault_at, first_choice_fault, first_symbol_fault};
@@ -21,11 +21,13 @@ use super::enclosing_choices::begins_choice;
 use super::fault_kinds::definition_fault;
 use super::group_lines::lines_of;
 use super::items_by_number::ItemsByNumber;
+use super::kinds::is_no_member_kind;
 use super::marks::mark_members;
-use super::summary::Summary;
+use super::summary::{Summary, is_first};
 use kc_listing::{GroupHead, Line, Listing};
 use kc_tokens::Language;
 use kc_tree_model::{Sym, TreeFault};
+use kc_value::Kind;
 use std::alloc::{AllocError, Global};
 
 /// Whether a symbol is that of modules.
@@ -38,16 +40,6 @@ fn is_modules(listing: &Listing, s: u32) -> bool
     listing.names.arena.name(id) == "MODULES"
 }
 
-/// Whether this is the first group of a symbol.
-fn is_first(first: Option<u32>, i: usize) -> bool
-    ensures { result ≡ first_is first i }
-{
-    match first {
-        Some(first) => first as usize == i,
-        None => false,
-    }
-}
-
 /// Whether some lines are of attributes alone that a later definition of a member may have.
 fn are_added(lines: &[Line]) -> bool
     ensures { result ≡ list_all is_added_line lines.now }
@@ -55,14 +47,47 @@ fn are_added(lines: &[Line]) -> bool
     lines.iter().all(|line| is_added(&line.attribute))
 }
 
-/// Whether a definition with these attributes may follow that of a member in its choice.
-fn may_follow_member(language: Language, is_member: bool, lines: &[Line]) -> bool
-    ensures { result ≡ may_follow_code language is_member lines.now }
+/// Whether a definition with these attributes may follow that of a member in its choice; `is_again` is set if it is in that choice.
+fn may_follow_member(language: Language, is_member: bool, is_again: bool, lines: &[Line]) -> bool
+    ensures { result ≡ may_follow_code language is_member is_again lines.now }
 {
     match language {
         Language::Strict => false,
-        Language::Linux => !is_member && are_added(lines),
+        Language::Linux(_) => (!is_member && are_added(lines)) || is_again,
     }
+}
+
+/// The number of the choice that encloses the group of a number, if there is such a group and it is in a choice.
+fn choice_around(enclosing: &[Option<u32>], number: Option<u32>) -> Option<u32>
+    ensures { result ≡ choice_around enclosing.now number }
+{
+    match number {
+        Some(number) => match enclosing.get(number as usize) {
+            Some(choice) => *choice,
+            None => None,
+        },
+        None => None,
+    }
+}
+
+/// Whether two places are in the same choice, by the numbers of the choices that enclose them.
+fn is_same_choice(a: Option<u32>, b: Option<u32>) -> bool
+    ensures { result ≡ is_same_choice a b }
+{
+    match a {
+        Some(a) => match b {
+            Some(b) => a == b,
+            None => false,
+        },
+        None => false,
+    }
+}
+
+/// Whether a definition of a symbol whose first type is `given` is in a choice, and that type isn't one of a member.
+fn is_misfit(language: Language, is_member: bool, given: Option<Kind>) -> bool
+    ensures { result ≡ (is_member && is_no_member_kind language given) }
+{
+    is_member && is_no_member_kind(language, given)
 }
 
 /// The first fault of a definition and its attributes.
@@ -84,9 +109,12 @@ fn config_fault(
     let is_modules = is_modules(listing, s);
     let file = listing.groups[i].file;
     let lines = lines_of(listing, i);
-    let may_follow = may_follow_member(language, is_member, lines);
+    let first_choice = choice_around(&summary.enclosing, about.first);
+    let is_again = is_same_choice(first_choice, summary.enclosing[i]);
+    let may_follow = may_follow_member(language, is_member, is_again, lines);
+    let is_misfit = is_misfit(language, is_member, about.given);
     let is_first = is_first(about.first, i);
-    let fault = definition_fault(&about, is_member, is_first, is_modules, may_follow);
+    let fault = definition_fault(&about, is_misfit, is_first, is_modules, may_follow);
     if let Some(kind) = fault {
         return Some(fault_at(file, listing.groups[i].line, kind));
     }

@@ -1,12 +1,12 @@
 //! Summaries of symbols and choices, before conditions are joined.
-ghost use Rattle.std.specs.Prelude.{◌≡◌, ◌<◌, ◌^◌, List, IfOk, is_some, length, map, filter_map, flat_map, slice_get};
+ghost use Rattle.std.specs.Prelude.{◌≡◌, ◌<◌, ◌^◌, List, IfOk, is_some, length, map, filter_map, flat_map, slice_get, None, if◌then◌else◌};
 ghost use Rattle.kc_expr.specs.between.Arena.{Exprs};
 ghost use Rattle.kc_tree_model.specs.Blocks.{Group as ModelGroup};
 ghost use Rattle.kc_tree_model.specs.Conditions.{groups_in_context};
 ghost use Rattle.kc_tree_model.specs.Contents.{contents_of};
 ghost use Rattle.kc_tree_model.specs.TreeFaults.{kind_or_bool};
 ghost use Rattle.kc_listing.specs.between.ListingView.{RepresentsListing};
-ghost use Rattle.kc_tree.specs.checker.Summaries.{first_summary, symbol_summaries, enclosing_choice, member_keys_at, members_at, type_in, IsRepresented, IsSummary};
+ghost use Rattle.kc_tree.specs.checker.Summaries.{first_is, first_summary, symbol_summaries, enclosing_choice, member_keys_at, members_at, type_in, AreOwnMembers, IsRepresented, IsSummary, IsSummed};
 
 use super::attribute::type_given;
 use super::enclosing_choices::{choice_count, choices_enclosing};
@@ -115,13 +115,55 @@ fn members_of(
     requires few { length listing.now.groups.items < 2 ^ 32 }
     requires enclosing { (read : List ModelGroup) → RepresentsListing listing.now read → enclosing.now ≡ map (enclosing_choice (contents_of read)) (groups_in_context read) }
     requires shown { IsRepresented listing.now }
-    ensures keys { (read : List ModelGroup) → RepresentsListing listing.now read → IfOk result (λ m. m.keys.items ≡ flat_map (member_keys_at (contents_of read)) (groups_in_context read)) }
-    ensures members { (read : List ModelGroup) → RepresentsListing listing.now read → IfOk result (λ m. m.items.items ≡ flat_map (members_at (contents_of read)) (groups_in_context read)) }
+    ensures keys { (read : List ModelGroup) → RepresentsListing listing.now read → IfOk result (λ m. m.keys.items ≡ flat_map (member_keys_at (enclosing_choice (contents_of read)) (contents_of read)) (groups_in_context read)) }
+    ensures members { (read : List ModelGroup) → RepresentsListing listing.now read → IfOk result (λ m. m.items.items ≡ flat_map (members_at (enclosing_choice (contents_of read)) (contents_of read)) (groups_in_context read)) }
 {
     let mut members = ItemsWithKeys::new(alloc);
     for i in 0..listing.groups.len() {
         if let GroupHead::Config(s) = listing.groups[i].head {
             let choice = enclosing[i];
+            if let Some(choice) = choice {
+                members.push(choice, Sym::at(s))?;
+            }
+        }
+    }
+    Ok(members)
+}
+
+/// Whether the group of a number is the first definition of a symbol, by the number of that.
+pub(crate) fn is_first(first: Option<u32>, i: usize) -> bool
+    ensures { result ≡ first_is first i }
+{
+    match first {
+        Some(first) => first as usize == i,
+        None => false,
+    }
+}
+
+/// A choice if a test holds, else none.
+fn choice_if(is_own: bool, choice: Option<u32>) -> Option<u32>
+    ensures { result ≡ (if is_own then choice else None) }
+{
+    if is_own { choice } else { None }
+}
+
+/// The members of choices, each once, in order of first definition, each under the number of its choice. An `Err` means out of
+/// memory.
+pub(crate) fn own_members(
+    alloc: Global,
+    listing: &Listing,
+    summary: &Summary,
+) -> Result<ItemsWithKeys<Sym>, AllocError>
+    requires few { length listing.now.groups.items < 2 ^ 32 }
+    requires summary { IsSummed listing.now summary.now }
+    requires shown { IsRepresented listing.now }
+    ensures ok { (read : List ModelGroup) → RepresentsListing listing.now read → IfOk result (AreOwnMembers (contents_of read)) }
+{
+    let mut members = ItemsWithKeys::new(alloc);
+    for i in 0..listing.groups.len() {
+        if let GroupHead::Config(s) = listing.groups[i].head {
+            let is_own = is_first(summary.symbols[s as usize].first, i);
+            let choice = choice_if(is_own, summary.enclosing[i]);
             if let Some(choice) = choice {
                 members.push(choice, Sym::at(s))?;
             }

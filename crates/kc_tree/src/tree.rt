@@ -10,6 +10,7 @@ use super::entry::Entry;
 use super::parts::Parts;
 use super::symbol::{Choice, Symbol};
 use kc_expr::{Arena, NameId};
+use kc_tokens::Language;
 use kc_tree_model::{Sym, Unit};
 use std::marker::Model;
 
@@ -55,6 +56,13 @@ impl Tree {
         ensures consistent { IsConsistent self.now.tree }
     {
         &self.parts.arena
+    }
+
+    /// The language of the tree's files, by which some of its rules are chosen.
+    pub fn language(&self) -> Language
+        ensures { result ≡ self.now.tree.language }
+    {
+        self.parts.language
     }
 
     /// The number of units: symbols outside choices, and choices.

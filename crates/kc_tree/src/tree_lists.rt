@@ -11,6 +11,7 @@ use super::symbol::{Default, MemberDefault, Range, ReverseDependency};
 use super::tree::Tree;
 use super::unit_numbers::{UnitNumbers, number_members, number_units};
 use kc_expr::{Arena, ExprId};
+use kc_tokens::Language;
 use kc_tree_model::{Sym, Unit};
 use kc_value::Text;
 use std::alloc::{AllocError, Global};
@@ -80,7 +81,7 @@ pub(crate) struct FinishedTables {
     pub lists: Lists,
 }
 
-/// The lists collected from all groups of a listing, from which a tree is built.
+/// The lists collected from all groups of a listing, from which a tree is built, and the language of the files.
 #[derive(Drop)]
 pub(crate) struct TreeLists {
     pub arena: Arena,
@@ -92,6 +93,7 @@ pub(crate) struct TreeLists {
     pub entries: Vec<EntryRow>,
     pub titles: Vec<Text>,
     pub units: Vec<Unit>,
+    pub language: Language,
 }
 
 impl TreeLists {
@@ -177,6 +179,7 @@ impl TreeLists {
             unit_of_symbol: tables.units.symbols,
             unit_of_choice: tables.units.choices,
             symbol_of_name: tables.symbol_of_name,
+            language: self.language,
         }
     }
 

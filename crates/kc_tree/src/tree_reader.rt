@@ -30,12 +30,13 @@ pub fn read_tree(alloc: Global, texts: &Texts, root: &str) -> Result<Tree, TreeF
         Some(fault) => return Err(fault),
         None => {}
     }
-    match first_fault(alloc, texts.language(), &listing) {
+    let language = texts.language();
+    match first_fault(alloc, language, &listing) {
         Ok(None) => {}
         Ok(Some(fault)) => return Err(fault),
         Err(_) => return Err(out_of_memory()),
     }
-    match tree_of(alloc, listing) {
+    match tree_of(alloc, language, listing) {
         Ok(tree) => Ok(tree),
         Err(_) => Err(out_of_memory()),
     }

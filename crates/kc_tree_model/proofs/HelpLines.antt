@@ -4,6 +4,7 @@ use Rattle.kc_tokens.specs.Token.{Lexeme, lexemes_from}
 use Rattle.kc_tokens.specs.declared.fault.ExprFault.{ExprFault}
 use Rattle.kc_tokens.specs.declared.language.Language.{Language}
 use Rattle.kc_tokens.specs.declared.language.Language.TheVariants.{Strict, Linux}
+use Rattle.kc_tokens.specs.declared.language.LinuxVersion.{LinuxVersion}
 use Rattle.kc_tokens.specs.declared.token.TokenKind.{TokenKind}
 use Rattle.kc_tokens.specs.declared.token.TokenKind.TheVariants.{Word, Quoted, Relation, Not, And, Or, Open, Close}
 use Rattle.kc_expr.proofs.Languages.{AllKinds, IsUnquoted, unquoted_line, strict_in_linux}
@@ -39,11 +40,11 @@ no_help ts f false same h = refl
 no_help ts f true same h = let e = same (unquoted_help ts h) in cc
 
 module _ (text : List ℕ) where
-  both : (s l : Lexed) → lexemes_from Strict 0 0 text ≡ s → lexemes_from Linux 0 0 text ≡ l → is_help_or_fault l ≡ is_help_or_fault s
-  both (Ok us) l hs hl = ap is_help_or_fault (sym hl ∙ strict_in_linux 0 0 text us hs)
-  both (Err f) (Err g) hs hl = refl
-  both (Err f) (Ok ts) hs hl = no_help ts f (is_help ts) (λ plain. sym hs ∙ unquoted_line Linux Strict 0 0 text ts plain hl) refl
+  both : (version : LinuxVersion) (s l : Lexed) → lexemes_from Strict 0 0 text ≡ s → lexemes_from (Linux version) 0 0 text ≡ l → is_help_or_fault l ≡ is_help_or_fault s
+  both version (Ok us) l hs hl = ap is_help_or_fault (sym hl ∙ strict_in_linux version 0 0 text us hs)
+  both version (Err f) (Err g) hs hl = refl
+  both version (Err f) (Ok ts) hs hl = no_help ts f (is_help ts) (λ plain. sym hs ∙ unquoted_line (Linux version) Strict 0 0 text ts plain hl) refl
 
   pub help_alike : (language : Language) → begins_help_in language text ≡ begins_help text
   help_alike Strict = refl
-  help_alike Linux = both (lexemes_from Strict 0 0 text) (lexemes_from Linux 0 0 text) refl refl
+  help_alike (Linux version) = both version (lexemes_from Strict 0 0 text) (lexemes_from (Linux version) 0 0 text) refl refl

@@ -3,6 +3,8 @@ use Rattle.std.specs.Prelude.{ℕ, Bool, false, ◌&&◌, ◌==◌, List, [], �
 use Rattle.std.specs.List.{list_any}
 use Rattle.kc_value.specs.declared.value.Kind.{Kind}
 use Rattle.kc_value.specs.declared.value.Kind.TheVariants.{Bool as Boolean}
+use Rattle.kc_tokens.specs.declared.language.Language.{Language}
+use Rattle.kc_tokens.specs.Languages.{is_linux_6_12}
 use Rattle.kc_expr.specs.Expr.{Expr, named, alone}
 use Rattle.kc_expr.specs.Lookup.{index_of_name}
 use Rattle.kc_tree_model.specs.Trees.{Default, Range, ReverseDependency, Symbol, MemberDefault, Choice, Tree}
@@ -15,9 +17,9 @@ use Rattle.kc_tree_model.specs.Blocks.{Group, Line, from_head, defined_name, ope
 use Rattle.kc_tree_model.specs.TreeFiles.{Files}
 use Rattle.kc_tree_model.specs.Limits.{names_defined}
 use Rattle.kc_tree_model.specs.TreeReading.{reading}
-use Rattle.kc_tree_model.specs.Conditions.{Context, context, attribute_values, dependency_of, attribute_condition, prompts_of, conjunction_of, GroupInContext, groups_in_context}
+use Rattle.kc_tree_model.specs.Conditions.{Context, context, context_of, attribute_values, dependency_of, attribute_condition, prompts_of, conjunction_of, GroupInContext, groups_in_context}
 
--- the contents of what was read: the groups in reading order with their conditions, the names of the symbols in order of first
+-- the contents of what was read: the groups in reading order with the blocks open at them, the names of the symbols in order of first
 -- definition, and the numbers of the groups that open choices
 pub record Contents : Type 0 where
   pub places : List GroupInContext
@@ -54,29 +56,39 @@ definitions_of c name = filter (defines name) c.places
 abbrev pub first_definition : Contents → List ℕ → Option Group
 first_definition c name = option_map (λ (p : GroupInContext). p.group) (slice_get (definitions_of c name) 0)
 
+-- the group that opens the choice in which the first definition of the symbol with this name is, if it is in one
+abbrev pub choice_of_first_definition : Contents → List ℕ → Option ℕ
+choice_of_first_definition c name = option_and_then (λ (p : GroupInContext). p.choice) (slice_get (definitions_of c name) 0)
+
 -- the first type that the definitions of the symbol with this name give, if any ("Menu attributes", type definition)
 abbrev pub type_given : Contents → List ℕ → Option Kind
 type_given c name = slice_get (flat_map (λ (p : GroupInContext). attribute_values type_of p.group) (definitions_of c name)) 0
 
 -- the number of the choice of which the symbol with this name is a member, if any: that of its first definition within a choice
 abbrev pub choice_of_symbol : Contents → List ℕ → Option ℕ
-choice_of_symbol c name = option_and_then (choice_number c) (slice_get (filter_map (λ (p : GroupInContext). p.enclosing.choice) (definitions_of c name)) 0)
+choice_of_symbol c name = option_and_then (choice_number c) (slice_get (filter_map (λ (p : GroupInContext). p.choice) (definitions_of c name)) 0)
+
+-- the type of a symbol, by the number of its choice if it is a member and the first type given to it, if any: a member is a bool,
+-- also one that is given as a tristate, and so is a symbol without a type
+abbrev pub kind_in_tree : Option ℕ → Option Kind → Kind
+kind_in_tree (Some k) given = Boolean
+kind_in_tree None given = unwrap_or given Boolean
 
 -- the defaults of a definition, in order, with their whole conditions ("Menu attributes", default value)
-abbrev pub defaults_at : GroupInContext → List Default
-defaults_at p = map (λ (d : DefaultAttribute). record { value = d.value; condition = attribute_condition p.enclosing p.group d.condition }) (attribute_values default_of p.group)
+abbrev pub defaults_at : Language → GroupInContext → List Default
+defaults_at language p = map (λ (d : DefaultAttribute). record { value = d.value; condition = attribute_condition (context_of language p) p.group d.condition }) (attribute_values default_of p.group)
 
 -- the ranges of a definition, in order, with their whole conditions ("Menu attributes", numerical ranges)
-abbrev pub ranges_at : GroupInContext → List Range
-ranges_at p = map (λ (r : RangeAttribute). record { low = r.low; high = r.high; condition = attribute_condition p.enclosing p.group r.condition }) (attribute_values range_of p.group)
+abbrev pub ranges_at : Language → GroupInContext → List Range
+ranges_at language p = map (λ (r : RangeAttribute). record { low = r.low; high = r.high; condition = attribute_condition (context_of language p) p.group r.condition }) (attribute_values range_of p.group)
 
 -- the reverse dependencies that the symbol with this name exerts by these `select`s or `imply`s of one of its definitions
-abbrev pub reverse_dependencies_by : Contents → GroupInContext → List TargetAttribute → List ℕ → List ReverseDependency
-reverse_dependencies_by c p aims by = elim (index_of_name by c.names) [ None ↦ [] | Some s ↦ map (λ (a : TargetAttribute). record { by = s; condition = attribute_condition p.enclosing p.group a.condition }) aims ]
+abbrev pub reverse_dependencies_by : Language → Contents → GroupInContext → List TargetAttribute → List ℕ → List ReverseDependency
+reverse_dependencies_by language c p aims by = elim (index_of_name by c.names) [ None ↦ [] | Some s ↦ map (λ (a : TargetAttribute). record { by = s; condition = attribute_condition (context_of language p) p.group a.condition }) aims ]
 
 -- the reverse dependencies that a group's `select`s or `imply`s put on this name ("Menu attributes", reverse dependencies)
-abbrev pub reverse_dependencies_of : (Attribute → Option TargetAttribute) → Contents → List ℕ → GroupInContext → List ReverseDependency
-reverse_dependencies_of f c name p = elim (defined_name p.group) [ None ↦ [] | Some by ↦ reverse_dependencies_by c p (filter (λ (a : TargetAttribute). bytes_eq a.name name) (attribute_values f p.group)) by ]
+abbrev pub reverse_dependencies_of : Language → (Attribute → Option TargetAttribute) → Contents → List ℕ → GroupInContext → List ReverseDependency
+reverse_dependencies_of language f c name p = elim (defined_name p.group) [ None ↦ [] | Some by ↦ reverse_dependencies_by language c p (filter (λ (a : TargetAttribute). bytes_eq a.name name) (attribute_values f p.group)) by ]
 
 -- the dependencies of a symbol that count, out of those of all its definitions: only the first for a member of a choice, else all
 abbrev pub own_dependencies : {A : Type 0} → (choice : Option ℕ) → List A → List A
@@ -84,29 +96,29 @@ own_dependencies None all = all
 own_dependencies (Some k) all = take 1 all
 
 -- the symbol with this name, from all its definitions in reading order ("Menu entries"); without a type it counts as a bool
-abbrev pub symbol_of : Contents → List ℕ → Symbol
-symbol_of c name =
+abbrev pub symbol_of : Language → Contents → List ℕ → Symbol
+symbol_of language c name =
     let own = definitions_of c name in
     let first = first_definition c name in
     record {
       name = name;
-      kind = unwrap_or (type_given c name) Boolean;
+      kind = kind_in_tree (choice_of_symbol c name) (type_given c name);
       file = unwrap_or (option_map (λ (g : Group). g.at.file) first) 0;
       line = unwrap_or (option_map (λ (g : Group). g.at.line) first) 0;
-      prompts = flat_map (λ (p : GroupInContext). prompts_of p.enclosing p.group) own;
-      defaults = flat_map defaults_at own;
-      ranges = flat_map ranges_at own;
-      selectors = flat_map (reverse_dependencies_of select_of c name) c.places;
-      impliers = flat_map (reverse_dependencies_of imply_of c name) c.places;
-      direct = own_dependencies (choice_of_symbol c name) (map (λ (p : GroupInContext). dependency_of p.enclosing p.group) own);
+      prompts = flat_map (λ (p : GroupInContext). prompts_of (context_of language p) p.group) own;
+      defaults = flat_map (defaults_at language) own;
+      ranges = flat_map (ranges_at language) own;
+      selectors = flat_map (reverse_dependencies_of language select_of c name) c.places;
+      impliers = flat_map (reverse_dependencies_of language imply_of c name) c.places;
+      direct = own_dependencies (choice_of_symbol c name) (map (λ (p : GroupInContext). dependency_of (context_of language p) p.group) own);
       choice = choice_of_symbol c name;
     }
 
 -- whether the choice that the group with this number opens encloses a group
 abbrev pub is_member_of : ℕ → GroupInContext → Bool
-is_member_of group p = elim p.enclosing.choice [ None ↦ false | Some k ↦ k == group ]
+is_member_of group p = elim p.choice [ None ↦ false | Some k ↦ k == group ]
 
--- the names of the members of the choice that the group with this number opens, in order of definition
+-- the names that definitions in the choice that the group with this number opens define, in order
 abbrev pub member_names : Contents → ℕ → List (List ℕ)
 member_names c group = filter_map (λ (p : GroupInContext). defined_name p.group) (filter (is_member_of group) c.places)
 
@@ -124,24 +136,37 @@ abbrev pub member_named : List (List ℕ) → DefaultAttribute → Option (List 
 member_named members d = if d.single then option_and_then (name_among members) (bare_name d.value) else None
 
 -- the default of a choice by the member that it names, if it names one ("Kconfig syntax", choices)
-abbrev pub member_default : Contents → GroupInContext → DefaultAttribute → Option MemberDefault
-member_default c p d =
-    option_map (λ s. record { member = s; condition = attribute_condition p.enclosing p.group d.condition })
+abbrev pub member_default : Language → Contents → GroupInContext → DefaultAttribute → Option MemberDefault
+member_default language c p d =
+    option_map (λ s. record { member = s; condition = attribute_condition (context_of language p) p.group d.condition })
     (option_and_then (λ x. index_of_name x c.names) (member_named (member_names c p.group.number) d))
 
 -- whether a group has the attribute `optional`
 abbrev pub is_optional_group : Group → Bool
 is_optional_group g = list_any (λ (l : Line). is_optional l.attribute) g.attributes
 
+-- whether a group is the first definition of the symbol with this name
+abbrev pub is_first_definition : Contents → List ℕ → GroupInContext → Bool
+is_first_definition c name p = elim (first_definition c name) [ None ↦ false | Some g ↦ g.number == p.group.number ]
+
+-- whether a group is the first definition of a symbol
+abbrev pub begins_symbol : Contents → GroupInContext → Bool
+begins_symbol c p = elim (defined_name p.group) [ None ↦ false | Some name ↦ is_first_definition c name p ]
+
+-- the names of the members of the choice that the group with this number opens, each once, in order of first definition
+abbrev pub own_member_names : Contents → ℕ → List (List ℕ)
+own_member_names c group =
+    filter_map (λ (p : GroupInContext). defined_name p.group) (filter (λ (p : GroupInContext). is_member_of group p && begins_symbol c p) c.places)
+
 -- the choice that a group opens ("Kconfig syntax", choices)
-abbrev pub choice_of : Contents → GroupInContext → Choice
-choice_of c p =
+abbrev pub choice_of : Language → Contents → GroupInContext → Choice
+choice_of language c p =
     record {
       file = p.group.at.file;
       line = p.group.at.line;
-      members = filter_map (λ x. index_of_name x c.names) (member_names c p.group.number);
-      prompt = slice_get (prompts_of p.enclosing p.group) 0;
-      defaults = filter_map (member_default c p) (attribute_values default_of p.group);
+      members = filter_map (λ x. index_of_name x c.names) (own_member_names c p.group.number);
+      prompt = slice_get (prompts_of (context_of language p) p.group) 0;
+      defaults = filter_map (member_default language c p) (attribute_values default_of p.group);
       optional = is_optional_group p.group;
     }
 
@@ -150,22 +175,18 @@ abbrev pub menu_entry : (List ℕ → Expr → Expr → tree.Entry) → Context 
 menu_entry f enclosing g = option_map (λ title. f title (dependency_of enclosing g) (conjunction_of (enclosing.visibles ++ attribute_values visible_of g))) (from_head title_of_head g.head)
 
 -- the entry of a menu's end, by the blocks that are open before that end, innermost first: the first of them is the menu
-abbrev pub menu_end_of : List Group → Option tree.Entry
-menu_end_of [] = None
-menu_end_of (g ∷ outer) = menu_entry tree.menu_ends (context outer) g
+abbrev pub menu_end_of : Language → List Group → Option tree.Entry
+menu_end_of language [] = None
+menu_end_of language (g ∷ outer) = menu_entry tree.menu_ends (context (is_linux_6_12 language) outer) g
 
 -- the entry that a group gives: a definition, a choice, the beginning or end of a menu, or a comment ("Menu structure"), if any
-abbrev pub entry_of_head : Contents → GroupInContext → Head → Option tree.Entry
-entry_of_head c p (config name) = option_map tree.definition (index_of_name name c.names)
-entry_of_head c p choice = option_map tree.choice_begins (choice_number c p.group.number)
-entry_of_head c p (menu title) = menu_entry tree.menu_begins p.enclosing p.group
-entry_of_head c p (comment title) = Some (tree.comment title (dependency_of p.enclosing p.group))
-entry_of_head c p (ends blocks.Menu) = menu_end_of p.opened
-entry_of_head c p h = None
-
--- whether a group is the first definition of the symbol with this name
-abbrev pub is_first_definition : Contents → List ℕ → GroupInContext → Bool
-is_first_definition c name p = elim (first_definition c name) [ None ↦ false | Some g ↦ g.number == p.group.number ]
+abbrev pub entry_of_head : Language → Contents → GroupInContext → Head → Option tree.Entry
+entry_of_head language c p (config name) = option_map tree.definition (index_of_name name c.names)
+entry_of_head language c p choice = option_map tree.choice_begins (choice_number c p.group.number)
+entry_of_head language c p (menu title) = menu_entry tree.menu_begins (context_of language p) p.group
+entry_of_head language c p (comment title) = Some (tree.comment title (dependency_of (context_of language p) p.group))
+entry_of_head language c p (ends blocks.Menu) = menu_end_of language p.opened
+entry_of_head language c p h = None
 
 -- the unit that begins at a group: a choice, or a symbol outside choices at its first definition, if any
 abbrev pub unit_of_head : Contents → GroupInContext → Head → Option TreeUnit
@@ -173,18 +194,19 @@ unit_of_head c p (config name) = if is_first_definition c name p && is_none (cho
 unit_of_head c p choice = option_map of_choice (choice_number c p.group.number)
 unit_of_head c p h = None
 
--- the tree that these groups (newest first) define
-unfoldable pub tree_of_groups : List Group → Tree
-tree_of_groups read =
+-- the tree that these groups (newest first) of files in this language define
+unfoldable pub tree_of_groups : Language → List Group → Tree
+tree_of_groups language read =
     let c = contents_of read in
     record {
-      symbols = map (symbol_of c) c.names;
-      choices = map (choice_of c) (filter (λ (p : GroupInContext). opens_choice p.group) c.places);
-      entries = filter_map (λ (p : GroupInContext). from_head (entry_of_head c p) p.group.head) c.places;
+      symbols = map (symbol_of language c) c.names;
+      choices = map (choice_of language c) (filter (λ (p : GroupInContext). opens_choice p.group) c.places);
+      entries = filter_map (λ (p : GroupInContext). from_head (entry_of_head language c p) p.group.head) c.places;
       units = filter_map (λ (p : GroupInContext). from_head (unit_of_head c p) p.group.head) c.places;
+      language = language;
     }
 
 -- the tree of these files from this first path on; if they have no fault, `IsTreeOfFiles` describes it, by the law
 -- `trees_are_of_the_relation`
 unfoldable pub tree_of_files : Files → List ℕ → Tree
-tree_of_files files root = tree_of_groups (reading files root).read
+tree_of_files files root = tree_of_groups files.language (reading files root).read

@@ -46,7 +46,7 @@ IsNested none = Unit {0}
 IsNested (entry g rest) = (side_of g.head ≡ inside) × IsNested rest
 IsNested (block g within e rest) = (is_ended_by g.head e.head ≡ true) × IsNested within × IsNested rest
 
--- the groups of a nested tree in reading order, each with its open blocks and conditions; the first list has the blocks above the
+-- the groups of a nested tree in reading order, each with its open blocks, by which `context` gives its conditions; the first list has the blocks above the
 -- tree, innermost first
 abbrev pub walk : List Group → Items → List GroupInContext
 walk path none = []
@@ -54,7 +54,7 @@ walk path (entry g rest) = group_in_context path g ∷ walk path rest
 walk path (block g within e rest) = group_in_context path g ∷ (walk (g ∷ path) within ++ group_in_context (g ∷ path) e ∷ walk path rest)
 
 -- the groups read (newest first) are the `listing` of this nested tree and of no other, and `walk` gives each group its open
--- blocks and conditions
+-- blocks, and so its conditions
 pub record IsTreeOf (read : List Group) (t : Items) : Type 0 where
   pub nested : IsNested t
   pub listed : listing t ≡ reverse read

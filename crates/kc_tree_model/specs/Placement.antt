@@ -86,7 +86,7 @@ is_glob_path t = elim (path_of t) [ None ↦ false | Some path ↦ is_glob path 
 -- whether a language is the strict one
 abbrev pub is_strict : Language → Bool
 is_strict Strict = true
-is_strict Linux = false
+is_strict (Linux version) = false
 
 -- whether a line after these groups, with this keyword and these tokens after it, has a form that the language leaves out: some
 -- first words, some options, named and tristate choices, paths that are patterns; in the strict language also `def_int`,

@@ -1,5 +1,5 @@
 -- The checks on the whole tree, for a reading without a fault, and the fault that is reported.
-use Rattle.std.specs.Prelude.{ℕ, Bool, true, false, not, ◌&&◌, ◌||◌, List, [], ◌∷◌, ◌++◌, map, flat_map, slice_get, Option, Some, None, is_some, is_none, bytes_eq, if◌then◌else◌}
+use Rattle.std.specs.Prelude.{ℕ, Bool, true, false, not, ◌&&◌, ◌||◌, ◌==◌, List, [], ◌∷◌, ◌++◌, map, flat_map, slice_get, Option, Some, None, is_some, is_none, bytes_eq, if◌then◌else◌}
 use Rattle.std.specs.List.{list_all}
 use Rattle.std.specs.Option.{option_or}
 use Rattle.kc_value.specs.declared.value.Kind.{Kind}
@@ -12,10 +12,10 @@ use Rattle.kc_tree_model.specs.declared.fault.TreeKind.{TreeKind}
 use Rattle.kc_tree_model.specs.declared.fault.TreeKind.TheVariants.{NoType, TypeConflict, SecondPrompt, DefaultShape, RangeType, SelectType, ChoiceMember, ChoiceDefault, ModulesType}
 use Rattle.kc_tree_model.specs.declared.fault.TreeFault.{TreeFault}
 use Rattle.kc_tree_model.specs.TreeFiles.{Files}
-use Rattle.kc_tree_model.specs.Statements.{Head, config, choice, Attribute, depends, select, imply, help, DefaultAttribute, type_of, prompt_of, default_of, range_of, is_modules}
+use Rattle.kc_tree_model.specs.Statements.{Head, config, choice, Attribute, typed, depends, select, imply, help, DefaultAttribute, type_of, prompt_of, default_of, range_of, is_modules}
 use Rattle.kc_tree_model.specs.Blocks.{Group, Line, of_head, file_end}
 use Rattle.kc_tree_model.specs.Conditions.{GroupInContext}
-use Rattle.kc_tree_model.specs.Contents.{Contents, contents_of, is_first_definition, type_given, choice_of_symbol, member_names, member_named}
+use Rattle.kc_tree_model.specs.Contents.{Contents, contents_of, is_first_definition, choice_of_first_definition, type_given, choice_of_symbol, member_names, member_named}
 use Rattle.kc_tree_model.specs.TreeReading.{Outcome, reading}
 
 -- a list of this kind alone if the test is true, or an empty list
@@ -41,8 +41,10 @@ kind_of c name = kind_or_bool (type_given c name) (is_some (choice_of_symbol c n
 abbrev pub is_selectable : Contents → List ℕ → Bool
 is_selectable c name = elim (kind_of c name) [ None ↦ true | Some k ↦ is_tri_kind k ]
 
--- whether a later definition of a choice's member may have this attribute, in the language of Linux
+-- whether a later definition of a choice's member may have this attribute, in the language of Linux: a type without a prompt, a
+-- dependency, a select, an imply or a help text
 abbrev pub is_added_attribute : Attribute → Bool
+is_added_attribute (typed k) = true
 is_added_attribute (depends e) = true
 is_added_attribute (select a) = true
 is_added_attribute (imply a) = true
@@ -51,12 +53,29 @@ is_added_attribute a = false
 
 -- whether a definition is outside choices and has only attributes that a later definition of a choice's member may have
 abbrev pub is_addition : GroupInContext → Bool
-is_addition p = is_none p.enclosing.choice && list_all (λ (l : Line). is_added_attribute l.attribute) p.group.attributes
+is_addition p = is_none p.choice && list_all (λ (l : Line). is_added_attribute l.attribute) p.group.attributes
 
--- whether a definition may follow that of the same symbol in its choice: in the strict language none may
-abbrev pub may_follow_member : Language → GroupInContext → Bool
-may_follow_member Strict p = false
-may_follow_member Linux p = is_addition p
+-- whether two places are in the same choice, by the groups that open the choices around them, if they are in choices
+abbrev pub is_same_choice : Option ℕ → Option ℕ → Bool
+is_same_choice (Some g) (Some h) = g == h
+is_same_choice _ _ = false
+
+-- whether a definition of the symbol with this name is in the choice in which the symbol's first definition is
+abbrev pub is_again_in_choice : Contents → List ℕ → GroupInContext → Bool
+is_again_in_choice c name p = is_same_choice (choice_of_first_definition c name) p.choice
+
+-- whether a definition may follow that of the same symbol in its choice: in the strict language none may; in the language of Linux
+-- one in the same choice may, and one outside choices that only adds
+abbrev pub may_follow_member : Language → Contents → List ℕ → GroupInContext → Bool
+may_follow_member Strict c name p = false
+may_follow_member (Linux version) c name p = is_addition p || is_again_in_choice c name p
+
+-- whether a type is given that a member of a choice can't have: in the strict language any but bool; in the language of Linux a
+-- member may be a tristate, which counts as a bool
+abbrev pub is_no_member_kind : Language → Option Kind → Bool
+is_no_member_kind language None = false
+is_no_member_kind Strict (Some k) = not (same_kind k Boolean)
+is_no_member_kind (Linux version) (Some k) = not (is_tri_kind k)
 
 -- the kinds of faults of a definition of the symbol with this name that are reported at the line of its `config`
 abbrev pub definition_faults : Language → Contents → GroupInContext → List ℕ → List TreeKind
@@ -64,7 +83,7 @@ definition_faults language c p name =
     let first = is_first_definition c name p in
     let other = is_other_kind Boolean (type_given c name) in
     when (first && is_none (kind_of c name)) NoType
-    ++ when ((is_some p.enclosing.choice && other) || (not first && is_some (choice_of_symbol c name) && not (may_follow_member language p))) ChoiceMember
+    ++ when ((is_some p.choice && is_no_member_kind language (type_given c name)) || (not first && is_some (choice_of_symbol c name) && not (may_follow_member language c name p))) ChoiceMember
     ++ when (first && bytes_eq name modules_name && other) ModulesType
 
 -- whether a default is that of a string, int or hex symbol and isn't one operand

@@ -4,6 +4,7 @@ use Rattle.std.specs.List.{IsDistinct, position_or_len}
 use Rattle.std.specs.Map.{lookup}
 use Rattle.kc_tokens.specs.declared.language.Language.{Language}
 use Rattle.kc_tokens.specs.declared.language.Language.TheVariants.{Strict, Linux}
+use Rattle.kc_tokens.specs.declared.language.LinuxVersion.{LinuxVersion}
 
 -- the files of a tree: the language in which they are written, and paths with their bytes, in order of insertion
 pub record Files : Type 0 where
@@ -14,9 +15,9 @@ pub record Files : Type 0 where
 abbrev pub strict_files : List (List ℕ × List ℕ) → Files
 strict_files list = record { language = Strict; list = list }
 
--- these paths and bytes as files in the language of Linux
-abbrev pub linux_files : List (List ℕ × List ℕ) → Files
-linux_files list = record { language = Linux; list = list }
+-- these paths and bytes as files in the language of a version of Linux
+abbrev pub linux_files : LinuxVersion → List (List ℕ × List ℕ) → Files
+linux_files version list = record { language = Linux version; list = list }
 
 -- the bytes of the file at a path, or None if there is none
 abbrev pub file_at : Files → List ℕ → Option (List ℕ)

@@ -1,6 +1,7 @@
 -- The data of a tree: symbols, choices, entries and units, each condition joined with the enclosing ones.
 use Rattle.std.specs.Prelude.{ℕ, Bool, List, Option}
 use Rattle.kc_value.specs.declared.value.Kind.{Kind}
+use Rattle.kc_tokens.specs.declared.language.Language.{Language}
 use Rattle.kc_expr.specs.Expr.{Expr, Operand}
 use Rattle.kc_tree_model.specs.declared.ids.Unit.{Unit as TreeUnit}
 
@@ -61,9 +62,14 @@ pub data Entry : Type 0 where
   comment : (title : List ℕ) (dependency : Expr) → Entry
 
 -- a tree: its symbols and choices in order of first definition, its entries in reading order, its units in the order of their
--- numbers
+-- numbers, and the language of its files, by which some of its rules are chosen
 pub record Tree : Type 0 where
   pub symbols : List Symbol
   pub choices : List Choice
   pub entries : List Entry
   pub units : List TreeUnit
+  pub language : Language
+
+-- the same tree with another language
+abbrev pub in_language : Language → Tree → Tree
+in_language language tree = record { symbols = tree.symbols; choices = tree.choices; entries = tree.entries; units = tree.units; language = language }

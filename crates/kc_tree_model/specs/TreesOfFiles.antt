@@ -19,9 +19,9 @@ abbrev pub lenient_origin : Files → List ℕ → FileSource
 lenient_origin files root = record { language = files.language; bytes = λ path. Some (bytes_or_none files path); number = index_of_file files; root = root }
 
 -- this is the tree of these files: they are read without a fault, the checks on the whole tree find none, and the tree is that of
--- the groups read
+-- the groups read, in the language of the files
 abbrev pub IsTreeOfFiles : Files → List ℕ → Tree → Type 0
-IsTreeOfFiles files root tree = (groups : List Group) × IsWholeReading (origin_of files root) groups × (tree_faults files.language groups ≡ []) × (tree ≡ tree_of_groups groups)
+IsTreeOfFiles files root tree = (groups : List Group) × IsWholeReading (origin_of files root) groups × (tree_faults files.language groups ≡ []) × (tree ≡ tree_of_groups files.language groups)
 
 -- this fault is reported for these files: it ends the reading, or is the first that the checks on the whole tree find
 abbrev pub IsReportedFault : Files → List ℕ → TreeFault → Type 0

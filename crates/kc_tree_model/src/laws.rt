@@ -1,6 +1,9 @@
 //! Laws of the definitions.
-ghost use Rattle.std.specs.Prelude.{◌≡◌, ◌↔◌, ◌⊎◌, ℕ, ◌+◌, List, [], None, Some, Result, Ok, Err};
+ghost use Rattle.std.specs.Prelude.{◌≡◌, ◌↔◌, ◌⊎◌, false, ℕ, ◌+◌, List, [], None, Some, Result, Ok, Err};
 ghost use Rattle.kc_tokens.specs.declared.language.Language.{Language};
+ghost use Rattle.kc_tokens.specs.declared.language.Language.TheVariants.{Linux};
+ghost use Rattle.kc_tokens.specs.declared.language.LinuxVersion.{LinuxVersion};
+ghost use Rattle.kc_tokens.specs.Languages.{is_linux_6_12};
 ghost use Rattle.kc_tree_model.specs.TreeFiles.{Files, strict_files, linux_files};
 ghost use Rattle.kc_tree_model.specs.LogicalLines.{LogicalLine, lines_of, begins_help_in, begins_help};
 ghost use Rattle.kc_tree_model.specs.LineGrammar.{IsInLines};
@@ -22,7 +25,7 @@ ghost use Rattle.kc_tree_model.specs.declared.keyword.Keyword.{Keyword};
 ghost use Rattle.kc_tree_model.specs.Statements.{Statement};
 ghost use Rattle.kc_tree_model.specs.Forms.{statement_of};
 ghost use Rattle.kc_tree_model.specs.FormGrammar.{IsForm, HasDeepExpr};
-ghost use Rattle.kc_tree_model.specs.Trees.{Tree};
+ghost use Rattle.kc_tree_model.specs.Trees.{Tree, in_language};
 ghost use Rattle.kc_tree_model.specs.TreesOfFiles.{IsTreeOfFiles, IsReportedFault, AreWanted};
 
 /// The logical lines that are read from a file's bytes are exactly those of the grammar of lines: physical lines are joined
@@ -89,11 +92,11 @@ pub fn nothing_is_missing_after_wanted()
     ensures fault { (files : Files) (root : List ℕ) (fault : TreeFault) → files_wanted files root ≡ Err fault → (reading files root).fault ≡ Some fault }
 {}
 
-/// A tree that the strict language reads without a fault, the language of Linux reads without one too, and it is the same
-/// tree.
+/// A tree that the strict language reads without a fault, that of each version of Linux reads without one too, and but for
+/// 6.12, where conditions go through choices, it is the same tree with this language.
 pub fn linux_reads_strict_trees()
-    ensures none { (list : List (List ℕ × List ℕ)) (root : List ℕ) → first_tree_fault (strict_files list) root ≡ None → first_tree_fault (linux_files list) root ≡ None }
-    ensures tree { (list : List (List ℕ × List ℕ)) (root : List ℕ) → first_tree_fault (strict_files list) root ≡ None → tree_of_files (linux_files list) root ≡ tree_of_files (strict_files list) root }
+    ensures none { (version : LinuxVersion) (list : List (List ℕ × List ℕ)) (root : List ℕ) → first_tree_fault (strict_files list) root ≡ None → first_tree_fault (linux_files version list) root ≡ None }
+    ensures tree { (version : LinuxVersion) (list : List (List ℕ × List ℕ)) (root : List ℕ) → is_linux_6_12 (Linux version) ≡ false → first_tree_fault (strict_files list) root ≡ None → tree_of_files (linux_files version list) root ≡ in_language (Linux version) (tree_of_files (strict_files list) root) }
 {}
 
 /// The reading of a tree depends on the bytes of the files that it sources, and on those of no other files: with more files

@@ -2,7 +2,7 @@
 ghost use Rattle.std.specs.Prelude.{None};
 
 use kc_value::{Failed, FromRead, Seed, Source};
-use kmin_jobs::Files;
+use kmin_run::Files;
 use std::alloc::{AllocError, Global};
 use std::env::VarError;
 use std::fs::{DirEntry, File};

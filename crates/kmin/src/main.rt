@@ -2,14 +2,18 @@
 #![tactic(auto)]
 
 mod files;
+mod streams;
 
 use files::{Disk, new_seed};
-use kc_value::{FromRead, ToWrite};
+use kc_value::FromRead;
 use kmin_disk::SystemDisk;
-use kmin_jobs::run;
+use kmin_run::run;
+use kmin_words::{ParsedWords, Task, Verb, read_words};
+use std::alloc::Global;
 use std::io::IsTerminal;
 use std::process::ExitCode;
 use std::{env, io};
+use streams::{Messages, Output};
 
 fn main(rt: HostRuntime) -> ExitCode {
     match run_words(&rt) {
@@ -23,12 +27,13 @@ fn run_words(rt: &HostRuntime) -> io::Result<u8> {
     let words: Vec<String> = env::args(rt)?.skip(1).collect(rt.alloc())?;
     let words: Vec<&str> = words.iter().map(|word| word.as_str()).collect(rt.alloc())?;
     write_waiting(rt, &words);
+    write_without_files(rt, &words);
     let mut input = FromRead::new(rt.stdin());
-    let mut out = ToWrite::new(rt.stdout());
-    let mut err = ToWrite::new(rt.stderr());
+    let mut out = Output::new(rt.stdout());
+    let mut err = Messages::new(rt.stderr());
     let mut files = Disk::new(rt);
     let mut disk = SystemDisk::new(rt, new_seed(rt));
-    Ok(run(
+    let status = run(
         rt.alloc(),
         &words,
         &mut files,
@@ -36,7 +41,9 @@ fn run_words(rt: &HostRuntime) -> io::Result<u8> {
         &mut input,
         &mut out,
         &mut err,
-    ))
+    );
+    err.end(out.is_closed());
+    Ok(status)
 }
 
 /// Writes that the program waits for a bundle, if there are no words and standard input is a terminal.
@@ -45,6 +52,27 @@ fn write_waiting(rt: &HostRuntime, words: &[&str]) {
         let _ = eprintln!(rt;
             "kmin: waits for a bundle at the terminal; `kmin --help` has the commands"
         );
+    }
+}
+
+/// Writes that `missed` or `check` is run over no FILE, if standard error is a terminal.
+fn write_without_files(rt: &HostRuntime, words: &[&str]) {
+    if rt.stderr().is_terminal() && list_without_files(rt.alloc(), words) {
+        let _ = eprintln!(rt; "kmin: no FILE is named, so nothing is assigned");
+    }
+}
+
+/// Whether these words are the command `missed` or `check` without a FILE.
+fn list_without_files(alloc: Global, words: &[&str]) -> bool {
+    match read_words(alloc, words) {
+        Ok(ParsedWords::Job(job)) => match &job.task {
+            Task::Over {
+                verb: Verb::Missed { .. } | Verb::Check { .. },
+                files,
+            } => files.is_empty(),
+            _ => false,
+        },
+        _ => false,
     }
 }
 

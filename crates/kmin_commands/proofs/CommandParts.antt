@@ -27,9 +27,14 @@ module _ {E : Type 0} where
       → IsLocal argument → (P → HasLocalArguments old) → IfOk result (λ new. P → HasLocalArguments new)
   argument_kept P old argument result adds own local = IfOk-weaker result _ _ (λ new a p. with_argument old new argument a own (local p)) adds
 
-  pub command_added : (old sub : Command) (result : Result Command E) → IfOk result (λ new. AddsSubcommand old sub new)
-      → HasLocalArguments sub → IsCommandRequired old → IfOk result IsCommandRequired
-  command_added old sub result adds local required = IfOk-weaker result _ _ (λ new a. with_command old new sub a local required) adds
+  pub command_kept : (P : Type 0) (old sub : Command) (result : Result Command E) → IfOk result (λ new. AddsSubcommand old sub new)
+      → HasLocalArguments sub → (P → IsCommandRequired old) → IfOk result (λ new. P → IsCommandRequired new)
+  command_kept P old sub result adds local required = IfOk-weaker result _ _ (λ new a p. with_command old new sub a local (required p)) adds
+
+  -- a program that requires a command's name still requires one after a step that keeps this
+  pub required_kept : (old : Command) (result : Result Command E) → IfOk result (λ new. IsCommandRequired old → IsCommandRequired new)
+      → IsCommandRequired old → IfOk result IsCommandRequired
+  required_kept old result keeps required = IfOk-weaker result _ _ (λ new kept. kept required) keeps
 
   -- a command without global arguments has none after a step that adds none
   pub local_kept : (old : Command) (result : Result Command E) → IfOk result (λ new. HasLocalArguments old → HasLocalArguments new)

@@ -158,27 +158,65 @@ static ANSWERS: [ListHelp; 3] = [
 pub fn program<'a>(alloc: Global) -> Result<Command<'a>, AllocError>
     ensures { IfOk result IsCommandRequired }
 {
-    let mut program = named(alloc)?;
+    let program = with_writing(alloc, named(alloc)?)?;
+    let program = with_listing(alloc, program)?;
+    with_tidy_and_wants(alloc, with_compare(alloc, program)?)
+}
+
+/// Adds the commands that write a configuration file.
+fn with_writing<'a>(alloc: Global, mut program: Command<'a>) -> Result<Command<'a>, AllocError>
+    ensures { IfOk result (λ made. IsCommandRequired program.entry → IsCommandRequired made) }
+{
     for help in &WRITING {
         program = program.subcommand(over_files(alloc, help)?)?;
     }
+    Ok(program)
+}
+
+/// Adds the commands that list symbols of a configuration.
+fn with_listing<'a>(alloc: Global, mut program: Command<'a>) -> Result<Command<'a>, AllocError>
+    ensures { IfOk result (λ made. IsCommandRequired program.entry → IsCommandRequired made) }
+{
     for help in &LISTING {
         program = program.subcommand(listing(alloc, help)?)?;
     }
-    program = program.subcommand(over_two_files(alloc, &COMPARE)?)?;
-    program = program.subcommand(over_each_file(alloc, &TIDY)?)?;
+    Ok(program)
+}
+
+/// Adds the command over two configurations.
+fn with_compare<'a>(alloc: Global, program: Command<'a>) -> Result<Command<'a>, AllocError>
+    ensures { IfOk result (λ made. IsCommandRequired program.entry → IsCommandRequired made) }
+{
+    program.subcommand(over_two_files(alloc, &COMPARE)?)
+}
+
+/// Adds the command over files, each a configuration of its own, and the one over a tree alone.
+fn with_tidy_and_wants<'a>(alloc: Global, program: Command<'a>) -> Result<Command<'a>, AllocError>
+    ensures { IfOk result (λ made. IsCommandRequired program.entry → IsCommandRequired made) }
+{
+    let program = program.subcommand(over_each_file(alloc, &TIDY)?)?;
     program.subcommand(over_a_tree(alloc, &WANTS)?)
 }
 
 /// The names of all commands, with `help`.
 pub fn command_names(alloc: Global) -> Result<Vec<&'static str>, AllocError> {
-    let mut names = Vec::new(alloc);
-    for help in &WRITING {
+    let names = with_names(Vec::new(alloc), &WRITING)?;
+    with_last_names(with_names(names, &LISTING)?)
+}
+
+/// Adds the names of these commands.
+fn with_names(
+    mut names: Vec<&'static str>,
+    helps: &[CommandHelp],
+) -> Result<Vec<&'static str>, AllocError> {
+    for help in helps {
         names.push(help.name)?;
     }
-    for help in &LISTING {
-        names.push(help.name)?;
-    }
+    Ok(names)
+}
+
+/// Adds the names of the commands that are in no list, and `help`.
+fn with_last_names(mut names: Vec<&'static str>) -> Result<Vec<&'static str>, AllocError> {
     for name in [COMPARE.name, TIDY.name, WANTS.name, "help"] {
         names.push(name)?;
     }
@@ -210,12 +248,20 @@ fn named<'a>(alloc: Global) -> Result<Command<'a>, AllocError>
 fn helped(program: Command<'_>) -> Command<'_>
     ensures { IsCommandRequired program.entry → IsCommandRequired result }
 {
-    program
+    let program = program
         .version(help_texts::VERSION)
         .about(help_texts::ABOUT)
+        .override_usage(help_texts::USAGE);
+    explained(program)
+}
+
+/// Adds the texts after the help of the program as a whole.
+fn explained(program: Command<'_>) -> Command<'_>
+    ensures { IsCommandRequired program.entry → IsCommandRequired result }
+{
+    program
         .after_help(messages::AFTER)
         .after_long_help(messages::AFTER_LONG)
-        .override_usage(help_texts::USAGE)
 }
 
 /// A command over any number of configuration files, which make one configuration.
@@ -273,10 +319,17 @@ fn over_each_file<'a>(alloc: Global, help: &CommandHelp) -> Result<Command<'a>, 
     let command = with_tidy_flags(alloc, with_options(alloc, help)?)?;
     let from = valued(alloc, "from", "LIST", help_texts::FROM);
     let command = command.arg(from)?;
-    let nul = Arg::new(alloc, "z").short('z').action(ArgAction::SetTrue);
-    let command = command.arg(nul.help(help_texts::NUL).requires_arg("from")?)?;
+    let command = command.arg(nul(alloc)?)?;
     let files = any_number(alloc, "FILE", help_texts::EACH_FILE);
     command.arg(files.required_unless_present("from")?)
+}
+
+/// The option for the end of each path of a list.
+fn nul<'a>(alloc: Global) -> Result<Arg<'a>, AllocError>
+    ensures { IfOk result IsLocal }
+{
+    let nul = Arg::new(alloc, "z").short('z').action(ArgAction::SetTrue);
+    nul.help(help_texts::NUL).requires_arg("from")
 }
 
 /// Adds `--write` and `--drop` to a command.
@@ -284,8 +337,15 @@ fn with_tidy_flags<'a>(alloc: Global, command: Command<'a>) -> Result<Command<'a
     ensures { IfOk result (λ made. HasLocalArguments command.entry → HasLocalArguments made) }
 {
     let command = command.arg(flag(alloc, "write", help_texts::WRITE))?;
-    let drop = flag(alloc, "drop", help_texts::DROP).requires_arg("write")?;
-    command.arg(drop.conflicts_with("strict")?)
+    command.arg(dropping(alloc)?)
+}
+
+/// The option to leave lines out, which goes with `--write` and not with `--strict`.
+fn dropping<'a>(alloc: Global) -> Result<Arg<'a>, AllocError>
+    ensures { IfOk result IsLocal }
+{
+    let dropping = flag(alloc, "drop", help_texts::DROP).requires_arg("write")?;
+    dropping.conflicts_with("strict")
 }
 
 /// An argument of one word that can't be left out.
@@ -370,38 +430,36 @@ fn output<'a>(alloc: Global) -> Arg<'a>
 fn repeated<'a>(alloc: Global, list: &ListHelp) -> Arg<'a>
     ensures { IsLocal result }
 {
-    Arg::new(alloc, list.name)
-        .long(list.name)
-        .value_name(list.value)
-        .action(ArgAction::Append)
-        .help(list.help)
+    valued(alloc, list.name, list.value, list.help).action(ArgAction::Append)
 }
 
 /// The option for the language of the tree.
 fn language<'a>(alloc: Global) -> Arg<'a>
     ensures { IsLocal result }
 {
-    valued(alloc, "language", "LANGUAGE", help_texts::LANGUAGE)
-        .long_help(help_texts::LANGUAGE_LONG)
-        .value_parser(LANGUAGES.as_slice())
+    let language = valued(alloc, "language", "LANGUAGE", help_texts::LANGUAGE);
+    one_of(language, help_texts::LANGUAGE_LONG, &LANGUAGES)
+}
+
+/// An option whose value is one of these, with the long text that explains them.
+fn one_of<'a>(option: Arg<'a>, long_help: &'a str, values: &'a [&'a str]) -> Arg<'a>
+    ensures { IsLocal option.entry → IsLocal result }
+{
+    option.long_help(long_help).value_parser(values)
 }
 
 /// The option for the form of strings.
 fn strings<'a>(alloc: Global) -> Arg<'a>
     ensures { IsLocal result }
 {
-    option(alloc, &STRINGS)
-        .long_help(help_texts::STRINGS_LONG)
-        .value_parser(FORMS.as_slice())
+    one_of(option(alloc, &STRINGS), help_texts::STRINGS_LONG, &FORMS)
 }
 
 /// The option for the profile.
 fn imply<'a>(alloc: Global) -> Arg<'a>
     ensures { IsLocal result }
 {
-    option(alloc, &IMPLY)
-        .long_help(help_texts::IMPLY_LONG)
-        .value_parser(PROFILES.as_slice())
+    one_of(option(alloc, &IMPLY), help_texts::IMPLY_LONG, &PROFILES)
 }
 
 /// A command with its help and no options.
@@ -415,12 +473,8 @@ fn described<'a>(alloc: Global, help: &CommandHelp) -> Command<'a>
 }
 
 /// An option with a value and a default.
-fn option<'a>(alloc: Global, valued: &OptionHelp) -> Arg<'a>
+fn option<'a>(alloc: Global, help: &OptionHelp) -> Arg<'a>
     ensures { IsLocal result }
 {
-    Arg::new(alloc, valued.name)
-        .long(valued.name)
-        .value_name(valued.value)
-        .default_value(valued.default)
-        .help(valued.help)
+    valued(alloc, help.name, help.value, help.help).default_value(help.default)
 }

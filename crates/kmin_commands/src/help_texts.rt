@@ -147,9 +147,9 @@ nothing is listed. kmin itself runs nothing: the script kmin-answer runs the com
 and adds what they print to a file of answers, to be read before it is used.";
 
 pub(crate) const WANTS_AFTER: &str = "\
-Example:
+Example, and how a tree's own Makefile, in its folder, records the answers:
   kmin wants --root linux --answers answers
-  cd linux && kmin-answer ../answers kmin wants
+  make ARCH=x86 --eval='kminconfig:; kmin-answer ../answers kmin wants' kminconfig
 
 Exit status: 0 nothing is asked, 1 questions are listed, 2 command line refused, 3 tree refused,
 4 file of answers refused, 5 a read or a write failed, 6 out of memory.";
@@ -196,7 +196,7 @@ pub(crate) const LANGUAGE: &str = "Forms that the tree may have";
 
 pub(crate) const LANGUAGE_LONG: &str = "\
 Forms that the tree may have; strict by default, linux where the tree is expanded:
-strict  those of docs/RULES.md
+strict  those of share/doc/kmin/RULES.md
 linux   besides, a `\\$` in quotes, optional choices, def_int, def_hex and def_string,
         and further definitions of a choice's members";
 

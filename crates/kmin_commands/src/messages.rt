@@ -32,7 +32,7 @@ macro_rules! tables {
                 "DefaultShape" "  DefaultShape      a string's, int's or hex's default isn't one word or text: write just one"
                 "RangeType" "  RangeType         a range of neither an int nor a hex: take it out, or change the type"
                 "SelectType" "  SelectType        select or imply in, or of, neither a bool nor a tristate: take it out"
-                "ChoiceMember" "  ChoiceMember      a member that isn't bool, or is defined twice: make it bool, define it once"
+                "ChoiceMember" "  ChoiceMember      a member that isn't bool, or is defined again: make it bool, define it once"
                 "ChoiceDefault" "  ChoiceDefault     a choice's default is no member of it: name one"
                 "ModulesType" "  ModulesType       MODULES isn't bool, or another has `modules`: make it bool, take `modules` out"
                 "MissingFile" "  MissingFile       the file can't be opened or read: see --root and --tree, and the path"
@@ -137,7 +137,7 @@ Exit status:
 
 Without a word, kmin reads a bundle on standard input, a tree, a line `%%` and a configuration
 file, and writes its full file. Options come after the command: `kmin help COMMAND` lists them.
-`kmin help KIND` explains a kind of message.
+`kmin help KIND` explains a kind of message, and share/doc/kmin/FAULTS.md all of them.
 
 ",
             $($text),*

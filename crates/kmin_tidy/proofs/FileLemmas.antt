@@ -27,7 +27,8 @@ use Rattle.kmin_disk.specs.declared.fault.ReplaceFault.TheVariants.{NotRegular, 
 use Rattle.kmin_tidy.specs.Options.{Settings, Notices, settings_of, refuses_notices}
 use Rattle.kmin_tidy.specs.MinimalFiles.{MayBeRead, IsReadAt, HasMinimalFile, Minimises}
 use Rattle.kmin_tidy.specs.Refusals as refusals
-use Rattle.kmin_tidy.specs.Reports.{fault_line, not_regular_line, notice_lines, difference_line}
+use Rattle.kmin_report.specs.Reports.{fault_line, not_regular_line}
+use Rattle.kmin_tidy.specs.Reports.{notice_lines, difference_line}
 use Rattle.kmin_tidy.specs.Steps.{Step, refused, noticed, minimal, shown, replaced, unwritten, call_failed, names_taken, not_regular, unsynced}
 use Rattle.kmin_tidy.specs.checker.Readings.{IsFragmentOf, IsFaulty}
 use Rattle.kmin_tidy.specs.checker.FileReports.{IsRefusedAs, IsFailedBy, IsStoppedBy}

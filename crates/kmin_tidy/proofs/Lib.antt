@@ -1,6 +1,5 @@
 pub mod ReadingLemmas
 pub mod RefusalLemmas
-pub mod WriterLemmas
 pub mod StatusLemmas
 pub mod KeptPlaces
 pub mod StepLemmas

@@ -1,5 +1,5 @@
 -- Files that are read whole or in part.
-use Rattle.std.proofs.Common.{◌≡◌, ◌≢◌, ℕ, List, [], ◌∷◌, ◌++◌, Option, Some, None, Result, Ok, Err, IfOk, IfErr, length, refl, sym, ap, ◌∙◌, subst, append-nil, append_assoc, ◌⊎◌, inl, inr, arith, length-append, lit<}
+use Rattle.std.proofs.Common.{◌≡◌, ◌≢◌, ℕ, List, [], ◌∷◌, ◌++◌, Option, Some, None, Result, Ok, Err, IfOk, length, refl, sym, ap, ◌∙◌, subst, append_assoc, ◌⊎◌, inl, inr, arith, length-append, lit<}
 use Rattle.std.specs.Io.KnownBytes.{Consumes, IsAtEnd}
 use Rattle.std.proofs.lemmas.List.{append_cancel_right}
 use Rattle.kc_tree_model.specs.Trees.{Tree}
@@ -12,31 +12,9 @@ use Rattle.kc_dotconfig.specs.declared.fragment.Fragment.{Fragment}
 use Rattle.kc_dotconfig.specs.Fragments.{FitsTree}
 use Rattle.kc_dotconfig.specs.ReadResults.{IsReadAs, IsRefused, ReportsFault}
 use Rattle.kmin_disk.specs.Contents.{OpensAs}
-use Rattle.kmin_tidy.specs.KnownBytes.{AreKnownBytes}
+use Rattle.kmin_report.specs.KnownBytes.{AreKnownBytes}
 use Rattle.kmin_tidy.specs.checker.Readings.{IsFragmentOf, IsFaultOf, IsFaultOfPart, in_front, at_failure, no_memory, IsFaulty, refused, unread, for_memory}
-
--- the bytes that were read of an opened file are the first bytes of its content, as far as that is known
-pub rest_of : (known : Option (Option (List ℕ))) (before after : Option (List ℕ)) (bytes : List ℕ) → OpensAs known (Some before) → Consumes before after bytes
-    → (rest : List ℕ) × AreKnownBytes known (bytes ++ rest)
-rest_of None before after bytes o h = ([], tt)
-rest_of (Some None) before after bytes o h = let f : Some before ≡ None = o in cc
-rest_of (Some (Some known)) before None bytes o h =
-    let s : before ≡ Some known = cc in let k : Consumes (Some known) None bytes = rw s at h in absurd k
-rest_of (Some (Some known)) before (Some rest) bytes o h =
-    let s : before ≡ Some known = cc in let k : Consumes (Some known) (Some rest) bytes = rw s at h in (rest, sym k)
-
-whole_memory : (text : List ℕ) (after : Option (List ℕ)) (bytes : List ℕ) → Consumes (Some text) after bytes → IsAtEnd after → text ≡ bytes
-whole_memory text None bytes h e = absurd h
-whole_memory text (Some rest) bytes h e = h ∙ ap (λ z. bytes ++ z) e ∙ append-nil bytes
-
--- the bytes that were read of an opened file up to its end are its whole content, as far as that is known
-pub whole_content : (known : Option (Option (List ℕ))) (before after : Option (List ℕ)) (bytes : List ℕ) → OpensAs known (Some before)
-    → Consumes before after bytes → IsAtEnd after → AreKnownBytes known bytes
-whole_content None before after bytes o h e = tt
-whole_content (Some None) before after bytes o h e = let f : Some before ≡ None = o in cc
-whole_content (Some (Some known)) before after bytes o h e =
-    let s : before ≡ Some known = cc in
-    sym (whole_memory known after bytes (rw s at h) e)
+use Rattle.kmin_report.proofs.KnownContents.{rest_of, whole_memory, whole_content}
 
 -- the fragment of a file that was read to its end is that of the file's bytes
 pub fragment_of_read : (format : FileFormat) (tree : Tree) (bytes : List ℕ) (before after : Option (List ℕ)) (f : Fragment) → before ≡ Some bytes
@@ -146,15 +124,6 @@ faulty_read format tree known before after bytes kind number Ended opens consume
 faulty_read format tree known before after bytes kind number Ended opens consumed ends (inr h) =
     let w = rest_of known before after bytes opens consumed in
     faulty_part format tree known bytes w.0 kind number w.1 h
-
--- if the value of a result has a property P, and P implies Q, it has Q
-pub if_ok_map : {T E : Type 0} (r : Result T E) (P Q : T → Type 0) → ((x : T) → P x → Q x) → IfOk r P → IfOk r Q
-if_ok_map (Ok x) P Q f h = f x h
-if_ok_map (Err e) P Q f h = tt
-
-pub if_err_map : {T E : Type 0} (r : Result T E) (P Q : E → Type 0) → ((e : E) → P e → Q e) → IfErr r P → IfErr r Q
-if_err_map (Ok x) P Q f h = tt
-if_err_map (Err e) P Q f h = f e h
 
 pub both_ok : {T E : Type 0} (r : Result T E) (P Q R : T → Type 0) → ((x : T) → P x → Q x → R x) → IfOk r P → IfOk r Q → IfOk r R
 both_ok (Ok x) P Q R f h k = f x h k

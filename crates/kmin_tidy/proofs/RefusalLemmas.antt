@@ -7,7 +7,8 @@ use Rattle.kmin_disk.specs.Contents.{readable}
 use Rattle.kmin_disk.specs.Disks.{DiskState, content_at}
 use Rattle.kmin_tidy.specs.Options.{Settings}
 use Rattle.kmin_tidy.specs.MinimalFiles.{MayBeRead}
-use Rattle.kmin_tidy.specs.Reports.{fault_line, notice_lines}
+use Rattle.kmin_report.specs.Reports.{fault_line}
+use Rattle.kmin_tidy.specs.Reports.{notice_lines}
 use Rattle.kmin_tidy.specs.Refusals as refusals
 use Rattle.kmin_tidy.specs.Refusals.{IsRefused}
 use Rattle.kmin_tidy.specs.checker.Readings.{IsFaulty, refused, unread, unopened, for_memory}
@@ -48,8 +49,3 @@ pub lines_of_notices : (path : List ℕ) (report : FileReport) → report.proble
 lines_of_notices path report is =
     ap (λ p. notice_lines path (map notice_pair report.notices.items) ++ problem_lines path p) is ∙ append-nil
     (notice_lines path (map notice_pair report.notices.items))
-
--- the map of a composition of two functions is one map after another
-pub map_twice : {A B C : Type 0} (f : B → C) (g : A → B) (xs : List A) → map (λ x. f (g x)) xs ≡ map f (map g xs)
-map_twice f g [] = refl
-map_twice f g (x ∷ xs) = ap (λ ys. f (g x) ∷ ys) (map_twice f g xs)

@@ -1,12 +1,10 @@
 -- Whole runs, by their paths.
-use Rattle.std.proofs.Common.{◌≡◌, ℕ, ◌+◌, ◌<◌, List, [], ◌∷◌, ◌++◌, refl, sym, ap, ◌∙◌, subst, take, drop, length, get_or, drop-cons, take-append-drop, suc, inl, inr, Result, Ok, Err, IfErr}
-use Rattle.std.specs.Borrow.{Bor}
-use Rattle.std.proofs.lemmas.List.{take_more, map-append}
+use Rattle.std.proofs.Common.{◌≡◌, ℕ, ◌+◌, List, [], ◌∷◌, ◌++◌, refl, sym, ap, ◌∙◌, subst, inl, inr, Result, Ok, Err, IfErr}
 use Rattle.std.specs.Result.{IsErr, IsErrAnd}
 use Rattle.kmin_tidy.specs.Options.{Settings}
 use Rattle.kmin_disk.specs.Disks.{Disk}
 use Rattle.kmin_tidy.specs.Steps.{Step}
-use Rattle.kmin_tidy.specs.Runs.{Run, none, one_more, Tidies, paths_of}
+use Rattle.kmin_tidy.specs.Runs.{Run, none, one_more, Tidies}
 use Rattle.kmin_tidy.specs.checker.Statuses.{status_after}
 use Rattle.kmin_tidy.specs.checker.FileResults.{StopsFile, StopsRun, before_write, at_write}
 use Rattle.kmin_tidy.specs.declared.outcome.FileOutcome.{FileOutcome}
@@ -35,19 +33,6 @@ tidies_more s a b c paths all path text line whole reports own every status afte
       minimal = run_minimal s a c files whole every run;
     }
 
--- the first i + 1 paths of a list are the first i, and the path at place i
-pub paths_next : (paths : List (Bor (List ℕ))) (i : ℕ) (d : Bor (List ℕ)) → i < length paths
-    → paths_of (take (i + 1) paths) ≡ paths_of (take i paths) ++ (get_or paths i d).now ∷ []
-paths_next paths i d h =
-    ap paths_of (take_more paths i d h) ∙ map-append (λ (p : Bor (List ℕ)). p.now) (take i paths) (get_or paths i d ∷ [])
-
--- a list of paths is those before place i, the path at place i, and those after it
-pub paths_at : (paths : List (Bor (List ℕ))) (i : ℕ) (d : Bor (List ℕ)) → i < length paths
-    → paths_of paths ≡ paths_of (take i paths) ++ (get_or paths i d).now ∷ paths_of (drop (suc i) paths)
-paths_at paths i d h =
-    ap paths_of (sym (take-append-drop i paths)) ∙ map-append (λ (p : Bor (List ℕ)). p.now) (take i paths) (drop i paths)
-    ∙ ap (λ ps. paths_of (take i paths) ++ paths_of ps) (drop-cons paths i d h)
-
 -- a run that went over the files before a path, and ends at the file of that path, ends early as `StopsRun` says
 pub stops_run : (s : Settings) (a b c : Disk) (paths front back : List (List ℕ)) (path text : List ℕ) (earlier : List (List ℕ)) (made : ℕ) (stop : Stop)
     → paths ≡ front ++ path ∷ back → Tidies s a b front text earlier made → StopsFile s b c path stop → StopsRun s a c paths earlier stop
@@ -62,7 +47,3 @@ stops_first s a paths = before_write a [] paths [] 0 refl (tidies_none s a) refl
 pub memory_stop : {T : Type 0} (r : Result T Stop) (P : Stop → Type 0) → IsErr r × IsErrAnd r (λ stop. stop ≡ Memory) → P Memory → IfErr r P
 memory_stop (Ok x) P h k = tt
 memory_stop (Err stop) P h k = subst P (sym h.1) k
-
--- the error of a result that is known to be `Err e` has every property that e has
-pub if_err : {T E : Type 0} (r : Result T E) (e : E) (P : E → Type 0) → r ≡ Err e → P e → IfErr r P
-if_err r e P same h = rw same h

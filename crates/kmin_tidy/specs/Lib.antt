@@ -1,8 +1,6 @@
 pub mod Options
-pub mod KnownBytes
 pub mod MinimalFiles
 pub mod Reports
-pub mod StandardError
 pub mod Refusals
 pub mod Steps
 pub mod Runs

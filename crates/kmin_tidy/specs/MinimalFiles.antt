@@ -8,7 +8,7 @@ use Rattle.kc_minimal_model.specs.CanonicalText.{IsCanonicalText}
 use Rattle.kc_minimal_model.specs.FileValues.{Loads}
 use Rattle.kmin_disk.specs.Contents.{Content, special, readable}
 use Rattle.kmin_disk.specs.Disks.{DiskState, content_at}
-use Rattle.kmin_tidy.specs.KnownBytes.{AreKnownBytes}
+use Rattle.kmin_report.specs.KnownBytes.{AreKnownBytes}
 use Rattle.kmin_tidy.specs.Options.{Settings, Notices, AreAllowed}
 
 -- these bytes may be read from a file of this content, as far as it is known

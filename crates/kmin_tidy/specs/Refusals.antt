@@ -8,7 +8,7 @@ use Rattle.kmin_disk.specs.Disks.{DiskState, content_at}
 use Rattle.kmin_disk.specs.declared.kind.FileKind.TheVariants.{NotRegular}
 use Rattle.kmin_tidy.specs.Options.{Settings}
 use Rattle.kmin_tidy.specs.MinimalFiles.{MayBeRead, IsReadAt}
-use Rattle.kmin_tidy.specs.Reports.{fault_line, not_regular_line}
+use Rattle.kmin_report.specs.Reports.{fault_line, not_regular_line}
 use Rattle.kmin_tidy.specs.declared.outcome.FileOutcome.{FileOutcome}
 use Rattle.kmin_tidy.specs.declared.outcome.FileOutcome.TheVariants.{Refused, Failed}
 

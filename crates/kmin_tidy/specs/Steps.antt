@@ -8,7 +8,8 @@ use Rattle.kmin_disk.specs.declared.kind.FileKind.TheVariants.{NotRegular}
 use Rattle.kmin_tidy.specs.Options.{Settings, Notices, refuses_notices}
 use Rattle.kmin_tidy.specs.MinimalFiles.{IsReadAt, HasNotices, Minimises, IsNotMinimal}
 use Rattle.kmin_tidy.specs.Refusals.{IsRefused}
-use Rattle.kmin_tidy.specs.Reports.{difference_line, notice_lines, write_line}
+use Rattle.kmin_tidy.specs.Reports.{difference_line, notice_lines}
+use Rattle.kmin_report.specs.Reports.{write_line}
 use Rattle.kmin_tidy.specs.declared.outcome.FileOutcome.{FileOutcome}
 use Rattle.kmin_tidy.specs.declared.outcome.FileOutcome.TheVariants.{Minimal, NotMinimal, Refused, Failed}
 

@@ -16,5 +16,4 @@ mod whole_run;
 pub use laws::files_with_the_same_values_get_the_same_bytes;
 pub use options::TidyOptions;
 pub use outcome::FileOutcome;
-pub use report::write_pieces;
 pub use run::tidy_files;

@@ -1,18 +1,16 @@
 //! The lines of standard error.
-ghost use Rattle.std.specs.Prelude.{ℕ, List, map, OnOk, OnErr};
-ghost use Rattle.std.specs.Borrow.{Bor};
-ghost use Rattle.std.specs.List.{flat_map};
+ghost use Rattle.std.specs.Prelude.{◌≡◌, map};
 ghost use Rattle.kc_dotconfig.specs.Fragments.{notice_pair};
-ghost use Rattle.kmin_tidy.specs.Reports.{place_line, notice_line, output_line};
-ghost use Rattle.kmin_tidy.specs.StandardError.{TakesWhole, TakesPart, TakesLine, TakesLines};
+ghost use Rattle.kmin_report.specs.Reports.{notice_line};
+ghost use Rattle.kmin_report.specs.between.ReportLines.{report_line};
+ghost use Rattle.kmin_report.specs.StandardError.{TakesLine, TakesLines};
 ghost use Rattle.kmin_tidy.specs.checker.ReportLines.{problem_line, problem_lines, report_lines, stop_line};
 
 use crate::outcome::FileOutcome;
 use crate::stop::Stop;
-use itoa::Buffer;
 use kc_dotconfig::{LoadFault, Notice};
-use kc_minimal::{WriteFault, write_out};
 use kc_value::Sink;
+use kmin_report::{Report, write_report};
 
 /// Why a file isn't read or replaced.
 #[derive(Clone, Copy, Debug, PartialEq, Eq)]
@@ -47,7 +45,8 @@ fn report_notices<E: Sink>(path: &str, notices: &[Notice], err: &mut E)
         (E.taken err.new) (E.failures err.new) }
 {
     for notice in notices {
-        write_place(path, notice.line, notice.kind.name(), err);
+        let Notice { line, kind } = *notice;
+        write_report(Report::Notice { path, line, kind }, err);
     }
 }
 
@@ -56,19 +55,19 @@ fn report_problem<E: Sink>(path: &str, problem: Option<Problem>, err: &mut E)
     ensures { TakesLines (E.taken err.old) (E.failures err.old) (problem_lines path.now problem) (E.taken err.new) (E.failures err.new) }
 {
     match problem {
-        Some(problem) => write_problem(path, problem, err),
+        Some(problem) => write_report(report_of(path, problem), err),
         None => {}
     }
 }
 
-/// Writes the line of a problem.
-fn write_problem<E: Sink>(path: &str, problem: Problem, err: &mut E)
-    ensures { TakesLine (E.taken err.old) (E.failures err.old) (problem_line path.now problem) (E.taken err.new) (E.failures err.new) }
+/// The report of a problem.
+fn report_of(path: &str, problem: Problem) -> Report<'_>
+    ensures { report_line result ≡ problem_line path.now problem }
 {
     match problem {
-        Problem::Fault(fault) => write_place(path, fault.line, fault.kind.name(), err),
-        Problem::NotRegular => write_place(path, 0, "NotRegular", err),
-        Problem::Write => write_line(&[path.as_bytes(), b": Write\n"], err),
+        Problem::Fault(LoadFault { line, kind }) => Report::FileFault { path, line, kind },
+        Problem::NotRegular => Report::NotRegular(path),
+        Problem::Write => Report::Unwritten(path),
     }
 }
 
@@ -77,55 +76,7 @@ pub(crate) fn report_stop<E: Sink>(stop: &Stop, err: &mut E)
     ensures { TakesLine (E.taken err.old) (E.failures err.old) (stop_line stop.now) (E.taken err.new) (E.failures err.new) }
 {
     match stop {
-        Stop::Memory => write_line(&[b"out of memory\n"], err),
-        Stop::Left(new_path) => write_line(&[new_path.as_bytes(), b": Left\n"], err),
+        Stop::Memory => write_report(Report::OutOfMemory, err),
+        Stop::Left(new_path) => write_report(Report::Left(new_path), err),
     }
-}
-
-/// Writes the line of standard error that says that standard output can't be written.
-pub(crate) fn report_output<E: Sink>(err: &mut E)
-    ensures { TakesLine (E.taken err.old) (E.failures err.old) output_line (E.taken err.new) (E.failures err.new) }
-{
-    write_line(&[b"output: Write\n"], err);
-}
-
-/// Writes `FILE:LINE: KIND`.
-fn write_place<E: Sink>(path: &str, line: u32, kind: &str, err: &mut E)
-    ensures { TakesLine (E.taken err.old) (E.failures err.old) (place_line path.now line kind.now) (E.taken err.new) (E.failures err.new) }
-{
-    let mut digits = Buffer::new();
-    let number = digits.format(line);
-    write_line(
-        &[
-            path.as_bytes(),
-            b":",
-            number.as_bytes(),
-            b": ",
-            kind.as_bytes(),
-            b"\n",
-        ],
-        err,
-    );
-}
-
-/// Writes a line of these pieces, up to the first write that fails.
-fn write_line<E: Sink>(pieces: &[&[u8]], err: &mut E)
-    ensures { TakesLine (E.taken err.old) (E.failures err.old) (flat_map (λ (piece : Bor (List ℕ)). piece.now) pieces.now) (E.taken err.new)
-        (E.failures err.new) }
-{
-    let _ = write_pieces(pieces, err);
-}
-
-/// Writes pieces of a text one after another, up to the first write that fails or takes nothing. On an `Err` the sink took only
-/// the first bytes of the text: some pieces whole, and `written` bytes of the next piece.
-pub fn write_pieces<W: Sink>(pieces: &[&[u8]], sink: &mut W) -> Result<(), WriteFault>
-    ensures whole { OnOk result (TakesWhole (W.taken sink.old) (W.failures sink.old) (flat_map (λ (piece : Bor (List ℕ)). piece.now) pieces.now)
-        (W.taken sink.new) (W.failures sink.new)) }
-    ensures part { OnErr result (TakesPart (W.taken sink.old) (W.failures sink.old) (flat_map (λ (piece : Bor (List ℕ)). piece.now) pieces.now)
-        (W.taken sink.new) (W.failures sink.new)) }
-{
-    for piece in pieces {
-        write_out(sink, piece)?;
-    }
-    Ok(())
 }

@@ -5,19 +5,19 @@ ghost use Rattle.kmin_tidy.specs.Options.{settings_of};
 ghost use Rattle.kmin_tidy.specs.Runs.{paths_of};
 ghost use Rattle.kmin_tidy.specs.Ends.{Ends};
 ghost use Rattle.kmin_tidy.specs.Promises.{IsKeptOrLeft, AreTidy};
-ghost use Rattle.kmin_tidy.specs.StandardError.{TakesLines};
+ghost use Rattle.kmin_report.specs.StandardError.{TakesLines};
 ghost use Rattle.kmin_tidy.specs.checker.ReportLines.{stop_line};
 ghost use Rattle.kmin_tidy.specs.checker.Endings.{status_of_stop, IsWrittenOut};
 
 use crate::options::TidyOptions;
-use crate::report::{report_output, report_stop};
+use crate::report::report_stop;
 use crate::stop::Stop;
 use crate::whole_run::{RunResult, tidy_all};
 use kc_dotconfig::Format;
-use kc_minimal::write_out;
 use kc_rules::Settled;
 use kc_value::Sink;
 use kmin_disk::WriteDisk;
+use kmin_report::write_answer;
 use std::alloc::Global;
 
 /// Compares configuration files, each by itself, with their minimal files over the tree `settled`. Returns the exit status.
@@ -89,12 +89,9 @@ fn write_text<O: Sink, E: Sink>(tidied: &RunResult, out: &mut O, err: &mut E) ->
     ensures { (reports : List (List ℕ)) × IsWrittenOut tidied.now (O.taken out.old) (O.taken out.new) (O.failures out.old)
         (O.failures out.new) reports result × TakesLines (E.taken err.old) (E.failures err.old) reports (E.taken err.new) (E.failures err.new) }
 {
-    match write_out(out, &tidied.text) {
+    match write_answer(&tidied.text, out, err) {
         Ok(()) => tidied.status,
-        Err(_) => {
-            report_output(err);
-            5
-        }
+        Err(_) => 5,
     }
 }
 

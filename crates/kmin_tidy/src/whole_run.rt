@@ -2,7 +2,7 @@
 ghost use Rattle.std.specs.Prelude.{ℕ, List, IfOk, IfErr};
 ghost use Rattle.kmin_tidy.specs.Options.{settings_of};
 ghost use Rattle.kmin_tidy.specs.Runs.{Tidies, paths_of};
-ghost use Rattle.kmin_tidy.specs.StandardError.{TakesLines};
+ghost use Rattle.kmin_report.specs.StandardError.{TakesLines};
 ghost use Rattle.kmin_tidy.specs.checker.FileResults.{StopsRun};
 
 use crate::file_step::tidy_file;

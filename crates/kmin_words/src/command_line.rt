@@ -18,7 +18,7 @@ use clap::error::ErrorKind;
 use clap::{ArgMatches, Error};
 use kc_dotconfig_model::{Format, Prefix, Strings};
 use kc_rules_model::Profile;
-use kc_tokens::Language;
+use kc_tokens::{Language, LinuxVersion};
 use kmin_commands::{command_names, explained_names, kind_asked, message_tables, program};
 use std::alloc::{AllocError, Global};
 
@@ -260,8 +260,8 @@ fn language_of(value: &str, is_expanded: bool) -> Language
 {
     match value {
         "strict" => Language::Strict,
-        "linux" => Language::Linux,
-        _ if is_expanded => Language::Linux,
+        "linux" => Language::Linux(LinuxVersion::Unknown),
+        _ if is_expanded => Language::Linux(LinuxVersion::Unknown),
         _ => Language::Strict,
     }
 }

@@ -1,6 +1,7 @@
 -- The defaults of choices, as they are collected.
 use Rattle.std.specs.Prelude.{◌≡◌, ℕ, List, [], ◌∷◌, All, length, map, filter, filter_map, reverse, slice_get, Option, Some, None, option_map, option_and_then, if◌then◌else◌}
 use Rattle.std.specs.List.{cons_option}
+use Rattle.kc_tokens.specs.declared.language.Language.{Language}
 use Rattle.kc_expr.specs.between.Arena.{node_expr}
 use Rattle.kc_expr.specs.between.Names.{name_alone}
 use Rattle.kc_statements.specs.declared.statement.Attribute.{Attribute as CodeAttribute}
@@ -26,9 +27,9 @@ use Rattle.kc_tree.specs.declared.symbol.MemberDefault.{MemberDefault}
 use Rattle.kc_tree.specs.declared.group_walk.GroupConditions.{GroupConditions}
 
 -- a listing represents the statements read, and `groups` and `conditions` represent the conditions of statements and attributes
-pub record IsWalkOf (l : Listing) (groups : List GroupConditions) (conditions : List ℕ) (read : List Group) : Type 0 where
+pub record IsWalkOf (language : Language) (l : Listing) (groups : List GroupConditions) (conditions : List ℕ) (read : List Group) : Type 0 where
   pub shows : RepresentsListing l read
-  pub shown : RepresentsAllConditions l.names.arena l.texts.items conditions (length conditions) (reverse groups) read
+  pub shown : RepresentsAllConditions language l.names.arena l.texts.items conditions (length conditions) (reverse groups) read
 
 -- the number of the value's expression in a default, with or without a type; `None` for any other attribute
 abbrev pub default_value_view : CodeAttribute → Option ℕ
@@ -55,12 +56,12 @@ abbrev pub group_default_rows : CodeHead → SymbolTable → List CodeLine → L
 group_default_rows what n ls cs = if is_choice_code what then member_default_rows n ls cs else []
 
 -- the defaults, in the model, of the choice that a group opens; none for `None`
-abbrev pub choice_defaults_of : Contents → Option GroupInContext → List tree.MemberDefault
-choice_defaults_of c None = []
-choice_defaults_of c (Some p) = filter_map (member_default c p) (attribute_values default_of p.group)
+abbrev pub choice_defaults_of : Language → Contents → Option GroupInContext → List tree.MemberDefault
+choice_defaults_of language c None = []
+choice_defaults_of language c (Some p) = filter_map (member_default language c p) (attribute_values default_of p.group)
 
 -- the collected defaults, each under its choice's number, represent those of the choices that groups in `places` open
-pub record AreDefaultsOf (l : Listing) (c : Contents) (places : List GroupInContext) (count : ℕ) (found : ItemsWithKeys MemberDefault) : Type 0 where
+pub record AreDefaultsOf (language : Language) (l : Listing) (c : Contents) (places : List GroupInContext) (count : ℕ) (found : ItemsWithKeys MemberDefault) : Type 0 where
   pub keys : AreKeys count found.keys.items
   pub fits : All (MemberDefaultFits (length l.names.arena.nodes) (length l.names.symbols.items)) found.items.items
-  pub are : (k : ℕ) → map (member_default_view l.names.arena) (items_of k found.keys.items found.items.items) ≡ choice_defaults_of c (slice_get (filter (λ (p : GroupInContext). opens_choice p.group) places) k)
+  pub are : (k : ℕ) → map (member_default_view l.names.arena) (items_of k found.keys.items found.items.items) ≡ choice_defaults_of language c (slice_get (filter (λ (p : GroupInContext). opens_choice p.group) places) k)

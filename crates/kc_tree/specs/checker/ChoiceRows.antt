@@ -1,11 +1,12 @@
 -- The rows of choices.
 use Rattle.std.specs.Prelude.{◌≡◌, ℕ, ◌<◌, Bool, true, false, List, [], ◌∷◌, length, reverse, slice_get, Some, option_map}
 use Rattle.std.specs.List.{list_any}
+use Rattle.kc_tokens.specs.declared.language.Language.{Language}
 use Rattle.kc_expr.specs.between.Arena.{Exprs, node_expr}
 use Rattle.kc_statements.specs.declared.statement.Attribute.{Attribute as CodeAttribute}
 use Rattle.kc_statements.specs.declared.statement.Attribute.TheVariants as attributes
 use Rattle.kc_tree_model.specs.Blocks.{Group, opens_choice}
-use Rattle.kc_tree_model.specs.Conditions.{GroupInContext, prompts_of}
+use Rattle.kc_tree_model.specs.Conditions.{GroupInContext, context_of, prompts_of}
 use Rattle.kc_tree_model.specs.Contents.{is_optional_group}
 use Rattle.kc_listing.specs.declared.listing.Group.{Group as CodeGroup}
 use Rattle.kc_listing.specs.declared.listing.Line.{Line as CodeLine}
@@ -18,10 +19,11 @@ use Rattle.kc_tree.specs.declared.group_walk.GroupConditions.{GroupConditions}
 
 -- a listing represents some statements, and `groups` and `conditions` the conditions of these and of their attributes
 pub record IsGoneThrough (l : Listing) (groups : List GroupConditions) (conditions : List ℕ) : Type 0 where
+  pub language : Language
   pub exprs : Exprs
   pub read : List Group
   pub shows : RepresentsListing l read
-  pub walked : RepresentsAllConditions exprs l.texts.items conditions (length conditions) (reverse groups) read
+  pub walked : RepresentsAllConditions language exprs l.texts.items conditions (length conditions) (reverse groups) read
 
 -- whether an attribute is `optional`
 abbrev pub is_optional_code : CodeAttribute → Bool
@@ -41,15 +43,15 @@ abbrev pub opens : GroupInContext → Bool
 opens p = opens_choice p.group
 
 -- a row has the file, line, prompt condition and `optional` of the choice that a group opens
-pub record IsChoiceRow (exprs : Exprs) (p : GroupInContext) (r : ChoiceRow) : Type 0 where
+pub record IsChoiceRow (language : Language) (exprs : Exprs) (p : GroupInContext) (r : ChoiceRow) : Type 0 where
   pub file_is : r.file ≡ p.group.at.file
   pub line_is : r.line ≡ p.group.at.line
-  pub prompt_is : option_map (node_expr exprs) r.prompt ≡ slice_get (prompts_of p.enclosing p.group) 0
+  pub prompt_is : option_map (node_expr exprs) r.prompt ≡ slice_get (prompts_of (context_of language p) p.group) 0
   pub optional_is : r.optional ≡ is_optional_group p.group
   pub held : (i : ℕ) → r.prompt ≡ Some i → i < length exprs.nodes
 
 -- the rows represent, one by one, the choices that these groups open
-abbrev pub AreChoiceRows : Exprs → List GroupInContext → List ChoiceRow → Type 0
-AreChoiceRows exprs [] [] = Unit {0}
-AreChoiceRows exprs (p ∷ ps) (r ∷ rs) = IsChoiceRow exprs p r × AreChoiceRows exprs ps rs
-AreChoiceRows exprs ps rs = ⊥
+abbrev pub AreChoiceRows : Language → Exprs → List GroupInContext → List ChoiceRow → Type 0
+AreChoiceRows language exprs [] [] = Unit {0}
+AreChoiceRows language exprs (p ∷ ps) (r ∷ rs) = IsChoiceRow language exprs p r × AreChoiceRows language exprs ps rs
+AreChoiceRows language exprs ps rs = ⊥

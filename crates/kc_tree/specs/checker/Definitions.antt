@@ -1,7 +1,8 @@
 -- The attributes that definitions give symbols, by the conditions of groups and of their attributes.
 use Rattle.std.specs.Prelude.{◌≡◌, ℕ, ◌<◌, List, [], ◌∷◌, ◌++◌, length, map, All, Some, slice_get}
+use Rattle.kc_tokens.specs.declared.language.Language.{Language}
 use Rattle.kc_expr.specs.between.Arena.{Exprs, node_expr}
-use Rattle.kc_tree_model.specs.Conditions.{GroupInContext, dependency_of}
+use Rattle.kc_tree_model.specs.Conditions.{GroupInContext, context_of, dependency_of}
 use Rattle.kc_tree_model.specs.Contents.{Contents, definitions_of, symbol_of}
 use Rattle.kc_listing.specs.declared.listing.Line.{Line as CodeLine}
 use Rattle.kc_listing.specs.declared.listing.SymbolTable.{SymbolTable}
@@ -23,14 +24,14 @@ pub record HasDefinition (names : SymbolTable) (s : ℕ) (old new : Attributes) 
   pub direct_items : new.direct.items.items ≡ old.direct.items.items ++ dependency ∷ []
 
 -- the collected attributes, each under a symbol's number, represent those of all symbols, and their numbers are in range
-pub record AreAttributes (e : Exprs) (c : Contents) (a : Attributes) : Type 0 where
+pub record AreAttributes (language : Language) (e : Exprs) (c : Contents) (a : Attributes) : Type 0 where
   pub keys : HaveKeys (length c.names) a
-  pub prompts_are : (s : ℕ) (x : List ℕ) → slice_get c.names s ≡ Some x → map (node_expr e) (items_of s a.prompts.keys.items a.prompts.items.items) ≡ (symbol_of c x).prompts
-  pub defaults_are : (s : ℕ) (x : List ℕ) → slice_get c.names s ≡ Some x → map (default_view e) (items_of s a.defaults.keys.items a.defaults.items.items) ≡ (symbol_of c x).defaults
-  pub ranges_are : (s : ℕ) (x : List ℕ) → slice_get c.names s ≡ Some x → map (range_view e) (items_of s a.ranges.keys.items a.ranges.items.items) ≡ (symbol_of c x).ranges
-  pub selectors_are : (s : ℕ) (x : List ℕ) → slice_get c.names s ≡ Some x → map (reverse_dependency_view e) (items_of s a.selectors.keys.items a.selectors.items.items) ≡ (symbol_of c x).selectors
-  pub impliers_are : (s : ℕ) (x : List ℕ) → slice_get c.names s ≡ Some x → map (reverse_dependency_view e) (items_of s a.impliers.keys.items a.impliers.items.items) ≡ (symbol_of c x).impliers
-  pub direct_are : (s : ℕ) (x : List ℕ) → slice_get c.names s ≡ Some x → map (node_expr e) (items_of s a.direct.keys.items a.direct.items.items) ≡ map (λ (p : GroupInContext). dependency_of p.enclosing p.group) (definitions_of c x)
+  pub prompts_are : (s : ℕ) (x : List ℕ) → slice_get c.names s ≡ Some x → map (node_expr e) (items_of s a.prompts.keys.items a.prompts.items.items) ≡ (symbol_of language c x).prompts
+  pub defaults_are : (s : ℕ) (x : List ℕ) → slice_get c.names s ≡ Some x → map (default_view e) (items_of s a.defaults.keys.items a.defaults.items.items) ≡ (symbol_of language c x).defaults
+  pub ranges_are : (s : ℕ) (x : List ℕ) → slice_get c.names s ≡ Some x → map (range_view e) (items_of s a.ranges.keys.items a.ranges.items.items) ≡ (symbol_of language c x).ranges
+  pub selectors_are : (s : ℕ) (x : List ℕ) → slice_get c.names s ≡ Some x → map (reverse_dependency_view e) (items_of s a.selectors.keys.items a.selectors.items.items) ≡ (symbol_of language c x).selectors
+  pub impliers_are : (s : ℕ) (x : List ℕ) → slice_get c.names s ≡ Some x → map (reverse_dependency_view e) (items_of s a.impliers.keys.items a.impliers.items.items) ≡ (symbol_of language c x).impliers
+  pub direct_are : (s : ℕ) (x : List ℕ) → slice_get c.names s ≡ Some x → map (node_expr e) (items_of s a.direct.keys.items a.direct.items.items) ≡ map (λ (p : GroupInContext). dependency_of (context_of language p) p.group) (definitions_of c x)
   pub prompts_fit : All (λ i. i < length e.nodes) a.prompts.items.items
   pub defaults_fit : All (DefaultFits (length e.nodes)) a.defaults.items.items
   pub ranges_fit : All (RangeFits (length e.nodes)) a.ranges.items.items

@@ -1,5 +1,6 @@
 -- First prompts, and the conditions inside a block that a group opens.
 use Rattle.std.specs.Prelude.{◌≡◌, ℕ, ◌<◌, Bool, true, false, List, [], ◌∷◌, Option, Some, None, if◌then◌else◌}
+use Rattle.kc_tokens.specs.declared.language.Language.{Language}
 use Rattle.kc_expr.specs.between.Arena.{Exprs, Represents}
 use Rattle.kc_expr.specs.Expr.{Expr}
 use Rattle.kc_listing.specs.declared.listing.Line.{Line as CodeLine}
@@ -34,6 +35,6 @@ GroupHeadNodesExist nodes (codes.Condition id) = id < nodes
 GroupHeadNodesExist nodes w = Unit {0}
 
 -- the optional conditions are those inside the block that a group opens; `None` means that it opens none
-abbrev pub RepresentsInside : Exprs → List (List ℕ) → ℕ → Group → List Group → Option EnclosingConditions → Type 0
-RepresentsInside exprs texts y m opened None = (side_of m.head ≡ opening → ⊥)
-RepresentsInside exprs texts y m opened (Some a) = (side_of m.head ≡ opening) × RepresentsEnclosing exprs texts y a (m ∷ opened)
+abbrev pub RepresentsInside : Language → Exprs → List (List ℕ) → ℕ → Group → List Group → Option EnclosingConditions → Type 0
+RepresentsInside language exprs texts y m opened None = (side_of m.head ≡ opening → ⊥)
+RepresentsInside language exprs texts y m opened (Some a) = (side_of m.head ≡ opening) × RepresentsEnclosing language exprs texts y a (m ∷ opened)

@@ -41,4 +41,5 @@ parts_made g l t = record {
   unit_of_symbol = t.units.symbols;
   unit_of_choice = t.units.choices;
   symbol_of_name = t.symbol_of_name;
+  language = g.language;
 }

@@ -38,11 +38,12 @@ choice_gathered g c r = record {
   optional = r.optional;
 }
 
--- the tree that collected lists represent: its symbols, choices, entries and units
+-- the tree that collected lists represent: its symbols, choices, entries, units and language
 abbrev pub gathered_tree : TreeLists → Tree
 gathered_tree g = record {
   symbols = from_rows (symbol_gathered g) 0 g.symbols.items;
   choices = from_rows (choice_gathered g) 0 g.choices.items;
   entries = map (entry_from_row g.arena g.titles.items) g.entries.items;
   units = g.units.items;
+  language = g.language;
 }

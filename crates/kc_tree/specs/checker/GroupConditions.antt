@@ -1,5 +1,6 @@
 -- The conditions of each group's attributes.
 use Rattle.std.specs.Prelude.{ℕ, ◌+◌, None, List, length, nat_lt, reverse, slice_range, slice_index_or, if◌then◌else◌}
+use Rattle.kc_tokens.specs.declared.language.Language.{Language}
 use Rattle.kc_expr.specs.between.Arena.{Exprs}
 use Rattle.kc_tree_model.specs.Blocks.{Group}
 use Rattle.kc_tree.specs.checker.Walks.{RepresentsAllConditions}
@@ -23,7 +24,8 @@ own_conditions groups conditions i = slice_range conditions (conditions_at group
 
 -- `groups` and `conditions` represent the conditions of some statements and of their attributes
 pub record IsConditioned (groups : List GroupConditions) (conditions : List ℕ) : Type 0 where
+  pub language : Language
   pub exprs : Exprs
   pub texts : List (List ℕ)
   pub read : List Group
-  pub shown : RepresentsAllConditions exprs texts conditions (length conditions) (reverse groups) read
+  pub shown : RepresentsAllConditions language exprs texts conditions (length conditions) (reverse groups) read

@@ -1,5 +1,5 @@
 -- The kinds of faults of definitions and attributes.
-use Rattle.std.specs.Prelude.{Bool, true, false, List, not, ◌&&◌, ◌||◌, Option, Some, None, is_none, is_some, if◌then◌else◌}
+use Rattle.std.specs.Prelude.{ℕ, slice_get, option_and_then, Bool, true, false, List, not, ◌&&◌, ◌||◌, Option, Some, None, is_none, is_some, if◌then◌else◌}
 use Rattle.std.specs.List.{list_all}
 use Rattle.kc_tokens.specs.declared.language.Language.{Language}
 use Rattle.kc_tokens.specs.declared.language.Language.TheVariants.{Strict, Linux}
@@ -15,8 +15,10 @@ use Rattle.kc_tree_model.specs.TreeFaults.{is_other_kind, kind_or_bool, is_shape
 use Rattle.kc_value.specs.Kinds.{is_number}
 use Rattle.kc_tree.specs.declared.summary.SymbolSummary.{SymbolSummary}
 
--- whether a later definition of a choice member may have an attribute: `depends on`, `select`, `imply` or help text
+-- whether a later definition of a choice member may have an attribute: a type without a prompt, `depends on`, `select`, `imply` or
+-- help text
 abbrev pub is_added_code : CodeAttribute → Bool
+is_added_code (attributes.Typed k) = true
 is_added_code (attributes.Depends id) = true
 is_added_code (attributes.Select s) = true
 is_added_code (attributes.Imply s) = true
@@ -27,16 +29,23 @@ is_added_code a = false
 abbrev pub is_added_line : CodeLine → Bool
 is_added_line l = is_added_code l.attribute
 
--- whether a definition with these attribute lines may come after its symbol's definition as a choice member
-abbrev pub may_follow_code : Language → (is_member : Bool) → List CodeLine → Bool
-may_follow_code Strict is_member ls = false
-may_follow_code Linux is_member ls = not is_member && list_all is_added_line ls
+-- whether a definition with these attribute lines may come after its symbol's definition as a choice member; `is_again` is set if
+-- it is in the choice of its symbol's first definition
+abbrev pub may_follow_code : Language → (is_member is_again : Bool) → List CodeLine → Bool
+may_follow_code Strict is_member is_again ls = false
+may_follow_code (Linux version) is_member is_again ls = (not is_member && list_all is_added_line ls) || is_again
 
--- the kind of the first fault of a symbol's definition, from the symbol's summary; `None` without a fault
-abbrev pub definition_kind : SymbolSummary → (is_member is_first is_modules may_follow : Bool) → Option TreeKind
-definition_kind about is_member is_first is_modules may_follow =
+-- the number of the choice that encloses the group of a number, if there is such a group and it is in a choice
+abbrev pub choice_around : List (Option ℕ) → Option ℕ → Option ℕ
+choice_around enclosing None = None
+choice_around enclosing (Some i) = option_and_then (λ o. o) (slice_get enclosing i)
+
+-- the kind of the first fault of a symbol's definition, from the symbol's summary, where `is_misfit` is set if the definition is in
+-- a choice and the symbol's type isn't one of a member; `None` without a fault
+abbrev pub definition_kind : SymbolSummary → (is_misfit is_first is_modules may_follow : Bool) → Option TreeKind
+definition_kind about is_misfit is_first is_modules may_follow =
     if is_first && is_none (kind_or_bool about.given (is_some about.choice)) then Some NoType
-    else if (is_member && is_other_kind Boolean about.given) || (not is_first && is_some about.choice && not may_follow) then Some ChoiceMember
+    else if is_misfit || (not is_first && is_some about.choice && not may_follow) then Some ChoiceMember
     else if is_first && is_modules && is_other_kind Boolean about.given then Some ModulesType
     else None
 

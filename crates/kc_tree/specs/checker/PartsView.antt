@@ -52,11 +52,12 @@ abbrev pub from_rows : {A B : Type 0} → (ℕ → A → B) → ℕ → List A �
 from_rows f n [] = []
 from_rows f n (r ∷ rs) = f n r ∷ from_rows f (suc n) rs
 
--- the tree that stored lists represent: its symbols, choices, entries and units
+-- the tree that stored lists represent: its symbols, choices, entries, units and language
 abbrev pub tree_from_rows : Parts → Tree
 tree_from_rows p = record {
   symbols = from_rows (symbol_from_row p) 0 p.symbols.items;
   choices = from_rows (choice_from_row p) 0 p.choices.items;
   entries = map (entry_from_row p.arena p.titles.items) p.entries.items;
   units = p.units.items;
+  language = p.language;
 }

@@ -1,9 +1,8 @@
 -- The stored rows of symbols, from their summaries.
 use Rattle.std.specs.Prelude.{◌≡◌, ℕ, ◌<◌, List, [], ◌∷◌, length, Option, Some, None, option_map, unwrap_or, slice_get}
-use Rattle.kc_value.specs.declared.value.Kind.TheVariants.{Bool as Boolean}
 use Rattle.kc_expr.specs.between.Arena.{Exprs}
 use Rattle.kc_tree_model.specs.Blocks.{Group}
-use Rattle.kc_tree_model.specs.Contents.{Contents, type_given, first_definition, choice_of_symbol}
+use Rattle.kc_tree_model.specs.Contents.{Contents, kind_in_tree, type_given, first_definition, choice_of_symbol}
 use Rattle.kc_listing.specs.declared.listing.Group.{Group as CodeGroup}
 use Rattle.kc_listing.specs.between.SymbolTable.{text_of_name}
 use Rattle.kc_tree.specs.declared.parts.SymbolRow.{SymbolRow}
@@ -19,9 +18,9 @@ abbrev pub place_of_group_number : List CodeGroup → Option ℕ → ℕ × ℕ
 place_of_group_number groups None = (0, 0)
 place_of_group_number groups (Some i) = place_of_group (slice_get groups i)
 
--- the stored row of a symbol, from its name's number and its summary; a symbol without a type gets bool
+-- the stored row of a symbol, from its name's number and its summary
 abbrev pub row_of_symbol : List CodeGroup → ℕ → SymbolSummary → SymbolRow
-row_of_symbol groups name a = record { name = name; kind = unwrap_or a.given Boolean; file = (place_of_group_number groups a.first).0; line = (place_of_group_number groups a.first).1; choice = a.choice }
+row_of_symbol groups name a = record { name = name; kind = kind_in_tree a.choice a.given; file = (place_of_group_number groups a.first).0; line = (place_of_group_number groups a.first).1; choice = a.choice }
 
 -- the stored rows of symbols, from their names' numbers and their summaries
 abbrev pub rows_of_symbols : List CodeGroup → List ℕ → List SymbolSummary → List SymbolRow
@@ -33,7 +32,7 @@ rows_of_symbols groups (n ∷ ns) (a ∷ abouts) = row_of_symbol groups n a ∷ 
 pub record IsRowOf (e : Exprs) (c : Contents) (name : List ℕ) (r : SymbolRow) : Type 0 where
   pub held : r.name < length e.names
   pub name_is : text_of_name e r.name ≡ name
-  pub kind_is : r.kind ≡ unwrap_or (type_given c name) Boolean
+  pub kind_is : r.kind ≡ kind_in_tree (choice_of_symbol c name) (type_given c name)
   pub file_is : r.file ≡ unwrap_or (option_map (λ (g : Group). g.at.file) (first_definition c name)) 0
   pub line_is : r.line ≡ unwrap_or (option_map (λ (g : Group). g.at.line) (first_definition c name)) 0
   pub choice_is : r.choice ≡ choice_of_symbol c name

@@ -7,8 +7,8 @@ use Rattle.kc_expr.specs.Lookup.{index_of_name}
 use Rattle.kc_statements.specs.between.StatementViews.{attribute_in}
 use Rattle.kc_tree_model.specs.Statements.{type_of}
 use Rattle.kc_tree_model.specs.Blocks.{Group, defined_name}
-use Rattle.kc_tree_model.specs.Conditions.{GroupInContext, groups_in_context, context, attribute_values}
-use Rattle.kc_tree_model.specs.Contents.{Contents, contents_of, choice_number, defines}
+use Rattle.kc_tree_model.specs.Conditions.{GroupInContext, groups_in_context, choice_among, attribute_values}
+use Rattle.kc_tree_model.specs.Contents.{Contents, begins_symbol, contents_of, choice_number, defines}
 use Rattle.kc_listing.specs.declared.listing.Group.{Group as CodeGroup}
 use Rattle.kc_listing.specs.declared.listing.Line.{Line as CodeLine}
 use Rattle.kc_listing.specs.declared.listing.Listing.{Listing}
@@ -17,6 +17,7 @@ use Rattle.kc_listing.specs.declared.listing.GroupHead.TheVariants as codes
 use Rattle.kc_listing.specs.between.ListingView.{RepresentsListing}
 use Rattle.kc_tree.specs.declared.summary.SymbolSummary.{SymbolSummary}
 use Rattle.kc_tree.specs.declared.summary.Summary.{Summary}
+use Rattle.kc_tree.specs.declared.items_with_keys.ItemsWithKeys.{ItemsWithKeys}
 
 -- a listing represents some statements, in the form of the model
 pub record IsRepresented (l : Listing) : Type 0 where
@@ -67,12 +68,12 @@ choices_opened_after w n os = os
 
 -- the number of the choice that encloses a group, among all choices; `None` outside choices
 abbrev pub enclosing_choice : Contents → GroupInContext → Option ℕ
-enclosing_choice c p = option_and_then (choice_number c) p.enclosing.choice
+enclosing_choice c p = option_and_then (choice_number c) p.choice
 
 -- for each open block, innermost first, the number of the choice that encloses it or is it
 abbrev pub open_choices : Contents → List Group → List (Option ℕ)
 open_choices c [] = []
-open_choices c (g ∷ outer) = option_and_then (choice_number c) (context (g ∷ outer)).choice ∷ open_choices c outer
+open_choices c (g ∷ outer) = option_and_then (choice_number c) (choice_among (g ∷ outer)) ∷ open_choices c outer
 
 -- the first value that a function gives for the definitions of a name among groups; `None` if there is none
 abbrev pub first_in_definitions : {A : Type 0} → (GroupInContext → List A) → List GroupInContext → List ℕ → Option A
@@ -115,25 +116,34 @@ abbrev pub member_in : Contents → Option ℕ → Option (List ℕ) → List �
 member_in c None name = []
 member_in c (Some k) name = option_to_list (option_and_then (λ x. index_of_name x c.names) name)
 
--- the number of the symbol that a group defines inside a choice, as a list of one; the empty list for any other group
-abbrev pub members_at : Contents → GroupInContext → List ℕ
-members_at c p = member_in c (enclosing_choice c p) (defined_name p.group)
+-- the number of the choice that encloses a group that is the first definition of a symbol; `None` for any other group
+abbrev pub own_choice : Contents → GroupInContext → Option ℕ
+own_choice c p = if begins_symbol c p then enclosing_choice c p else None
 
--- the number of the choice that encloses a group, among all choices; 0 outside choices
-abbrev pub member_key : Contents → GroupInContext → ℕ
-member_key c p = elim (enclosing_choice c p) [ None ↦ 0 | Some k ↦ k ]
+-- the number of the symbol that a group defines, as a list of one, where a function gives it a choice; else the empty list
+abbrev pub members_at : (GroupInContext → Option ℕ) → Contents → GroupInContext → List ℕ
+members_at choice_at c p = member_in c (choice_at p) (defined_name p.group)
 
--- the enclosing choice's number as a list of one, for a group that defines a symbol inside a choice; the empty list for others
-abbrev pub member_keys_at : Contents → GroupInContext → List ℕ
-member_keys_at c p = map (λ _. member_key c p) (members_at c p)
+-- the number of the choice that a function gives a group; 0 where it gives none
+abbrev pub member_key : (GroupInContext → Option ℕ) → GroupInContext → ℕ
+member_key choice_at p = elim (choice_at p) [ None ↦ 0 | Some k ↦ k ]
+
+-- the number of the choice that a function gives a group, as a list of one, for a group that defines a symbol; else the empty list
+abbrev pub member_keys_at : (GroupInContext → Option ℕ) → Contents → GroupInContext → List ℕ
+member_keys_at choice_at c p = map (λ _. member_key choice_at p) (members_at choice_at c p)
+
+-- the collected items are the symbols whose first definitions are in choices, each under the choice's number
+pub record AreOwnMembers (c : Contents) (m : ItemsWithKeys ℕ) : Type 0 where
+  pub member_keys : m.keys.items ≡ flat_map (member_keys_at (own_choice c) c) c.places
+  pub members : m.items.items ≡ flat_map (members_at (own_choice c) c) c.places
 
 -- a summary has the symbol summaries, enclosing choices, number of choices and choice members of the statements read
 pub record IsSummaryOf (c : Contents) (s : Summary) : Type 0 where
   pub symbols : s.symbols.items ≡ map (summary_in c c.places) c.names
   pub enclosing : s.enclosing.items ≡ map (enclosing_choice c) c.places
   pub choices : s.choices ≡ length c.choices
-  pub member_keys : s.members.keys.items ≡ flat_map (member_keys_at c) c.places
-  pub members : s.members.items.items ≡ flat_map (members_at c) c.places
+  pub member_keys : s.members.keys.items ≡ flat_map (member_keys_at (enclosing_choice c) c) c.places
+  pub members : s.members.items.items ≡ flat_map (members_at (enclosing_choice c) c) c.places
 
 -- a summary has the symbol summaries, enclosing choices, number of choices and choice members of these groups
 unfoldable pub IsSummary : List Group → Summary → Type 0

@@ -1,5 +1,5 @@
 -- The definitions of a tree without a fault, and what is known of its contents.
-use Rattle.std.proofs.Common.{◌≡◌, inl, inr, ℕ, Bool, true, false, not, ◌&&◌, ◌||◌, List, [], ◌∷◌, ◌++◌, Option, Some, None, refl, ap, sym, ◌∙◌, subst, map, filter}
+use Rattle.std.proofs.Common.{◌≡◌, ◌⊎◌, inl, inr, ℕ, Bool, true, false, not, ◌&&◌, ◌||◌, List, [], ◌∷◌, ◌++◌, Option, Some, None, refl, ap, sym, ◌∙◌, subst, map, filter}
 use Rattle.std.specs.List.{list_all}
 use Rattle.std.specs.Prelude.{slice_get, filter_map, flat_map, unwrap_or, is_some, is_none, bytes_eq, ◌==◌}
 use Rattle.std.proofs.lemmas.Bool.{eqb-true}
@@ -15,8 +15,8 @@ use Rattle.kc_tree_model.specs.declared.ids.Unit.{Unit as TreeUnit}
 use Rattle.kc_tree_model.specs.Statements.{config}
 use Rattle.kc_tree_model.specs.Blocks.{Group, Line, of_head, file_end, from_head, defined_name, opens_choice}
 use Rattle.kc_tree_model.specs.Conditions.{GroupInContext}
-use Rattle.kc_tree_model.specs.Contents.{Contents, contents_of, defines, first_definition, type_given, choice_of_symbol, symbol_of, choice_of, is_first_definition, unit_of_head}
-use Rattle.kc_tree_model.specs.TreeFaults.{when, is_other_kind, is_added_attribute, may_follow_member, definition_faults, faults_of_head, faults_of_group}
+use Rattle.kc_tree_model.specs.Contents.{Contents, contents_of, defines, first_definition, type_given, choice_of_symbol, symbol_of, choice_of, is_first_definition, choice_of_first_definition, unit_of_head}
+use Rattle.kc_tree_model.specs.TreeFaults.{when, is_no_member_kind, is_added_attribute, is_addition, is_same_choice, may_follow_member, definition_faults, faults_of_head, faults_of_group}
 use Rattle.kc_tree_model.proofs.Consistency.Lists.{Has, has-filter_map, filter_map-has, same_text, text_same, Differ, has-once, once-has, Differ-once}
 use Rattle.kc_tree_model.proofs.Consistency.Places.{IsWord, NamesWord, AreValues, values_of_group, IsRead, group-placed, placed-group, word_of_group, NumbersDiffer, numbers_differ, choice_read, what_of_name}
 
@@ -58,6 +58,28 @@ pub not_not : (b : Bool) → not b ≡ false → b ≡ true
 not_not true h = refl
 not_not false h = cc
 
+in_same : (o q : Option ℕ) (n : ℕ) → q ≡ Some n → is_same_choice o q ≡ true → o ≡ Some n
+in_same None (Some m) n e h = cc
+in_same None None n e h = cc
+in_same (Some g) None n e h = cc
+in_same (Some g) (Some m) n e h = ap Some (eqb-true g m h) ∙ e
+
+right_true : (a b : Bool) → a ≡ false → (a || b) ≡ true → b ≡ true
+right_true false b e h = h
+right_true true b e h = cc
+
+-- a definition in a choice that may follow another one is in the choice of the first
+may_follow : (l : Language) (c : Contents) (name : List ℕ) (p : GroupInContext) (n : ℕ) → p.choice ≡ Some n → may_follow_member l c name p ≡ true
+    → choice_of_first_definition c name ≡ Some n
+may_follow Strict c name p n i h = cc
+may_follow (Linux version) c name p n i h =
+    in_same (choice_of_first_definition c name) p.choice n i (right_true (is_addition p) _
+    (ap (λ o. is_none o && list_all (λ (l : Line). is_added_attribute l.attribute) p.group.attributes) i) h)
+
+by_first : {A : Type 0} (f o m : Bool) → (not f && o && not m) ≡ false → o ≡ true → (m ≡ true → A) → (f ≡ true) ⊎ A
+by_first true o m h e again = inl refl
+by_first false o m h e again = inr (again (not_not m (right_false o (not m) h e)))
+
 module _ (language : Language) (c : Contents) (none : (p : GroupInContext) → Has p c.places → faults_of_group language c p ≡ []) where
   -- if the checks on the whole tree find no fault, a definition of a name has no fault at its own line
   pub sound : (p : GroupInContext) (name : List ℕ) → Has p c.places → defined_name p.group ≡ Some name → definition_faults language c p name ≡ []
@@ -69,34 +91,17 @@ module _ (language : Language) (c : Contents) (none : (p : GroupInContext) → H
       (nothing_left _ _ here).0
 
   pub member_rule : (p : GroupInContext) (name : List ℕ) → Has p c.places → defined_name p.group ≡ Some name
-      → ((is_some p.enclosing.choice && is_other_kind Boolean (type_given c name)) ≡ false)
-      × ((not (is_first_definition c name p) && is_some (choice_of_symbol c name) && not (may_follow_member language p)) ≡ false)
+      → ((is_some p.choice && is_no_member_kind language (type_given c name)) ≡ false)
+      × ((not (is_first_definition c name p) && is_some (choice_of_symbol c name) && not (may_follow_member language c name p)) ≡ false)
   member_rule p name h e = neither _ _ (not_when _ ChoiceMember (nothing_left _ _ (nothing_left _ _ (sound p name h e)).0).1)
 
-  -- a definition in a choice may follow no other
-  follows_none : (p : GroupInContext) (n : ℕ) → p.enclosing.choice ≡ Some n → not (may_follow_member language p) ≡ true
-  follows_none p n m = by_language language
-    where
-      by_language : (l : Language) → not (may_follow_member l p) ≡ true
-      by_language Strict = refl
-      by_language Linux = ap (λ o. not (is_none o && list_all (λ (l : Line). is_added_attribute l.attribute) p.group.attributes)) m
-
-  -- in a tree without a fault, the definition of a symbol within a choice is its first definition
-  pub is_first : (p : GroupInContext) (name : List ℕ) (k n : ℕ) → Has p c.places → defined_name p.group ≡ Some name → choice_of_symbol c name ≡ Some k
-      → p.enclosing.choice ≡ Some n → is_first_definition c name p ≡ true
-  is_first p name k n h e m i = not_not _ (left_false _ _ (left_false _ _ (member_rule p name h e).1 (follows_none p n i)) (ap is_some m))
-
-  pub no_other_kind : (k : Option Kind) → is_other_kind Boolean k ≡ false → unwrap_or k Boolean ≡ Boolean
-  no_other_kind None h = refl
-  no_other_kind (Some Boolean) h = refl
-  no_other_kind (Some Tristate) h = cc
-  no_other_kind (Some Text) h = cc
-  no_other_kind (Some Int) h = cc
-  no_other_kind (Some Hex) h = cc
-
-  pub member_kind : (p : GroupInContext) (name : List ℕ) (n : ℕ) → Has p c.places → defined_name p.group ≡ Some name → p.enclosing.choice ≡ Some n
-      → unwrap_or (type_given c name) Boolean ≡ Boolean
-  member_kind p name n h e m = no_other_kind (type_given c name) (right_false _ _ (member_rule p name h e).0 (ap is_some m))
+  -- in a tree without a fault, a definition within a choice is its symbol's first definition, or in the same choice as that
+  pub is_first_or_again : (p : GroupInContext) (name : List ℕ) (k n : ℕ) → Has p c.places → defined_name p.group ≡ Some name
+      → choice_of_symbol c name ≡ Some k → p.choice ≡ Some n
+      → (is_first_definition c name p ≡ true) ⊎ (choice_of_first_definition c name ≡ Some n)
+  is_first_or_again p name k n h e m i =
+      by_first (is_first_definition c name p) (is_some (choice_of_symbol c name)) (may_follow_member language c name p) (member_rule p name h e).1 (ap is_some m)
+      (may_follow language c name p n i)
 
 -- a group that `defines` a name has this name as its defined name
 pub defined : (p : GroupInContext) (name : List ℕ) → defines name p ≡ true → defined_name p.group ≡ Some name
@@ -130,15 +135,15 @@ one_number c name p q h k =
     let same : a.0 ≡ b.0 = cc in
     sym a.2 ∙ ap (λ (g : Group). g.number) same ∙ b.2
 
--- the symbols of the tree with these contents, in order of first definition
-unfoldable pub symbols_of : Contents → List Symbol
-symbols_of c = map (symbol_of c) c.names
+-- the symbols of the tree of this language with these contents, in order of first definition
+unfoldable pub symbols_of : Language → Contents → List Symbol
+symbols_of language c = map (symbol_of language c) c.names
 
 unfoldable pub choice_places : Contents → List GroupInContext
 choice_places c = filter (λ (p : GroupInContext). opens_choice p.group) c.places
 
-unfoldable pub choices_of : Contents → List Choice
-choices_of c = map (choice_of c) (choice_places c)
+unfoldable pub choices_of : Language → Contents → List Choice
+choices_of language c = map (choice_of language c) (choice_places c)
 
 unfoldable pub unit_at : Contents → GroupInContext → Option TreeUnit
 unit_at c p = from_head (unit_of_head c p) p.group.head
@@ -156,7 +161,7 @@ pub record IsSound (c : Contents) : Type 0 where
   pub named : (p : GroupInContext) (name : List ℕ) → Has p c.places → defined_name p.group ≡ Some name → Has name c.names
   pub values : (p : GroupInContext) → Has p c.places → AreValues p.group.attributes
   pub choices : c.choices ≡ map (λ (p : GroupInContext). p.group.number) (filter (λ (p : GroupInContext). opens_choice p.group) c.places)
-  pub choice_there : (p : GroupInContext) (n : ℕ) → Has p c.places → p.enclosing.choice ≡ Some n
+  pub choice_there : (p : GroupInContext) (n : ℕ) → Has p c.places → p.choice ≡ Some n
       → (q : GroupInContext) × Has q c.places × (q.group.number ≡ n) × (opens_choice q.group ≡ true)
 
 pub sound_contents : (read : List Group) → IsRead read → IsSound (contents_of read)

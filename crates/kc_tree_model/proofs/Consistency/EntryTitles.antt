@@ -1,6 +1,7 @@
 -- Each title among the entries of a tree that is read is one line of UTF-8.
 use Rattle.std.proofs.Common.{◌≡◌, inl, inr, ℕ, List, [], ◌∷◌, Option, Some, None, ap, sym, refl, ◌∙◌, subst}
 use Rattle.std.specs.Prelude.{slice_get, option_map}
+use Rattle.kc_tokens.specs.declared.language.Language.{Language}
 use Rattle.kc_expr.specs.Expr.{Expr}
 use Rattle.kc_tree_model.specs.Trees.{Entry, definition, choice_begins, menu_begins, menu_ends}
 use Rattle.kc_tree_model.specs.TreeLookup.{title_of_entry}
@@ -53,22 +54,22 @@ numbered : (f : ℕ → Entry) → ((n : ℕ) → title_of_entry (f n) ≡ None)
 numbered f none e title told None k = cc
 numbered f none e title told (Some n) k = no_title (f n) e title (none n) told k
 
-end_plain : (opened : List Group) → ((g : Group) → Has g opened → IsPlain g.head) → (e : Entry) (title : List ℕ) → title_of_entry e ≡ Some title
-    → menu_end_of opened ≡ Some e → IsPlainText title
-end_plain [] plain e title told k = cc
-end_plain (g ∷ outer) plain e title told k =
+end_plain : (language : Language) (opened : List Group) → ((g : Group) → Has g opened → IsPlain g.head) → (e : Entry) (title : List ℕ) → title_of_entry e ≡ Some title
+    → menu_end_of language opened ≡ Some e → IsPlainText title
+end_plain language [] plain e title told k = cc
+end_plain language (g ∷ outer) plain e title told k =
     menu_plain menu_ends (λ t d v. refl) _ _ g.head (plain g (inl refl)) e title told (from_head title_of_head g.head) refl k
 
-entry_plain : (c : Contents) (p : GroupInContext) (w : GroupHead) → p.group.head ≡ w → IsPlain p.group.head → ((g : Group) → Has g p.opened → IsPlain g.head)
-    → (e : Entry) (title : List ℕ) → title_of_entry e ≡ Some title → from_head (entry_of_head c p) w ≡ Some e → IsPlainText title
-entry_plain c p (of_head (config name)) is plain opened e title told k = absurd (numbered definition (λ n. refl) e title told _ k)
-entry_plain c p (of_head choice) is plain opened e title told k = absurd (numbered choice_begins (λ n. refl) e title told _ k)
-entry_plain c p (of_head (menu x)) is plain opened e title told k =
+entry_plain : (language : Language) (c : Contents) (p : GroupInContext) (w : GroupHead) → p.group.head ≡ w → IsPlain p.group.head → ((g : Group) → Has g p.opened → IsPlain g.head)
+    → (e : Entry) (title : List ℕ) → title_of_entry e ≡ Some title → from_head (entry_of_head language c p) w ≡ Some e → IsPlainText title
+entry_plain language c p (of_head (config name)) is plain opened e title told k = absurd (numbered definition (λ n. refl) e title told _ k)
+entry_plain language c p (of_head choice) is plain opened e title told k = absurd (numbered choice_begins (λ n. refl) e title told _ k)
+entry_plain language c p (of_head (menu x)) is plain opened e title told k =
     menu_plain menu_begins (λ t d v. refl) _ _ p.group.head plain e title told (from_head title_of_head p.group.head) refl k
-entry_plain c p (of_head (comment x)) is plain opened e title told k =
+entry_plain language c p (of_head (comment x)) is plain opened e title told k =
     subst IsPlainText (same_title _ e x title refl told k) (plain x (ap (from_head title_in) is))
-entry_plain c p (of_head (ends blocks.Menu)) is plain opened e title told k = end_plain p.opened opened e title told k
-entry_plain c p w is plain opened e title told k = cc
+entry_plain language c p (of_head (ends blocks.Menu)) is plain opened e title told k = end_plain _ p.opened opened e title told k
+entry_plain language c p w is plain opened e title told k = cc
 
 -- the title of an entry in the tree of some files is one line of UTF-8
 pub entry_titles_plain : (files : Files) (root : List ℕ) (k : ℕ) (e : Entry) (title : List ℕ) → slice_get (tree_of_files files root).entries k ≡ Some e
@@ -78,7 +79,7 @@ entry_titles_plain files root k e title at told =
     let read = (reading files root).read in
     let c = contents_of (reading files root).read in
     let plain = titles_plain files root in
-    let from = has-filter_map (λ (p : GroupInContext). from_head (entry_of_head (contents_of (reading files root).read) p) p.group.head) c.places e
+    let from = has-filter_map (λ (p : GroupInContext). from_head (entry_of_head files.language (contents_of (reading files root).read) p) p.group.head) c.places e
     (has-at e _ k at) in
-    entry_plain c from.0 from.0.group.head refl (plain_of_group from.0.group read plain (group-placed from.0 read from.1))
+    entry_plain _ c from.0 from.0.group.head refl (plain_of_group from.0.group read plain (group-placed from.0 read from.1))
     (λ g h. plain_of_group g read plain (opened_read from.0 read g from.1 h)) e title told from.2

@@ -82,7 +82,7 @@ pub few_symbols : (files : Files) (root : List ℕ) → length (tree_of_files fi
 unfolding tree_of_files tree_of_groups
 few_symbols files root =
     let c = contents_of (reading files root).read in
-    omega (arith, (limits_kept files root).0, length-map c.names (symbol_of c))
+    omega (arith, (limits_kept files root).0, length-map c.names (symbol_of files.language c))
 
 -- the name of each symbol of a tree of files has at most MAX_NAME_BYTES bytes
 pub short_names : (files : Files) (root : List ℕ) (s : ℕ) (symbol : Symbol) → slice_get (tree_of_files files root).symbols s ≡ Some symbol
@@ -92,7 +92,7 @@ short_names files root s symbol at =
     let read = (reading files root).read in
     let c = contents_of (reading files root).read in
     let sound = sound_contents read (is_read files root) in
-    let named = symbol_at c s symbol at in
+    let named = symbol_at _ c s symbol at in
     let place = sound.defined_once named.0 (has-at named.0 c.names s named.1) in
     let short : length named.0 ≤ MAX_NAME_BYTES = short_of_group place.0.group read (limits_kept files root).1 (group-placed place.0 read place.1) named.0
     place.2 in

@@ -1,5 +1,5 @@
 -- The groups that were read, each in its context: their numbers, their names, and the enclosing choices.
-use Rattle.std.proofs.Common.{◌≡◌, inl, inr, ◌⊎◌, ℕ, zero, suc, ◌<◌, Bool, true, false, ◌&&◌, List, [], ◌∷◌, ◌++◌, Option, Some, None, Ok, refl, ap, sym, ◌∙◌, subst, length, arith}
+use Rattle.std.proofs.Common.{◌≡◌, inl, inr, ◌⊎◌, ℕ, zero, suc, ◌<◌, Bool, true, false, ◌&&◌, cond, List, [], ◌∷◌, ◌++◌, Option, Some, None, Ok, refl, ap, sym, ◌∙◌, subst, length, arith}
 use Rattle.std.specs.Prelude.{nat_lt}
 use Rattle.std.specs.List.{list_all}
 use Rattle.kc_tokens.specs.Token.{Lexeme}
@@ -13,7 +13,7 @@ use Rattle.kc_tree_model.specs.declared.keyword.Block.TheVariants as blocks
 use Rattle.kc_tree_model.specs.Keywords.{is_name}
 use Rattle.kc_tree_model.specs.Blocks.{Group, Line, Position, GroupHead, of_head, file_end, Side, side_of, opening, closing, inside, from_head, open_blocks, opens_choice, is_some_block}
 use Rattle.kc_tree_model.specs.TreeReading.{statement_on_line, with_statement, with_attribute, reading}
-use Rattle.kc_tree_model.specs.Conditions.{Context, context, inner_context_of_group_head, GroupInContext, group_in_context, groups_in_context}
+use Rattle.kc_tree_model.specs.Conditions.{choice_among, GroupInContext, group_in_context, groups_in_context}
 use Rattle.kc_tree_model.proofs.NestedTrees.LineFits.{line_names, line_values, line_utf8}
 use Rattle.kc_tree_model.proofs.Consistency.Lists.{Has, has-append, append-has_left, append-has_right}
 use Rattle.kc_tree_model.proofs.Consistency.PlainTexts.{IsPlainText, value_is_plain}
@@ -176,24 +176,17 @@ pub has-open_blocks : (x : Group) (n : ℕ) (gs : List Group) → Has x (open_bl
 has-open_blocks x n [] h = h
 has-open_blocks x n (g ∷ gs) h = open_by (side_of g.head) g x n gs (λ m k. has-open_blocks x m gs k) h
 
-within_by : (w : GroupHead) (enclosing : Context) (g : Group) (n : ℕ) → g.head ≡ w → (inner_context_of_group_head w enclosing g).choice ≡ Some n
-    → ((g.number ≡ n) × (opens_choice g ≡ true)) ⊎ (enclosing.choice ≡ Some n)
-within_by (of_head (config name)) enclosing g n e h = inr h
-within_by (of_head choice) enclosing g n e h = inl (cc, ap (λ w. is_some_block blocks.Choice (from_head block_of_head w)) e)
-within_by (of_head (menu title)) enclosing g n e h = inr h
-within_by (of_head (condition c)) enclosing g n e h = inr h
-within_by (of_head (comment title)) enclosing g n e h = inr h
-within_by (of_head (source path)) enclosing g n e h = inr h
-within_by (of_head mainmenu) enclosing g n e h = inr h
-within_by (of_head (ends b)) enclosing g n e h = inr h
-within_by file_end enclosing g n e h = inr h
+choice-among : (g : Group) (gs : List Group) (n : ℕ) (b : Bool) → opens_choice g ≡ b → cond b (Some g.number) (choice_among gs) ≡ Some n
+    → ((g.number ≡ n) × (opens_choice g ≡ true)) ⊎ (choice_among gs ≡ Some n)
+choice-among g gs n true e h = inl (cc, e)
+choice-among g gs n false e h = inr h
 
-choice-context : (gs : List Group) (n : ℕ) → (context gs).choice ≡ Some n → (x : Group) × Has x gs × (x.number ≡ n) × (opens_choice x ≡ true)
+choice-context : (gs : List Group) (n : ℕ) → choice_among gs ≡ Some n → (x : Group) × Has x gs × (x.number ≡ n) × (opens_choice x ≡ true)
 choice-context [] n h = cc
 choice-context (g ∷ gs) n h =
-    elim (within_by g.head (context gs) g n refl h) [ inl a ↦ (g, inl refl, a.0, a.1) | inr b ↦ let r = choice-context gs n b in (r.0, inr r.1, r.2, r.3) ]
+    elim (choice-among g gs n (opens_choice g) refl h) [ inl a ↦ (g, inl refl, a.0, a.1) | inr b ↦ let r = choice-context gs n b in (r.0, inr r.1, r.2, r.3) ]
 
-pub choice_read : (p : GroupInContext) (read : List Group) (n : ℕ) → Has p (groups_in_context read) → p.enclosing.choice ≡ Some n
+pub choice_read : (p : GroupInContext) (read : List Group) (n : ℕ) → Has p (groups_in_context read) → p.choice ≡ Some n
     → (q : GroupInContext) × Has q (groups_in_context read) × (q.group.number ≡ n) × (opens_choice q.group ≡ true)
 choice_read p [] n h e = absurd h
 choice_read p (g ∷ before) n h e = elim (has-append p (groups_in_context before) (group_in_context (open_blocks 0 before) g ∷ []) h) [
@@ -205,7 +198,7 @@ choice_read p (g ∷ before) n h e = elim (has-append p (groups_in_context befor
   ))
   | inr b ↦ elim b [
     | inl k ↦ (
-        let c = choice-context (open_blocks 0 before) n (ap (λ (y : GroupInContext). y.enclosing.choice) k ∙ e) in
+        let c = choice-context (open_blocks 0 before) n (ap (λ (y : GroupInContext). y.choice) k ∙ e) in
         let r = placed-group c.0 before (has-open_blocks c.0 0 before c.1) in (
           r.0,
           append-has_left r.0 (groups_in_context before) (group_in_context (open_blocks 0 before) g ∷ []) r.1,

@@ -1,5 +1,5 @@
 -- The symbols, choices and units of a tree, by their numbers and groups.
-use Rattle.std.proofs.Common.{◌≡◌, inl, inr, ℕ, zero, suc, Bool, true, false, cond, ◌&&◌, List, [], ◌∷◌, Option, Some, None, refl, ap, sym, ◌∙◌, subst, map, filter}
+use Rattle.std.proofs.Common.{◌≡◌, ◌⊎◌, inl, inr, ℕ, zero, suc, Bool, true, false, cond, ◌&&◌, List, [], ◌∷◌, Option, Some, None, refl, ap, sym, ◌∙◌, subst, map, filter}
 use Rattle.std.specs.Prelude.{slice_get, filter_map, option_map, option_and_then, is_none, ◌==◌}
 use Rattle.std.specs.List.{cons_option}
 use Rattle.std.proofs.lemmas.Bool.{eqb-true, eq-eqb}
@@ -11,35 +11,35 @@ use Rattle.kc_tree_model.specs.declared.ids.Unit.TheVariants.{Symbol as of_symbo
 use Rattle.kc_tree_model.specs.Statements.{config, choice, menu, condition, comment, source, mainmenu, ends, name_of_head}
 use Rattle.kc_tree_model.specs.Blocks.{GroupHead, of_head, file_end, from_head, defined_name, opens_choice}
 use Rattle.kc_tree_model.specs.Conditions.{GroupInContext}
-use Rattle.kc_tree_model.specs.Contents.{Contents, choice_number, defines, definitions_of, first_definition, choice_of_symbol, symbol_of, is_member_of, choice_of, is_first_definition, unit_of_head}
+use Rattle.kc_tree_model.specs.Contents.{Contents, choice_number, defines, definitions_of, first_definition, choice_of_symbol, symbol_of, is_member_of, choice_of, is_first_definition, choice_of_first_definition, unit_of_head}
 use Rattle.kc_tree_model.specs.TreeFaults.{faults_of_group}
 use Rattle.kc_tree_model.proofs.Consistency.Lists.{Has, has-at, at-has, get-map, map-get, has-filter, filter-has, has-filter_map, filter_map-has, first_of_filter_map, first_of_some, place-get, has-place, number-get, has-number, Differ, at_most_once}
 use Rattle.kc_tree_model.proofs.Consistency.Places.{NumbersDiffer, same_place, what_of_name, what_of_choice}
-use Rattle.kc_tree_model.proofs.Consistency.Definitions.{IsSound, choice_places, choices_of, defined, defining, is_first, one_number, symbols_of, unit_at, units_of}
+use Rattle.kc_tree_model.proofs.Consistency.Definitions.{IsSound, choice_places, choices_of, defined, defining, is_first_or_again, one_number, symbols_of, unit_at, units_of}
 
 -- the symbol with this number has the name with this number in the contents, and is the symbol of that name
-pub symbol_at : (c : Contents) (s : ℕ) (symbol : Symbol) → slice_get (symbols_of c) s ≡ Some symbol
-    → (name : List ℕ) × (slice_get c.names s ≡ Some name) × (symbol_of c name ≡ symbol)
+pub symbol_at : (language : Language) (c : Contents) (s : ℕ) (symbol : Symbol) → slice_get (symbols_of language c) s ≡ Some symbol
+    → (name : List ℕ) × (slice_get c.names s ≡ Some name) × (symbol_of language c name ≡ symbol)
 unfolding symbols_of
-symbol_at c s symbol h = get-map (symbol_of c) c.names s symbol h
+symbol_at language c s symbol h = get-map (symbol_of language c) c.names s symbol h
 
-pub symbol_there : (c : Contents) (s : ℕ) (name : List ℕ) → slice_get c.names s ≡ Some name → slice_get (symbols_of c) s ≡ Some (symbol_of c name)
+pub symbol_there : (language : Language) (c : Contents) (s : ℕ) (name : List ℕ) → slice_get c.names s ≡ Some name → slice_get (symbols_of language c) s ≡ Some (symbol_of language c name)
 unfolding symbols_of
-symbol_there c s name h = map-get (symbol_of c) c.names s name h
+symbol_there language c s name h = map-get (symbol_of language c) c.names s name h
 
-pub choice_of_name : (c : Contents) (name : List ℕ) (symbol : Symbol) (o : Option ℕ) → symbol_of c name ≡ symbol → symbol.choice ≡ o
+pub choice_of_name : (language : Language) (c : Contents) (name : List ℕ) (symbol : Symbol) (o : Option ℕ) → symbol_of language c name ≡ symbol → symbol.choice ≡ o
     → choice_of_symbol c name ≡ o
-choice_of_name c name symbol o e h = ap (λ (s : Symbol). s.choice) e ∙ h
+choice_of_name language c name symbol o e h = ap (λ (s : Symbol). s.choice) e ∙ h
 
 -- the choice with this number is that of the group with this number among those that open choices
-pub choice_at : (c : Contents) (k : ℕ) (x : Choice) → slice_get (choices_of c) k ≡ Some x
-    → (p : GroupInContext) × (slice_get (choice_places c) k ≡ Some p) × (choice_of c p ≡ x)
+pub choice_at : (language : Language) (c : Contents) (k : ℕ) (x : Choice) → slice_get (choices_of language c) k ≡ Some x
+    → (p : GroupInContext) × (slice_get (choice_places c) k ≡ Some p) × (choice_of language c p ≡ x)
 unfolding choices_of
-choice_at c k x h = get-map (choice_of c) (choice_places c) k x h
+choice_at language c k x h = get-map (choice_of language c) (choice_places c) k x h
 
-pub choice_there_at : (c : Contents) (k : ℕ) (p : GroupInContext) → slice_get (choice_places c) k ≡ Some p → slice_get (choices_of c) k ≡ Some (choice_of c p)
+pub choice_there_at : (language : Language) (c : Contents) (k : ℕ) (p : GroupInContext) → slice_get (choice_places c) k ≡ Some p → slice_get (choices_of language c) k ≡ Some (choice_of language c p)
 unfolding choices_of
-choice_there_at c k p h = map-get (choice_of c) (choice_places c) k p h
+choice_there_at language c k p h = map-get (choice_of language c) (choice_places c) k p h
 
 pub number_at : (c : Contents) (s : IsSound c) (k n : ℕ) → slice_get c.choices k ≡ Some n
     → (p : GroupInContext) × (slice_get (choice_places c) k ≡ Some p) × (p.group.number ≡ n)
@@ -92,10 +92,10 @@ and_then_some f None y h = cc
 and_then_some f (Some x) y h = (x, refl, h)
 
 pub choice_around : (c : Contents) (name : List ℕ) (k : ℕ) → choice_of_symbol c name ≡ Some k
-    → (p : GroupInContext) × (n : ℕ) × Has p c.places × (defined_name p.group ≡ Some name) × (p.enclosing.choice ≡ Some n) × (choice_number c n ≡ Some k)
+    → (p : GroupInContext) × (n : ℕ) × Has p c.places × (defined_name p.group ≡ Some name) × (p.choice ≡ Some n) × (choice_number c n ≡ Some k)
 choice_around c name k h =
-    let a = and_then_some (choice_number c) (slice_get (filter_map (λ (p : GroupInContext). p.enclosing.choice) (definitions_of c name)) 0) k h in
-    let b = first_of_filter_map (λ (p : GroupInContext). p.enclosing.choice) (definitions_of c name) a.0 a.1 in
+    let a = and_then_some (choice_number c) (slice_get (filter_map (λ (p : GroupInContext). p.choice) (definitions_of c name)) 0) k h in
+    let b = first_of_filter_map (λ (p : GroupInContext). p.choice) (definitions_of c name) a.0 a.1 in
     let d = has-filter (defines name) c.places b.0 b.1 in
     (b.0, a.0, d.0, defined b.0 name d.1, b.2, a.2)
 
@@ -215,6 +215,12 @@ pub choice_unit_at : (c : Contents) (p : GroupInContext) (k : ℕ) → opens_cho
 unfolding unit_at
 choice_unit_at c p k e h = ap (from_head (unit_of_head c p)) (what_of_choice p.group.head e) ∙ ap (option_map of_choice) h
 
+-- the first of the definitions of a symbol is its first definition
+is_first_at : (c : Contents) (name : List ℕ) (p : GroupInContext) → slice_get (definitions_of c name) 0 ≡ Some p → is_first_definition c name p ≡ true
+is_first_at c name p h =
+    ap (λ o. elim o as (λ _. Bool) [ None ↦ false | Some g ↦ g.number == p.group.number ]) (ap (option_map (λ (q : GroupInContext). q.group)) h)
+    ∙ eq-eqb p.group.number p.group.number refl
+
 -- each name of a symbol has a group that is its first definition
 pub first_defined : (c : Contents) (s : IsSound c) (name : List ℕ) → Has name c.names
     → (p : GroupInContext) × Has p c.places × (defined_name p.group ≡ Some name) × (is_first_definition c name p ≡ true)
@@ -223,13 +229,7 @@ first_defined c s name h =
     let in_own : Has d.0 (definitions_of c name) = filter-has (defines name) c.places d.0 d.1 (defining d.0 name d.2) in
     let f = first_of_some (definitions_of c name) d.0 in_own in
     let r = has-filter (defines name) c.places f.0 (has-at f.0 (definitions_of c name) 0 f.1) in
-    let first : first_definition c name ≡ Some f.0.group = ap (option_map (λ (p : GroupInContext). p.group)) f.1 in (
-      f.0,
-      r.0,
-      defined f.0 name r.1,
-      ap (λ o. elim o as (λ _. Bool) [ None ↦ false | Some g ↦ g.number == f.0.group.number ]) first
-          ∙ eq-eqb f.0.group.number f.0.group.number refl,
-    )
+    (f.0, r.0, defined f.0 name r.1, is_first_at c name f.0 f.1)
 
 -- the number that `index_of_name` gives for a name is its index in the names of sound contents
 pub place_is : (c : Contents) → IsSound c → (name : List ℕ) (i : ℕ) → slice_get c.names i ≡ Some name → index_of_name name c.names ≡ Some i
@@ -242,26 +242,52 @@ number_is c s n i h =
     let r = has-number n c.choices (has-at n c.choices i h) in
     r.1 ∙ ap Some (at_most_once n c.choices r.0 i (choices_differ c s) (number-get n c.choices r.0 r.1) h)
 
-pub is_member : (n : ℕ) (q : GroupInContext) → q.enclosing.choice ≡ Some n → is_member_of n q ≡ true
+pub is_member : (n : ℕ) (q : GroupInContext) → q.choice ≡ Some n → is_member_of n q ≡ true
 is_member n q e = ap (λ o. elim o as (λ _. Bool) [ None ↦ false | Some k ↦ k == n ]) e ∙ eq-eqb n n refl
 
-pub member_is : (n : ℕ) (q : GroupInContext) → is_member_of n q ≡ true → q.enclosing.choice ≡ Some n
-member_is n q h = by_choice q.enclosing.choice h
+pub member_is : (n : ℕ) (q : GroupInContext) → is_member_of n q ≡ true → q.choice ≡ Some n
+member_is n q h = by_choice q.choice h
   where
     by_choice : (o : Option ℕ) → elim o [ None ↦ false | Some k ↦ k == n ] ≡ true → o ≡ Some n
     by_choice None k = cc
     by_choice (Some m) k = ap Some (eqb-true m n k)
 
+either_is : {A B C : Type 0} → A ⊎ B → (A → C) → (B → C) → C
+either_is (inl x) f g = f x
+either_is (inr y) f g = g y
+
+-- in contents without a fault, the first definition of a symbol that is defined in a choice is in that choice
+pub first_in_choice : (language : Language) (c : Contents) (s : IsSound c) (none : (p : GroupInContext) → Has p c.places → faults_of_group language c p ≡ [])
+    (q : GroupInContext) (name : List ℕ) (n j : ℕ) → Has q c.places → defined_name q.group ≡ Some name → q.choice ≡ Some n
+    → choice_of_symbol c name ≡ Some j → choice_of_first_definition c name ≡ Some n
+first_in_choice language c s none q name n j h e m has_choice =
+    let own : Has q (definitions_of c name) = filter-has (defines name) c.places q h (defining q name e) in
+    let f = first_of_some (definitions_of c name) q own in
+    let r = has-filter (defines name) c.places f.0 (has-at f.0 (definitions_of c name) 0 f.1) in
+    either_is (is_first_or_again language c none q name j n h e has_choice m)
+    (λ first. ap (option_and_then (λ (p : GroupInContext). p.choice)) f.1
+    ∙ ap (λ (p : GroupInContext). p.choice) (sym (same_place c.places q f.0 s.numbers h r.0 (one_number c name q f.0 first (is_first_at c name f.0 f.1))))
+    ∙ m)
+    (λ again. again)
+
+-- the first definition of a symbol, where it is in a choice
+pub first_of_choice : (c : Contents) (name : List ℕ) (n : ℕ) → choice_of_first_definition c name ≡ Some n
+    → (p : GroupInContext) × Has p c.places × (defined_name p.group ≡ Some name) × (is_first_definition c name p ≡ true) × (p.choice ≡ Some n)
+first_of_choice c name n h =
+    let a = and_then_some (λ (p : GroupInContext). p.choice) (slice_get (definitions_of c name) 0) n h in
+    let r = has-filter (defines name) c.places a.0 (has-at a.0 (definitions_of c name) 0 a.1) in
+    (a.0, r.0, defined a.0 name r.1, is_first_at c name a.0 a.1, a.2)
+
 -- in contents without a fault, the symbol that a group in a choice defines is a member of that choice
 pub choice_of_member : (language : Language) (c : Contents) (s : IsSound c) (none : (p : GroupInContext) → Has p c.places → faults_of_group language c p ≡ [])
-    (q : GroupInContext) (name : List ℕ) (n k : ℕ) → Has q c.places → defined_name q.group ≡ Some name → q.enclosing.choice ≡ Some n
+    (q : GroupInContext) (name : List ℕ) (n k : ℕ) → Has q c.places → defined_name q.group ≡ Some name → q.choice ≡ Some n
     → slice_get c.choices k ≡ Some n → choice_of_symbol c name ≡ Some k
 choice_of_member language c s none q name n k h e m at_k =
     let own : Has q (definitions_of c name) = filter-has (defines name) c.places q h (defining q name e) in
-    let some : Has n (filter_map (λ (p : GroupInContext). p.enclosing.choice) (definitions_of c name)) = filter_map-has
-    (λ (p : GroupInContext). p.enclosing.choice) (definitions_of c name) q n own m in
-    let f = first_of_some (filter_map (λ (p : GroupInContext). p.enclosing.choice) (definitions_of c name)) n some in
-    let b = first_of_filter_map (λ (p : GroupInContext). p.enclosing.choice) (definitions_of c name) f.0 f.1 in
+    let some : Has n (filter_map (λ (p : GroupInContext). p.choice) (definitions_of c name)) = filter_map-has
+    (λ (p : GroupInContext). p.choice) (definitions_of c name) q n own m in
+    let f = first_of_some (filter_map (λ (p : GroupInContext). p.choice) (definitions_of c name)) n some in
+    let b = first_of_filter_map (λ (p : GroupInContext). p.choice) (definitions_of c name) f.0 f.1 in
     let d = has-filter (defines name) c.places b.0 b.1 in
     let there = s.choice_there b.0 f.0 d.0 b.2 in
     let in_choices : Has f.0 c.choices = subst (Has f.0) (sym s.choices)
@@ -272,9 +298,7 @@ choice_of_member language c s none q name n k h e m at_k =
     let numbered : choice_number c f.0 ≡ Some j.0 = j.1 in
     let found : choice_of_symbol c name ≡ choice_number c f.0 = ap (option_and_then (choice_number c)) f.1 in
     let has_choice : choice_of_symbol c name ≡ Some j.0 = cc in
-    let same : q ≡ b.0 = same_place c.places q b.0 s.numbers h d.0 (one_number c name q b.0 (is_first language c none q name j.0 n h e has_choice m)
-    (is_first language c none b.0 name j.0 f.0 d.0 (defined b.0 name d.1) has_choice b.2)) in
-    let one_choice : q.enclosing.choice ≡ b.0.enclosing.choice = ap (λ (p : GroupInContext). p.enclosing.choice) same in
-    let theirs : b.0.enclosing.choice ≡ Some f.0 = b.2 in
+    let theirs = first_in_choice language c s none b.0 name f.0 j.0 d.0 (defined b.0 name d.1) b.2 has_choice in
+    let ours = first_in_choice language c s none q name n j.0 h e m has_choice in
     let number : n ≡ f.0 = let x : Some n ≡ Some f.0 = cc in cc in
     ap (option_and_then (choice_number c)) f.1 ∙ ap (choice_number c) (sym number) ∙ number_is c s n k at_k

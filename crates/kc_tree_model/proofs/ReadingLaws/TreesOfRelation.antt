@@ -40,7 +40,7 @@ one_outcome r o other a b = sym (outcome_read r o a) ∙ outcome_read r other b
 module _ (files : Files) (root : List ℕ) where
   tree_by : (tree : Tree) (k : Option TreeFault) → (reading files root).fault ≡ k
       → option_or k (slice_get (tree_faults files.language (reading files root).read) 0) ≡ None
-      → tree ≡ tree_of_groups (reading files root).read → IsTreeOfFiles files root tree
+      → tree ≡ tree_of_groups files.language (reading files root).read → IsTreeOfFiles files root tree
   unfolding reading
   tree_by tree None e h same =
       let o = reading files root in
@@ -55,7 +55,7 @@ module _ (files : Files) (root : List ℕ) where
     (λ h.
         let same = whole_read (origin_of files root) h.0 h.1 in (
           ap (first_fault_after files.language) same ∙ ap (λ (fs : List TreeFault). slice_get fs 0) h.2,
-          h.3 ∙ sym (ap (λ (o : Outcome). tree_of_groups o.read) same),
+          h.3 ∙ sym (ap (λ (o : Outcome). tree_of_groups files.language o.read) same),
         )),
   )
 

@@ -3,6 +3,7 @@ use Rattle.std.proofs.Common.{◌≡◌, ℕ, List, [], ◌∷◌, ◌++◌, ref
 use Rattle.std.specs.Prelude.{codes}
 use Rattle.std.specs.Str.{is_utf8, chars}
 use Rattle.kc_expr.specs.Lookup.{index_of_name}
+use Rattle.kc_tokens.specs.declared.language.LinuxVersion.TheVariants.{Unknown}
 use Rattle.kc_tokens.specs.Token.{next_token}
 use Rattle.kc_expr.specs.Grammar.{read_expr}
 use Rattle.kc_expr.specs.Expr.{both}
@@ -16,10 +17,10 @@ use Rattle.kc_tree_model.proofs.Rows.Trees.{word}
 
 -- a tree of one file in the language of Linux
 abbrev linux_file : List ℕ → Files
-linux_file text = linux_files ((codes "Kconfig", text) ∷ [])
+linux_file text = linux_files Unknown ((codes "Kconfig", text) ∷ [])
 
 abbrev linux_tree : List ℕ → Tree
-linux_tree text = tree_of_groups (reading (linux_file text) (codes "Kconfig")).read
+linux_tree text = tree_of_groups (linux_file text).language (reading (linux_file text) (codes "Kconfig")).read
 
 -- a later definition of a choice's member
 abbrev member_again : List ℕ → List ℕ

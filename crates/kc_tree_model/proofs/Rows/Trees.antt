@@ -1,6 +1,7 @@
 -- Short forms with which rows write trees and look at what is read from them.
 use Rattle.std.proofs.Common.{ℕ, List, [], ◌∷◌}
 use Rattle.std.specs.Prelude.{codes}
+use Rattle.kc_tokens.specs.declared.language.Language.TheVariants.{Strict}
 use Rattle.kc_expr.specs.Expr.{Expr, alone, named}
 use Rattle.kc_tree_model.specs.TreeFiles.{strict_files, Files}
 use Rattle.kc_tree_model.specs.Trees.{Tree, Symbol}
@@ -12,7 +13,7 @@ one_file text = strict_files ((codes "Kconfig", text) ∷ [])
 
 -- the tree of one file with these bytes
 abbrev pub whole : List ℕ → Tree
-whole text = tree_of_groups (reading (one_file text) (codes "Kconfig")).read
+whole text = tree_of_groups Strict (reading (one_file text) (codes "Kconfig")).read
 
 -- the conditions of a symbol's prompts, and the dependencies of its definitions
 abbrev pub prompts_and_dependencies : Symbol → List Expr × List Expr

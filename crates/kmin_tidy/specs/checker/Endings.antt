@@ -1,8 +1,8 @@
 -- The last writes of a run.
 use Rattle.std.specs.Prelude.{◌≡◌, ◌<◌, ℕ, List, [], ◌∷◌, Option, length, take}
 use Rattle.std.specs.Io.KnownBytes.{Appends}
-use Rattle.kmin_tidy.specs.Reports.{output_line}
-use Rattle.kmin_tidy.specs.StandardError.{HasRisen}
+use Rattle.kmin_report.specs.Reports.{output_line}
+use Rattle.kmin_report.specs.StandardError.{HasRisen}
 use Rattle.kmin_tidy.specs.declared.stop.Stop.{Stop}
 use Rattle.kmin_tidy.specs.declared.stop.Stop.TheVariants.{Memory, Left}
 use Rattle.kmin_tidy.specs.declared.whole_run.RunResult.{RunResult}

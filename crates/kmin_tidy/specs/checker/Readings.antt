@@ -10,7 +10,7 @@ use Rattle.kc_dotconfig.specs.declared.fragment.Fragment.{Fragment}
 use Rattle.kc_dotconfig.specs.Fragments.{FitsTree, users_of, notice_pair}
 use Rattle.kc_tree_model.specs.Trees.{Tree}
 use Rattle.kmin_disk.specs.Contents.{OpensAs}
-use Rattle.kmin_tidy.specs.KnownBytes.{AreKnownBytes}
+use Rattle.kmin_report.specs.KnownBytes.{AreKnownBytes}
 use Rattle.kmin_tidy.specs.declared.accepted_file.AcceptedFile.{AcceptedFile}
 
 -- a fragment has the assignments of an accepted configuration file of these bytes, and the notices of its lines

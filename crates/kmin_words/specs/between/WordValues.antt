@@ -7,6 +7,7 @@ use Rattle.clap.specs.declared.parser.matches.Found.{Found}
 use Rattle.kc_value.specs.declared.limits.TheConstants.{MAX_VARIABLE_BYTES}
 use Rattle.kc_tokens.specs.declared.language.Language.{Language}
 use Rattle.kc_tokens.specs.declared.language.Language.TheVariants.{Strict, Linux}
+use Rattle.kc_tokens.specs.declared.language.LinuxVersion.TheVariants.{Unknown}
 use Rattle.kc_rules_model.specs.declared.profile.Profile.{Profile}
 use Rattle.kc_rules_model.specs.declared.profile.Profile.TheVariants.{Present, Classic}
 use Rattle.kc_dotconfig_model.specs.declared.format.Strings.{Strings}
@@ -57,8 +58,8 @@ strings_of value = if bytes_eq value (codes "raw") then Raw else Escaped
 abbrev pub language_of : List ℕ → (is_expanded : Bool) → Language
 language_of value is_expanded =
     if bytes_eq value (codes "strict") then Strict
-    else (if bytes_eq value (codes "linux") then Linux
-    else (if is_expanded then Linux else Strict))
+    else (if bytes_eq value (codes "linux") then Linux Unknown
+    else (if is_expanded then Linux Unknown else Strict))
 
 -- the command with this name: a verb over its files in order, or the comparison of two files
 abbrev pub task_of : List ℕ → Found → Task

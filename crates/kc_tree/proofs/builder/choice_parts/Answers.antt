@@ -9,7 +9,7 @@ pub entries_of-requires-clause-many : goal.entries_of-requires-clause-many
 entries_of-requires-clause-many c =
     let l = c.args.walked.now.listing in
     let w = c.requires.walk.2.walk in
-    ap length c.as_slice-groups.ensures.value ∙ as_many_conditions l l.names.arena c.args.walked.now.groups.items c.args.walked.now.conditions.items
+    ap length c.as_slice-groups.ensures.value ∙ as_many_conditions _ l l.names.arena c.args.walked.now.groups.items c.args.walked.now.conditions.items
     (reading c.requires.walk.0 c.requires.walk.1).read w.shows w.shown
 
 pub returns : goal.returns
@@ -18,13 +18,13 @@ returns c = record {
       let l = c.args.walked.now.listing in
       let read = (reading files root).read in
       record {
-        rows = c.in_ok-choice_rows.ensures.ok l.names.arena read w.walk.shows
+        rows = c.in_ok-choice_rows.ensures.ok files.language l.names.arena read w.walk.shows
             (rw (c.as_slice-groups.ensures.value, c.as_slice-conditions.ensures.value) w.walk.shown);
-        defaults = c.in_ok-member_defaults.ensures.ok read (rw (c.as_slice-groups.ensures.value, c.as_slice-conditions.ensures.value) w.walk)
+        defaults = c.in_ok-member_defaults.ensures.ok files.language read (rw (c.as_slice-groups.ensures.value, c.as_slice-conditions.ensures.value) w.walk)
             (faultless_of files root w.untold);
-        entries = c.in_ok-entries_of.ensures.entries l.names.arena c.args.walked.now.conditions.items (length c.args.walked.now.conditions.items) read
+        entries = c.in_ok-entries_of.ensures.entries files.language l.names.arena c.args.walked.now.conditions.items (length c.args.walked.now.conditions.items) read
             w.walk.shows (rw c.as_slice-groups.ensures.value w.walk.shown);
-        entries_fit = c.in_ok-entries_of.ensures.fits l.names.arena c.args.walked.now.conditions.items (length c.args.walked.now.conditions.items) read
+        entries_fit = c.in_ok-entries_of.ensures.fits files.language l.names.arena c.args.walked.now.conditions.items (length c.args.walked.now.conditions.items) read
             w.walk.shows (rw c.as_slice-groups.ensures.value w.walk.shown);
       };
 }

@@ -1,8 +1,9 @@
-use Rattle.std.proofs.Common.{◌≡◌, arith}
+use Rattle.std.proofs.Common.{◌≡◌, ◌∙◌, length, reverse, subst, arith}
 use Rattle.std.proofs.lemmas.Grind.{elements}
 use Rattle.std.proofs.lemmas.Result.{IfOk-weaker}
 use Rattle.kc_tree_model.specs.Contents.{tree_of_files}
 use Rattle.kc_tree_model.specs.TreeReading.{reading}
+use Rattle.kc_tree.specs.checker.Walks.{RepresentsAllConditions}
 use Rattle.kc_tree.specs.TreeModel.{TreeModel}
 use Rattle.kc_tree.specs.checker.GatheredView.{gathered_tree}
 use Rattle.kc_tree.proofs.AssemblySteps.{consistent_of, whole_is}
@@ -15,9 +16,10 @@ into_tree-requires-clause-fits c =
     (c.in_ok-gathered.ensures.ok r.files r.root (record {
       walk = record {
         shows = c.in-Ok.ensures.shows read r.shows;
-        shown = c.in-Ok.ensures.walked read
-            r.shows;
+        shown = subst (λ x. RepresentsAllConditions x c.in-Ok.walked.listing.names.arena c.in-Ok.walked.listing.texts.items c.in-Ok.walked.conditions.items
+            (length c.in-Ok.walked.conditions.items) (reverse c.in-Ok.walked.groups.items) read) r.written (c.in-Ok.ensures.walked read r.shows);
       };
+      written = c.in-Ok.ensures.language ∙ r.written;
       untold = r.untold;
     })).fits
 
@@ -29,22 +31,24 @@ into_tree-requires-clause-consistent c =
     (c.in_ok-gathered.ensures.ok r.files r.root (record {
       walk = record {
         shows = c.in-Ok.ensures.shows read r.shows;
-        shown = c.in-Ok.ensures.walked read
-            r.shows;
+        shown = subst (λ x. RepresentsAllConditions x c.in-Ok.walked.listing.names.arena c.in-Ok.walked.listing.texts.items c.in-Ok.walked.conditions.items
+            (length c.in-Ok.walked.conditions.items) (reverse c.in-Ok.walked.groups.items) read) r.written (c.in-Ok.ensures.walked read r.shows);
       };
+      written = c.in-Ok.ensures.language ∙ r.written;
       untold = r.untold;
     }))
 
 pub returns : goal.returns
 returns c = record {
-  ok = λ files root untold shows.
+  ok = λ files root written untold shows.
       let read = (reading files root).read in
       let k = c.in_ok-gathered.ensures.ok files root (record {
         walk = record {
           shows = c.in-Ok.ensures.shows read shows;
-          shown = c.in-Ok.ensures.walked read
-              shows;
+          shown = subst (λ x. RepresentsAllConditions x c.in-Ok.walked.listing.names.arena c.in-Ok.walked.listing.texts.items c.in-Ok.walked.conditions.items
+              (length c.in-Ok.walked.conditions.items) (reverse c.in-Ok.walked.groups.items) read) written (c.in-Ok.ensures.walked read shows);
         };
+        written = c.in-Ok.ensures.language ∙ written;
         untold = untold;
       }) in
       IfOk-weaker c.into_tree.result (λ (t : TreeModel). t ≡ record { exprs = c.in_ok-gathered.gathered.arena; tree = gathered_tree c.in_ok-gathered.gathered })

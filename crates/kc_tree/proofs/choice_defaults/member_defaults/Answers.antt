@@ -12,19 +12,19 @@ use Rattle.kc_tree.proofs.choice_defaults.member_defaults.Goals as goal
 pub conditions_of-own-requires-clause-here : goal.conditions_of-own-requires-clause-here
 conditions_of-own-requires-clause-here c =
     let k = c.requires.walked in
-    omega (arith, as_many c.args.listing.now c.args.groups.now c.args.conditions.now k.0 k.1, c.loop-i-test.true, c.len-i-end.ensures)
+    omega (arith, as_many _ c.args.listing.now c.args.groups.now c.args.conditions.now k.1 k.2, c.loop-i-test.true, c.len-i-end.ensures)
 
 pub push_group_defaults-requires-clause-many : goal.push_group_defaults-requires-clause-many
 push_group_defaults-requires-clause-many c =
     let k = c.requires.walked in
-    ap length c.conditions_of-own.ensures.value ∙ as_long_own c.args.listing.now c.args.groups.now c.args.conditions.now k.0 k.1 c.loop-i.i
+    ap length c.conditions_of-own.ensures.value ∙ as_long_own _ c.args.listing.now c.args.groups.now c.args.conditions.now k.1 k.2 c.loop-i.i
     (omega (arith, c.loop-i-test.true, c.len-i-end.ensures)) ∙ ap length (sym c.lines_of-lines.ensures.lines)
 
 pub loop-i-init : goal.loop-i-init
 loop-i-init c = record {
   few = omega arith;
-  counted = λ read w. none_counted read;
-  defaults = λ read w f. no_defaults c.args.listing.now c.args.groups.now c.args.conditions.now read w c.new-found.result c.new-found.ensures.keys
+  counted = λ language read w. none_counted read;
+  defaults = λ language read w f. no_defaults _ c.args.listing.now c.args.groups.now c.args.conditions.now read w c.new-found.result c.new-found.ensures.keys
       c.new-found.ensures.items;
 }
 
@@ -37,24 +37,24 @@ loop-i-preserved c =
     let count : c.count_choices-choices.result ≡ choices_after c.index.result.now.head c.loop-i.choices = c.count_choices-choices.ensures.value in
     record {
       few = omega (arith, count, choices_few c.index.result.now.head c.loop-i.choices, c.loop-i.invariant.few);
-      counted = λ read w.
+      counted = λ language read w.
           one_counted l.names.arena (names_defined read) l.texts.items l.lines.items l.groups.items read w.shows.groups_are c.loop-i.i c.loop-i.choices
-          c.count_choices-choices.result c.index.result.now.head within what (c.loop-i.invariant.counted read w)
+          c.count_choices-choices.result c.index.result.now.head within what (c.loop-i.invariant.counted language read w)
           (count ∙ choices_by c.index.result.now.head c.loop-i.choices);
-      defaults = λ read w f.
-          one_more l c.args.groups.now c.args.conditions.now read w c.loop-i.i c.loop-i.choices c.count_choices-choices.result c.index.result.now.head
-          c.loop-i.found c.push_group_defaults.new.found within what (c.loop-i.invariant.counted read w) count f
+      defaults = λ language read w f.
+          one_more _ l c.args.groups.now c.args.conditions.now read w c.loop-i.i c.loop-i.choices c.count_choices-choices.result c.index.result.now.head
+          c.loop-i.found c.push_group_defaults.new.found within what (c.loop-i.invariant.counted language read w) count f
           (rw (c.lines_of-lines.ensures.lines, c.conditions_of-own.ensures.value) at c.in_ok-push_group_defaults.ensures.keys)
           (rw (c.lines_of-lines.ensures.lines, c.conditions_of-own.ensures.value) at c.in_ok-push_group_defaults.ensures.items)
-          (c.loop-i.invariant.defaults read w f);
+          (c.loop-i.invariant.defaults language read w f);
     }
 
 pub returns : goal.returns
 returns c = record {
-  ok = λ read w f.
-      all_gathered c.args.listing.now c.args.groups.now c.args.conditions.now read w c.loop-i.i c.loop-i.choices c.loop-i.found
-      (omega (arith, c.loop-i-test.false, c.loop-i.auto.i-end, c.len-i-end.ensures)) (c.loop-i.invariant.counted read w)
-      (c.loop-i.invariant.defaults read w f);
+  ok = λ language read w f.
+      all_gathered _ c.args.listing.now c.args.groups.now c.args.conditions.now read w c.loop-i.i c.loop-i.choices c.loop-i.found
+      (omega (arith, c.loop-i-test.false, c.loop-i.auto.i-end, c.len-i-end.ensures)) (c.loop-i.invariant.counted language read w)
+      (c.loop-i.invariant.defaults language read w f);
 }
 
 pub push_group_defaults-requires-clause-held : goal.push_group_defaults-requires-clause-held

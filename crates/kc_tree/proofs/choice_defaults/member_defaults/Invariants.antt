@@ -1,4 +1,5 @@
 use Rattle.std.specs.Prelude.{◌≡◌, ◌≤◌, List, length}
+use Rattle.kc_tokens.specs.declared.language.Language.{Language}
 use Rattle.kc_tree_model.specs.Blocks.{Group}
 use Rattle.kc_tree_model.specs.Conditions.{groups_in_context}
 use Rattle.kc_tree_model.specs.Contents.{contents_of}
@@ -11,7 +12,7 @@ use Rattle.kc_tree.proofs.choice_defaults.member_defaults.Given as goal
 abbrev pub invariant-loop-i : goal.invariant-loop-i
 invariant-loop-i l = record {
   few : l.choices ≤ l.i;
-  counted : (read : List Group) → IsWalkOf l.listing l.groups l.conditions read → l.choices ≡ length (numbers_of_choices (read_before l.i read));
-  defaults : (read : List Group) → IsWalkOf l.listing l.groups l.conditions read → HasNoFaults read
-      → AreDefaultsOf l.listing (contents_of read) (groups_in_context (read_before l.i read)) l.choices l.found;
+  counted : (language : Language) (read : List Group) → IsWalkOf language l.listing l.groups l.conditions read → l.choices ≡ length (numbers_of_choices (read_before l.i read));
+  defaults : (language : Language) (read : List Group) → IsWalkOf language l.listing l.groups l.conditions read → HasNoFaults read
+      → AreDefaultsOf language l.listing (contents_of read) (groups_in_context (read_before l.i read)) l.choices l.found;
 }

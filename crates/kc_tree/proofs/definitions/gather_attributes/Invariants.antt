@@ -1,4 +1,5 @@
 use Rattle.std.proofs.Common.{List}
+use Rattle.kc_tokens.specs.declared.language.Language.{Language}
 use Rattle.kc_tree_model.specs.Blocks.{Group as ModelGroup}
 use Rattle.kc_tree_model.specs.Conditions.{groups_in_context}
 use Rattle.kc_tree_model.specs.Limits.{names_defined}
@@ -9,5 +10,5 @@ use Rattle.kc_tree.proofs.definitions.gather_attributes.Given as goal
 
 abbrev pub invariant-loop-i : goal.invariant-loop-i
 invariant-loop-i l =
-    (read : List ModelGroup) → IsWalkOf l.listing l.groups l.conditions read
-    → AreGathered l.listing.names.arena (names_defined read) (groups_in_context (read_before l.i read)) l.found
+    (language : Language) (read : List ModelGroup) → IsWalkOf language l.listing l.groups l.conditions read
+    → AreGathered language l.listing.names.arena (names_defined read) (groups_in_context (read_before l.i read)) l.found

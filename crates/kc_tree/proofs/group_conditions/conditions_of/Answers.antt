@@ -9,7 +9,7 @@ use Rattle.kc_tree.proofs.group_conditions.conditions_of.Goals as goal
 pub part-requires : goal.part-requires
 part-requires c =
     let k = c.requires.conditioned in
-    let s = conditioned_at k.exprs k.texts c.args.conditions.now c.args.groups.now k.read k.shown c.args.i c.requires.here in
+    let s = conditioned_at _ k.exprs k.texts c.args.conditions.now c.args.groups.now k.read k.shown c.args.i c.requires.here in
     let e : (get_or c.args.groups.now c.args.i c.index-groups-i.result).first ≡ (conditions_at c.args.groups.now c.args.i).first = ap
     (λ (g : GroupConditions). g.first) (sym c.index-groups-i.is ∙ get_or_read c.args.groups.now _ _ c.requires.here c.index-groups-i.is no_conditions) in
     record {

@@ -17,7 +17,7 @@ use Rattle.kc_tree.proofs.listing_walk.walk_through.Goals as goal
 pub loop-i-init : goal.loop-i-init
 loop-i-init c = record {
   grows = c.in_ok-walk.ensures.grows;
-  walked = λ names texts read h. subst (HasWalked texts c.in_ok-walk.walk) (sym (none_before read)) (c.in_ok-walk.ensures.walked texts);
+  walked = λ names texts read h. subst (HasWalked c.args.language texts c.in_ok-walk.walk) (sym (none_before read)) (c.in_ok-walk.ensures.walked c.args.language texts);
 }
 
 pub lines_at-requires-clause-rising : goal.lines_at-requires-clause-rising
@@ -69,7 +69,7 @@ loop-i-preserved c = record {
       (All-drop (LineNodesExist c.args.arena) begin c.args.lines.now c.requires.held)) in
       let same_attributes : s.group.attributes ≡ map (line_in c.loop-i.walk.arena) c.lines_at.result.now = s.shown.attributes ∙ sym kept
       ∙ ap (map (line_in c.loop-i.walk.arena)) (sym c.lines_at.ensures.value) in
-      subst (HasWalked texts c.visit.new.self) (sym s.now) (c.in_ok-visit.ensures.walked names texts (read_before c.loop-i.i read) s.group
+      subst (HasWalked c.args.language texts c.visit.new.self) (sym s.now) (c.in_ok-visit.ensures.walked names texts (read_before c.loop-i.i read) s.group
       (c.loop-i.invariant.walked names texts read h) what same_attributes);
 }
 
@@ -77,7 +77,7 @@ pub returns-clause-walked : goal.returns-clause-walked
 returns-clause-walked c = λ names texts read h.
     let n = count_is c.args.arena names texts c.args.lines.now c.args.groups.now read h in
     let i : c.loop-i.i ≡ length read = omega (arith, n, c.loop-i-test.false, c.loop-i.auto.i-end) in
-    subst (HasWalked texts c.loop-i.walk) (ap (λ k. read_before k read) i ∙ all_before read) (c.loop-i.invariant.walked names texts read h)
+    subst (HasWalked c.args.language texts c.loop-i.walk) (ap (λ k. read_before k read) i ∙ all_before read) (c.loop-i.invariant.walked names texts read h)
 
 pub returns-clause-grows : goal.returns-clause-grows
 returns-clause-grows c = grind (arith, common_steps)

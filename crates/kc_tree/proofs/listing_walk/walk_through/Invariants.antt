@@ -10,5 +10,5 @@ abbrev pub invariant-loop-i : goal.invariant-loop-i
 invariant-loop-i l = record {
   grows : Grows l.fn.arena l.walk.arena;
   walked : (names texts : List (List ℕ)) (read : List Group) → RepresentsGroups l.fn.arena names texts l.lines (length l.lines) (reverse l.groups) read
-      → HasWalked texts l.walk (read_before l.i read);
+      → HasWalked l.fn.language texts l.walk (read_before l.i read);
 }

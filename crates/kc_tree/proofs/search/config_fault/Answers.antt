@@ -11,9 +11,11 @@ use Rattle.kc_tree_model.specs.TreeFaults.{attribute_faults, faults_of_lines, ki
 use Rattle.kc_listing.specs.between.ListingView.{RepresentsListing, line_in}
 use Rattle.kc_listing.proofs.NameLemmas.{as_many_names}
 use Rattle.kc_tree.specs.checker.Summaries.{IsSummary, enclosing_choice, group_at, no_group}
+use Rattle.kc_tree.specs.checker.Kinds.{choice_around}
+use Rattle.kc_tree.specs.declared.summary.SymbolSummary.{SymbolSummary}
 use Rattle.kc_tree.proofs.GroupPlaces.{count_is, placed_count}
 use Rattle.kc_tree.proofs.FaultKinds.{fault_of, follow_is}
-use Rattle.kc_tree.proofs.FaultSearch.{config_first, config_there, definition_reported, enclosing_some, place_at, enclosing_got}
+use Rattle.kc_tree.proofs.FaultSearch.{again_is, config_first, config_there, definition_reported, enclosing_some, place_at, enclosing_got}
 use Rattle.kc_tree.proofs.Symbols.{about_is, as_many_abouts, kind_is, symbol_there}
 use Rattle.kc_tree.proofs.search.config_fault.Goals as goal
 
@@ -30,6 +32,17 @@ index-requires c =
 pub index-requires-2 : goal.index-requires-2
 unfolding RepresentsListing IsSummary
 index-requires-2 c =
+    let l = c.args.listing.now in
+    let read = c.requires.shown.read in
+    let h = c.requires.shown.shows in
+    let n = count_is l.names.arena (names_defined read) l.texts.items l.lines.items l.groups.items read h.groups_are in
+    let m : length c.args.summary.now.enclosing.items ≡ length read = ap length (c.requires.summary read h).enclosing
+    ∙ length-map (groups_in_context read) (enclosing_choice (contents_of read)) ∙ placed_count read in
+    omega arith
+
+pub index-requires-4 : goal.index-requires-4
+unfolding RepresentsListing IsSummary
+index-requires-4 c =
     let l = c.args.listing.now in
     let read = c.requires.shown.read in
     let h = c.requires.shown.shows in
@@ -62,10 +75,18 @@ returns-in-Some c = record {
       let about = c.index.ensures ∙ about_is read m.symbols.items known.symbols c.args.s name c.index.result.now w.1 in
       let member = c.is_some-is_member.ensures ∙ ap is_some (c.index-2.ensures
       ∙ enclosing_got read m.enclosing.items c.args.i p c.index-2.result.now known.enclosing at) in
-      let follow = c.may_follow_member-may_follow.ensures ∙ follow_is c.args.language l.names.arena p c.is_some-is_member.result c.lines_of-lines.result.now
-      (member ∙ enclosing_some read p a.has) (a.attributes ∙ sym (ap (map (line_in l.names.arena)) c.lines_of-lines.ensures.lines)) in
-      let reported = definition_reported c.args.language read p name c.args.i c.index.result.now c.is_some-is_member.result c.is_first-is_first.result
-      c.is_modules-is_modules.result c.may_follow_member-may_follow.result a.has a.number about member c.is_first-is_first.ensures
+      let again = again_is l.names.arena names l.texts.items l.lines.items l.groups.items read h.groups_are name p c.choice_around-first_choice.result
+      c.index-4.result.now c.is_same_choice-is_again.result a.has
+      (c.choice_around-first_choice.ensures ∙ ap (λ es. choice_around es c.index.result.now.first) (c.deref.ensures.value ∙ known.enclosing)
+      ∙ ap (λ (x : SymbolSummary). choice_around (map (enclosing_choice (contents_of read)) (groups_in_context read)) x.first) about)
+      (c.index-4.ensures ∙ enclosing_got read m.enclosing.items c.args.i p c.index-4.result.now known.enclosing at)
+      c.is_same_choice-is_again.ensures in
+      let follow = c.may_follow_member-may_follow.ensures ∙ follow_is c.args.language l.names.arena (contents_of read) name p c.is_some-is_member.result
+      c.is_same_choice-is_again.result c.lines_of-lines.result.now
+      (member ∙ enclosing_some read p a.has) again (a.attributes ∙ sym (ap (map (line_in l.names.arena)) c.lines_of-lines.ensures.lines)) in
+      let reported = definition_reported c.args.language read p name c.args.i c.index.result.now c.is_some-is_member.result c.is_misfit-is_misfit.result
+      c.is_first-is_first.result c.is_modules-is_modules.result c.may_follow_member-may_follow.result a.has a.number about member
+      c.is_misfit-is_misfit.ensures c.is_first-is_first.ensures
       (c.is_modules-is_modules.ensures.value read name h w.1) follow in
       let file = ap (λ g. g.file) (get_or_read l.groups.items _ _ c.requires.here c.index-3.ensures no_group) ∙ sym a.file in
       let line = ap (λ g. g.line) (get_or_read l.groups.items _ _ c.requires.here c.index-in-Some.ensures no_group) ∙ sym a.line in
@@ -80,7 +101,7 @@ returns-in-Some c = record {
 
 pub first_symbol_fault-requires-clause-symbols : goal.first_symbol_fault-requires-clause-symbols
 unfolding IsSummary
-first_symbol_fault-requires-clause-symbols c = λ read h. c.deref.ensures.value ∙ (c.requires.summary read h).symbols
+first_symbol_fault-requires-clause-symbols c = λ read h. c.deref-2.ensures.value ∙ (c.requires.summary read h).symbols
 
 pub returns : goal.returns
 unfolding RepresentsListing IsSummary
@@ -96,10 +117,18 @@ returns c = record {
       let about = c.index.ensures ∙ about_is read m.symbols.items known.symbols c.args.s name c.index.result.now w.1 in
       let member = c.is_some-is_member.ensures ∙ ap is_some (c.index-2.ensures
       ∙ enclosing_got read m.enclosing.items c.args.i p c.index-2.result.now known.enclosing at) in
-      let follow = c.may_follow_member-may_follow.ensures ∙ follow_is c.args.language l.names.arena p c.is_some-is_member.result c.lines_of-lines.result.now
-      (member ∙ enclosing_some read p a.has) (a.attributes ∙ sym (ap (map (line_in l.names.arena)) c.lines_of-lines.ensures.lines)) in
-      let reported = definition_reported c.args.language read p name c.args.i c.index.result.now c.is_some-is_member.result c.is_first-is_first.result
-      c.is_modules-is_modules.result c.may_follow_member-may_follow.result a.has a.number about member c.is_first-is_first.ensures
+      let again = again_is l.names.arena names l.texts.items l.lines.items l.groups.items read h.groups_are name p c.choice_around-first_choice.result
+      c.index-4.result.now c.is_same_choice-is_again.result a.has
+      (c.choice_around-first_choice.ensures ∙ ap (λ es. choice_around es c.index.result.now.first) (c.deref.ensures.value ∙ known.enclosing)
+      ∙ ap (λ (x : SymbolSummary). choice_around (map (enclosing_choice (contents_of read)) (groups_in_context read)) x.first) about)
+      (c.index-4.ensures ∙ enclosing_got read m.enclosing.items c.args.i p c.index-4.result.now known.enclosing at)
+      c.is_same_choice-is_again.ensures in
+      let follow = c.may_follow_member-may_follow.ensures ∙ follow_is c.args.language l.names.arena (contents_of read) name p c.is_some-is_member.result
+      c.is_same_choice-is_again.result c.lines_of-lines.result.now
+      (member ∙ enclosing_some read p a.has) again (a.attributes ∙ sym (ap (map (line_in l.names.arena)) c.lines_of-lines.ensures.lines)) in
+      let reported = definition_reported c.args.language read p name c.args.i c.index.result.now c.is_some-is_member.result c.is_misfit-is_misfit.result
+      c.is_first-is_first.result c.is_modules-is_modules.result c.may_follow_member-may_follow.result a.has a.number about member
+      c.is_misfit-is_misfit.ensures c.is_first-is_first.ensures
       (c.is_modules-is_modules.ensures.value read name h w.1) follow in
       let file = ap (λ g. g.file) (get_or_read l.groups.items _ _ c.requires.here c.index-3.ensures no_group) ∙ sym a.file in
       let lines = ap (map (line_in l.names.arena)) c.lines_of-lines.ensures.lines ∙ sym a.attributes in

@@ -1,5 +1,6 @@
-use Rattle.std.proofs.Common.{inr, Some, None, arith}
+use Rattle.std.proofs.Common.{inr, Some, None, sym, subst, arith}
 use Rattle.std.proofs.lemmas.Grind.{common_steps}
+use Rattle.kc_tree.specs.checker.Surface.{IsOfTree}
 use Rattle.kc_tree.proofs.ReadSteps.{reported_or_memory, reported_of_reading, shown_of_reading, of_reading, reported_tree_fault, of_tree}
 use Rattle.kc_tree_model.specs.TreeReading.{reading}
 use Rattle.kc_tree_model.proofs.ReadingLaws.TreesOfRelation.{tree_related}
@@ -23,18 +24,18 @@ returns-in-Ok-Some-clause-fault c =
     reported_or_memory c.args.texts.now c.args.root.now c.in-Ok-Some.fault
     (inr (reported_tree_fault c.args.texts.now c.args.root.now c.read_files-listing.result.0 c.read_files-listing.result.1 c.read_files-listing.ensures.fault
     c.read_files-listing.ensures.read (Some c.in-Ok-Some.fault) c.in-None.is
-    (rw (c.in-Ok-Some.field-0-is, c.language.ensures) at (c.in-Ok-Some.ensures.fault (reading c.args.texts.now c.args.root.now).read
+    (rw (c.in-Ok-Some.field-0-is, c.language-language.ensures) at (c.in-Ok-Some.ensures.fault (reading c.args.texts.now c.args.root.now).read
     (shown_of_reading c.args.texts.now c.args.root.now c.read_files-listing.result.0 c.read_files-listing.result.1 c.read_files-listing.ensures.fault
     c.read_files-listing.ensures.read c.in-None.is)))))
 
 pub tree_of-requires : goal.tree_of-requires
 tree_of-requires c = record {
   of_tree =
-      of_tree c.args.texts.now c.args.root.now c.read_files-listing.result.0 c.read_files-listing.result.1 c.read_files-listing.ensures.fault
+      subst (λ x. IsOfTree x c.read_files-listing.result.0) (sym c.language-language.ensures) (of_tree c.args.texts.now c.args.root.now c.read_files-listing.result.0 c.read_files-listing.result.1 c.read_files-listing.ensures.fault
       c.read_files-listing.ensures.read c.in-None.is
-      (rw (c.in-Ok-None.field-0-is, c.language.ensures) at (c.in-Ok-None.ensures.fault (reading c.args.texts.now c.args.root.now).read
+      (rw (c.in-Ok-None.field-0-is, c.language-language.ensures) at (c.in-Ok-None.ensures.fault (reading c.args.texts.now c.args.root.now).read
       (shown_of_reading c.args.texts.now c.args.root.now c.read_files-listing.result.0 c.read_files-listing.result.1 c.read_files-listing.ensures.fault
-      c.read_files-listing.ensures.read c.in-None.is)));
+      c.read_files-listing.ensures.read c.in-None.is))));
 }
 
 pub returns-in-Ok-clause-tree : goal.returns-in-Ok-clause-tree
@@ -44,8 +45,8 @@ returns-in-Ok-clause-tree c =
     let accepted = reported_tree_fault c.args.texts.now c.args.root.now c.read_files-listing.result.0 c.read_files-listing.result.1
     c.read_files-listing.ensures.fault
     c.read_files-listing.ensures.read None c.in-None.is
-    (rw (c.in-Ok-None.field-0-is, c.language.ensures) at (c.in-Ok-None.ensures.fault (reading c.args.texts.now c.args.root.now).read shown)) in
-    (tree_related c.args.texts.now c.args.root.now _).0 (accepted, c.in-Ok.ensures.ok c.args.texts.now c.args.root.now accepted shown)
+    (rw (c.in-Ok-None.field-0-is, c.language-language.ensures) at (c.in-Ok-None.ensures.fault (reading c.args.texts.now c.args.root.now).read shown)) in
+    (tree_related c.args.texts.now c.args.root.now _).0 (accepted, c.in-Ok.ensures.ok c.args.texts.now c.args.root.now c.language-language.ensures accepted shown)
 
 pub returns-in-Err-clause-fault : goal.returns-in-Err-clause-fault
 returns-in-Err-clause-fault c = grind (arith, common_steps)

@@ -7,6 +7,6 @@ pub returns : goal.returns
 returns c =
     let flags = c.in_ok-command.ensures c.in_ok-with_options.ensures in
     let from = with_argument _ _ _ c.in_ok-command-2.ensures c.valued-from.ensures flags in
-    let nul_is_local : IsLocal c.in_ok-requires_arg.field-0 = search rules in
+    let nul = with_argument _ _ _ c.in_ok-command-3.ensures c.in_ok-nul.ensures from in
     let files_are_local : IsLocal c.in_ok-required_unless_present.field-0 = search rules in
-    argument_added _ _ c.arg-3.result c.arg-3.ensures files_are_local (with_argument _ _ _ c.in_ok-command-3.ensures nul_is_local from)
+    argument_added _ _ c.arg-3.result c.arg-3.ensures files_are_local nul

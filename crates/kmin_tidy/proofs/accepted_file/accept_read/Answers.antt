@@ -1,5 +1,6 @@
 use Rattle.std.proofs.Common.{inl, inr}
-use Rattle.kmin_tidy.proofs.ReadingLemmas.{both_ok, if_err_map}
+use Rattle.kmin_tidy.proofs.ReadingLemmas.{both_ok}
+use Rattle.kmin_report.proofs.Results.{if_err_map}
 use Rattle.kmin_tidy.proofs.accepted_file.accept_read.Goals as goal
 
 pub returns-in-AtEnd-clause-ok : goal.returns-in-AtEnd-clause-ok

@@ -1,6 +1,7 @@
 use Rattle.kc_rules.specs.between.SettledViews.{tree_of_settled}
 use Rattle.kc_dotconfig_model.specs.between.Formats.{file_format}
-use Rattle.kmin_tidy.proofs.ReadingLemmas.{both_ok, if_err_map, fragment_of_read, fault_of_whole}
+use Rattle.kmin_tidy.proofs.ReadingLemmas.{both_ok, fragment_of_read, fault_of_whole}
+use Rattle.kmin_report.proofs.Results.{if_err_map}
 use Rattle.kmin_tidy.proofs.accepted_file.fragment_of.Goals as goal
 
 pub returns-clause-fragment : goal.returns-clause-fragment

@@ -1,6 +1,6 @@
 use Rattle.std.proofs.Common.{refl}
 use Rattle.kmin_tidy.specs.checker.Readings.{unopened}
-use Rattle.kmin_tidy.proofs.ReadingLemmas.{if_ok_map, if_err_map}
+use Rattle.kmin_report.proofs.Results.{if_ok_map, if_err_map}
 use Rattle.kmin_tidy.proofs.accepted_file.read_file.Goals as goal
 
 pub returns-in-Some-clause-ok : goal.returns-in-Some-clause-ok

@@ -2,9 +2,11 @@ use Rattle.std.proofs.Common.{◌≡◌, ℕ, List, sym, subst, refl}
 use Rattle.kc_value.specs.declared.reader_bytes.ReadEnd.TheVariants.{AtEnd}
 use Rattle.kc_rules.specs.between.SettledViews.{tree_of_settled}
 use Rattle.kc_dotconfig_model.specs.between.Formats.{file_format}
-use Rattle.kmin_tidy.specs.KnownBytes.{AreKnownBytes}
+use Rattle.kmin_report.specs.KnownBytes.{AreKnownBytes}
 use Rattle.kmin_tidy.specs.checker.Readings.{IsFragmentOf, for_memory}
-use Rattle.kmin_tidy.proofs.ReadingLemmas.{if_ok_map, if_err_map, whole_content, faulty_read}
+use Rattle.kmin_report.proofs.Results.{if_ok_map, if_err_map}
+use Rattle.kmin_report.proofs.KnownContents.{whole_content}
+use Rattle.kmin_tidy.proofs.ReadingLemmas.{faulty_read}
 use Rattle.kmin_tidy.proofs.accepted_file.read_source.Goals as goal
 
 pub returns-in-Ok-clause-ok : goal.returns-in-Ok-clause-ok

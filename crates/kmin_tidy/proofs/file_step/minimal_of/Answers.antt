@@ -1,5 +1,5 @@
 use Rattle.kmin_tidy.proofs.FileLemmas.{has_minimal_file}
-use Rattle.kmin_tidy.proofs.ReadingLemmas.{if_ok_map}
+use Rattle.kmin_report.proofs.Results.{if_ok_map}
 use Rattle.kmin_tidy.proofs.file_step.minimal_of.Goals as goal
 
 pub returns-clause-minimal : goal.returns-clause-minimal

@@ -2,7 +2,7 @@ use Rattle.std.proofs.Common.{◌≢◌, Bool, [], refl, sym, subst, append-nil,
 use Rattle.kmin_tidy.specs.Reports.{difference_line}
 use Rattle.kmin_tidy.specs.checker.FileResults.{IsRewritten, same, shown}
 use Rattle.kmin_tidy.proofs.FileLemmas.{agree, differ, rewritten_by}
-use Rattle.kmin_tidy.proofs.ReadingLemmas.{if_ok_map, if_err_map}
+use Rattle.kmin_report.proofs.Results.{if_ok_map, if_err_map}
 use Rattle.kmin_tidy.proofs.WholeRuns.{memory_stop}
 use Rattle.kmin_tidy.proofs.file_step.rewrite.Goals as goal
 

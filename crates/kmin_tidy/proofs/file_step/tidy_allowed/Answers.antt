@@ -3,7 +3,7 @@ use Rattle.kc_dotconfig.specs.Fragments.{notice_pair}
 use Rattle.kmin_tidy.specs.Options.{settings_of}
 use Rattle.kmin_tidy.specs.MinimalFiles.{HasMinimalFile, Minimises}
 use Rattle.kmin_tidy.proofs.FileLemmas.{stops_rewrite}
-use Rattle.kmin_tidy.proofs.ReadingLemmas.{if_ok_map, if_err_map}
+use Rattle.kmin_report.proofs.Results.{if_ok_map, if_err_map}
 use Rattle.kmin_tidy.proofs.WholeRuns.{memory_stop}
 use Rattle.kmin_tidy.proofs.file_step.tidy_allowed.Goals as goal
 

@@ -1,7 +1,7 @@
 use Rattle.std.proofs.Common.{[], refl, sym, append-nil, inl}
 use Rattle.kmin_tidy.specs.Options.{settings_of}
 use Rattle.kmin_tidy.proofs.FileLemmas.{not_regular_step, fault_step}
-use Rattle.kmin_tidy.proofs.ReadingLemmas.{if_ok_map, if_err_map}
+use Rattle.kmin_report.proofs.Results.{if_ok_map, if_err_map}
 use Rattle.kmin_tidy.proofs.file_step.tidy_file.Goals as goal
 
 pub returns-then-is_refused_unread-clause-step : goal.returns-then-is_refused_unread-clause-step

@@ -1,9 +1,10 @@
 use Rattle.std.proofs.Common.{◌≡◌, map, ap, ◌∙◌, subst}
 use Rattle.kc_dotconfig.specs.Fragments.{notice_pair}
-use Rattle.kmin_tidy.specs.Reports.{notice_line, notice_lines}
-use Rattle.kmin_tidy.specs.StandardError.{TakesLines}
-use Rattle.kmin_tidy.proofs.WriterLemmas.{lines_append}
-use Rattle.kmin_tidy.proofs.RefusalLemmas.{map_twice}
+use Rattle.kmin_report.specs.Reports.{notice_line}
+use Rattle.kmin_tidy.specs.Reports.{notice_lines}
+use Rattle.kmin_report.specs.StandardError.{TakesLines}
+use Rattle.kmin_report.proofs.WriterLemmas.{lines_append}
+use Rattle.kmin_report.proofs.Lists.{map_twice}
 use Rattle.kmin_tidy.proofs.report.report_file.Goals as goal
 
 pub returns : goal.returns

@@ -1,7 +1,7 @@
 use Rattle.std.proofs.Common.{map, take}
 use Rattle.kc_dotconfig.specs.Fragments.{notice_pair}
-use Rattle.kmin_tidy.specs.Reports.{notice_line}
-use Rattle.kmin_tidy.specs.StandardError.{TakesLines}
+use Rattle.kmin_report.specs.Reports.{notice_line}
+use Rattle.kmin_report.specs.StandardError.{TakesLines}
 use Rattle.kmin_tidy.proofs.report.report_notices.Given as goal
 
 abbrev pub invariant-loop-notice : goal.invariant-loop-notice

@@ -1,4 +1,4 @@
-use Rattle.kmin_tidy.proofs.WriterLemmas.{lines_one}
+use Rattle.kmin_report.proofs.WriterLemmas.{lines_one}
 use Rattle.kmin_tidy.proofs.run.end_early.Goals as goal
 
 pub returns-in-Memory-clause-reported : goal.returns-in-Memory-clause-reported

@@ -1,5 +1,5 @@
 use Rattle.kmin_tidy.proofs.EndLemmas.{ends_written, ends_early}
-use Rattle.kmin_tidy.proofs.WriterLemmas.{lines_append}
+use Rattle.kmin_report.proofs.WriterLemmas.{lines_append}
 use Rattle.kmin_tidy.proofs.run.run_to_end.Goals as goal
 
 pub returns-in-Ok : goal.returns-in-Ok

@@ -2,7 +2,7 @@ use Rattle.std.proofs.Common.{ℕ, List, [], IfOk, IfErr, subst}
 use Rattle.kc_rules.specs.declared.rules.Settled.{Settled}
 use Rattle.kmin_tidy.specs.Options.{settings_of}
 use Rattle.kmin_tidy.specs.Runs.{Tidies, paths_of}
-use Rattle.kmin_tidy.specs.StandardError.{TakesLines, none}
+use Rattle.kmin_report.specs.StandardError.{TakesLines, none}
 use Rattle.kmin_tidy.specs.checker.FileResults.{StopsRun}
 use Rattle.kmin_tidy.proofs.WholeRuns.{stops_first, memory_stop}
 use Rattle.kmin_tidy.proofs.whole_run.tidy_all.Goals as goal

@@ -5,11 +5,13 @@ use Rattle.kc_rules.specs.declared.rules.Settled.{Settled}
 use Rattle.kmin_tidy.specs.Options.{settings_of}
 use Rattle.kmin_tidy.specs.Steps.{Step}
 use Rattle.kmin_tidy.specs.Runs.{Tidies, paths_of}
-use Rattle.kmin_tidy.specs.StandardError.{none}
+use Rattle.kmin_report.specs.StandardError.{none}
 use Rattle.kmin_tidy.specs.checker.ReportLines.{report_lines}
 use Rattle.kmin_tidy.specs.checker.FileResults.{StopsFile}
-use Rattle.kmin_tidy.proofs.WriterLemmas.{lines_append}
-use Rattle.kmin_tidy.proofs.WholeRuns.{tidies_none, tidies_more, paths_next, paths_at, stops_run, if_err}
+use Rattle.kmin_report.proofs.WriterLemmas.{lines_append}
+use Rattle.kmin_tidy.proofs.WholeRuns.{tidies_none, tidies_more, stops_run}
+use Rattle.kmin_report.proofs.Lists.{paths_next, paths_at}
+use Rattle.kmin_report.proofs.Results.{if_err}
 use Rattle.kmin_tidy.proofs.whole_run.tidy_each.Goals as goal
 
 pub loop-path-init : goal.loop-path-init

@@ -1,7 +1,7 @@
 use Rattle.std.proofs.Common.{◌≡◌, ℕ, List, take}
 use Rattle.kmin_tidy.specs.Options.{settings_of}
 use Rattle.kmin_tidy.specs.Runs.{Tidies, paths_of}
-use Rattle.kmin_tidy.specs.StandardError.{TakesLines}
+use Rattle.kmin_report.specs.StandardError.{TakesLines}
 use Rattle.kmin_tidy.proofs.whole_run.tidy_each.Given as goal
 
 abbrev pub invariant-loop-path : goal.invariant-loop-path

@@ -4,7 +4,7 @@ use Rattle.kc_expr.proofs.StoreLemmas.{represents_on}
 use Rattle.kc_tree.proofs.group_walk.GroupWalk.new.Goals as goal
 
 pub returns-clause-walked : goal.returns-clause-walked
-returns-clause-walked c = λ texts later g. record {
+returns-clause-walked c = λ language texts later g. record {
   yes_is = represents_on c.yes_and_no.new.arena later c.in_ok-constants.constants.0 _ g c.in_ok-constants.ensures.yes;
   no_is = represents_on c.yes_and_no.new.arena later c.in_ok-constants.constants.1 _ g c.in_ok-constants.ensures.no;
   stack_is = search rules;

@@ -1,6 +1,7 @@
 use Rattle.std.proofs.Common.{◌≡◌, ◌∙◌, List, None, [], length, reverse, arith, refl, sym, subst}
 use Rattle.std.proofs.lemmas.Grind.{common_steps}
 use Rattle.std.specs.Prelude.{slice_get}
+use Rattle.kc_tokens.specs.Languages.{is_linux_6_12}
 use Rattle.kc_expr.specs.between.Arena.{Grows}
 use Rattle.kc_expr.proofs.StoreLemmas.{represents_on}
 use Rattle.kc_listing.proofs.AppendSteps.{grows_same, on_ok}
@@ -20,16 +21,16 @@ pub entry_conditions-requires-clause-dependencies : goal.entry_conditions-requir
 entry_conditions-requires-clause-dependencies c =
     let w = c.args.self.now in
     let k = c.requires.walked in
-    let t = top_shown w.arena k.0 w.yes (reverse w.stack.items) (open_blocks 0 k.1) (k.2 w.arena (grows_same w.arena)).stack_is in
-    let a = subst (λ (x : EnclosingConditions). RepresentsEnclosing w.arena k.0 w.yes x (open_blocks 0 k.1)) (sym c.enclosing-enclosing.ensures) t in
+    let t = top_shown _ w.arena k.0 w.yes (reverse w.stack.items) (open_blocks 0 k.1) (k.2 w.arena (grows_same w.arena)).stack_is in
+    let a = subst (λ (x : EnclosingConditions). RepresentsEnclosing c.args.language w.arena k.0 w.yes x (open_blocks 0 k.1)) (sym c.enclosing-enclosing.ensures) t in
     conjoins_there w.arena c.enclosing-enclosing.result.dependencies _ a.dependencies_are
 
 pub entry_conditions-requires-clause-visibles : goal.entry_conditions-requires-clause-visibles
 entry_conditions-requires-clause-visibles c =
     let w = c.args.self.now in
     let k = c.requires.walked in
-    let t = top_shown w.arena k.0 w.yes (reverse w.stack.items) (open_blocks 0 k.1) (k.2 w.arena (grows_same w.arena)).stack_is in
-    let a = subst (λ (x : EnclosingConditions). RepresentsEnclosing w.arena k.0 w.yes x (open_blocks 0 k.1)) (sym c.enclosing-enclosing.ensures) t in
+    let t = top_shown _ w.arena k.0 w.yes (reverse w.stack.items) (open_blocks 0 k.1) (k.2 w.arena (grows_same w.arena)).stack_is in
+    let a = subst (λ (x : EnclosingConditions). RepresentsEnclosing c.args.language w.arena k.0 w.yes x (open_blocks 0 k.1)) (sym c.enclosing-enclosing.ensures) t in
     conjoins_there w.arena c.enclosing-enclosing.result.visibles _ a.visibles_are
 
 pub entry_conditions-requires-clause-held : goal.entry_conditions-requires-clause-held
@@ -43,8 +44,8 @@ pub inside-requires-clause-enclosing : goal.inside-requires-clause-enclosing
 inside-requires-clause-enclosing c =
     let w = c.args.self.now in
     let k = c.requires.walked in
-    let t = top_shown w.arena k.0 w.yes (reverse w.stack.items) (open_blocks 0 k.1) (k.2 w.arena (grows_same w.arena)).stack_is in
-    let a = subst (λ (x : EnclosingConditions). RepresentsEnclosing w.arena k.0 w.yes x (open_blocks 0 k.1)) (sym c.enclosing-enclosing.ensures) t in
+    let t = top_shown _ w.arena k.0 w.yes (reverse w.stack.items) (open_blocks 0 k.1) (k.2 w.arena (grows_same w.arena)).stack_is in
+    let a = subst (λ (x : EnclosingConditions). RepresentsEnclosing c.args.language w.arena k.0 w.yes x (open_blocks 0 k.1)) (sym c.enclosing-enclosing.ensures) t in
     there_on w.arena c.push_conditions.new.arena (grows_on w.arena c.entry_conditions.new.arena c.push_conditions.new.arena c.entry_conditions.ensures.grows
     c.push_conditions.ensures.grows) c.enclosing-enclosing.result.dependencies
     (conjoins_there w.arena c.enclosing-enclosing.result.dependencies _ a.dependencies_are)
@@ -53,8 +54,8 @@ pub push_conditions-requires-clause-dependencies : goal.push_conditions-requires
 push_conditions-requires-clause-dependencies c =
     let w = c.args.self.now in
     let k = c.requires.walked in
-    let t = top_shown w.arena k.0 w.yes (reverse w.stack.items) (open_blocks 0 k.1) (k.2 w.arena (grows_same w.arena)).stack_is in
-    let a = subst (λ (x : EnclosingConditions). RepresentsEnclosing w.arena k.0 w.yes x (open_blocks 0 k.1)) (sym c.enclosing-enclosing.ensures) t in
+    let t = top_shown _ w.arena k.0 w.yes (reverse w.stack.items) (open_blocks 0 k.1) (k.2 w.arena (grows_same w.arena)).stack_is in
+    let a = subst (λ (x : EnclosingConditions). RepresentsEnclosing c.args.language w.arena k.0 w.yes x (open_blocks 0 k.1)) (sym c.enclosing-enclosing.ensures) t in
     let j = c.in_ok-entry.ensures.joined _ _ a.dependencies_are a.visibles_are in
     conjoins_there c.entry_conditions.new.arena c.in_ok-entry.entry.dependencies _ j.dependencies_are
 
@@ -62,8 +63,8 @@ pub push_conditions-requires-clause-shown : goal.push_conditions-requires-clause
 push_conditions-requires-clause-shown c =
     let w = c.args.self.now in
     let k = c.requires.walked in
-    let t = top_shown w.arena k.0 w.yes (reverse w.stack.items) (open_blocks 0 k.1) (k.2 w.arena (grows_same w.arena)).stack_is in
-    let a = subst (λ (x : EnclosingConditions). RepresentsEnclosing w.arena k.0 w.yes x (open_blocks 0 k.1)) (sym c.enclosing-enclosing.ensures) t in
+    let t = top_shown _ w.arena k.0 w.yes (reverse w.stack.items) (open_blocks 0 k.1) (k.2 w.arena (grows_same w.arena)).stack_is in
+    let a = subst (λ (x : EnclosingConditions). RepresentsEnclosing c.args.language w.arena k.0 w.yes x (open_blocks 0 k.1)) (sym c.enclosing-enclosing.ensures) t in
     let j = c.in_ok-entry.ensures.joined _ _ a.dependencies_are a.visibles_are in
     conjoins_there c.entry_conditions.new.arena c.in_ok-entry.entry.shown _ j.shown_is
 
@@ -72,8 +73,8 @@ inside-requires-clause-prompt c =
     let w = c.args.self.now in
     let k = c.requires.walked in
     let here = k.2 w.arena (grows_same w.arena) in
-    let t = top_shown w.arena k.0 w.yes (reverse w.stack.items) (open_blocks 0 k.1) here.stack_is in
-    let a = subst (λ (x : EnclosingConditions). RepresentsEnclosing w.arena k.0 w.yes x (open_blocks 0 k.1)) (sym c.enclosing-enclosing.ensures) t in
+    let t = top_shown _ w.arena k.0 w.yes (reverse w.stack.items) (open_blocks 0 k.1) here.stack_is in
+    let a = subst (λ (x : EnclosingConditions). RepresentsEnclosing c.args.language w.arena k.0 w.yes x (open_blocks 0 k.1)) (sym c.enclosing-enclosing.ensures) t in
     let j = c.in_ok-entry.ensures.joined _ _ a.dependencies_are a.visibles_are in
     let b = c.in_ok-push_conditions.ensures.appended _ _ _ j (represents_on w.arena c.entry_conditions.new.arena w.yes (conjunction_of [])
     c.entry_conditions.ensures.grows here.yes_is) in
@@ -89,16 +90,16 @@ returns-then-ends-clause-walked c = λ names texts before m walked what attribut
     let far = c.push_conditions.new.arena in
     let here = walked w.arena (grows_same w.arena) in
     let f = rw c.enclosing-enclosing.ensures at c.in_ok-entry.ensures.joined in
-    let j = entry_is w new texts before m mid far c.in_ok-entry.entry c.args.lines.now walked c.requires.lines attributes_are c.entry_conditions.ensures.grows
+    let j = entry_is _ w new texts before m mid far c.in_ok-entry.entry c.args.lines.now walked c.requires.lines attributes_are c.entry_conditions.ensures.grows
     c.push_conditions.ensures.grows f in
     let b = c.in_ok-push_conditions.ensures.appended _ _ _ j
     (represents_on w.arena mid w.yes (conjunction_of []) c.entry_conditions.ensures.grows here.yes_is) in
-    let b2 = subst (λ xs. AreAppended mid far w.conditions.items xs (dependencies_of (context (open_blocks 0 before)) m)
-    (context (open_blocks 0 before)).visibles c.args.lines.now) (sym c.end.ensures.conditions) b in
+    let b2 = subst (λ xs. AreAppended mid far w.conditions.items xs (dependencies_of (context (is_linux_6_12 c.args.language) (open_blocks 0 before)) m)
+    (context (is_linux_6_12 c.args.language) (open_blocks 0 before)).visibles c.args.lines.now) (sym c.end.ensures.conditions) b in
     let g : Grows far new.arena = subst (λ e. Grows far e) (sym c.end.ensures.arena) (grows_same far) in
     let l : c.len-first.result ≡ length w.conditions.items = omega (arith, c.len-first.ensures) in
     on_ok c.end.result _ _
-    (λ groups. ended w new texts before m mid far c.in_ok-entry.entry c.args.lines.now walked c.requires.lines attributes_are c.entry_conditions.ensures.grows
+    (λ groups. ended _ w new texts before m mid far c.in_ok-entry.entry c.args.lines.now walked c.requires.lines attributes_are c.entry_conditions.ensures.grows
     c.push_conditions.ensures.grows
     b2 g c.end.ensures.yes c.end.ensures.no (record {
       dependency = or_yes w.yes c.enclosing-enclosing.result.dependencies;
@@ -121,12 +122,12 @@ returns-clause-walked c = λ names texts before m walked what attributes_are.
     let s : List Group = open_blocks 0 before in
     let here = walked w.arena (grows_same w.arena) in
     let f = rw c.enclosing-enclosing.ensures at c.in_ok-entry.ensures.joined in
-    let j = entry_is w new texts before m mid far c.in_ok-entry.entry c.args.lines.now walked c.requires.lines attributes_are c.entry_conditions.ensures.grows
+    let j = entry_is _ w new texts before m mid far c.in_ok-entry.entry c.args.lines.now walked c.requires.lines attributes_are c.entry_conditions.ensures.grows
     c.push_conditions.ensures.grows f in
     let y = represents_on w.arena mid w.yes (conjunction_of []) c.entry_conditions.ensures.grows here.yes_is in
     let b = c.in_ok-push_conditions.ensures.appended _ _ _ j y in
     let same = c.push_group.ensures.conditions ∙ c.enter.ensures.conditions in
-    let b2 = subst (λ xs. AreAppended mid far w.conditions.items xs (dependencies_of (context s) m) (context s).visibles c.args.lines.now) (sym same) b in
+    let b2 = subst (λ xs. AreAppended mid far w.conditions.items xs (dependencies_of (context (is_linux_6_12 c.args.language) s) m) (context (is_linux_6_12 c.args.language) s).visibles c.args.lines.now) (sym same) b in
     let to_far = grows_on w.arena mid far c.entry_conditions.ensures.grows c.push_conditions.ensures.grows in
     let arena_is = c.push_group.ensures.arena ∙ c.enter.ensures.arena in
     let g : Grows far new.arena = subst (λ e. Grows far e) (sym arena_is) c.inside.ensures.grows in
@@ -134,15 +135,15 @@ returns-clause-walked c = λ names texts before m walked what attributes_are.
     let p0 = prompt_represents w.arena mid far w.conditions.items c.push_conditions.new.conditions.items _ _ c.args.lines.now b
     c.first_prompt_condition-prompt.result c.len-first.result c.entry_conditions.ensures.grows c.requires.lines l
     c.first_prompt_condition-prompt.ensures.value in
-    let p : RepresentsPrompt far c.first_prompt_condition-prompt.result (slice_get (prompts_of (context s) m) 0) = rw (← attributes_are) at p0 in
-    let t = top_shown w.arena texts w.yes (reverse w.stack.items) s here.stack_is in
-    let a = subst (λ (x : EnclosingConditions). RepresentsEnclosing w.arena texts w.yes x s) (sym c.enclosing-enclosing.ensures) t in
+    let p : RepresentsPrompt far c.first_prompt_condition-prompt.result (slice_get (prompts_of (context (is_linux_6_12 c.args.language) s) m) 0) = rw (← attributes_are) at p0 in
+    let t = top_shown _ w.arena texts w.yes (reverse w.stack.items) s here.stack_is in
+    let a = subst (λ (x : EnclosingConditions). RepresentsEnclosing c.args.language w.arena texts w.yes x s) (sym c.enclosing-enclosing.ensures) t in
     let shown = c.in_ok-opened.ensures.represents names texts w.yes m s (what_on w.arena far names texts c.args.head.now m.head to_far what)
-    (around_on w.arena far texts w.yes c.enclosing-enclosing.result s to_far a)
+    (around_on _ w.arena far texts w.yes c.enclosing-enclosing.result s to_far a)
     (joined_on mid far c.push_conditions.ensures.grows c.in_ok-entry.entry _ _ _ j) p
     (represents_on mid far w.yes (conjunction_of []) c.push_conditions.ensures.grows y) (represents_on w.arena far w.no _ to_far here.no_is) in
     on_ok c.push_group.result _ _
-    (λ groups. entered w new texts before m mid far c.in_ok-entry.entry c.args.lines.now walked c.requires.lines attributes_are c.entry_conditions.ensures.grows
+    (λ groups. entered _ w new texts before m mid far c.in_ok-entry.entry c.args.lines.now walked c.requires.lines attributes_are c.entry_conditions.ensures.grows
     c.push_conditions.ensures.grows
     b2 g (c.push_group.ensures.yes ∙ c.enter.ensures.yes) (c.push_group.ensures.no ∙ c.enter.ensures.no)
     (record {
@@ -154,7 +155,7 @@ returns-clause-walked c = λ names texts before m walked what attributes_are.
     })
     c.in_ok-opened.opened (other_side w.arena names texts c.args.head.now m what (sym c.ends.ensures ∙ c.if-ends.false)) j (rw l refl)
     (rw (c.enter.ensures.yes, c.enter.ensures.groups) at groups) (c.push_group.ensures.stack ∙ c.in_ok-enter.ensures.stack)
-    (λ later h. inside_on last later texts w.yes m s c.in_ok-opened.opened (subst (λ e. Grows e later) arena_is h) shown))
+    (λ later h. inside_on _ last later texts w.yes m s c.in_ok-opened.opened (subst (λ e. Grows e later) arena_is h) shown))
     c.push_group.ensures.groups
 
 pub returns-in_err-push_conditions-clause-grows : goal.returns-in_err-push_conditions-clause-grows

@@ -1,0 +1,6 @@
+//! Texts written to their end, or up to the first write that fails.
+#![tactic(auto)]
+
+mod output;
+
+pub use output::{WriteFault, write_out};

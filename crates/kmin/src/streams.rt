@@ -1,0 +1,94 @@
+//! Standard output and standard error.
+ghost use Rattle.std.specs.Prelude.{None};
+
+use kc_output::write_out;
+use kc_value::{Failed, Sink, ToWrite};
+use std::io::{ErrorKind, Write};
+
+/// A writer to standard output, and whether its last failed write was one into a pipe that nobody reads any more.
+#[derive(Drop)]
+pub(crate) struct Output<W> {
+    inner: W,
+    failed: u64,
+    is_closed: bool,
+}
+
+impl<W: Write> Output<W> {
+    /// Wraps a writer of which no write failed yet.
+    pub(crate) fn new(inner: W) -> Output<W> {
+        Output {
+            inner,
+            failed: 0,
+            is_closed: false,
+        }
+    }
+
+    /// Whether the last failed write was one into a closed pipe.
+    pub(crate) fn is_closed(&self) -> bool {
+        self.is_closed
+    }
+}
+
+impl<W: Write> Sink for Output<W> {
+    ghost taken = { λ s. W.contents s.inner };
+
+    ghost failures = { λ s. s.failed };
+
+    fn write_some(&mut self, bytes: &[u8]) -> Result<usize, Failed> {
+        match self.inner.write(bytes) {
+            Ok(n) => {
+                if n == 0 && !bytes.is_empty() {
+                    self.failed = self.failed.saturating_add(1);
+                }
+                Ok(n)
+            }
+            Err(error) => {
+                self.is_closed = error.kind() == ErrorKind::BrokenPipe;
+                self.failed = self.failed.saturating_add(1);
+                Err(Failed)
+            }
+        }
+    }
+}
+
+/// The line for a failed write of standard output.
+const OUTPUT_LINE: &[u8] = b"output: Write\n";
+
+/// A writer to standard error. It holds back the line for a failed write of standard output, which is the last line of a run, until
+/// `end`.
+#[derive(Drop)]
+pub(crate) struct Messages<W> {
+    inner: ToWrite<W>,
+    holds_line: bool,
+}
+
+impl<W: Write> Messages<W> {
+    /// Wraps a writer, and holds nothing back yet.
+    pub(crate) fn new(inner: W) -> Messages<W> {
+        Messages {
+            inner: ToWrite::new(inner),
+            holds_line: false,
+        }
+    }
+
+    /// Writes the line that was held back, unless standard output is a closed pipe: then its reader wants no more, as `head`.
+    pub(crate) fn end(&mut self, is_closed: bool) {
+        if self.holds_line && !is_closed {
+            let _ = write_out(&mut self.inner, OUTPUT_LINE);
+        }
+    }
+}
+
+impl<W: Write> Sink for Messages<W> {
+    ghost taken = { λ _. None };
+
+    ghost failures = { λ s. ⟦<ToWrite<W> as Sink>⟧.failures s.inner };
+
+    fn write_some(&mut self, bytes: &[u8]) -> Result<usize, Failed> {
+        if bytes == OUTPUT_LINE {
+            self.holds_line = true;
+            return Ok(OUTPUT_LINE.len());
+        }
+        self.inner.write_some(bytes)
+    }
+}

@@ -1,7 +1,0 @@
-use Rattle.kmin_tidy.proofs.ReadingLemmas.{if_ok_map}
-use Rattle.kmin_jobs.proofs.TreeFolders.{wanted_below}
-use Rattle.kmin_jobs.proofs.expanded_trees.wanted_below.Goals as goal
-
-pub returns : goal.returns
-returns g c =
-    if_ok_map c.wants.result _ _ (λ w h. wanted_below _ (g.F.Files.surroundings c.args.files.now) _ _ _ _ _ c.as_bytes.ensures.value h) c.wants.ensures.wanted

@@ -1,5 +1,0 @@
-use Rattle.kmin_jobs.proofs.KnownTrees.{known_tree}
-use Rattle.kmin_jobs.proofs.laws.known_files_determine_the_tree.Goals as goal
-
-pub returns : goal.returns
-returns c = known_tree

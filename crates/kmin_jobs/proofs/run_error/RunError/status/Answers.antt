@@ -1,5 +1,0 @@
-use Rattle.std.proofs.Common.{rules}
-use Rattle.kmin_jobs.proofs.run_error.RunError.status.Goals as goal
-
-pub returns-in-Failed : goal.returns-in-Failed
-returns-in-Failed c = search rules

@@ -1,8 +1,0 @@
-//! Laws of jobs.
-ghost use Rattle.kmin_jobs.specs.KnownTrees.{KnownFilesDetermineTheTree};
-
-/// The known files below the root determine the tree of a job, but for the numbers of its files: whichever texts are
-/// read, if they are accepted, they are the tree of the known bytes.
-pub fn known_files_determine_the_tree()
-    ensures { KnownFilesDetermineTheTree }
-{}

@@ -1,0 +1,6 @@
+pub mod WriterLemmas
+pub mod KnownContents
+pub mod Lists
+pub mod Results
+pub mod CycleLines
+pub mod LastLines

@@ -1,0 +1,114 @@
+-- The lines of standard error.
+use Rattle.std.specs.Prelude.{ℕ, List, [], ◌∷◌, ◌++◌, Option, Some, None, codes, map, slice_get, unwrap_or, option_and_then, ◌==◌, if◌then◌else◌}
+use Rattle.std.specs.List.{flat_map}
+use Rattle.std.specs.Fmt.{decimal}
+use Rattle.kc_tree_model.specs.TreeFiles.{Files, path_at}
+use Rattle.kc_tree_model.specs.Trees.{Tree, Symbol, Choice}
+use Rattle.kc_tree_model.specs.declared.ids.Unit.TheVariants.{Symbol as of_symbol, Choice as of_choice}
+use Rattle.kc_tree_model.specs.declared.ids.Unit.{Unit as TreeUnit}
+use Rattle.kc_tree_model.specs.declared.fault.TreeFault.{TreeFault}
+use Rattle.kc_dotconfig_model.specs.KindNames.{load_kind_name, notice_kind_name}
+use Rattle.kc_dotconfig_model.specs.declared.fault.LoadKind.{LoadKind}
+use Rattle.kc_dotconfig_model.specs.declared.notice.NoticeKind.{NoticeKind}
+use Rattle.kc_dotconfig_model.specs.ConfigLines.{LineMeaning}
+use Rattle.kc_dotconfig_model.specs.ConfigFiles.{notices_from}
+use Rattle.kc_tree_model.specs.FaultNames.{tree_kind_name}
+
+-- the line of standard error for a fault or a notice at a line of a file: `FILE:LINE: KIND`
+abbrev pub place_line : (path : List ℕ) (number : ℕ) (kind : List ℕ) → List ℕ
+place_line path number kind = path ++ (codes ":" ++ (decimal number ++ (codes ": " ++ (kind ++ codes "\n"))))
+
+-- the line of standard error for a fault of a configuration file: `FILE:LINE: KIND`
+abbrev pub fault_line : (path : List ℕ) (number : ℕ) → LoadKind → List ℕ
+fault_line path number kind = place_line path number (load_kind_name kind)
+
+-- the line of standard error for a notice of a configuration file: `FILE:LINE: KIND`
+abbrev pub notice_line : (path : List ℕ) → ℕ × NoticeKind → List ℕ
+notice_line path notice = place_line path notice.0 (notice_kind_name notice.1)
+
+-- the line of standard error for a path that leads to a link, a folder, a pipe or a device: `FILE:0: NotRegular`
+abbrev pub not_regular_line : (path : List ℕ) → List ℕ
+not_regular_line path = place_line path 0 (codes "NotRegular")
+
+-- the line of standard error for a file that couldn't be replaced, or whose folder couldn't be synced after it: `FILE: Write`
+abbrev pub write_line : (path : List ℕ) → List ℕ
+write_line path = path ++ codes ": Write\n"
+
+-- the line of standard error for a new file that couldn't be removed: `NEWFILE: Left`
+abbrev pub left_line : (new_path : List ℕ) → List ℕ
+left_line new_path = new_path ++ codes ": Left\n"
+
+-- the line of standard error where standard output can't be written: `output: Write`
+abbrev pub output_line : List ℕ
+output_line = codes "output: Write\n"
+
+-- the line of standard error where memory ran out: `out of memory`
+abbrev pub memory_line : List ℕ
+memory_line = codes "out of memory\n"
+
+-- the path of the file of this number in a tree; the path `first` of the first file if there is no number, or no such file
+abbrev pub path_or_first : Files → (first : List ℕ) → Option ℕ → List ℕ
+path_or_first texts first None = first
+path_or_first texts first (Some number) = unwrap_or (path_at texts number) first
+
+-- the line of standard error for a fault of a tree: `FILE:LINE: KIND`
+abbrev pub tree_fault_line : Files → (first : List ℕ) → TreeFault → List ℕ
+tree_fault_line texts first fault = place_line (path_or_first texts first fault.file) fault.line (tree_kind_name fault.kind)
+
+-- the name of the symbol of this number in a tree; empty if there is none
+abbrev pub name_at : Tree → ℕ → List ℕ
+name_at tree s = elim (slice_get tree.symbols s) [ None ↦ [] | Some symbol ↦ symbol.name ]
+
+-- the name of the first member of a choice; empty if there is no choice, or it has no members
+abbrev pub first_member_name : Tree → Option Choice → List ℕ
+first_member_name tree None = []
+first_member_name tree (Some choice) = elim (slice_get choice.members 0) [ None ↦ [] | Some s ↦ name_at tree s ]
+
+-- a symbol or a choice in the line of a cycle: ` NAME`, or ` choice:MEMBER` with the name of the choice's first member
+abbrev pub unit_text : Tree → Option TreeUnit → List ℕ
+unit_text tree None = []
+unit_text tree (Some (of_symbol s)) = codes " " ++ name_at tree s
+unit_text tree (Some (of_choice c)) = codes " choice:" ++ first_member_name tree (slice_get tree.choices c)
+
+-- the number of the file and the line of a symbol's first definition; zeros if there is no symbol
+abbrev pub symbol_place : Option Symbol → ℕ × ℕ
+symbol_place None = (0, 0)
+symbol_place (Some symbol) = (symbol.file, symbol.line)
+
+-- the number of the file and the line of a choice; zeros if there is no choice
+abbrev pub choice_place : Option Choice → ℕ × ℕ
+choice_place None = (0, 0)
+choice_place (Some choice) = (choice.file, choice.line)
+
+-- the number of the file and the line at which a symbol or a choice begins; zeros if there is neither
+abbrev pub unit_place : Tree → Option TreeUnit → ℕ × ℕ
+unit_place tree None = (0, 0)
+unit_place tree (Some (of_symbol s)) = symbol_place (slice_get tree.symbols s)
+unit_place tree (Some (of_choice c)) = choice_place (slice_get tree.choices c)
+
+-- the symbols and choices of a cycle, by their numbers as units of the tree, each after a space
+abbrev pub units_text : Tree → List ℕ → List ℕ
+units_text tree units = flat_map (λ u. unit_text tree (slice_get tree.units u)) units
+
+-- the number of the file and the line of a cycle: those of its first symbol or choice
+abbrev pub cycle_place : Tree → List ℕ → ℕ × ℕ
+cycle_place tree units = unit_place tree (option_and_then (slice_get tree.units) (slice_get units 0))
+
+-- the line of standard error for a cycle: `FILE:LINE: Cycle A B`
+abbrev pub cycle_line : Files → (first : List ℕ) → Tree → List ℕ → List ℕ
+cycle_line texts first tree units =
+    place_line (path_or_first texts first (Some (cycle_place tree units).0)) (cycle_place tree units).1 (codes "Cycle" ++ units_text tree units)
+
+-- the lines of standard error for the notices of a configuration file, from the meanings of its lines
+abbrev pub file_notices : (path : List ℕ) → List LineMeaning → List (List ℕ)
+file_notices path meanings = map (notice_line path) (notices_from 1 meanings)
+
+-- the lines of standard error for the notices of several configuration files, in order, from the meanings of their lines
+abbrev pub notice_lines : (paths : List (List ℕ)) → List (List LineMeaning) → List (List ℕ)
+notice_lines [] meanings = []
+notice_lines (path ∷ paths) [] = []
+notice_lines (path ∷ paths) (meanings ∷ others) = file_notices path meanings ++ notice_lines paths others
+
+-- the last lines of standard error of a run, by its exit status: `out of memory` for 6, and none for any other
+abbrev pub last_lines : (status : ℕ) → List (List ℕ)
+last_lines status = if status == 6 then memory_line ∷ [] else []

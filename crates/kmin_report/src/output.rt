@@ -1,0 +1,47 @@
+//! The output of a job, and the last line of a run that has none.
+ghost use Rattle.std.specs.Prelude.{◌≡◌, ◌∷◌, [], ◌<◌, length, take, IfErr, OnOk, OnErr};
+ghost use Rattle.std.specs.Io.KnownBytes.{Appends};
+ghost use Rattle.kmin_report.specs.Reports.{last_lines, output_line};
+ghost use Rattle.kmin_report.specs.StandardError.{HasRisen, TakesLines};
+ghost use Rattle.kmin_report.specs.between.RunErrors.{status_of};
+
+use crate::report::{Report, write_report};
+use crate::run_error::RunError;
+use kc_output::{WriteFault, write_out};
+use kc_value::Sink;
+
+/// Writes the output of a command to `out`. Reports a failed write to `err`.
+pub fn write_answer<O: Sink, E: Sink>(
+    text: &[u8],
+    out: &mut O,
+    err: &mut E,
+) -> Result<(), WriteFault>
+    ensures whole { OnOk result (Appends (O.taken out.old) (O.taken out.new) text.now) }
+    ensures unfailed { OnOk result (O.failures out.new ≡ O.failures out.old) }
+    ensures unreported { OnOk result (TakesLines (E.taken err.old) (E.failures err.old) [] (E.taken err.new) (E.failures err.new)) }
+    ensures part { IfErr result (λ fault. (fault.written < length text.now) × Appends (O.taken out.old) (O.taken out.new) (take fault.written text.now)) }
+    ensures failures { OnErr result (HasRisen (O.failures out.old) (O.failures out.new)) }
+    ensures reported { OnErr result (TakesLines (E.taken err.old) (E.failures err.old) (output_line ∷ []) (E.taken err.new) (E.failures err.new)) }
+{
+    match write_out(out, text) {
+        Ok(()) => Ok(()),
+        Err(fault) => {
+            write_report(Report::OutputFault, err);
+            Err(fault)
+        }
+    }
+}
+
+/// The exit status of a run that ended early. Reports out of memory; every other error was reported before.
+pub fn exit_status<E: Sink>(stop: RunError, err: &mut E) -> u8
+    ensures status { result ≡ status_of stop }
+    ensures reported { TakesLines (E.taken err.old) (E.failures err.old) (last_lines result) (E.taken err.new) (E.failures err.new) }
+{
+    match stop {
+        RunError::Memory => {
+            write_report(Report::OutOfMemory, err);
+            stop.status()
+        }
+        _ => stop.status(),
+    }
+}

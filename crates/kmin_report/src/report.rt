@@ -1,0 +1,243 @@
+//! The lines of standard error: each is a report, which is written at once.
+ghost use Rattle.std.specs.Prelude.{◌≡◌, ◌++◌, ℕ, List, codes, slice_get, length, ◌<◌, OnOk, OnErr};
+ghost use Rattle.std.specs.List.{flat_map};
+ghost use Rattle.std.specs.Borrow.{Bor};
+ghost use Rattle.kc_macros.specs.Runs.{fault_of, notice_of};
+ghost use Rattle.kmin_report.specs.MacroReports.{macro_fault_line, macro_notice_line, message_line};
+ghost use Rattle.kmin_report.specs.Reports.{first_member_name, unit_text, units_text, place_line};
+ghost use Rattle.kmin_report.specs.StandardError.{TakesWhole, TakesPart, TakesLine};
+ghost use Rattle.kmin_report.specs.between.ReportLines.{report_line};
+
+use crate::symbol_names::name_of;
+use itoa::Buffer;
+use kc_dotconfig_model::{LoadKind, NoticeKind};
+use kc_macros::{AnswersKind, MacroFault, MacroNotice};
+use kc_output::{WriteFault, write_out};
+use kc_tree::{Tree, TreeKind, Unit};
+use kc_value::Sink;
+
+/// An event that a line on standard error reports.
+#[derive(Drop)]
+pub enum Report<'a> {
+    /// A fault of a tree.
+    TreeFault {
+        path: &'a [u8],
+        line: u32,
+        kind: TreeKind,
+    },
+    /// Symbols and choices of a tree that depend on each other in a circle, at the file and line of the first.
+    Cycle {
+        path: &'a [u8],
+        line: u32,
+        tree: &'a Tree,
+        units: &'a [u32],
+    },
+    /// A fault of a configuration file.
+    FileFault {
+        path: &'a str,
+        line: u32,
+        kind: LoadKind,
+    },
+    /// A notice of a configuration file: a line with an unknown symbol, or with a value that isn't of its symbol's type.
+    Notice {
+        path: &'a str,
+        line: u32,
+        kind: NoticeKind,
+    },
+    /// A fault of an answer file.
+    AnswersFault {
+        path: &'a str,
+        line: u32,
+        kind: AnswersKind,
+    },
+    /// A notice of the expansion of a tree's macros.
+    MacroNotice(&'a MacroNotice),
+    /// A fault of the expansion of a tree's macros.
+    MacroFault(&'a MacroFault),
+    /// A write of the output failed.
+    OutputFault,
+    /// The path of the output file leads to a link, a folder, a pipe or a device.
+    NotRegular(&'a str),
+    /// The output file at this path couldn't be updated, or not for good.
+    Unwritten(&'a str),
+    /// The new file at this path, which was to replace a file, couldn't be removed.
+    Left(&'a str),
+    /// Memory ran out.
+    OutOfMemory,
+    /// The message for words that are refused.
+    RefusedWords(&'a str),
+}
+
+/// Writes the line of a report, up to the first write that fails. Takes no memory.
+pub fn write_report<W: Sink>(report: Report<'_>, sink: &mut W)
+    ensures { TakesLine (W.taken sink.old) (W.failures sink.old) (report_line report.entry) (W.taken sink.new) (W.failures sink.new) }
+{
+    let _ = write_line(&report, sink);
+}
+
+/// Writes the line of a report.
+fn write_line<W: Sink>(report: &Report<'_>, sink: &mut W) -> Result<(), WriteFault>
+    ensures whole { OnOk result (TakesWhole (W.taken sink.old) (W.failures sink.old) (report_line report.now) (W.taken sink.new) (W.failures sink.new)) }
+    ensures part { OnErr result (TakesPart (W.taken sink.old) (W.failures sink.old) (report_line report.now) (W.taken sink.new) (W.failures sink.new)) }
+{
+    match report {
+        Report::TreeFault { path, line, kind } => write_place(path, *line, kind.name(), sink),
+        Report::Cycle {
+            path,
+            line,
+            tree,
+            units,
+        } => write_cycle(path, *line, tree, units, sink),
+        Report::FileFault { path, line, kind } => {
+            write_place(path.as_bytes(), *line, kind.name(), sink)
+        }
+        Report::Notice { path, line, kind } => {
+            write_place(path.as_bytes(), *line, kind.name(), sink)
+        }
+        Report::AnswersFault { path, line, kind } => {
+            write_place(path.as_bytes(), *line, kind.name(), sink)
+        }
+        Report::MacroNotice(notice) => write_macro_notice(notice, sink),
+        Report::MacroFault(fault) => write_macro_fault(fault, sink),
+        Report::OutputFault => write_pieces(&[b"output: Write\n"], sink),
+        Report::NotRegular(path) => write_place(path.as_bytes(), 0, "NotRegular", sink),
+        Report::Unwritten(path) => write_pieces(&[path.as_bytes(), b": Write\n"], sink),
+        Report::Left(path) => write_pieces(&[path.as_bytes(), b": Left\n"], sink),
+        Report::OutOfMemory => write_pieces(&[b"out of memory\n"], sink),
+        Report::RefusedWords(message) => write_pieces(&[message.as_bytes()], sink),
+    }
+}
+
+/// Writes `FILE:LINE: KIND`.
+fn write_place<W: Sink>(path: &[u8], line: u32, kind: &str, sink: &mut W) -> Result<(), WriteFault>
+    ensures whole { OnOk result (TakesWhole (W.taken sink.old) (W.failures sink.old) (place_line path.now line kind.now) (W.taken sink.new) (W.failures sink.new)) }
+    ensures part { OnErr result (TakesPart (W.taken sink.old) (W.failures sink.old) (place_line path.now line kind.now) (W.taken sink.new) (W.failures sink.new)) }
+{
+    let mut digits = Buffer::new();
+    let number = digits.format(line);
+    write_pieces(
+        &[path, b":", number.as_bytes(), b": ", kind.as_bytes(), b"\n"],
+        sink,
+    )
+}
+
+/// Writes `FILE:LINE: KIND TEXT`, or `FILE:LINE: KIND` where the text is empty.
+fn write_message<'a, W: Sink>(
+    path: &'a [u8],
+    line: u32,
+    kind: &'a str,
+    text: &'a [u8],
+    sink: &mut W,
+) -> Result<(), WriteFault>
+    ensures whole { OnOk result (TakesWhole (W.taken sink.old) (W.failures sink.old) (message_line path.now line kind.now text.now) (W.taken sink.new) (W.failures sink.new)) }
+    ensures part { OnErr result (TakesPart (W.taken sink.old) (W.failures sink.old) (message_line path.now line kind.now text.now) (W.taken sink.new) (W.failures sink.new)) }
+{
+    if text.is_empty() {
+        return write_place(path, line, kind, sink);
+    }
+    let mut digits = Buffer::new();
+    let number = digits.format(line);
+    write_pieces(
+        &[
+            path,
+            b":",
+            number.as_bytes(),
+            b": ",
+            kind.as_bytes(),
+            b" ",
+            text,
+            b"\n",
+        ],
+        sink,
+    )
+}
+
+/// Writes the line of a notice of macros.
+fn write_macro_notice<W: Sink>(notice: &MacroNotice, sink: &mut W) -> Result<(), WriteFault>
+    ensures whole { OnOk result (TakesWhole (W.taken sink.old) (W.failures sink.old) (macro_notice_line (notice_of notice.now)) (W.taken sink.new) (W.failures sink.new)) }
+    ensures part { OnErr result (TakesPart (W.taken sink.old) (W.failures sink.old) (macro_notice_line (notice_of notice.now)) (W.taken sink.new) (W.failures sink.new)) }
+{
+    let path = notice.file.as_slice();
+    let kind = notice.kind.name();
+    write_message(path, notice.line, kind, notice.text.as_slice(), sink)
+}
+
+/// Writes the line of a fault of macros.
+fn write_macro_fault<W: Sink>(fault: &MacroFault, sink: &mut W) -> Result<(), WriteFault>
+    ensures whole { OnOk result (TakesWhole (W.taken sink.old) (W.failures sink.old) (macro_fault_line (fault_of fault.now)) (W.taken sink.new) (W.failures sink.new)) }
+    ensures part { OnErr result (TakesPart (W.taken sink.old) (W.failures sink.old) (macro_fault_line (fault_of fault.now)) (W.taken sink.new) (W.failures sink.new)) }
+{
+    let path = fault.file.as_slice();
+    let kind = fault.kind.name();
+    write_message(path, fault.line, kind, fault.text.as_slice(), sink)
+}
+
+/// Writes `FILE:LINE: Cycle A B`.
+fn write_cycle<W: Sink>(
+    path: &[u8],
+    line: u32,
+    tree: &Tree,
+    units: &[u32],
+    sink: &mut W,
+) -> Result<(), WriteFault>
+    ensures whole { OnOk result (TakesWhole (W.taken sink.old) (W.failures sink.old) (place_line path.now line (codes "Cycle" ++ units_text tree.now.tree units.now)) (W.taken sink.new) (W.failures sink.new)) }
+    ensures part { OnErr result (TakesPart (W.taken sink.old) (W.failures sink.old) (place_line path.now line (codes "Cycle" ++ units_text tree.now.tree units.now)) (W.taken sink.new) (W.failures sink.new)) }
+{
+    let mut digits = Buffer::new();
+    let number = digits.format(line);
+    write_pieces(&[path, b":", number.as_bytes(), b": Cycle"], sink)?;
+    write_units(tree, units, sink)?;
+    write_pieces(&[b"\n"], sink)
+}
+
+/// Writes the names of units, each after a space.
+fn write_units<W: Sink>(tree: &Tree, units: &[u32], sink: &mut W) -> Result<(), WriteFault>
+    ensures whole { OnOk result (TakesWhole (W.taken sink.old) (W.failures sink.old) (units_text tree.now.tree units.now) (W.taken sink.new) (W.failures sink.new)) }
+    ensures part { OnErr result (TakesPart (W.taken sink.old) (W.failures sink.old) (units_text tree.now.tree units.now) (W.taken sink.new) (W.failures sink.new)) }
+{
+    for unit in units {
+        write_unit(tree, *unit, sink)?;
+    }
+    Ok(())
+}
+
+/// Writes the name of a unit after a space; a choice is named by its first member.
+fn write_unit<W: Sink>(tree: &Tree, unit: u32, sink: &mut W) -> Result<(), WriteFault>
+    ensures whole { OnOk result (TakesWhole (W.taken sink.old) (W.failures sink.old) (unit_text tree.now.tree (slice_get tree.now.tree.units unit)) (W.taken sink.new) (W.failures sink.new)) }
+    ensures part { OnErr result (TakesPart (W.taken sink.old) (W.failures sink.old) (unit_text tree.now.tree (slice_get tree.now.tree.units unit)) (W.taken sink.new) (W.failures sink.new)) }
+{
+    if unit >= tree.len() {
+        return Ok(());
+    }
+    match tree.unit(unit) {
+        Unit::Symbol(symbol) => write_pieces(&[b" ", tree.name(symbol).as_bytes()], sink),
+        Unit::Choice(choice) => {
+            write_pieces(&[b" choice:", member_name(tree, choice).as_bytes()], sink)
+        }
+    }
+}
+
+/// The name of a choice's first member.
+fn member_name(tree: &Tree, choice: u32) -> &str
+    requires there { choice < length tree.now.tree.choices }
+    ensures value { result.now ≡ first_member_name tree.now.tree (slice_get tree.now.tree.choices choice) }
+{
+    match tree.choice(choice).members.first() {
+        Some(symbol) => name_of(tree, *symbol),
+        None => "",
+    }
+}
+
+/// Writes pieces of a text one after another, up to the first write that fails or takes nothing. On an `Err` the sink took only
+/// the first bytes of the text: some pieces whole, and `written` bytes of the next piece.
+fn write_pieces<W: Sink>(pieces: &[&[u8]], sink: &mut W) -> Result<(), WriteFault>
+    ensures whole { OnOk result (TakesWhole (W.taken sink.old) (W.failures sink.old) (flat_map (λ (piece : Bor (List ℕ)). piece.now) pieces.now)
+        (W.taken sink.new) (W.failures sink.new)) }
+    ensures part { OnErr result (TakesPart (W.taken sink.old) (W.failures sink.old) (flat_map (λ (piece : Bor (List ℕ)). piece.now) pieces.now)
+        (W.taken sink.new) (W.failures sink.new)) }
+{
+    for piece in pieces {
+        write_out(sink, piece)?;
+    }
+    Ok(())
+}

@@ -1,0 +1,9 @@
+pub mod LoadLines
+pub mod Sequences
+pub mod BundleCuts
+pub mod NamedLines
+pub mod QuestionEnds
+pub mod JobOutputs
+pub mod BundleOutputs
+pub mod TidyLemmas
+pub mod SaveLemmas

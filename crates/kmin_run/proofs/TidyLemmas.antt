@@ -1,0 +1,192 @@
+-- Ends of runs over files: their statuses, their lines, and where nothing is written.
+use Rattle.std.proofs.Common.{◌≡◌, ◌≢◌, ℕ, ◌≤◌, ◌⊎◌, inl, inr, List, [], ◌∷◌, ◌++◌, Option, Some, None, refl, sym, ap, ◌∙◌, subst, max, arith, codes, option_map}
+use Rattle.std.specs.Prelude.{bytes_eq, Bool, true, false}
+use Rattle.kc_files.specs.TreeContents.{FileContent}
+use Rattle.kmin_tidy.specs.Options.{Settings, settings_of}
+use Rattle.kmin_disk.specs.Disks.{Disk}
+use Rattle.kmin_tidy.specs.Runs.{DoneFile, status_of, status_with}
+use Rattle.kmin_tidy.specs.Ends.{Ends, whole, part, stopped, Stops, before_write, at_write, at_left}
+use Rattle.kmin_tidy.specs.declared.outcome.FileOutcome.{FileOutcome}
+use Rattle.kmin_tidy.specs.declared.outcome.FileOutcome.TheVariants.{Minimal, NotMinimal, Refused, Failed}
+use Rattle.kmin_tidy.specs.Promises.{IsKeptOrLeft, AreTidy}
+use Rattle.std.specs.Io.KnownBytes.{Appends}
+use Rattle.kmin_report.specs.StandardError.{TakesLine, TakesLines}
+use Rattle.kmin_disk.specs.Contents.{OpensAs}
+use Rattle.kmin_trees.specs.FileContents.{Surroundings}
+use Rattle.kmin_report.specs.Reports.{last_lines}
+use Rattle.kmin_trees.specs.AcceptedTrees.{AreAccepted}
+use Rattle.kmin_trees.specs.JobTexts.{TreeTexts, AreTextsOfJob}
+use Rattle.kmin_trees.specs.Stops.{StopsAtTree}
+use Rattle.kmin_run.specs.TidyRuns.{AreListBytes, AreNamed, AreMalformed, StopsAtList, malformed, PathsEnd, at_tree, over_files, GoesOver, TidyEnds, at_list, over_paths, Outputs, is_ended_by_nul, list_content, listed_paths, malformed_line, options_of, run_settings}
+use Rattle.kmin_report.specs.declared.run_error.RunError.{RunError}
+use Rattle.kmin_report.specs.between.RunErrors as errors
+use Rattle.kmin_report.proofs.WriterLemmas.{lines_append, lines_one}
+use Rattle.kmin_lines.specs.Lists.{paths_in}
+use Rattle.kmin_tidy.specs.declared.options.TidyOptions.{TidyOptions}
+use Rattle.kmin_words.specs.declared.job.TidyFlags.{TidyFlags}
+use Rattle.kmin_words.specs.Jobs as jobs
+use Rattle.kmin_words.specs.Jobs.{TidyJob}
+use Rattle.kc_rules.specs.declared.rules.Settled.{Settled}
+use Rattle.kc_rules.specs.between.SettledViews.{tree_of_settled, profile_of}
+use Rattle.kc_dotconfig_model.specs.declared.format.Format.{Format}
+use Rattle.kc_dotconfig_model.specs.between.Formats.{file_format}
+
+-- a status of files: 0, 1, 4 or 5
+abbrev IsOfFiles : ℕ → Type 0
+IsOfFiles n = (n ≡ 0) ⊎ ((n ≡ 1) ⊎ ((n ≡ 4) ⊎ (n ≡ 5)))
+
+with_one : (n : ℕ) → IsOfFiles n → IsOfFiles (max 1 n)
+with_one n (inl e) = rw e (inr (inl refl))
+with_one n (inr (inl e)) = rw e (inr (inl refl))
+with_one n (inr (inr (inl e))) = rw e (inr (inr (inl refl)))
+with_one n (inr (inr (inr e))) = rw e (inr (inr (inr refl)))
+
+with_outcome : (outcome : FileOutcome) (rest : ℕ) → IsOfFiles rest → IsOfFiles (status_with outcome rest)
+with_outcome Minimal rest h = h
+with_outcome NotMinimal rest h = with_one rest h
+with_outcome Refused rest h = inr (inr (inl refl))
+with_outcome Failed rest h = inr (inr (inr refl))
+
+of_files : (files : List DoneFile) → IsOfFiles (status_of files)
+of_files [] = inl refl
+of_files (done ∷ files) = with_outcome done.1 (status_of files) (of_files files)
+
+small : (n : ℕ) → IsOfFiles n → n ≤ 6
+small n (inl e) = omega arith
+small n (inr (inl e)) = omega arith
+small n (inr (inr (inl e))) = omega arith
+small n (inr (inr (inr e))) = omega arith
+
+module _ (s : Settings) (old new : Disk) (paths : List (List ℕ)) (reports : List (List ℕ)) (status : ℕ) where
+  stops_small : Stops s old new paths reports status → status ≤ 6
+  stops_small (before_write between front back text earlier made p t n r e) = omega arith
+  stops_small (at_write between front back path text earlier made p t b u r e) = omega arith
+  stops_small (at_left between front back path new_path text earlier made p t b l r e) = omega arith
+
+  -- the exit status of a run over files is at most 6
+  pub ends_small : (taken taken_after : Option (List ℕ)) (failed failed_after : ℕ) → Ends s old new paths taken taken_after failed failed_after reports status
+      → status ≤ 6
+  ends_small taken taken_after failed failed_after (whole text t a f) = rw t.status_is (small (status_of t.files) (of_files t.files))
+  ends_small taken taken_after failed failed_after (part text earlier made count t c a f r e) = omega arith
+  ends_small taken taken_after failed failed_after (stopped k a f) = stops_small k
+
+  -- a run over files with another exit status than 0, 1, 4 or 5 writes nothing to standard output
+  pub ends_unwritten : (taken taken_after : Option (List ℕ)) (failed failed_after : ℕ)
+      → Ends s old new paths taken taken_after failed failed_after reports status
+      → status ≢ 0 → status ≢ 1 → status ≢ 4 → status ≢ 5 → taken_after ≡ taken
+  ends_unwritten taken taken_after failed failed_after (whole text t a f) n0 n1 n4 n5 = elim (of_files t.files) [
+    | inl e ↦ absurd (n0 (t.status_is ∙ e))
+    | inr (inl e) ↦ absurd (n1 (t.status_is ∙ e))
+    | inr (inr (inl e)) ↦ absurd (n4 (t.status_is ∙ e))
+    | inr (inr (inr e)) ↦ absurd (n5 (t.status_is ∙ e))
+  ]
+  ends_unwritten taken taken_after failed failed_after (part text earlier made count t c a f r e) n0 n1 n4 n5 = absurd (n5 e)
+  ends_unwritten taken taken_after failed failed_after (stopped k a f) n0 n1 n4 n5 = a
+
+-- reading standard input agrees with what is known of it
+pub input_opens : (left : Option (List ℕ)) → OpensAs (option_map (λ (bytes : List ℕ). Some bytes) left) (Some left)
+input_opens None = tt
+input_opens (Some bytes) = refl
+
+-- a list of paths whose own path is `-` has the content of standard input
+pub opens_input : (content_of : List ℕ → FileContent) (left : Option (List ℕ)) (path : List ℕ) → bytes_eq path (codes "-") ≡ true
+    → OpensAs (list_content content_of left path) (Some left)
+opens_input content_of left path e = rw e (input_opens left)
+
+-- a list of paths whose own path isn't `-` has the content of the file at that path
+pub opens_file : (content_of : List ℕ → FileContent) (left reader : Option (List ℕ)) (path : List ℕ) → bytes_eq path (codes "-") ≡ false
+    → OpensAs (content_of path) (Some reader) → OpensAs (list_content content_of left path) (Some reader)
+opens_file content_of left reader path e o = rw e o
+
+-- the settings of a run of `tidy_files` over a settled tree are those of the command `tidy` over that tree
+pub settings_are : (settled : Settled) (format : Format) (settings : jobs.Settings) (flags : TidyFlags) (options : TidyOptions)
+    → profile_of settled ≡ settings.profile → file_format format ≡ settings.format → options ≡ options_of settings.strict flags
+    → settings_of settled format options ≡ run_settings settings flags (tree_of_settled settled)
+settings_are settled format settings flags options p q o =
+    ap (λ p. record { format = file_format format; profile = p; tree = tree_of_settled settled; options = options }) p
+    ∙ ap (λ q. record { format = q; profile = settings.profile; tree = tree_of_settled settled; options = options }) q
+    ∙ ap (λ o. record { format = settings.format; profile = settings.profile; tree = tree_of_settled settled; options = o }) o
+
+module _ (taken middle taken_after : Option (List ℕ)) (failed failed_middle failed_after : ℕ) (status : ℕ) where
+  -- a run of `tidy` that ended at its tree, and then reported its last line, ends as `PathsEnd` defines
+  pub tree_ends : (known : Surroundings) (settings : jobs.Settings) (flags : TidyFlags) (paths : List (List ℕ)) (old : Outputs) (stop : RunError)
+      → status ≡ errors.status_of stop
+      → (lines : List (List ℕ)) × StopsAtTree known settings (errors.status_of stop) lines × TakesLines taken failed lines middle failed_middle
+      → TakesLines middle failed_middle (last_lines status) taken_after failed_after
+      → (lines : List (List ℕ)) × PathsEnd known settings flags paths old old lines status × TakesLines taken failed lines taken_after failed_after
+  tree_ends known settings flags paths old stop e w h = (
+    w.0 ++ last_lines status,
+    at_tree w.0 (subst (λ n. StopsAtTree known settings n w.0) (sym e) w.1) refl refl,
+    lines_append taken middle failed failed_middle w.0 (last_lines status) taken_after failed_after w.2 h,
+  )
+
+  -- a run of `tidy` whose tree was accepted, and whose files `tidy_files` went over, ends as `PathsEnd` defines
+  pub went_over : (known : Surroundings) (settings : jobs.Settings) (flags : TidyFlags) (settled : Settled) (format : Format) (options : TidyOptions)
+      (paths : List (List ℕ)) (old new : Outputs)
+      → profile_of settled ≡ settings.profile → file_format format ≡ settings.format → options ≡ options_of settings.strict flags
+      → (t : TreeTexts) × AreTextsOfJob known settings t × AreAccepted t.texts settings.tree (tree_of_settled settled)
+      × TakesLines taken failed t.lines middle failed_middle
+      → (reports : List (List ℕ)) × Ends (settings_of settled format options) old.disk new.disk paths old.taken new.taken old.failures new.failures
+      reports status
+      × TakesLines middle failed_middle reports taken_after failed_after
+      → ((place : List ℕ) → IsKeptOrLeft (settings_of settled format options) (old.disk.state.history place) (new.disk.state.history place))
+      → (AreTidy (settings_of settled format options) old.disk.state paths → new.disk.state ≡ old.disk.state)
+      → (AreTidy (settings_of settled format options) old.disk.state paths → Appends old.taken new.taken [])
+      → (lines : List (List ℕ)) × PathsEnd known settings flags paths old new lines status × TakesLines taken failed lines taken_after failed_after
+  went_over known settings flags settled format options paths old new p q o accepted ends became again silent =
+      let run : GoesOver (settings_of settled format options) old new paths ends.0 status =
+      record { ends = ends.1; became = became; again = again; silent = silent } in
+      let same = settings_are settled format settings flags options p q o in (
+        accepted.0.lines ++ ends.0,
+        over_files accepted.0 (tree_of_settled settled) ends.0 accepted.1 accepted.2
+            (subst (λ (s : Settings). GoesOver s old new paths ends.0 status) same run) refl,
+        lines_append taken middle failed failed_middle accepted.0.lines ends.0 taken_after failed_after accepted.3 ends.2,
+      )
+
+  -- a run of `tidy` that ended at its list, and then reported its last line, ends as `TidyEnds` defines
+  pub list_ends : (known : Surroundings) (left : Option (List ℕ)) (t : TidyJob) (old : Outputs) (stop : RunError)
+      → status ≡ errors.status_of stop
+      → (lines : List (List ℕ)) × StopsAtList known.content left t.list (errors.status_of stop) lines × TakesLines taken failed lines middle failed_middle
+      → TakesLines middle failed_middle (last_lines status) taken_after failed_after
+      → (lines : List (List ℕ)) × TidyEnds known left t old old lines status × TakesLines taken failed lines taken_after failed_after
+  list_ends known left t old stop e w h = (
+    w.0 ++ last_lines status,
+    at_list w.0 (subst (λ n. StopsAtList known.content left t.list n w.0) (sym e) w.1) refl refl,
+    lines_append taken middle failed failed_middle w.0 (last_lines status) taken_after failed_after w.2 h,
+  )
+
+  -- a run of `tidy` that read its list without a report ends as the rest of the run does
+  pub read_before : (known : Surroundings) (left : Option (List ℕ)) (t : TidyJob) (bytes : List ℕ) (old new : Outputs)
+      → AreListBytes known.content left t.list bytes → TakesLines taken failed [] middle failed_middle
+      → (AreListBytes known.content left t.list bytes
+      → (lines : List (List ℕ)) × TidyEnds known left t old new lines status × TakesLines middle failed_middle lines taken_after failed_after)
+      → (lines : List (List ℕ)) × TidyEnds known left t old new lines status × TakesLines taken failed lines taken_after failed_after
+  read_before known left t bytes old new b before h =
+      let ended = h b in (ended.0, ended.1, lines_append taken middle failed failed_middle [] ended.0 taken_after failed_after before ended.2)
+
+-- a run of `tidy` that reported a malformed path in its list, and ended with the status 2, ends as `TidyEnds` defines
+pub malformed_ends : (taken taken_after : Option (List ℕ)) (failed failed_after status : ℕ) (known : Surroundings) (left : Option (List ℕ)) (t : TidyJob)
+    (bytes : List ℕ) (old : Outputs) → AreListBytes known.content left t.list bytes → AreMalformed (listed_paths t.list bytes) → status ≡ 2
+    → TakesLine taken failed malformed_line taken_after failed_after
+    → (lines : List (List ℕ)) × TidyEnds known left t old old lines status × TakesLines taken failed lines taken_after failed_after
+malformed_ends taken taken_after failed failed_after status known left t bytes old b m e h = (
+  malformed_line ∷ [],
+  at_list (malformed_line ∷ []) (malformed bytes b m e refl) (rw e refl) refl,
+  lines_one taken taken_after failed failed_after malformed_line h,
+)
+
+-- a run of `tidy` over its files and the paths in its list, as one list of paths, ends as `TidyEnds` defines
+pub over_all : (known : Surroundings) (left : Option (List ℕ)) (t : TidyJob) (bytes : List ℕ) (old new : Outputs) (lines : List (List ℕ)) (status : ℕ)
+    (ended_by_nul : Bool) (files paths : List (List ℕ)) → ended_by_nul ≡ is_ended_by_nul t.list → files ≡ t.files
+    → AreListBytes known.content left t.list bytes → AreNamed (paths_in ended_by_nul bytes) → paths ≡ files ++ paths_in ended_by_nul bytes
+    → PathsEnd known t.settings t.flags paths old new lines status → TidyEnds known left t old new lines status
+over_all known left t bytes old new lines status ended_by_nul files paths e f b n p h =
+    let all : paths ≡ t.files ++ listed_paths t.list bytes =
+    p ∙ ap (λ files. files ++ paths_in ended_by_nul bytes) f ∙ ap (λ ended. t.files ++ paths_in ended bytes) e in
+    over_paths bytes b (subst (λ ended. AreNamed (paths_in ended bytes)) e n)
+    (subst (λ paths. PathsEnd known t.settings t.flags paths old new lines status) all h)
+
+-- of two facts, one of which holds with a flag and the other without it, one holds
+pub by_asking : {P Q : Type 0} (write : Bool) → (write ≡ false → P) → (write ≡ true → Q) → P ⊎ Q
+by_asking true stays asked = inr (asked refl)
+by_asking false stays asked = inl (stays refl)

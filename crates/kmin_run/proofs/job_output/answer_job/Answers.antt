@@ -1,0 +1,26 @@
+use Rattle.std.proofs.Common.{rules}
+use Rattle.kc_rules.specs.between.SettledViews.{tree_of_settled}
+use Rattle.kmin_words.specs.Jobs.{settings_view, task_view}
+use Rattle.kmin_run.specs.Stops.{at_tree}
+use Rattle.kmin_report.proofs.Results.{if_err}
+use Rattle.kmin_run.proofs.JobOutputs.{job_answers, job_stops}
+use Rattle.kmin_run.proofs.job_output.answer_job.Goals as goal
+
+pub returns-in_err-settled-clause-stopped : goal.returns-in_err-settled-clause-stopped
+returns-in_err-settled-clause-stopped g c =
+    let stopped = c.in_err-settled.ensures.stopped in
+    if_err c.from_residual.result c.in_err-settled.field-0.0 _ (search rules) (stopped.0, at_tree stopped.1, stopped.2)
+
+pub returns-clause-answer : goal.returns-clause-answer
+returns-clause-answer g c =
+    let accepted = c.in_ok-settled.ensures.accepted in
+    job_answers (g.F.Files.surroundings c.args.files.now) (settings_view c.args.job.now.settings)
+    (task_view c.args.job.now.task) (tree_of_settled c.in_ok-settled.settled) accepted.0
+    accepted.1 accepted.2 _ _ _ _ _ _ accepted.3 c.answer_over-answer.result (rw c.job_tree.ensures.same at c.answer_over-answer.ensures.answer)
+
+pub returns-clause-stopped : goal.returns-clause-stopped
+returns-clause-stopped g c =
+    let accepted = c.in_ok-settled.ensures.accepted in
+    job_stops (g.F.Files.surroundings c.args.files.now) (settings_view c.args.job.now.settings)
+    (task_view c.args.job.now.task) (tree_of_settled c.in_ok-settled.settled) accepted.0
+    accepted.1 accepted.2 _ _ _ _ _ _ accepted.3 c.answer_over-answer.result (rw c.job_tree.ensures.same at c.answer_over-answer.ensures.stopped)

@@ -1,0 +1,38 @@
+use Rattle.std.proofs.Common.{inr, rules, ◌++◌}
+use Rattle.kmin_words.specs.Jobs.{settings_view, task_view}
+use Rattle.kmin_run.proofs.JobOutputs.{lines_kept, no_other_status, write_stops, job_ends}
+use Rattle.kmin_run.proofs.job_output.serve.Goals as goal
+
+pub returns-in-Ok-write_answer-clause-done : goal.returns-in-Ok-write_answer-clause-done
+returns-in-Ok-write_answer-clause-done g c = λ e.
+    let w = c.in-Ok.ensures.answer in
+    (w.0, c.in-Ok.answer.text.items, w.1, w.2, w.3, search rules, lines_kept _ _ _ _ _ _ (w.0.lines ++ w.1) w.4 c.in-Ok-write_answer.ensures.unreported)
+
+pub returns-in-Ok-write_answer-clause-stopped : goal.returns-in-Ok-write_answer-clause-stopped
+returns-in-Ok-write_answer-clause-stopped g c = λ e. absurd (no_other_status c.in-Ok.answer.status c.in-Ok.ensures.status e)
+
+pub returns-in-Ok-clause-part : goal.returns-in-Ok-clause-part
+returns-in-Ok-clause-part g c = λ e.
+    let w = c.in-Ok.ensures.answer in
+    inr (record {
+      read = w.0;
+      are = w.2;
+      text = c.in-Ok.answer.text.items;
+      status = c.in-Ok.answer.status;
+      notices = w.1;
+      answers = w.3;
+      written =
+          c.in-Err-write_answer.field-0.written;
+      part = search rules;
+      took = search rules;
+    })
+
+pub returns-in-Ok-clause-stopped : goal.returns-in-Ok-clause-stopped
+returns-in-Ok-clause-stopped g c = λ e.
+    write_stops (g.F.Files.surroundings c.args.files.now) (settings_view c.args.job.now.settings) (task_view c.args.job.now.task) c.in-Ok.answer.text.items
+    c.in-Ok.answer.status c.status.result _ _ _ _ _ _ c.status.ensures c.in-Ok.ensures.answer (search rules)
+
+pub returns-clause-stopped : goal.returns-clause-stopped
+returns-clause-stopped g c = λ e.
+    job_ends (g.F.Files.surroundings c.args.files.now) (settings_view c.args.job.now.settings) (task_view c.args.job.now.task) c.in-Err.stop c.exit_status.result
+    _ _ _ _ _ _ c.exit_status.ensures.status c.in-Err.ensures.stopped c.exit_status.ensures.reported

@@ -1,0 +1,28 @@
+use Rattle.std.proofs.Common.{refl, rules}
+use Rattle.kmin_run.specs.TidyRuns.{list_content, unread}
+use Rattle.kmin_report.proofs.WriterLemmas.{lines_one}
+use Rattle.kmin_report.proofs.Results.{if_err_map}
+use Rattle.kmin_run.proofs.TidyLemmas.{opens_input, opens_file}
+use Rattle.kmin_run.proofs.tidy_command.named_list.Goals as goal
+
+pub returns-then-eq-clause-stopped : goal.returns-then-eq-clause-stopped
+returns-then-eq-clause-stopped g c =
+    if_err_map c.read_list.result _ _ (λ stop stopped. (
+      stopped.0,
+      stopped.1 (list_content (g.F.Files.surroundings c.args.files.now).content (g.I.Source.left c.args.input.now) c.args.path.now)
+          (opens_input (g.F.Files.surroundings c.args.files.now).content (g.I.Source.left c.args.input.now) c.args.path.now (search rules)),
+      stopped.2,
+    )) c.read_list.ensures.stopped
+
+pub returns-in-Some-clause-stopped : goal.returns-in-Some-clause-stopped
+returns-in-Some-clause-stopped g c =
+    if_err_map c.read_list-in-Some.result _ _ (λ stop stopped. (
+      stopped.0,
+      stopped.1 (list_content (g.F.Files.surroundings c.args.files.now).content (g.I.Source.left c.args.input.now) c.args.path.now)
+          (opens_file (g.F.Files.surroundings c.args.files.now).content (g.I.Source.left c.args.input.now) _ c.args.path.now (search rules)
+          (rw c.in-Some.is at c.reader_for.ensures.opens)),
+      stopped.2,
+    )) c.read_list-in-Some.ensures.stopped
+
+pub returns-in-None-clause-stopped : goal.returns-in-None-clause-stopped
+returns-in-None-clause-stopped g c = (_, unread refl refl, lines_one _ _ _ _ _ c.report_list.ensures)

@@ -1,0 +1,10 @@
+pub mod Statuses
+pub mod Strictness
+pub mod Answers
+pub mod Stops
+pub mod between
+pub mod Bundles
+pub mod BundleAnswers
+pub mod PartialAnswers
+pub mod TidyRuns
+pub mod Saves

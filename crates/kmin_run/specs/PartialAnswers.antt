@@ -1,0 +1,19 @@
+-- Outputs of which a part is written.
+use Rattle.std.specs.Prelude.{ℕ, ◌<◌, List, Option, length, take}
+use Rattle.std.specs.Io.KnownBytes.{Appends}
+use Rattle.kmin_words.specs.Jobs.{Settings, Task}
+use Rattle.kmin_trees.specs.FileContents.{Surroundings}
+use Rattle.kmin_trees.specs.JobTexts.{TreeTexts, AreTextsOfJob}
+use Rattle.kmin_run.specs.Answers.{Answer}
+
+-- standard output took the first bytes of the output of a command over the texts of its tree, but not all of them
+pub record AnswersInPart (known : Surroundings) (settings : Settings) (task : Task) (taken taken_after : Option (List ℕ)) : Type 0 where
+  pub read : TreeTexts
+  pub are : AreTextsOfJob known settings read
+  pub text : List ℕ
+  pub status : ℕ
+  pub notices : List (List ℕ)
+  pub answers : Answer known.content settings read.texts task text status notices
+  pub written : ℕ
+  pub part : written < length text
+  pub took : Appends taken taken_after (take written text)

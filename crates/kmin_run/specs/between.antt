@@ -1,0 +1,3 @@
+pub mod Lines
+pub mod LoadStops
+pub mod LoadResults

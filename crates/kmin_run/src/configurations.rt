@@ -1,0 +1,184 @@
+//! Configurations of a settled tree, read from files.
+ghost use Rattle.std.specs.Prelude.{◌≡◌, ◌∷◌, [], List, ℕ, map, IfOk, IfErr};
+ghost use Rattle.std.specs.Borrow.{Bor};
+ghost use Rattle.kc_rules.specs.between.SettledViews.{tree_of_settled};
+ghost use Rattle.kc_dotconfig_model.specs.ConfigFiles.{empty_assignment};
+ghost use Rattle.kc_dotconfig_model.specs.between.Formats.{file_format};
+ghost use Rattle.kc_dotconfig.specs.ConfigStates.{IsSolved};
+ghost use Rattle.kc_dotconfig.specs.Fragments.{FitsTree, notice_pair};
+ghost use Rattle.kc_dotconfig.specs.ReadResults.{IsReadAs};
+ghost use Rattle.kmin_report.specs.Reports.{notice_line};
+ghost use Rattle.kmin_report.specs.StandardError.{TakesLines};
+ghost use Rattle.kmin_run.specs.Stops.{StopsAmongFiles};
+ghost use Rattle.kmin_run.specs.Strictness.{AllowsNotices};
+ghost use Rattle.kmin_run.specs.between.LoadResults.{IsLoaded, AreLoaded};
+ghost use Rattle.kmin_run.specs.between.LoadStops.{StopsLoad, StopsAtPath, fragment_notices, load_lines, load_status};
+ghost use Rattle.kmin_report.specs.between.RunErrors.{status_of};
+
+use kc_dotconfig::{Config, Format, Fragment, LoadFault, LoadKind, Notice, read_config};
+use kc_rules::Settled;
+use kc_value::{Sink, Source};
+use kmin_report::{Report, RunError, write_report};
+use kmin_trees::Files;
+use kmin_words::Settings;
+use std::alloc::Global;
+
+/// Reads the assignments of a configuration file. Reports its notices, or its fault.
+pub(crate) fn load<S: Source, E: Sink>(
+    alloc: Global,
+    settled: &Settled,
+    format: &Format,
+    path: &str,
+    source: &mut S,
+    err: &mut E,
+) -> Result<Fragment, RunError>
+    ensures ok { IfOk result (IsReadAs (file_format format.now) (tree_of_settled settled.now) (S.left source.old) (S.left source.new)) }
+    ensures fits { IfOk result (λ f. FitsTree (tree_of_settled settled.now) f.assigns.items) }
+    ensures notices { IfOk result (λ f. TakesLines (E.taken err.old) (E.failures err.old) (fragment_notices path.now f) (E.taken err.new) (E.failures err.new)) }
+    ensures stopped { IfErr result (λ stop. StopsLoad (file_format format.now) (tree_of_settled settled.now) path.now (S.left source.old) (S.left source.new) (S.failures source.old) (S.failures source.new) (status_of stop) (E.taken err.old) (E.failures err.old) (E.taken err.new) (E.failures err.new)) }
+{
+    match read_config(alloc, settled, format, source) {
+        Ok(fragment) => {
+            report_notices(path, &fragment.notices, err);
+            Ok(fragment)
+        }
+        Err(fault) => Err(report_load_fault(path, fault, err)),
+    }
+}
+
+/// Reports a fault of a configuration file, and returns the error that ends the run. Out of memory is reported later.
+fn report_load_fault<E: Sink>(path: &str, fault: LoadFault, err: &mut E) -> RunError
+    ensures status { status_of result ≡ load_status fault.kind }
+    ensures reported { TakesLines (E.taken err.old) (E.failures err.old) (load_lines path.now fault.line fault.kind) (E.taken err.new) (E.failures err.new) }
+{
+    let LoadFault { line, kind } = fault;
+    match kind {
+        LoadKind::OutOfMemory => RunError::Memory,
+        LoadKind::Read => {
+            write_report(Report::FileFault { path, line, kind }, err);
+            RunError::Failed
+        }
+        _ => {
+            write_report(Report::FileFault { path, line, kind }, err);
+            RunError::Configuration
+        }
+    }
+}
+
+/// Reports the notices of a configuration file.
+fn report_notices<E: Sink>(path: &str, notices: &[Notice], err: &mut E)
+    ensures { TakesLines (E.taken err.old) (E.failures err.old) (map (λ notice. notice_line path.now (notice_pair notice)) notices.now) (E.taken err.new) (E.failures err.new) }
+{
+    for notice in notices {
+        let Notice { line, kind } = *notice;
+        write_report(Report::Notice { path, line, kind }, err);
+    }
+}
+
+/// Reads the assignments of a configuration file by its path. Reports the file's notices, or its fault. Under `strict` a file that
+/// has a notice is refused.
+fn load_path<F: Files, E: Sink>(
+    alloc: Global,
+    settled: &Settled,
+    settings: &Settings<'_>,
+    path: &str,
+    files: &mut F,
+    err: &mut E,
+) -> Result<Fragment, RunError>
+    ensures same { F.surroundings files.new ≡ F.surroundings files.old }
+    ensures fits { IfOk result (λ f. FitsTree (tree_of_settled settled.now) f.assigns.items) }
+    ensures loaded { IfOk result (λ f. IsLoaded ((F.surroundings files.old).content path.now) (file_format settings.now.format) (tree_of_settled settled.now) path.now f (E.taken err.old) (E.failures err.old) (E.taken err.new) (E.failures err.new)) }
+    ensures allowed { IfOk result (λ f. AllowsNotices settings.now.strict (map notice_pair f.notices.items)) }
+    ensures stopped { IfErr result (λ stop. (lines : List (List ℕ)) × StopsAtPath ((F.surroundings files.old).content path.now) (file_format settings.now.format) settings.now.strict (tree_of_settled settled.now) path.now (status_of stop) lines × TakesLines (E.taken err.old) (E.failures err.old) lines (E.taken err.new) (E.failures err.new)) }
+{
+    match files.reader_for(path) {
+        Some(mut reader) => {
+            let fragment = load(alloc, settled, &settings.format, path, &mut reader, err)?;
+            if settings.strict && !fragment.notices.is_empty() {
+                return Err(RunError::Configuration);
+            }
+            Ok(fragment)
+        }
+        None => {
+            let kind = LoadKind::Read;
+            write_report(
+                Report::FileFault {
+                    path,
+                    line: 0,
+                    kind,
+                },
+                err,
+            );
+            Err(RunError::Failed)
+        }
+    }
+}
+
+/// The configuration of one file. Reports the file's notices, and why it is refused.
+pub(crate) fn configured_by<'a, F: Files, E: Sink>(
+    alloc: Global,
+    settled: &'a Settled,
+    settings: &Settings<'_>,
+    path: &str,
+    files: &mut F,
+    err: &mut E,
+) -> Result<Config<'a>, RunError>
+    ensures same { F.surroundings files.new ≡ F.surroundings files.old }
+    ensures settled { IfOk result (λ config. config.system ≡ settled.now) }
+    ensures solved { IfOk result (λ config. IsSolved config) }
+    ensures loaded { IfOk result (λ config. AreLoaded (F.surroundings files.old).content (file_format settings.now.format) settings.now.strict (tree_of_settled settled.now) (path.now ∷ []) (empty_assignment (tree_of_settled settled.now)) config.users (E.taken err.old) (E.failures err.old) (E.taken err.new) (E.failures err.new)) }
+    ensures stopped { IfErr result (λ stop. (lines : List (List ℕ)) × StopsAmongFiles (F.surroundings files.old).content (file_format settings.now.format) settings.now.strict (tree_of_settled settled.now) (path.now ∷ []) (status_of stop) lines × TakesLines (E.taken err.old) (E.failures err.old) lines (E.taken err.new) (E.failures err.new)) }
+{
+    let fragment = load_path(alloc, settled, settings, path, files, err)?;
+    let config = Config::of(alloc, settled, &fragment);
+    drop(fragment);
+    Ok(config?)
+}
+
+/// Overrides a configuration with files, one after another. Reports their notices, and why one is refused.
+fn overlaid<'a, F: Files, E: Sink>(
+    alloc: Global,
+    settled: &'a Settled,
+    begun: Config<'a>,
+    settings: &Settings<'_>,
+    paths: &[&str],
+    files: &mut F,
+    err: &mut E,
+) -> Result<Config<'a>, RunError>
+    requires settled { begun.system ≡ settled.now }
+    requires solved { IsSolved begun }
+    ensures same { F.surroundings files.new ≡ F.surroundings files.old }
+    ensures settled { IfOk result (λ config. config.system ≡ settled.now) }
+    ensures solved { IfOk result (λ config. IsSolved config) }
+    ensures loaded { IfOk result (λ config. AreLoaded (F.surroundings files.old).content (file_format settings.now.format) settings.now.strict (tree_of_settled settled.now) (map (λ (path : Bor (List ℕ)). path.now) paths.now) begun.entry.users config.users (E.taken err.old) (E.failures err.old) (E.taken err.new) (E.failures err.new)) }
+    ensures stopped { IfErr result (λ stop. (lines : List (List ℕ)) × StopsAmongFiles (F.surroundings files.old).content (file_format settings.now.format) settings.now.strict (tree_of_settled settled.now) (map (λ (path : Bor (List ℕ)). path.now) paths.now) (status_of stop) lines × TakesLines (E.taken err.old) (E.failures err.old) lines (E.taken err.new) (E.failures err.new)) }
+{
+    let mut config = begun;
+    for path in paths {
+        let fragment = load_path(alloc, settled, settings, path, files, err)?;
+        config.merge(&fragment)?;
+    }
+    Ok(config)
+}
+
+/// The configuration of files, each of which overrides those before it. Reports their notices, and why one is refused.
+pub(crate) fn configured<'a, F: Files, E: Sink>(
+    alloc: Global,
+    settled: &'a Settled,
+    settings: &Settings<'_>,
+    paths: &[&str],
+    files: &mut F,
+    err: &mut E,
+) -> Result<Config<'a>, RunError>
+    ensures same { F.surroundings files.new ≡ F.surroundings files.old }
+    ensures settled { IfOk result (λ config. config.system ≡ settled.now) }
+    ensures solved { IfOk result (λ config. IsSolved config) }
+    ensures loaded { IfOk result (λ config. AreLoaded (F.surroundings files.old).content (file_format settings.now.format) settings.now.strict (tree_of_settled settled.now) (map (λ (path : Bor (List ℕ)). path.now) paths.now) (empty_assignment (tree_of_settled settled.now)) config.users (E.taken err.old) (E.failures err.old) (E.taken err.new) (E.failures err.new)) }
+    ensures stopped { IfErr result (λ stop. (lines : List (List ℕ)) × StopsAmongFiles (F.surroundings files.old).content (file_format settings.now.format) settings.now.strict (tree_of_settled settled.now) (map (λ (path : Bor (List ℕ)). path.now) paths.now) (status_of stop) lines × TakesLines (E.taken err.old) (E.failures err.old) lines (E.taken err.new) (E.failures err.new)) }
+{
+    let Some((first, others)) = paths.split_first() else {
+        return Ok(Config::new(alloc, settled)?);
+    };
+    let config = configured_by(alloc, settled, settings, first, files, err)?;
+    overlaid(alloc, settled, config, settings, others, files, err)
+}

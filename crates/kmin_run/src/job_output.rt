@@ -1,0 +1,153 @@
+//! The output of commands over configuration files.
+ghost use Rattle.std.specs.Prelude.{◌≡◌, ◌≢◌, ◌≤◌, ◌⊎◌, ◌∷◌, ◌++◌, [], List, ℕ, map, IfOk, IfErr};
+ghost use Rattle.std.specs.Borrow.{Bor};
+ghost use Rattle.std.specs.Io.KnownBytes.{Appends};
+ghost use Rattle.kc_tree_model.specs.TreeFiles as trees;
+ghost use Rattle.kc_rules.specs.between.SettledViews.{tree_of_settled, profile_of};
+ghost use Rattle.kmin_words.specs.Jobs.{settings_view, task_view, over, compare, paths_of};
+ghost use Rattle.kmin_run.specs.Answers.{Answer};
+ghost use Rattle.kmin_trees.specs.AcceptedTrees.{AreAccepted};
+ghost use Rattle.kmin_trees.specs.JobTexts.{TreeTexts, AreTextsOfJob};
+ghost use Rattle.kmin_run.specs.PartialAnswers.{AnswersInPart};
+ghost use Rattle.kmin_report.specs.Reports.{last_lines};
+ghost use Rattle.kmin_report.specs.StandardError.{TakesLines};
+ghost use Rattle.kmin_run.specs.Stops.{Stops, StopsAmongFiles, StopsBefore};
+ghost use Rattle.kmin_report.specs.between.RunErrors.{status_of};
+
+use crate::configurations::{configured, configured_by};
+use crate::verb_texts::{AnswerText, answer_of, compared};
+use kc_rules::Settled;
+use kc_value::Sink;
+use kmin_report::{RunError, exit_status, write_answer};
+use kmin_trees::{Files, job_tree};
+use kmin_words::{Job, Settings, Task, Verb};
+use std::alloc::Global;
+
+/// Runs a command over configuration files, writes its output, and returns the exit status: 0 done, 1 a comparison
+/// found differences, or symbols are listed with `--exit-code`, 3 tree refused, 4 configuration file refused, 5 a read
+/// or write failed, 6 out of memory.
+///
+/// The output is complete before the first write. Standard error gets a line `FILE:LINE: KIND` for each notice and for
+/// the fault that ended the run, at once; a failed write there has no influence.
+///
+/// Where an option turns the expansion of macros on, the tree is expanded first: status 3 is also a fault of the
+/// expansion, 4 an answer file refused, and the notices of the expansion come first, as `FILE:LINE: KIND TEXT`.
+pub fn serve<F: Files, O: Sink, E: Sink>(
+    alloc: Global,
+    job: &Job<'_>,
+    files: &mut F,
+    out: &mut O,
+    err: &mut E,
+) -> u8
+    ensures status { result ≤ 6 }
+    ensures accepted_words { result ≢ 2 }
+
+    // The tree and the files are accepted, exactly the output is written, no write failed, and the notices of the
+    // tree's expansion and of the files are reported.
+    ensures done { (result ≡ 0) ⊎ (result ≡ 1) → (t : TreeTexts) × (text : List ℕ) × (notices : List (List ℕ)) × AreTextsOfJob (F.surroundings files.old) (settings_view job.now.settings) t × Answer (F.surroundings files.old).content (settings_view job.now.settings) t.texts (task_view job.now.task) text result notices × Appends (O.taken out.old) (O.taken out.new) text × TakesLines (E.taken err.old) (E.failures err.old) (t.lines ++ notices) (E.taken err.new) (E.failures err.new) }
+    ensures unfailed { (result ≡ 0) ⊎ (result ≡ 1) → O.failures out.new ≡ O.failures out.old }
+
+    // On every other status the fault that ended the run is reported, after the notices of the tree's expansion and of
+    // the files accepted before.
+    ensures stopped { (result ≢ 0) × (result ≢ 1) → (lines : List (List ℕ)) × Stops (F.surroundings files.old) (settings_view job.now.settings) (task_view job.now.task) result lines × TakesLines (E.taken err.old) (E.failures err.old) (lines ++ last_lines result) (E.taken err.new) (E.failures err.new) }
+
+    // On status 5 the writer took the first bytes of the output, or nothing.
+    ensures part { result ≡ 5 → (O.taken out.new ≡ O.taken out.old) ⊎ AnswersInPart (F.surroundings files.old) (settings_view job.now.settings) (task_view job.now.task) (O.taken out.old) (O.taken out.new) }
+
+    ensures unwritten { result ≢ 0 → result ≢ 1 → result ≢ 5 → O.taken out.new ≡ O.taken out.old }
+{
+    match answer_job(alloc, job, files, err) {
+        Ok(answer) => match write_answer(&answer.text, out, err) {
+            Ok(()) => answer.status,
+            Err(_) => RunError::Failed.status(),
+        },
+        Err(stop) => exit_status(stop, err),
+    }
+}
+
+/// The complete output of a command, and its status. Reports the notices, and why there is no output.
+pub(crate) fn answer_job<F: Files, E: Sink>(
+    alloc: Global,
+    job: &Job<'_>,
+    files: &mut F,
+    err: &mut E,
+) -> Result<AnswerText, RunError>
+    ensures status { IfOk result (λ answer. answer.status ≤ 1) }
+    ensures answer { IfOk result (λ answer. (t : TreeTexts) × (notices : List (List ℕ)) × AreTextsOfJob (F.surroundings files.old) (settings_view job.now.settings) t × Answer (F.surroundings files.old).content (settings_view job.now.settings) t.texts (task_view job.now.task) answer.text.items answer.status notices × TakesLines (E.taken err.old) (E.failures err.old) (t.lines ++ notices) (E.taken err.new) (E.failures err.new)) }
+    ensures stopped { IfErr result (λ stop. (lines : List (List ℕ)) × StopsBefore (F.surroundings files.old) (settings_view job.now.settings) (task_view job.now.task) (status_of stop) lines × TakesLines (E.taken err.old) (E.failures err.old) lines (E.taken err.new) (E.failures err.new)) }
+{
+    let settled = job_tree(alloc, &job.settings, files, err)?;
+    let answer = answer_over(alloc, &job.settings, &job.task, &settled, files, err);
+    drop(settled);
+    answer
+}
+
+/// The output of a command over its settled tree, and its status. Reports the notices, and why there is no output.
+fn answer_over<F: Files, E: Sink>(
+    alloc: Global,
+    settings: &Settings<'_>,
+    task: &Task<'_>,
+    settled: &Settled,
+    files: &mut F,
+    err: &mut E,
+) -> Result<AnswerText, RunError>
+    requires profile { profile_of settled.now ≡ settings.now.profile }
+    ensures status { IfOk result (λ answer. answer.status ≤ 1) }
+    ensures answer { IfOk result (λ answer. (notices : List (List ℕ)) × ((texts : trees.Files) → AreAccepted texts settings.now.tree.now (tree_of_settled settled.now) → Answer (F.surroundings files.old).content (settings_view settings.now) texts (task_view task.now) answer.text.items answer.status notices) × TakesLines (E.taken err.old) (E.failures err.old) notices (E.taken err.new) (E.failures err.new)) }
+    ensures stopped { IfErr result (λ stop. (lines : List (List ℕ)) × StopsAmongFiles (F.surroundings files.old).content (settings_view settings.now).format settings.now.strict (tree_of_settled settled.now) (paths_of (task_view task.now)) (status_of stop) lines × TakesLines (E.taken err.old) (E.failures err.old) lines (E.taken err.new) (E.failures err.new)) }
+{
+    match task {
+        Task::Over { verb, files: paths } => {
+            answer_files(alloc, settings, *verb, paths, settled, files, err)
+        }
+        Task::Compare { left, right } => {
+            answer_comparison(alloc, settings, left, right, settled, files, err)
+        }
+    }
+}
+
+/// The output of a verb over the configuration of all files, and its status. Reports the notices, and why there is no
+/// output.
+fn answer_files<F: Files, E: Sink>(
+    alloc: Global,
+    settings: &Settings<'_>,
+    verb: Verb,
+    paths: &[&str],
+    settled: &Settled,
+    files: &mut F,
+    err: &mut E,
+) -> Result<AnswerText, RunError>
+    requires profile { profile_of settled.now ≡ settings.now.profile }
+    ensures status { IfOk result (λ answer. answer.status ≤ 1) }
+    ensures answer { IfOk result (λ answer. (notices : List (List ℕ)) × ((texts : trees.Files) → AreAccepted texts settings.now.tree.now (tree_of_settled settled.now) → Answer (F.surroundings files.old).content (settings_view settings.now) texts (over verb (map (λ (path : Bor (List ℕ)). path.now) paths.now)) answer.text.items answer.status notices) × TakesLines (E.taken err.old) (E.failures err.old) notices (E.taken err.new) (E.failures err.new)) }
+    ensures stopped { IfErr result (λ stop. (lines : List (List ℕ)) × StopsAmongFiles (F.surroundings files.old).content (settings_view settings.now).format settings.now.strict (tree_of_settled settled.now) (map (λ (path : Bor (List ℕ)). path.now) paths.now) (status_of stop) lines × TakesLines (E.taken err.old) (E.failures err.old) lines (E.taken err.new) (E.failures err.new)) }
+{
+    let config = configured(alloc, settled, settings, paths, files, err)?;
+    let answer = answer_of(alloc, verb, &config, &settings.format);
+    drop(config);
+    Ok(answer?)
+}
+
+/// The output of a comparison of two configurations of one file each, and its status. Reports the notices, and why
+/// there is no output.
+fn answer_comparison<F: Files, E: Sink>(
+    alloc: Global,
+    settings: &Settings<'_>,
+    left: &str,
+    right: &str,
+    settled: &Settled,
+    files: &mut F,
+    err: &mut E,
+) -> Result<AnswerText, RunError>
+    requires profile { profile_of settled.now ≡ settings.now.profile }
+    ensures status { IfOk result (λ answer. answer.status ≤ 1) }
+    ensures answer { IfOk result (λ answer. (notices : List (List ℕ)) × ((texts : trees.Files) → AreAccepted texts settings.now.tree.now (tree_of_settled settled.now) → Answer (F.surroundings files.old).content (settings_view settings.now) texts (compare left.now right.now) answer.text.items answer.status notices) × TakesLines (E.taken err.old) (E.failures err.old) notices (E.taken err.new) (E.failures err.new)) }
+    ensures stopped { IfErr result (λ stop. (lines : List (List ℕ)) × StopsAmongFiles (F.surroundings files.old).content (settings_view settings.now).format settings.now.strict (tree_of_settled settled.now) (left.now ∷ right.now ∷ []) (status_of stop) lines × TakesLines (E.taken err.old) (E.failures err.old) lines (E.taken err.new) (E.failures err.new)) }
+{
+    let left = configured_by(alloc, settled, settings, left, files, err)?;
+    let right = configured_by(alloc, settled, settings, right, files, err)?;
+    let answer = compared(alloc, &left, &right, settings.format.strings);
+    drop(right);
+    drop(left);
+    Ok(answer?)
+}

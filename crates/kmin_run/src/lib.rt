@@ -1,0 +1,20 @@
+//! The commands of `kmin` and its bundles: what each reads, what it writes, and its exit status.
+#![tactic(auto)]
+
+mod bundle;
+mod bundle_answer;
+mod configurations;
+mod job_output;
+mod output_file;
+mod program;
+mod symbol_lines;
+mod tidy_command;
+mod verb_texts;
+mod wants_command;
+
+pub use job_output::serve;
+pub use kmin_trees::Files;
+pub use output_file::save;
+pub use program::run;
+pub use tidy_command::tidy;
+pub use wants_command::list_questions;

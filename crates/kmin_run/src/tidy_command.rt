@@ -1,0 +1,261 @@
+//! The command `tidy`, which compares each configuration file with its minimal file, or replaces it.
+ghost use Rattle.std.specs.Prelude.{◌≡◌, ◌≢◌, ◌≤◌, ◌++◌, [], List, ℕ, Option, Some, false, length, map, option_map, IfOk, IfErr, IsErrOf};
+ghost use Rattle.std.specs.List.{list_all};
+ghost use Rattle.std.specs.Str.{is_utf8};
+ghost use Rattle.std.specs.Borrow.{Bor};
+ghost use Rattle.kc_files.specs.TreeContents.{FileContent};
+ghost use Rattle.kmin_lines.specs.Lists.{paths_in, is_one_line};
+ghost use Rattle.kmin_words.specs.Jobs.{list_view, settings_view, tidy_job_view};
+ghost use Rattle.kmin_report.specs.KnownBytes.{AreKnownBytes};
+ghost use Rattle.kmin_disk.specs.Contents.{OpensAs};
+ghost use Rattle.kmin_report.specs.Reports.{fault_line};
+ghost use Rattle.kmin_report.specs.StandardError.{TakesLine, TakesLines};
+ghost use Rattle.kmin_run.specs.TidyRuns.{AreListBytes, AreNamed, StopsReadingList, StopsAtList, PathsEnd, TidyEnds, list_content, malformed_line, is_ended_by_nul, options_of, outputs_of};
+ghost use Rattle.kmin_report.specs.between.RunErrors.{status_of};
+
+use kc_dotconfig::LoadKind;
+use kc_value::{MAX_LIST_BYTES, ReadBytes, ReadEnd, Sink, Source, read_up_to};
+use kmin_disk::WriteDisk;
+use kmin_lines::{ListFault, listed_paths};
+use kmin_report::{Report, RunError, exit_status, write_report};
+use kmin_tidy::{TidyOptions, tidy_files};
+use kmin_trees::{Files, job_tree};
+use kmin_words::{PathList, TidyFlags, TidyJob};
+use std::alloc::{AllocError, Global};
+
+/// Tidies the files of the command on the disk, and then those that its list names, and returns the exit status: 2 a
+/// path in the list isn't UTF-8 or has a newline, 3 tree refused, 4 list too large, 5 list can't be read, 6 out of
+/// memory, and else the status of `tidy_files`. Where the list or the tree is refused, no configuration file is read.
+///
+/// The list is read from `files`, or if its path is `-`, from `input`.
+pub fn tidy<F: Files, D: WriteDisk, I: Source, O: Sink, E: Sink>(
+    alloc: Global,
+    tidy_job: &TidyJob<'_>,
+    files: &mut F,
+    disk: &mut D,
+    input: &mut I,
+    out: &mut O,
+    err: &mut E,
+) -> u8
+    ensures status { result ≤ 6 }
+
+    // The files are tidied as by `tidy_files`; or the list or the tree is refused, which is reported, and nothing
+    // changes.
+    ensures ends { (lines : List (List ℕ)) × TidyEnds (F.surroundings files.old) (I.left input.old) (tidy_job_view tidy_job.now)
+        (outputs_of (D.disk disk.old) (O.taken out.old) (O.failures out.old))
+        (outputs_of (D.disk disk.new) (O.taken out.new) (O.failures out.new)) lines result × TakesLines (E.taken err.old) (E.failures err.old) lines (E.taken err.new) (E.failures err.new) }
+
+    // Without `--write` the disk doesn't change.
+    ensures unasked { tidy_job.now.flags.write ≡ false → (D.disk disk.new).state ≡ (D.disk disk.old).state }
+
+    // Where the list or the tree is refused, or memory runs out, nothing is written.
+    ensures unwritten { result ≢ 0 → result ≢ 1 → result ≢ 4 → result ≢ 5 → O.taken out.new ≡ O.taken out.old }
+{
+    match list_bytes(alloc, tidy_job.list, files, input, err) {
+        Ok(list) => tidy_listed(alloc, tidy_job, &list, files, disk, out, err),
+        Err(stop) => exit_status(stop, err),
+    }
+}
+
+/// Tidies the files of the command, and then those that a list of these bytes names.
+fn tidy_listed<F: Files, D: WriteDisk, O: Sink, E: Sink>(
+    alloc: Global,
+    tidy_job: &TidyJob<'_>,
+    list: &[u8],
+    files: &mut F,
+    disk: &mut D,
+    out: &mut O,
+    err: &mut E,
+) -> u8
+    ensures status { result ≤ 6 }
+    ensures ends { (left : Option (List ℕ)) → AreListBytes (F.surroundings files.old).content left (tidy_job_view tidy_job.now).list list.now
+        → (lines : List (List ℕ)) × TidyEnds (F.surroundings files.old) left (tidy_job_view tidy_job.now)
+        (outputs_of (D.disk disk.old) (O.taken out.old) (O.failures out.old))
+        (outputs_of (D.disk disk.new) (O.taken out.new) (O.failures out.new)) lines result × TakesLines (E.taken err.old) (E.failures err.old) lines (E.taken err.new) (E.failures err.new) }
+    ensures unasked { tidy_job.now.flags.write ≡ false → (D.disk disk.new).state ≡ (D.disk disk.old).state }
+    ensures unwritten { result ≢ 0 → result ≢ 1 → result ≢ 4 → result ≢ 5 → O.taken out.new ≡ O.taken out.old }
+{
+    match all_paths(alloc, &tidy_job.files, list, is_ended_by_nul(tidy_job.list)) {
+        Ok(paths) => tidy_paths(alloc, tidy_job, &paths, files, disk, out, err),
+        Err(ListFault::OutOfMemory) => exit_status(RunError::Memory, err),
+        Err(ListFault::NotUtf8) => refuse_list(err),
+        Err(ListFault::HasNewline) => refuse_list(err),
+    }
+}
+
+/// Reports a list in which a path isn't UTF-8 or has a newline, and returns the exit status.
+fn refuse_list<E: Sink>(err: &mut E) -> u8
+    ensures status { result ≡ 2 }
+    ensures reported { TakesLine (E.taken err.old) (E.failures err.old) malformed_line (E.taken err.new) (E.failures err.new) }
+{
+    write_report(Report::RefusedWords("from: Malformed\n"), err);
+    2
+}
+
+/// Tidies the files of these paths over the tree of the command.
+fn tidy_paths<F: Files, D: WriteDisk, O: Sink, E: Sink>(
+    alloc: Global,
+    tidy_job: &TidyJob<'_>,
+    paths: &[&str],
+    files: &mut F,
+    disk: &mut D,
+    out: &mut O,
+    err: &mut E,
+) -> u8
+    ensures status { result ≤ 6 }
+    ensures ends { (lines : List (List ℕ)) × PathsEnd (F.surroundings files.old) (settings_view tidy_job.now.settings) tidy_job.now.flags (map (λ (path : Bor (List ℕ)). path.now) paths.now)
+        (outputs_of (D.disk disk.old) (O.taken out.old) (O.failures out.old))
+        (outputs_of (D.disk disk.new) (O.taken out.new) (O.failures out.new)) lines result × TakesLines (E.taken err.old) (E.failures err.old) lines (E.taken err.new) (E.failures err.new) }
+    ensures unasked { tidy_job.now.flags.write ≡ false → (D.disk disk.new).state ≡ (D.disk disk.old).state }
+    ensures unwritten { result ≢ 0 → result ≢ 1 → result ≢ 4 → result ≢ 5 → O.taken out.new ≡ O.taken out.old }
+{
+    match job_tree(alloc, &tidy_job.settings, files, err) {
+        Ok(settled) => {
+            let options = options_of(tidy_job.settings.strict, tidy_job.flags);
+            let format = &tidy_job.settings.format;
+            let status = tidy_files(alloc, &settled, format, options, paths, disk, out, err);
+            drop(settled);
+            status
+        }
+        Err(stop) => exit_status(stop, err),
+    }
+}
+
+/// The options of `tidy_files` by those of the command.
+fn options_of(strict: bool, flags: TidyFlags) -> TidyOptions
+    ensures { result ≡ options_of strict flags }
+{
+    let TidyFlags { write, drop } = flags;
+    TidyOptions {
+        write,
+        drop,
+        strict,
+    }
+}
+
+/// Whether the paths of a list end with the byte 0 in place of a newline.
+fn is_ended_by_nul(list: Option<PathList<'_>>) -> bool
+    ensures { result ≡ is_ended_by_nul (option_map list_view list.entry) }
+{
+    match list {
+        Some(list) => list.ended_by_nul,
+        None => false,
+    }
+}
+
+/// The paths of the command, and then those that a list of these bytes names.
+fn all_paths<'a>(
+    alloc: Global,
+    paths: &[&'a str],
+    list: &'a [u8],
+    ended_by_nul: bool,
+) -> Result<Vec<&'a str>, ListFault>
+    ensures paths { IfOk result (λ all. map (λ (path : Bor (List ℕ)). path.now) all.items ≡ map (λ (path : Bor (List ℕ)). path.now) paths.now ++ paths_in ended_by_nul list.now) }
+    ensures named { IfOk result (λ _. AreNamed (paths_in ended_by_nul list.now)) }
+    ensures not_utf8 { IsErrOf result ListFault.NotUtf8 → list_all is_utf8 (paths_in ended_by_nul list.now) ≡ false }
+    ensures has_newline { IsErrOf result ListFault.HasNewline → list_all is_one_line (paths_in ended_by_nul list.now) ≡ false }
+{
+    let listed = listed_paths(alloc, list, ended_by_nul)?;
+    match joined(alloc, paths, &listed) {
+        Ok(all) => Ok(all),
+        Err(_) => Err(ListFault::OutOfMemory),
+    }
+}
+
+/// The paths of two lists, one after the other.
+fn joined<'a>(
+    alloc: Global,
+    paths: &[&'a str],
+    others: &[&'a str],
+) -> Result<Vec<&'a str>, AllocError>
+    ensures { IfOk result (λ all. all.items ≡ paths.now ++ others.now) }
+{
+    let mut all = Vec::from_slice(alloc, paths)?;
+    all.extend_from_slice(others)?;
+    Ok(all)
+}
+
+/// The bytes of the list of a command, none if it has no list. Reports why the list can't be read.
+fn list_bytes<F: Files, I: Source, E: Sink>(
+    alloc: Global,
+    list: Option<PathList<'_>>,
+    files: &mut F,
+    input: &mut I,
+    err: &mut E,
+) -> Result<Vec<u8>, RunError>
+    ensures same { F.surroundings files.new ≡ F.surroundings files.old }
+    ensures bytes { IfOk result (λ bytes. AreListBytes (F.surroundings files.old).content (I.left input.old) (option_map list_view list.entry) bytes.items) }
+    ensures unreported { IfOk result (λ bytes. TakesLines (E.taken err.old) (E.failures err.old) [] (E.taken err.new) (E.failures err.new)) }
+    ensures stopped { IfErr result (λ stop. (lines : List (List ℕ)) × StopsAtList (F.surroundings files.old).content (I.left input.old) (option_map list_view list.entry) (status_of stop) lines × TakesLines (E.taken err.old) (E.failures err.old) lines (E.taken err.new) (E.failures err.new)) }
+{
+    match list {
+        Some(list) => named_list(alloc, list.path, files, input, err),
+        None => Ok(Vec::new(alloc)),
+    }
+}
+
+/// The bytes of a list by its path. Reports why it can't be read.
+fn named_list<F: Files, I: Source, E: Sink>(
+    alloc: Global,
+    path: &str,
+    files: &mut F,
+    input: &mut I,
+    err: &mut E,
+) -> Result<Vec<u8>, RunError>
+    ensures same { F.surroundings files.new ≡ F.surroundings files.old }
+    ensures within { IfOk result (λ bytes. length bytes.items ≤ MAX_LIST_BYTES) }
+    ensures bytes { IfOk result (λ bytes. AreKnownBytes (list_content (F.surroundings files.old).content (I.left input.old) path.now) bytes.items) }
+    ensures unreported { IfOk result (λ bytes. TakesLines (E.taken err.old) (E.failures err.old) [] (E.taken err.new) (E.failures err.new)) }
+    ensures stopped { IfErr result (λ stop. (lines : List (List ℕ)) × StopsReadingList (list_content (F.surroundings files.old).content (I.left input.old) path.now) path.now (status_of stop) lines × TakesLines (E.taken err.old) (E.failures err.old) lines (E.taken err.new) (E.failures err.new)) }
+{
+    if path == "-" {
+        return read_list(alloc, path, input, err);
+    }
+    match files.reader_for(path) {
+        Some(mut reader) => read_list(alloc, path, &mut reader, err),
+        None => {
+            report_list(path, LoadKind::Read, err);
+            Err(RunError::Failed)
+        }
+    }
+}
+
+/// The bytes of a list from a reader. Reports under `path` why it can't be read.
+fn read_list<S: Source, E: Sink>(
+    alloc: Global,
+    path: &str,
+    source: &mut S,
+    err: &mut E,
+) -> Result<Vec<u8>, RunError>
+    ensures within { IfOk result (λ bytes. length bytes.items ≤ MAX_LIST_BYTES) }
+    ensures bytes { IfOk result (λ bytes. (content : FileContent) → OpensAs content (Some (S.left source.old)) → AreKnownBytes content bytes.items) }
+    ensures unreported { IfOk result (λ bytes. TakesLines (E.taken err.old) (E.failures err.old) [] (E.taken err.new) (E.failures err.new)) }
+    ensures stopped { IfErr result (λ stop. (lines : List (List ℕ)) × ((content : FileContent) → OpensAs content (Some (S.left source.old)) → StopsReadingList content path.now (status_of stop) lines) × TakesLines (E.taken err.old) (E.failures err.old) lines (E.taken err.new) (E.failures err.new)) }
+{
+    let ReadBytes { bytes, end } = read_up_to(alloc, source, MAX_LIST_BYTES + 1, 0)?;
+    match end {
+        ReadEnd::AtEnd => Ok(bytes),
+        ReadEnd::AtLimit => {
+            report_list(path, LoadKind::TooLarge, err);
+            Err(RunError::Configuration)
+        }
+        ReadEnd::AtFailure => {
+            report_list(path, LoadKind::Read, err);
+            Err(RunError::Failed)
+        }
+    }
+}
+
+/// Reports a fault of a list as a whole.
+fn report_list<E: Sink>(path: &str, kind: LoadKind, err: &mut E)
+    ensures { TakesLine (E.taken err.old) (E.failures err.old) (fault_line path.now 0 kind) (E.taken err.new) (E.failures err.new) }
+{
+    write_report(
+        Report::FileFault {
+            path,
+            line: 0,
+            kind,
+        },
+        err,
+    );
+}

@@ -1,0 +1,167 @@
+-- The tree of a job, as it is or expanded: what its texts are, and where a run ends at it.
+use Rattle.std.proofs.Common.{◌≡◌, ℕ, List, [], ◌++◌, Option, Some, None, Result, Ok, Err, IfOk, IfErr, map, refl, sym, ap, ◌∙◌, subst, append-nil}
+use Rattle.kc_tokens.specs.declared.language.Language.{Language}
+use Rattle.kc_tree_model.specs.TreeFiles.{Files}
+use Rattle.kc_macros_model.specs.Programs.{Notice}
+use Rattle.kc_macros_model.specs.AnswerFiles.{RecordedAnswers}
+use Rattle.kc_macros_model.specs.ReadingStates.{ExpandedFile}
+use Rattle.kc_rules.specs.declared.rules.Settled.{Settled}
+use Rattle.kc_rules.specs.between.SettledViews.{tree_of_settled}
+use Rattle.kc_expansion.specs.Expansions.{IsExpansion}
+use Rattle.kmin_words.specs.Jobs.{Expansion, Settings}
+use Rattle.kmin_report.specs.declared.run_error.RunError.{RunError}
+use Rattle.kmin_trees.specs.declared.expanded_trees.ExpandedTexts.{ExpandedTexts}
+use Rattle.kmin_trees.specs.FileContents.{Surroundings, AreTextsBelow}
+use Rattle.kmin_trees.specs.JobAnswers.{AreJobAnswers}
+use Rattle.kmin_trees.specs.JobTexts.{TreeTexts, AreExpandedTexts, AreTextsOfJob, as_they_are, expanded, expanded_texts, named_texts}
+use Rattle.kmin_trees.specs.TreeFolders.{contents_below}
+use Rattle.kmin_trees.specs.AcceptedTrees.{AreAccepted}
+use Rattle.kmin_report.specs.MacroReports.{macro_notice_line}
+use Rattle.kmin_report.specs.StandardError.{TakesLines}
+use Rattle.kmin_trees.specs.Stops.{StopsInExpansion, StopsAtTree}
+use Rattle.kmin_trees.specs.Stops as stops
+use Rattle.kmin_trees.specs.between.ExpansionStops.{StopsExpanding}
+use Rattle.kmin_trees.specs.between.ExpandedStops.{StopsAtExpanded}
+use Rattle.kmin_trees.specs.between.ExpandedStops as expanded_stops
+use Rattle.kmin_trees.specs.between.ExpansionStops as expanding
+use Rattle.kmin_report.specs.between.RunErrors.{status_of}
+use Rattle.kmin_trees.specs.between.TreeStops.{StopsAtTexts}
+use Rattle.kmin_trees.specs.between.TreeStops as tree_stops
+use Rattle.kmin_report.proofs.WriterLemmas.{lines_append}
+
+-- the texts of a tree without expansion: they are named by their paths, and there are no notices
+abbrev pub plain_texts : Files → TreeTexts
+plain_texts texts = record { texts = texts; names = texts; lines = [] }
+
+pub are_plain : (known : Surroundings) (settings : Settings) (texts : Files) → settings.expansion ≡ None
+    → AreTextsBelow known.content settings.root settings.language texts
+    → AreTextsOfJob known settings (plain_texts texts)
+are_plain known settings texts e h = as_they_are e h refl refl
+
+-- texts that end a run end the job at its tree, whether macros are expanded or not
+texts_stop : (known : Surroundings) (settings : Settings) (t : TreeTexts) (status : ℕ) (more lines : List (List ℕ)) → AreTextsOfJob known settings t
+    → StopsAtTexts t.texts t.names settings.tree status more → lines ≡ t.lines ++ more → StopsAtTree known settings status lines
+texts_stop known settings t status more lines h (tree_stops.at_texts line r s l) e = stops.at_texts t line h r s (e ∙ ap (λ ls. t.lines ++ ls) l)
+texts_stop known settings t status more lines h (tree_stops.for_memory s l) e =
+    stops.for_memory t h s (e ∙ ap (λ ls. t.lines ++ ls) l ∙ append-nil t.lines)
+
+module _ (known : Surroundings) (settings : Settings) (taken taken_after : Option (List ℕ)) (failed failed_after : ℕ) where
+  -- without the expansion of macros
+  module _ (e : settings.expansion ≡ None) where
+    pub plain_accepted : (r : Result Settled RunError)
+        → IfOk r (λ settled. (texts : Files) × AreTextsBelow known.content settings.root settings.language texts
+        × AreAccepted texts settings.tree (tree_of_settled settled))
+        → IfOk r (λ settled. TakesLines taken failed [] taken_after failed_after)
+        → IfOk r (λ settled. (t : TreeTexts) × AreTextsOfJob known settings t × AreAccepted t.texts settings.tree (tree_of_settled settled)
+        × TakesLines taken failed t.lines taken_after failed_after)
+    plain_accepted (Err stop) h k = tt
+    plain_accepted (Ok settled) h k = (plain_texts h.0, are_plain known settings h.0 e h.1, h.2, k)
+
+    pub plain_stopped : (r : Result Settled RunError)
+        → IfErr r (λ stop. (texts : Files) × (lines : List (List ℕ)) × AreTextsBelow known.content settings.root settings.language texts
+        × StopsAtTexts texts texts settings.tree (status_of stop) lines × TakesLines taken failed lines taken_after failed_after)
+        → IfErr r (λ stop. (lines : List (List ℕ)) × StopsAtTree known settings (status_of stop) lines × TakesLines taken failed lines taken_after failed_after)
+    plain_stopped (Ok settled) h = tt
+    plain_stopped (Err stop) h =
+        (h.1, texts_stop known settings (plain_texts h.0) (status_of stop) h.1 h.1 (are_plain known settings h.0 e h.2) h.3 refl, h.4)
+
+  -- with the expansion of macros
+  module _ (expansion : Expansion) (e : settings.expansion ≡ Some expansion) where
+    pub expanded_accepted : (r : Result Settled RunError)
+        → IfOk r (λ settled. (t : TreeTexts) × AreExpandedTexts known settings.root settings.tree settings.language expansion t
+        × AreAccepted t.texts settings.tree (tree_of_settled settled) × TakesLines taken failed t.lines taken_after failed_after)
+        → IfOk r (λ settled. (t : TreeTexts) × AreTextsOfJob known settings t × AreAccepted t.texts settings.tree (tree_of_settled settled)
+        × TakesLines taken failed t.lines taken_after failed_after)
+    expanded_accepted (Err stop) h = tt
+    expanded_accepted (Ok settled) h = (h.0, expanded expansion e h.1, h.2, h.3)
+
+    stops_of : (status : ℕ) (lines : List (List ℕ)) → StopsAtExpanded known settings.root settings.tree settings.language expansion status lines
+        → StopsAtTree known settings status lines
+    stops_of status lines (expanded_stops.in_expansion s) = stops.in_expansion expansion e s
+    stops_of status lines (expanded_stops.at_texts t more h s l) = texts_stop known settings t status more lines (expanded expansion e h) s l
+
+    pub expanded_stopped : (r : Result Settled RunError)
+        → IfErr r (λ stop. (lines : List (List ℕ)) × StopsAtExpanded known settings.root settings.tree settings.language expansion (status_of stop) lines
+        × TakesLines taken failed lines taken_after failed_after)
+        → IfErr r (λ stop. (lines : List (List ℕ)) × StopsAtTree known settings (status_of stop) lines × TakesLines taken failed lines taken_after failed_after)
+    expanded_stopped (Ok settled) h = tt
+    expanded_stopped (Err stop) h = (h.0, stops_of (status_of stop) h.0 h.1, h.2)
+
+-- expanded files, settled
+module _ (known : Surroundings) (root first : List ℕ) (language : Language) (expansion : Expansion) (texts names : Files)
+    (taken middle taken_after : Option (List ℕ)) (failed failed_middle failed_after : ℕ)
+    (h : (t : TreeTexts) × AreExpandedTexts known root first language expansion t × (t.texts ≡ texts) × (t.names ≡ names)
+    × TakesLines taken failed t.lines middle failed_middle) where
+  pub settled_accepted : (r : Result Settled RunError) → IfOk r (λ settled. AreAccepted texts first (tree_of_settled settled))
+      → IfOk r (λ settled. TakesLines middle failed_middle [] taken_after failed_after)
+      → IfOk r (λ settled. (t : TreeTexts) × AreExpandedTexts known root first language expansion t × AreAccepted t.texts first (tree_of_settled settled)
+      × TakesLines taken failed t.lines taken_after failed_after)
+  settled_accepted (Err stop) a k = tt
+  settled_accepted (Ok settled) a k = (
+    h.0,
+    h.1,
+    subst (λ (fs : Files). AreAccepted fs first (tree_of_settled settled)) (sym h.2) a,
+    subst (λ ls. TakesLines taken failed ls taken_after failed_after) (append-nil h.0.lines)
+        (lines_append taken middle failed failed_middle h.0.lines [] taken_after failed_after h.4 k),
+  )
+
+  pub settled_stopped : (r : Result Settled RunError)
+      → IfErr r (λ stop. (lines : List (List ℕ)) × StopsAtTexts texts names first (status_of stop) lines
+      × TakesLines middle failed_middle lines taken_after failed_after)
+      → IfErr r (λ stop. (lines : List (List ℕ)) × StopsAtExpanded known root first language expansion (status_of stop) lines
+      × TakesLines taken failed lines taken_after failed_after)
+  settled_stopped (Ok settled) s = tt
+  settled_stopped (Err stop) s =
+      let a = subst (λ (fs : Files). StopsAtTexts fs names first (status_of stop) s.0) (sym h.2) s.1 in
+      let b = subst (λ (fs : Files). StopsAtTexts h.0.texts fs first (status_of stop) s.0) (sym h.3) a in (
+        h.0.lines ++ s.0,
+        expanded_stops.at_texts h.0 s.0 h.1 b refl,
+        lines_append taken middle failed failed_middle h.0.lines s.0 taken_after failed_after h.4 s.2,
+      )
+
+-- the expansion of a tree, after the answers are read
+module _ (known : Surroundings) (root first : List ℕ) (language : Language) (expansion : Expansion) (answers : RecordedAnswers)
+    (answered : AreJobAnswers known.content known.variable expansion answers)
+    (taken middle taken_after : Option (List ℕ)) (failed failed_middle failed_after : ℕ) (before : TakesLines taken failed [] middle failed_middle) where
+  are_expanded : (files : List ExpandedFile) (texts : Files) → texts ≡ expanded_texts language files
+      → (notices : List Notice) × IsExpansion (contents_below known root) answers first notices (Ok files)
+      × TakesLines middle failed_middle (map macro_notice_line notices) taken_after failed_after
+      → (t : TreeTexts) × AreExpandedTexts known root first language expansion t × (t.texts ≡ texts) × (t.names ≡ named_texts files texts)
+      × TakesLines taken failed t.lines taken_after failed_after
+  are_expanded files texts e h = (
+    record { texts = texts; names = named_texts files texts; lines = map macro_notice_line h.0 },
+    record {
+      answers = answers;
+      answered = answered;
+      notices = h.0;
+      files = files;
+      expanded = h.1;
+      texts = e;
+      names = refl;
+      lines = refl;
+    },
+    refl,
+    refl,
+    lines_append taken middle failed failed_middle [] (map macro_notice_line h.0) taken_after failed_after before h.2,
+  )
+
+  pub both_expanded : (r : Result ExpandedTexts RunError) → IfOk r (λ tree. tree.texts ≡ expanded_texts language tree.tree)
+      → IfOk r (λ tree. (notices : List Notice) × IsExpansion (contents_below known root) answers first notices (Ok tree.tree)
+      × TakesLines middle failed_middle (map macro_notice_line notices) taken_after failed_after)
+      → IfOk r (λ tree. (t : TreeTexts) × AreExpandedTexts known root first language expansion t × (t.texts ≡ tree.texts)
+      × (t.names ≡ named_texts tree.tree tree.texts) × TakesLines taken failed t.lines taken_after failed_after)
+  both_expanded (Err stop) e h = tt
+  both_expanded (Ok tree) e h = are_expanded tree.tree tree.texts e h
+
+  expanding_stops : (status : ℕ) (lines : List (List ℕ)) → StopsExpanding (contents_below known root) answers first status lines
+      → StopsInExpansion known root first expansion status lines
+  expanding_stops status lines (expanding.at_fault notices fault h s l) =
+      stops.at_fault answers notices fault answered h s l
+  expanding_stops status lines (expanding.for_memory s l) = stops.for_memory s l
+
+  pub stopped_expanding : (status : ℕ)
+      → (lines : List (List ℕ)) × StopsExpanding (contents_below known root) answers first status lines
+      × TakesLines middle failed_middle lines taken_after failed_after
+      → (lines : List (List ℕ)) × StopsInExpansion known root first expansion status lines × TakesLines taken failed lines taken_after failed_after
+  stopped_expanding status h =
+      (h.0, expanding_stops status h.0 h.1, lines_append taken middle failed failed_middle [] h.0 taken_after failed_after before h.2)

@@ -1,0 +1,9 @@
+pub mod TreeResults
+pub mod TextGrowth
+pub mod AnswerFileLists
+pub mod LentAnswers
+pub mod TreeFolders
+pub mod ExpandedTexts
+pub mod FileNameLemmas
+pub mod JobTrees
+pub mod KnownTrees

@@ -1,0 +1,89 @@
+-- The files and the folders of a tree below a root.
+use Rattle.std.proofs.Common.{◌≡◌, ℕ, Bool, true, false, List, [], Option, Some, None, Result, Ok, Err, IfOk, Vec, refl, subst}
+use Rattle.std.specs.Prelude.{option_map}
+use Rattle.std.specs.Str.{IsUtf8, is_utf8}
+use Rattle.std.proofs.lemmas.Str.{IsUtf8-from_is_utf8}
+use Rattle.std.specs.declared.alloc.Global.{Global}
+use Rattle.std.specs.declared.alloc.AllocError.{AllocError}
+use Rattle.kc_files.specs.TextViews.{texts_of}
+use Rattle.kc_macros_model.specs.AnswerFiles.{RecordedAnswers}
+use Rattle.kc_macros_model.specs.Programs.{Fault, Notice}
+use Rattle.kc_macros_model.specs.ReadingStates.{ExpandedFile}
+use Rattle.kc_macros_model.specs.Worlds.{World}
+use Rattle.kc_expansion.specs.Expansions.{IsExpansion, AreWanted}
+use Rattle.kc_files.specs.TreeContents.{FileContent, FolderContent, ListsAs, IsWorldOf}
+use Rattle.kc_files.specs.TreeContents as tree
+use Rattle.kmin_trees.specs.FileContents.{Surroundings, path_below}
+use Rattle.kmin_disk.specs.Contents.{OpensAs}
+use Rattle.kmin_trees.specs.TreeFolders.{regular_below, names_below, contents_through, contents_below}
+
+not_so : (b : Bool) → (b ≡ true → ⊥) → b ≡ false
+not_so true h = absurd (h refl)
+not_so false h = refl
+
+pub utf8_fails : (bytes : List ℕ) → (IsUtf8 bytes → ⊥) → is_utf8 bytes ≡ false
+utf8_fails bytes h = not_so (is_utf8 bytes) (λ e. h (IsUtf8-from_is_utf8 bytes e))
+
+opens_as : (content : FileContent) (reader : Option (Option (List ℕ))) → OpensAs content reader → tree.OpensAs content reader
+opens_as None reader h = tt
+opens_as (Some None) reader h = h
+opens_as (Some (Some bytes)) reader h = h
+
+-- opening the regular file at a path below the root agrees with what is known of the file of the tree
+pub opened_below : (regular : List ℕ → FileContent) (root path place : List ℕ) (reader : Option (Option (List ℕ))) → is_utf8 path ≡ true
+    → place ≡ path_below root path → OpensAs (regular place) reader → tree.OpensAs (regular_below regular root path) reader
+opened_below regular root path place reader e p h = rw e (subst (λ q. tree.OpensAs (regular q) reader) p (opens_as (regular place) reader h))
+
+-- a file of a tree whose path isn't UTF-8 is known to be missing, and so isn't opened
+pub unopened_below : (regular : List ℕ → FileContent) (root path : List ℕ) (reader : Option (Option (List ℕ))) → is_utf8 path ≡ false → reader ≡ None
+    → tree.OpensAs (regular_below regular root path) reader
+unopened_below regular root path reader e h = rw e h
+
+-- listing the folder at a path below the root agrees with what is known of the folder of the tree
+pub listed_below : (names : List ℕ → FolderContent) (root folder place : List ℕ) (most : ℕ) (r : Result (Option (Vec (Vec ℕ Global) Global)) AllocError)
+    → is_utf8 folder ≡ true → place ≡ path_below root folder → IfOk r (λ found. ListsAs (names place) most (option_map texts_of found))
+    → IfOk r (λ found. ListsAs (names_below names root folder) most (option_map texts_of found))
+listed_below names root folder place most (Err e) u p h = tt
+listed_below names root folder place most (Ok found) u p h = rw u (subst (λ q. ListsAs (names q) most (option_map texts_of found)) p h)
+
+pub unlisted_below : (names : List ℕ → FolderContent) (root folder : List ℕ) (most : ℕ) (found : List (List ℕ)) → is_utf8 folder ≡ false → found ≡ []
+    → ListsAs (names_below names root folder) most (Some found)
+unlisted_below names root folder most found u h = rw u h
+
+-- the files and folders are the same, whatever they are read through
+world_below : (reference : ℕ) (known : Surroundings) (root : List ℕ) (w : World) → IsWorldOf (contents_through reference known root) w
+    → IsWorldOf (contents_below known root) w
+world_below reference known root w h = record { files = h.files; folders = h.folders }
+
+through_any : (reference : ℕ) (known : Surroundings) (root first : List ℕ) (answers : RecordedAnswers) (notices : List Notice)
+    (r : Result (List ExpandedFile) Fault)
+    → IsExpansion (contents_through reference known root) answers first notices r → IsExpansion (contents_below known root) answers first notices r
+through_any reference known root first answers notices r h = record {
+  world = h.world;
+  of_contents = world_below reference known root h.world h.of_contents;
+  answered = h.answered;
+  has_notices = h.has_notices;
+  ends_so = h.ends_so;
+}
+
+pub expansion_below : (reference : ℕ) (known : Surroundings) (root first path : List ℕ) (answers : RecordedAnswers) (notices : List Notice)
+    (r : Result (List ExpandedFile) Fault)
+    → path ≡ first → IsExpansion (contents_through reference known root) answers path notices r → IsExpansion
+    (contents_below known root) answers first notices r
+expansion_below reference known root first path answers notices r e h =
+    subst (λ p. IsExpansion (contents_below known root) answers p notices r) e (through_any reference known root path answers notices r h)
+
+wanted_any : (reference : ℕ) (known : Surroundings) (root first : List ℕ) (answers : RecordedAnswers) (asked : Result (List (List ℕ)) Fault)
+    → AreWanted (contents_through reference known root) answers first asked → AreWanted (contents_below known root) answers first asked
+wanted_any reference known root first answers asked h = record {
+  world = h.world;
+  of_contents = world_below reference known root h.world h.of_contents;
+  answered = h.answered;
+  are_wanted = h.are_wanted;
+}
+
+pub wanted_below : (reference : ℕ) (known : Surroundings) (root first path : List ℕ) (answers : RecordedAnswers)
+    (asked : Result (List (List ℕ)) Fault) → path ≡ first
+    → AreWanted (contents_through reference known root) answers path asked → AreWanted (contents_below known root) answers first asked
+wanted_below reference known root first path answers asked e h =
+    subst (λ p. AreWanted (contents_below known root) answers p asked) e (wanted_any reference known root path answers asked h)

@@ -1,0 +1,14 @@
+use Rattle.kmin_report.specs.StandardError.{none}
+use Rattle.kmin_trees.proofs.AnswerFileLists.{reports_fault}
+use Rattle.kmin_trees.proofs.job_answers.record.Goals as goal
+
+pub returns-in-Ok-clause-unreported : goal.returns-in-Ok-clause-unreported
+returns-in-Ok-clause-unreported g c = none
+
+pub returns-in-Err-clause-stopped : goal.returns-in-Err-clause-stopped
+returns-in-Err-clause-stopped g c = record {
+  fault = c.in-Err.fault;
+  reports = reports_fault _ _ _ _ _ c.in-Err.fault c.in-Err.ensures.fault;
+  status_is = c.report_answers_fault.ensures.status;
+  reported = c.report_answers_fault.ensures.reported;
+}

@@ -1,0 +1,33 @@
+use Rattle.std.proofs.Common.{[], refl, subst}
+use Rattle.kc_tree_model.specs.TreeFiles.{Files}
+use Rattle.kmin_trees.specs.JobTexts.{no_texts}
+use Rattle.kmin_report.specs.StandardError.{none}
+use Rattle.kmin_report.specs.between.RunErrors.{status_of}
+use Rattle.kmin_trees.specs.between.TreeStops.{StopsAtTexts, for_memory}
+use Rattle.kmin_trees.proofs.TextGrowth.{below_none}
+use Rattle.kmin_report.proofs.Results.{if_err_map, memory_err}
+use Rattle.kmin_trees.proofs.job_trees.as_it_is.Goals as goal
+
+pub returns-in_err-texts-clause-stopped : goal.returns-in_err-texts-clause-stopped
+returns-in_err-texts-clause-stopped g c =
+    memory_err _ _ c.from_residual.ensures (λ stop status. (
+      no_texts c.args.settings.now.language,
+      [],
+      below_none (g.F.Files.surroundings c.args.files.now).content c.args.settings.now.root.now c.args.settings.now.language
+          (no_texts c.args.settings.now.language) refl refl,
+      for_memory
+          status refl,
+      none,
+    ))
+
+pub returns-clause-stopped : goal.returns-clause-stopped
+returns-clause-stopped g c =
+    let texts = c.in_ok-texts.field-0.texts in
+    let first = c.args.settings.now.tree.now in
+    if_err_map c.settled_tree.result _ _ (λ stop stopped. (
+      texts,
+      stopped.0,
+      c.in_ok-texts.ensures.below,
+      subst (λ (names : Files). StopsAtTexts texts names first (status_of stop) stopped.0) c.of_texts-names.ensures stopped.1,
+      stopped.2,
+    )) c.settled_tree.ensures.stopped

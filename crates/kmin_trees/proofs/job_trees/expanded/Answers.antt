@@ -1,0 +1,23 @@
+use Rattle.std.proofs.Common.{rules}
+use Rattle.kmin_words.specs.Jobs.{expansion_view}
+use Rattle.kmin_trees.specs.between.ExpandedStops.{in_expansion}
+use Rattle.kmin_trees.proofs.JobTrees.{settled_accepted, settled_stopped}
+use Rattle.kmin_report.proofs.Results.{if_err}
+use Rattle.kmin_trees.proofs.job_trees.expanded.Goals as goal
+
+pub returns-in_err-tree-clause-stopped : goal.returns-in_err-tree-clause-stopped
+returns-in_err-tree-clause-stopped g c =
+    let stopped = c.in_err-tree.ensures.stopped in
+    if_err c.from_residual.result c.in_err-tree.field-0.0 _ (search rules) (stopped.0, in_expansion stopped.1, stopped.2)
+
+pub returns-clause-accepted : goal.returns-clause-accepted
+returns-clause-accepted g c =
+    settled_accepted (g.F.Files.surroundings c.args.files.now) _ _ c.args.settings.now.language (expansion_view c.args.expansion.now) _ _ _ _ _ _ _ _
+    c.in_ok-tree.ensures.expanded
+    c.settled_expanded.result c.settled_expanded.ensures.accepted c.settled_expanded.ensures.unreported
+
+pub returns-clause-stopped : goal.returns-clause-stopped
+returns-clause-stopped g c =
+    settled_stopped (g.F.Files.surroundings c.args.files.now) _ _ c.args.settings.now.language (expansion_view c.args.expansion.now) _ _ _ _ _ _ _ _
+    c.in_ok-tree.ensures.expanded
+    c.settled_expanded.result c.settled_expanded.ensures.stopped

@@ -1,0 +1,32 @@
+use Rattle.std.proofs.Common.{arith, refl}
+use Rattle.std.proofs.lemmas.Grind.{common_steps}
+use Rattle.kmin_trees.proofs.TextGrowth.{below_none}
+use Rattle.kmin_trees.proofs.tree_files.gather.Goals as goal
+
+pub returns-then-lacks_file-clause-read : goal.returns-then-lacks_file-clause-read
+returns-then-lacks_file-clause-read c = grind (arith, common_steps)
+
+pub returns-then-lacks_file-clause-below : goal.returns-then-lacks_file-clause-below
+returns-then-lacks_file-clause-below c = grind (arith, common_steps)
+
+pub returns-in_err-open_first-clause-read : goal.returns-in_err-open_first-clause-read
+returns-in_err-open_first-clause-read c = grind (arith, common_steps)
+
+pub returns-in_err-open_first-clause-below : goal.returns-in_err-open_first-clause-below
+returns-in_err-open_first-clause-below c = grind (arith, common_steps)
+
+pub gather_wanted-requires : goal.gather_wanted-requires
+gather_wanted-requires c = grind (arith, common_steps)
+
+pub returns-clause-below : goal.returns-clause-below
+returns-clause-below c = grind (arith, common_steps)
+
+pub open_first-requires : goal.open_first-requires
+open_first-requires g c =
+    record {
+      below = below_none (g.F.Files.surroundings c.args.files.now).content c.args.root.now _ c.with_language-texts.result refl
+          c.with_language-texts.ensures.empty;
+    }
+
+pub returns-clause-read : goal.returns-clause-read
+returns-clause-read c = grind (arith, common_steps)

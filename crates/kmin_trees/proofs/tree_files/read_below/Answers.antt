@@ -1,0 +1,27 @@
+use Rattle.std.proofs.Common.{◌≡◌, ◌++◌, ◌∷◌, [], ℕ, List, ap, ◌∙◌, append_assoc, arith}
+use Rattle.std.proofs.lemmas.Grind.{common_steps, elements}
+use Rattle.kmin_trees.specs.FileContents.{path_below}
+use Rattle.kmin_disk.specs.Contents.{OpensAs}
+use Rattle.kmin_trees.proofs.TextGrowth.{front_read}
+use Rattle.kmin_trees.proofs.tree_files.read_below.Goals as goal
+
+pub returns-in-Some-clause-bytes : goal.returns-in-Some-clause-bytes
+returns-in-Some-clause-bytes g c =
+    let at : c.deref.result.now ≡ path_below c.args.root.now c.args.path.now =
+    c.deref.ensures ∙ c.in_ok-push_str-2.ensures.bytes
+    ∙ ap (λ (z : List ℕ). z ++ c.args.path.now) (c.in_ok-push_str.ensures.bytes ∙ ap (λ (z : List ℕ). z ++ 47 ∷ []) c.in_ok-place.ensures.ok)
+    ∙ append_assoc c.args.root.now (47 ∷ []) c.args.path.now in
+    let opens : OpensAs ((g.F.Files.surroundings c.args.files.now).content (path_below c.args.root.now c.args.path.now)) _ = rw at at c.in-Some.ensures.opens in
+    front_read ((g.F.Files.surroundings c.args.files.now).content (path_below c.args.root.now c.args.path.now)) _ _ c.read_front.result opens c.read_front.ensures.bytes
+
+pub returns-in_err-push_str-clause-bytes : goal.returns-in_err-push_str-clause-bytes
+returns-in_err-push_str-clause-bytes g c = grind (arith, common_steps)
+
+pub returns-in_err-place-clause-bytes : goal.returns-in_err-place-clause-bytes
+returns-in_err-place-clause-bytes g c = grind (arith, elements)
+
+pub returns-clause-bytes : goal.returns-clause-bytes
+returns-clause-bytes g c = grind (arith, common_steps)
+
+pub returns-in_err-push_str-2-clause-bytes : goal.returns-in_err-push_str-2-clause-bytes
+returns-in_err-push_str-2-clause-bytes g c = grind (arith, common_steps)

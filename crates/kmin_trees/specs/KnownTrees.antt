@@ -1,0 +1,29 @@
+-- The tree that known files determine.
+use Rattle.std.specs.Prelude.{◌≡◌, ◌≢◌, ℕ, List, Option, Some, None, take}
+use Rattle.kc_value.specs.declared.limits.TheConstants.{MAX_FILE_BYTES}
+use Rattle.kc_tokens.specs.declared.language.Language.{Language}
+use Rattle.kc_tree_model.specs.TreeFiles.{Files, index_of_file}
+use Rattle.kc_tree_model.specs.Trees.{Tree}
+use Rattle.kc_tree_model.specs.MoreFiles.{reading_from}
+use Rattle.kc_tree_model.specs.Contents.{tree_of_groups}
+use Rattle.kc_files.specs.TreeContents.{FileContent}
+use Rattle.kmin_trees.specs.FileContents.{AreTextsBelow, path_below}
+use Rattle.kmin_trees.specs.AcceptedTrees.{AreAccepted}
+
+-- the known bytes of a file, but no more than the first `MAX_FILE_BYTES`; `None` if they aren't known, or the file can't be
+-- opened
+abbrev pub known_bytes : FileContent → Option (List ℕ)
+known_bytes None = None
+known_bytes (Some None) = None
+known_bytes (Some (Some content)) = Some (take MAX_FILE_BYTES content)
+
+-- the tree in this language whose first file is at the path `first`, where a file at a path has these bytes and this number
+abbrev pub tree_of_bytes : Language → (bytes : List ℕ → Option (List ℕ)) → (number : List ℕ → ℕ) → (first : List ℕ) → Tree
+tree_of_bytes language bytes number first = tree_of_groups language (reading_from (record { language = language; bytes = bytes; number = number; root = first })).read
+
+-- Where the file at each path below the root is known, all texts that are accepted have the tree of the known bytes, with the
+-- numbers that the texts give to the files.
+abbrev pub KnownFilesDetermineTheTree : Type 0
+KnownFilesDetermineTheTree = (content_of : List ℕ → FileContent) (root first : List ℕ) (texts : Files) (tree : Tree)
+    → ((path : List ℕ) → content_of (path_below root path) ≢ None) → AreTextsBelow content_of root texts.language texts → AreAccepted texts first tree
+    → tree ≡ tree_of_bytes texts.language (λ path. known_bytes (content_of (path_below root path))) (index_of_file texts) first

@@ -1,0 +1,10 @@
+pub mod AcceptedTrees
+pub mod FileContents
+pub mod TreeFolders
+pub mod JobAnswers
+pub mod JobTexts
+pub mod AnswerStops
+pub mod Stops
+pub mod KnownTrees
+pub mod WantedQuestions
+pub mod between

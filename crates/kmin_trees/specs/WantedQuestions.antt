@@ -1,0 +1,46 @@
+-- The open questions of a tree's macros.
+use Rattle.std.specs.Prelude.{◌≡◌, ℕ, ◌<◌, List, [], ◌∷◌, ◌++◌, Option, Result, Ok, Err, length, take}
+use Rattle.std.specs.List.{flat_map}
+use Rattle.std.specs.Io.KnownBytes.{Appends}
+use Rattle.kc_macros_model.specs.Programs.{Fault}
+use Rattle.kc_macros_model.specs.AnswerFiles.{RecordedAnswers}
+use Rattle.kc_expansion.specs.Expansions.{AreWanted}
+use Rattle.kmin_words.specs.Jobs.{Questions}
+use Rattle.kmin_trees.specs.FileContents.{Surroundings}
+use Rattle.kmin_trees.specs.JobAnswers.{AreJobAnswers}
+use Rattle.kmin_trees.specs.TreeFolders.{contents_below}
+use Rattle.kmin_trees.specs.AnswerStops.{StopsAmongAnswers}
+use Rattle.kmin_report.specs.MacroReports.{macro_fault_line}
+use Rattle.kmin_report.specs.Reports.{output_line}
+
+-- the result of the command `wants` for a tree: the open questions of its macros, or if there are none the fault of the expansion
+pub record AreAsked (known : Surroundings) (questions : Questions) (asked : Result (List (List ℕ)) Fault) : Type 0 where
+  pub answers : RecordedAnswers
+  pub answered : AreJobAnswers known.content known.variable questions.expansion answers
+  pub wanted : AreWanted (contents_below known questions.root) answers questions.tree asked
+
+-- the line of standard output for a question: its text and a newline
+abbrev pub question_line : List ℕ → List ℕ
+question_line question = question ++ 10 ∷ []
+
+-- the lines of standard output for questions, in order
+abbrev pub questions_text : List (List ℕ) → List ℕ
+questions_text asked = flat_map question_line asked
+
+-- The command `wants` ends early, with this status and these lines of standard error: among its answer files, at the fault of an
+-- expansion without open questions, at a failed write, or since memory ran out.
+pub data StopsWanting (known : Surroundings) (questions : Questions) (status : ℕ) (lines : List (List ℕ)) : Type 0 where
+  among_answers : StopsAmongAnswers known.content questions.expansion.answers status lines → StopsWanting known questions status lines
+  at_fault : (fault : Fault) → AreAsked known questions (Err fault) → status ≡ 3 → lines ≡ macro_fault_line fault ∷ []
+      → StopsWanting known questions status lines
+  at_write : (asked : List (List ℕ)) → AreAsked known questions (Ok asked) → status ≡ 5 → lines ≡ output_line ∷ []
+      → StopsWanting known questions status lines
+  for_memory : status ≡ 6 → lines ≡ [] → StopsWanting known questions status lines
+
+-- standard output took the first bytes of the list of open questions, but not all of them
+pub record AsksInPart (known : Surroundings) (questions : Questions) (taken taken_after : Option (List ℕ)) : Type 0 where
+  pub asked : List (List ℕ)
+  pub are : AreAsked known questions (Ok asked)
+  pub written : ℕ
+  pub part : written < length (questions_text asked)
+  pub took : Appends taken taken_after (take written (questions_text asked))

@@ -1,0 +1,145 @@
+//! The expansion of a tree: its expanded files, and the questions of its macros that are open.
+ghost use Rattle.std.specs.Prelude.{◌≡◌, ℕ, List, Ok, IfOk, IfErr, OnOk, map, slice_get, if◌then◌else◌};
+ghost use Rattle.std.specs.Str.{is_utf8};
+ghost use Rattle.kc_macros_model.specs.Programs.{Notice};
+ghost use Rattle.kc_macros.specs.Runs.{notice_of};
+ghost use Rattle.kc_expansion.specs.Expansions.{IsExpansion, AreWanted, tree_of, questions_of};
+ghost use Rattle.kc_tree_model.specs.TreeFiles.{with_file};
+ghost use Rattle.kmin_trees.specs.JobTexts.{expanded_texts};
+ghost use Rattle.kmin_trees.specs.TreeFolders.{contents_below};
+ghost use Rattle.kmin_report.specs.MacroReports.{macro_notice_line};
+ghost use Rattle.kmin_report.specs.StandardError.{TakesLines};
+ghost use Rattle.kmin_trees.specs.between.FilesByPlace.{with_file_at};
+ghost use Rattle.kmin_trees.specs.between.ExpansionStops.{StopsExpanding};
+ghost use Rattle.kmin_report.specs.between.RunErrors.{status_of};
+
+use crate::files::Files;
+use crate::tree_folder::{TreeFolder, text_of};
+use kc_answers::Answers;
+use kc_expansion::{ExpandedTree, Expansion, expand, wants};
+use kc_macros::{MacroFault, MacroNotice};
+use kc_tokens::Language;
+use kc_tree::Texts;
+use kc_value::{Seed, Sink};
+use kmin_report::{Report, RunError, write_report};
+use kmin_words::Settings;
+use std::alloc::{AllocError, Global};
+
+/// A tree whose macros are expanded, and its expanded files as the texts to read as a Kconfig tree.
+#[derive(Drop)]
+pub(crate) struct ExpandedTexts {
+    pub(crate) tree: ExpandedTree,
+    pub(crate) texts: Texts,
+}
+
+/// Expands the macros of a job's tree. Reports the notices of the expansion, and its fault.
+pub(crate) fn expanded_tree<F: Files, E: Sink>(
+    alloc: Global,
+    settings: &Settings<'_>,
+    answers: &Answers,
+    files: &mut F,
+    err: &mut E,
+) -> Result<ExpandedTexts, RunError>
+    ensures same { (F.surroundings files.new).content ≡ (F.surroundings files.old).content }
+    ensures texts { IfOk result (λ t. t.texts ≡ expanded_texts settings.now.language t.tree) }
+    ensures expanded { IfOk result (λ t. (notices : List Notice) × IsExpansion (contents_below (F.surroundings files.old) settings.now.root.now) answers.now settings.now.tree.now notices (Ok t.tree) × TakesLines (E.taken err.old) (E.failures err.old) (map macro_notice_line notices) (E.taken err.new) (E.failures err.new)) }
+    ensures stopped { IfErr result (λ stop. (lines : List (List ℕ)) × StopsExpanding (contents_below (F.surroundings files.old) settings.now.root.now) answers.now settings.now.tree.now (status_of stop) lines × TakesLines (E.taken err.old) (E.failures err.old) lines (E.taken err.new) (E.failures err.new)) }
+{
+    let seed = files.seed();
+    let Expansion { notices, tree } = expansion_below(
+        alloc,
+        settings.root,
+        settings.tree,
+        answers,
+        files,
+    )?;
+    match tree {
+        Ok(expanded) => {
+            let texts = texts_of(alloc, seed, settings.language, &expanded)?;
+            report_macro_notices(&notices, err);
+            Ok(ExpandedTexts {
+                tree: expanded,
+                texts,
+            })
+        }
+        Err(fault) => {
+            report_macro_notices(&notices, err);
+            write_report(Report::MacroFault(&fault), err);
+            Err(RunError::Tree)
+        }
+    }
+}
+
+/// The expansion of the tree below a folder.
+fn expansion_below<F: Files>(
+    alloc: Global,
+    root: &str,
+    first: &str,
+    answers: &Answers,
+    files: &mut F,
+) -> Result<Expansion, AllocError>
+    ensures same { (F.surroundings files.new).content ≡ (F.surroundings files.old).content }
+    ensures expanded { IfOk result (λ e. IsExpansion (contents_below (F.surroundings files.old) root.now) answers.now first.now (map notice_of e.notices.items) (tree_of e.tree)) }
+{
+    let mut tree = TreeFolder { files, root };
+    expand(alloc, &mut tree, first.as_bytes(), answers)
+}
+
+/// The open questions of the macros of the tree below a folder, or the fault of its expansion.
+pub(crate) fn wanted_below<F: Files>(
+    alloc: Global,
+    root: &str,
+    first: &str,
+    answers: &Answers,
+    files: &mut F,
+) -> Result<Result<Vec<Vec<u8>>, MacroFault>, AllocError>
+    ensures { IfOk result (λ w. AreWanted (contents_below (F.surroundings files.old) root.now) answers.now first.now (questions_of w)) }
+{
+    let mut tree = TreeFolder { files, root };
+    wants(alloc, &mut tree, first.as_bytes(), answers)
+}
+
+/// The texts of expanded files by their keys, in a language; a file whose key isn't UTF-8 is left out.
+fn texts_of(
+    alloc: Global,
+    seed: Seed,
+    language: Language,
+    tree: &ExpandedTree,
+) -> Result<Texts, AllocError>
+    ensures { IfOk result (λ texts. texts ≡ expanded_texts language tree.now) }
+{
+    let mut texts = Texts::with_language(alloc, seed, language);
+    for at in 0..tree.len() {
+        insert_at(tree, at, &mut texts)?;
+    }
+    Ok(texts)
+}
+
+/// Inserts the expanded file at a place of the tree, if there is one.
+fn insert_at(tree: &ExpandedTree, at: usize, texts: &mut Texts) -> Result<(), AllocError>
+    ensures { OnOk result (texts.new ≡ with_file_at (slice_get tree.now at) texts.old) }
+{
+    match tree.get(at) {
+        Some(file) => insert(file.key, file.text, texts),
+        None => Ok(()),
+    }
+}
+
+/// Inserts a text under its key, if that is UTF-8.
+fn insert(key: &[u8], text: &[u8], texts: &mut Texts) -> Result<(), AllocError>
+    ensures { OnOk result (texts.new ≡ (if is_utf8 key.now then with_file texts.old key.now text.now else texts.old)) }
+{
+    match text_of(key) {
+        Some(key) => texts.insert(key, text),
+        None => Ok(()),
+    }
+}
+
+/// Reports the notices of an expansion.
+fn report_macro_notices<E: Sink>(notices: &[MacroNotice], err: &mut E)
+    ensures { TakesLines (E.taken err.old) (E.failures err.old) (map (λ notice. macro_notice_line (notice_of notice)) notices.now) (E.taken err.new) (E.failures err.new) }
+{
+    for notice in notices {
+        write_report(Report::MacroNotice(notice), err);
+    }
+}

@@ -1,0 +1,56 @@
+//! The names of a tree's files in messages.
+ghost use Rattle.std.specs.Prelude.{◌≡◌, None, Some, option_map};
+ghost use Rattle.kc_tree_model.specs.TreeFiles.{path_at};
+ghost use Rattle.kmin_trees.specs.JobTexts.{name_of_key, named_texts};
+ghost use Rattle.kmin_trees.specs.between.FileNames.{names_of};
+
+use kc_expansion::ExpandedTree;
+use kc_tree::Texts;
+
+/// The names of a tree's files in messages: their paths among the texts, or for expanded files the paths that were
+/// read.
+#[derive(Drop)]
+pub struct FileNames<'a> {
+    texts: &'a Texts,
+    expanded: Option<&'a ExpandedTree>,
+}
+
+/// The path that was read for the key of an expanded file.
+fn name_of_key<'a>(tree: &'a ExpandedTree, key: &'a str) -> &'a [u8]
+    ensures { result.now ≡ name_of_key tree.now key.now }
+{
+    tree.path_of(key.as_bytes()).unwrap_or(key.as_bytes())
+}
+
+impl<'a> FileNames<'a> {
+    /// The names of the files of a tree without expansion: their paths among the texts.
+    pub fn of_texts(texts: &'a Texts) -> FileNames<'a>
+        ensures { names_of result ≡ texts.now }
+    {
+        FileNames {
+            texts,
+            expanded: None,
+        }
+    }
+
+    /// The names of the files of an expanded tree: the paths that were read for their keys.
+    pub(crate) fn of_expanded(texts: &'a Texts, tree: &'a ExpandedTree) -> FileNames<'a>
+        ensures { names_of result ≡ named_texts tree.now texts.now }
+    {
+        FileNames {
+            texts,
+            expanded: Some(tree),
+        }
+    }
+
+    /// The name, in messages, of the file of this number among the texts; `None` if there is no such file.
+    pub(crate) fn name_at(&self, number: u32) -> Option<&'a [u8]>
+        ensures { option_map (λ name. name.now) result ≡ path_at (names_of self.now) number }
+    {
+        let key = self.texts.path_at(number)?;
+        match self.expanded {
+            Some(tree) => Some(name_of_key(tree, key)),
+            None => Some(key.as_bytes()),
+        }
+    }
+}

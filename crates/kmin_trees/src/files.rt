@@ -1,0 +1,61 @@
+//! The files that a job names, the folders of its tree, and the environment.
+ghost use Rattle.std.specs.Prelude.{◌≡◌, IfOk, option_map, string_bytes};
+ghost use Rattle.kc_files.specs.TextViews.{texts_of};
+ghost use Rattle.kc_files.specs.TreeContents.{ListsAs};
+ghost use Rattle.kmin_trees.specs.FileContents.{Surroundings, MatchVariable};
+ghost use Rattle.kmin_disk.specs.Contents.{OpensAs};
+
+use kc_value::{Seed, Source};
+use std::alloc::{AllocError, Global};
+
+/// The surroundings of a job that can be read: files by their paths, folders, and variables of the environment.
+pub trait Files {
+    /// The reader of an open file.
+    type File: Source + Drop;
+
+    /// All that is known of the files, the folders and the environment.
+    ghost surroundings: { Self → Surroundings };
+
+    /// The seed by which the paths and names of a tree are hashed; it has no influence on any result.
+    fn seed(&self) -> Seed;
+
+    /// A reader of the bytes of the file at a path; `None` if it can't be opened.
+    fn reader_for(&mut self, path: &str) -> Option<Self::File>
+        ensures same { surroundings self.new ≡ surroundings self.old }
+        ensures opens { OpensAs ((surroundings self.old).content path.now) (option_map Self.File.Source.left result) };
+
+    /// A reader of the bytes of the regular file at a path, or at the end of its links; `None` for a folder, a pipe or
+    /// a device, and if the file can't be opened.
+    fn regular_reader_for(&mut self, path: &str) -> Option<Self::File>
+        ensures same { surroundings self.new ≡ surroundings self.old }
+        ensures opens { OpensAs ((surroundings self.old).regular path.now) (option_map Self.File.Source.left result) };
+
+    /// The names in a folder in any order, without those that aren't UTF-8; `None` if there are more than `most`. A
+    /// folder that can't be listed has no names.
+    ///
+    /// # Errors
+    ///
+    /// Memory ran out.
+    fn names_in(
+        &mut self,
+        alloc: Global,
+        folder: &str,
+        most: usize,
+    ) -> Result<Option<Vec<Vec<u8>>>, AllocError>
+        ensures same { surroundings self.new ≡ surroundings self.old }
+        ensures lists { IfOk result (λ names. ListsAs ((surroundings self.old).names folder.now) most (option_map texts_of names)) };
+
+    /// The value of a variable of the environment; `None` if it isn't set, or its value isn't UTF-8.
+    ///
+    /// # Errors
+    ///
+    /// Memory ran out.
+    fn variable(&mut self, alloc: Global, name: &str) -> Result<Option<String>, AllocError>
+        ensures same { surroundings self.new ≡ surroundings self.old }
+        ensures value { IfOk result (λ value. MatchVariable ((surroundings self.old).variable name.now) (option_map string_bytes value)) };
+
+    /// The likely number of bytes of an open file, 0 if it isn't known; it has no influence on any result.
+    fn size_of(&self, _file: &Self::File) -> usize {
+        0
+    }
+}

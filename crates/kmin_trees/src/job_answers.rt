@@ -1,0 +1,173 @@
+//! The answers to the questions of a job's tree, from definitions, answer files and the environment.
+ghost use Rattle.std.specs.Prelude.{◌≡◌, ◌∷◌, [], ℕ, List, Some, None, IfOk, IfErr, OnOk, map, option_map, string_bytes};
+ghost use Rattle.std.specs.Borrow.{Bor};
+ghost use Rattle.std.specs.Option.{option_or};
+ghost use Rattle.kc_tree_model.specs.Keywords.{keyword_in_table};
+ghost use Rattle.kmin_words.specs.Jobs.{definition_view, expansion_view};
+ghost use Rattle.kmin_trees.specs.JobAnswers.{FilesRecord, AreJobAnswers, defined_answer, answer_of_variable};
+ghost use Rattle.kc_answers.specs.ReadAnswers.{AreRecorded};
+ghost use Rattle.kmin_trees.specs.AnswerStops.{StopsAmongAnswers, answers_status};
+ghost use Rattle.kmin_report.specs.StandardError.{TakesLines};
+ghost use Rattle.kmin_trees.specs.between.AnswerSteps.{StopsReading, StopsAtAnswersPath, AreLent, answers_lines};
+ghost use Rattle.kmin_report.specs.between.RunErrors.{status_of};
+
+use crate::files::Files;
+use kc_answers::Answers;
+use kc_macros::{AnswersFault, AnswersKind};
+use kc_value::{MAX_VARIABLE_BYTES, Sink, Source, has_newline};
+use kmin_report::{Report, RunError, write_report};
+use kmin_words::{Definition, Expansion};
+use std::alloc::{AllocError, Global};
+
+/// The answers to the questions of a job's tree: by its definitions, else by its answer files, else by the environment.
+/// Reports why an answer file is refused.
+pub(crate) fn job_answers<F: Files, E: Sink>(
+    alloc: Global,
+    expansion: &Expansion<'_>,
+    files: &mut F,
+    err: &mut E,
+) -> Result<Answers, RunError>
+    ensures same { F.surroundings files.new ≡ F.surroundings files.old }
+    ensures answers { IfOk result (AreJobAnswers (F.surroundings files.old).content (F.surroundings files.old).variable (expansion_view expansion.now)) }
+    ensures unreported { OnOk result (TakesLines (E.taken err.old) (E.failures err.old) [] (E.taken err.new) (E.failures err.new)) }
+    ensures stopped { IfErr result (λ stop. (lines : List (List ℕ)) × StopsAmongAnswers (F.surroundings files.old).content (expansion_view expansion.now).answers (status_of stop) lines × TakesLines (E.taken err.old) (E.failures err.old) lines (E.taken err.new) (E.failures err.new)) }
+{
+    let mut answers = file_answers(alloc, &expansion.answers, files, err)?;
+    define(&expansion.definitions, &mut answers)?;
+    lend(alloc, &expansion.environment, files, &mut answers)?;
+    Ok(answers)
+}
+
+/// Reads answer files, one after another. Reports why one is refused.
+fn file_answers<F: Files, E: Sink>(
+    alloc: Global,
+    paths: &[&str],
+    files: &mut F,
+    err: &mut E,
+) -> Result<Answers, RunError>
+    ensures same { F.surroundings files.new ≡ F.surroundings files.old }
+    ensures recorded { IfOk result (λ answers. FilesRecord (F.surroundings files.old).content (map (λ (path : Bor (List ℕ)). path.now) paths.now) [] answers) }
+    ensures unreported { OnOk result (TakesLines (E.taken err.old) (E.failures err.old) [] (E.taken err.new) (E.failures err.new)) }
+    ensures stopped { IfErr result (λ stop. (lines : List (List ℕ)) × StopsAmongAnswers (F.surroundings files.old).content (map (λ (path : Bor (List ℕ)). path.now) paths.now) (status_of stop) lines × TakesLines (E.taken err.old) (E.failures err.old) lines (E.taken err.new) (E.failures err.new)) }
+{
+    let mut answers = Answers::new(alloc, files.seed());
+    for path in paths {
+        record_path(path, files, &mut answers, err)?;
+    }
+    Ok(answers)
+}
+
+/// Reads one more answer file by its path. Reports why it is refused.
+fn record_path<F: Files, E: Sink>(
+    path: &str,
+    files: &mut F,
+    answers: &mut Answers,
+    err: &mut E,
+) -> Result<(), RunError>
+    ensures same { F.surroundings files.new ≡ F.surroundings files.old }
+    ensures recorded { OnOk result (FilesRecord (F.surroundings files.old).content (path.now ∷ []) answers.old answers.new) }
+    ensures unreported { OnOk result (TakesLines (E.taken err.old) (E.failures err.old) [] (E.taken err.new) (E.failures err.new)) }
+    ensures stopped { IfErr result (λ stop. (lines : List (List ℕ)) × StopsAtAnswersPath ((F.surroundings files.old).content path.now) answers.old path.now (status_of stop) lines × TakesLines (E.taken err.old) (E.failures err.old) lines (E.taken err.new) (E.failures err.new)) }
+{
+    match files.reader_for(path) {
+        Some(mut reader) => record(path, &mut reader, answers, err),
+        None => {
+            let kind = AnswersKind::Read;
+            let fault = AnswersFault { line: 0, kind };
+            Err(report_answers_fault(path, fault, err))
+        }
+    }
+}
+
+/// Reads one more answer file from a reader. Reports why it is refused.
+fn record<S: Source, E: Sink>(
+    path: &str,
+    source: &mut S,
+    answers: &mut Answers,
+    err: &mut E,
+) -> Result<(), RunError>
+    ensures recorded { OnOk result (AreRecorded (S.left source.old) (S.left source.new) answers.old answers.new) }
+    ensures unreported { OnOk result (TakesLines (E.taken err.old) (E.failures err.old) [] (E.taken err.new) (E.failures err.new)) }
+    ensures stopped { IfErr result (λ stop. StopsReading path.now (S.left source.old) (S.left source.new) (S.failures source.old) (S.failures source.new) answers.old (status_of stop) (E.taken err.old) (E.failures err.old) (E.taken err.new) (E.failures err.new)) }
+{
+    match answers.read(source) {
+        Ok(()) => Ok(()),
+        Err(fault) => Err(report_answers_fault(path, fault, err)),
+    }
+}
+
+/// Reports a fault of an answer file, and returns the error that ends the run. Out of memory is reported later.
+fn report_answers_fault<E: Sink>(path: &str, fault: AnswersFault, err: &mut E) -> RunError
+    ensures status { status_of result ≡ answers_status fault.kind }
+    ensures reported { TakesLines (E.taken err.old) (E.failures err.old) (answers_lines path.now fault.line fault.kind) (E.taken err.new) (E.failures err.new) }
+{
+    let AnswersFault { line, kind } = fault;
+    match kind {
+        AnswersKind::OutOfMemory => RunError::Memory,
+        AnswersKind::Read => {
+            write_report(Report::AnswersFault { path, line, kind }, err);
+            RunError::Failed
+        }
+        _ => {
+            write_report(Report::AnswersFault { path, line, kind }, err);
+            RunError::Configuration
+        }
+    }
+}
+
+/// Gives names the values of definitions, in place of those that they have. The last definition of a name counts.
+fn define(definitions: &[Definition<'_>], answers: &mut Answers) -> Result<(), AllocError>
+    ensures { OnOk result ((question : List ℕ) → keyword_in_table answers.new question ≡ option_or (defined_answer (map definition_view definitions.now) question) (keyword_in_table answers.old question)) }
+{
+    for definition in definitions {
+        let value = definition.value.as_bytes();
+        answers.set(definition.name.as_bytes(), Some(value))?;
+    }
+    Ok(())
+}
+
+/// Gives each of these names that has no answer its value in the environment.
+fn lend<F: Files>(
+    alloc: Global,
+    names: &[&str],
+    files: &mut F,
+    answers: &mut Answers,
+) -> Result<(), AllocError>
+    ensures same { F.surroundings files.new ≡ F.surroundings files.old }
+    ensures lent { OnOk result (AreLent (F.surroundings files.old).variable (map (λ (name : Bor (List ℕ)). name.now) names.now) answers.old answers.new) }
+{
+    for name in names {
+        lend_one(alloc, name, files, answers)?;
+    }
+    Ok(())
+}
+
+/// Gives a name that has no answer its value in the environment.
+fn lend_one<F: Files>(
+    alloc: Global,
+    name: &str,
+    files: &mut F,
+    answers: &mut Answers,
+) -> Result<(), AllocError>
+    ensures same { F.surroundings files.new ≡ F.surroundings files.old }
+    ensures lent { OnOk result (AreLent (F.surroundings files.old).variable (name.now ∷ []) answers.old answers.new) }
+{
+    let question = name.as_bytes();
+    if answers.has(question) {
+        return Ok(());
+    }
+    let value = files.variable(alloc, name)?;
+    answers.set(question, usable_value(&value))
+}
+
+/// The value of a variable, if it can be an answer: it has no newline, and at most `MAX_VARIABLE_BYTES` bytes.
+fn usable_value(value: &Option<String>) -> Option<&[u8]>
+    ensures { option_map (λ t. t.now) result ≡ answer_of_variable (option_map string_bytes value.now) }
+{
+    let bytes = value.as_ref()?.as_bytes();
+    if has_newline(bytes) || bytes.len() > MAX_VARIABLE_BYTES {
+        None
+    } else {
+        Some(bytes)
+    }
+}

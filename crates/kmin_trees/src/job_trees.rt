@@ -1,0 +1,128 @@
+//! The tree of a job, read with or without the expansion of macros.
+ghost use Rattle.std.specs.Prelude.{◌≡◌, [], ℕ, List, IfOk, IfErr};
+ghost use Rattle.kc_tree_model.specs.TreeFiles as trees;
+ghost use Rattle.kc_rules.specs.between.SettledViews.{tree_of_settled, profile_of};
+ghost use Rattle.kmin_words.specs.Jobs.{expansion_view, settings_view};
+ghost use Rattle.kmin_trees.specs.AcceptedTrees.{AreAccepted};
+ghost use Rattle.kmin_trees.specs.FileContents.{AreTextsBelow};
+ghost use Rattle.kmin_trees.specs.JobTexts.{TreeTexts, AreExpandedTexts, AreTextsOfJob, named_texts};
+ghost use Rattle.kmin_report.specs.StandardError.{TakesLines};
+ghost use Rattle.kmin_trees.specs.Stops.{StopsAtTree, StopsInExpansion};
+ghost use Rattle.kmin_trees.specs.between.ExpandedStops.{StopsAtExpanded};
+ghost use Rattle.kmin_report.specs.between.RunErrors.{status_of};
+ghost use Rattle.kmin_trees.specs.between.TreeStops.{StopsAtTexts};
+
+use crate::expanded_trees::{ExpandedTexts, expanded_tree};
+use crate::file_names::FileNames;
+use crate::files::Files;
+use crate::job_answers::job_answers;
+use crate::tree_files::{TreeReading, gather};
+use crate::trees::{read_texts, settled_tree};
+use kc_rules::{Profile, Settled};
+use kc_value::Sink;
+use kmin_report::RunError;
+use kmin_words::{Expansion, Settings};
+use std::alloc::Global;
+
+/// The settled tree of a job. Reports the notices of the expansion of its macros, and why it is refused.
+pub fn job_tree<F: Files, E: Sink>(
+    alloc: Global,
+    settings: &Settings<'_>,
+    files: &mut F,
+    err: &mut E,
+) -> Result<Settled, RunError>
+    ensures same { (F.surroundings files.new).content ≡ (F.surroundings files.old).content }
+    ensures accepted { IfOk result (λ settled. (t : TreeTexts) × AreTextsOfJob (F.surroundings files.old) (settings_view settings.now) t × AreAccepted t.texts settings.now.tree.now (tree_of_settled settled) × TakesLines (E.taken err.old) (E.failures err.old) t.lines (E.taken err.new) (E.failures err.new)) }
+    ensures profile { IfOk result (λ settled. profile_of settled ≡ settings.now.profile) }
+    ensures stopped { IfErr result (λ stop. (lines : List (List ℕ)) × StopsAtTree (F.surroundings files.old) (settings_view settings.now) (status_of stop) lines × TakesLines (E.taken err.old) (E.failures err.old) lines (E.taken err.new) (E.failures err.new)) }
+{
+    match &settings.expansion {
+        Some(expansion) => expanded(alloc, settings, expansion, files, err),
+        None => as_it_is(alloc, settings, files, err),
+    }
+}
+
+/// The settled tree of a job without the expansion of macros. Reports why it is refused.
+fn as_it_is<F: Files, E: Sink>(
+    alloc: Global,
+    settings: &Settings<'_>,
+    files: &mut F,
+    err: &mut E,
+) -> Result<Settled, RunError>
+    ensures same { (F.surroundings files.new).content ≡ (F.surroundings files.old).content }
+    ensures accepted { IfOk result (λ settled. (texts : trees.Files) × AreTextsBelow (F.surroundings files.old).content settings.now.root.now settings.now.language texts × AreAccepted texts settings.now.tree.now (tree_of_settled settled)) }
+    ensures profile { IfOk result (λ settled. profile_of settled ≡ settings.now.profile) }
+    ensures unreported { IfOk result (λ settled. TakesLines (E.taken err.old) (E.failures err.old) [] (E.taken err.new) (E.failures err.new)) }
+    ensures stopped { IfErr result (λ stop. (texts : trees.Files) × (lines : List (List ℕ)) × AreTextsBelow (F.surroundings files.old).content settings.now.root.now settings.now.language texts × StopsAtTexts texts texts settings.now.tree.now (status_of stop) lines × TakesLines (E.taken err.old) (E.failures err.old) lines (E.taken err.new) (E.failures err.new)) }
+{
+    let TreeReading { texts, read } = gather(
+        alloc,
+        settings.root,
+        settings.tree,
+        settings.language,
+        files,
+    )?;
+    let names = FileNames::of_texts(&texts);
+    settled_tree(
+        alloc,
+        &texts,
+        &names,
+        settings.tree,
+        read,
+        settings.profile,
+        err,
+    )
+}
+
+/// The settled tree of a job whose macros are expanded. Reports the notices of the expansion, and why it is refused.
+fn expanded<F: Files, E: Sink>(
+    alloc: Global,
+    settings: &Settings<'_>,
+    expansion: &Expansion<'_>,
+    files: &mut F,
+    err: &mut E,
+) -> Result<Settled, RunError>
+    ensures same { (F.surroundings files.new).content ≡ (F.surroundings files.old).content }
+    ensures accepted { IfOk result (λ settled. (t : TreeTexts) × AreExpandedTexts (F.surroundings files.old) settings.now.root.now settings.now.tree.now settings.now.language (expansion_view expansion.now) t × AreAccepted t.texts settings.now.tree.now (tree_of_settled settled) × TakesLines (E.taken err.old) (E.failures err.old) t.lines (E.taken err.new) (E.failures err.new)) }
+    ensures profile { IfOk result (λ settled. profile_of settled ≡ settings.now.profile) }
+    ensures stopped { IfErr result (λ stop. (lines : List (List ℕ)) × StopsAtExpanded (F.surroundings files.old) settings.now.root.now settings.now.tree.now settings.now.language (expansion_view expansion.now) (status_of stop) lines × TakesLines (E.taken err.old) (E.failures err.old) lines (E.taken err.new) (E.failures err.new)) }
+{
+    let tree = expanded_files(alloc, settings, expansion, files, err)?;
+    settled_expanded(alloc, settings.tree, &tree, settings.profile, err)
+}
+
+/// The expanded files of a job's tree. Reports the notices of the expansion, and its fault or that of an answer file.
+fn expanded_files<F: Files, E: Sink>(
+    alloc: Global,
+    settings: &Settings<'_>,
+    expansion: &Expansion<'_>,
+    files: &mut F,
+    err: &mut E,
+) -> Result<ExpandedTexts, RunError>
+    ensures same { (F.surroundings files.new).content ≡ (F.surroundings files.old).content }
+    ensures expanded { IfOk result (λ tree. (t : TreeTexts) × AreExpandedTexts (F.surroundings files.old) settings.now.root.now settings.now.tree.now settings.now.language (expansion_view expansion.now) t × (t.texts ≡ tree.texts) × (t.names ≡ named_texts tree.tree tree.texts) × TakesLines (E.taken err.old) (E.failures err.old) t.lines (E.taken err.new) (E.failures err.new)) }
+    ensures stopped { IfErr result (λ stop. (lines : List (List ℕ)) × StopsInExpansion (F.surroundings files.old) settings.now.root.now settings.now.tree.now (expansion_view expansion.now) (status_of stop) lines × TakesLines (E.taken err.old) (E.failures err.old) lines (E.taken err.new) (E.failures err.new)) }
+{
+    let answers = job_answers(alloc, expansion, files, err)?;
+    let tree = expanded_tree(alloc, settings, &answers, files, err);
+    drop(answers);
+    tree
+}
+
+/// The settled tree of expanded files. Reports why it is refused.
+fn settled_expanded<E: Sink>(
+    alloc: Global,
+    first: &str,
+    tree: &ExpandedTexts,
+    profile: Profile,
+    err: &mut E,
+) -> Result<Settled, RunError>
+    ensures accepted { IfOk result (λ settled. AreAccepted tree.now.texts first.now (tree_of_settled settled)) }
+    ensures profile { IfOk result (λ settled. profile_of settled ≡ profile) }
+    ensures unreported { IfOk result (λ settled. TakesLines (E.taken err.old) (E.failures err.old) [] (E.taken err.new) (E.failures err.new)) }
+    ensures stopped { IfErr result (λ stop. (lines : List (List ℕ)) × StopsAtTexts tree.now.texts (named_texts tree.now.tree tree.now.texts) first.now (status_of stop) lines × TakesLines (E.taken err.old) (E.failures err.old) lines (E.taken err.new) (E.failures err.new)) }
+{
+    let names = FileNames::of_expanded(&tree.texts, &tree.tree);
+    let read = read_texts(alloc, &tree.texts, first);
+    settled_tree(alloc, &tree.texts, &names, first, read, profile, err)
+}

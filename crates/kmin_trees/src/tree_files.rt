@@ -1,0 +1,251 @@
+//! The files of a tree that is read without the expansion of macros.
+ghost use Rattle.std.specs.Prelude.{◌≡◌, ◌≤◌, ◌⊎◌, length, IfOk, IfSome};
+ghost use Rattle.std.specs.Io.KnownBytes.{Consumes, IsAtEnd};
+ghost use Rattle.kmin_trees.specs.FileContents.{AreTextsBelow, MatchContentStart, path_below};
+ghost use Rattle.kmin_trees.specs.between.Readings.{IsRead};
+
+use crate::files::Files;
+use crate::prefetch::absent_paths_of_file;
+use crate::trees::read_texts;
+use kc_tokens::Language;
+use kc_tree::{Texts, Tree, TreeFault, TreeKind, wanted};
+use kc_value::{MAX_FILE_BYTES, MAX_FILES, MAX_ROUNDS, ReadBytes, ReadEnd, Source, read_up_to};
+use std::alloc::{AllocError, Global};
+
+/// The texts of a tree's files, and the result of reading them as a tree.
+#[derive(Drop)]
+pub(crate) struct TreeReading {
+    pub(crate) texts: Texts,
+    pub(crate) read: Result<Tree, TreeFault>,
+}
+
+/// The room that is left for the files of a tree: their number and their bytes.
+#[derive(Drop)]
+struct Room {
+    files: u32,
+    bytes: usize,
+}
+
+impl Room {
+    /// Room for a whole tree.
+    fn whole() -> Room {
+        Room {
+            files: MAX_FILES as u32,
+            bytes: MAX_FILE_BYTES,
+        }
+    }
+
+    /// Takes the room of one file of this number of bytes.
+    fn take(&mut self, bytes: usize) {
+        self.files = self.files.saturating_sub(1);
+        self.bytes = self.bytes.saturating_sub(bytes);
+    }
+
+    /// Whether no room is left.
+    fn is_used(&self) -> bool {
+        self.files == 0 || self.bytes == 0
+    }
+}
+
+/// The files of a tree, and the result of reading them. The first file is opened, and files that `source` lines seem to name; if
+/// the reading lacks a file, further ones are added until it lacks none that can be opened and read.
+pub(crate) fn gather<F: Files>(
+    alloc: Global,
+    root: &str,
+    first: &str,
+    language: Language,
+    files: &mut F,
+) -> Result<TreeReading, AllocError>
+    ensures same { F.surroundings files.new ≡ F.surroundings files.old }
+    ensures below { IfOk result (λ g. AreTextsBelow (F.surroundings files.old).content root.now language g.texts) }
+    ensures read { IfOk result (λ g. IsRead g.texts first.now g.read) }
+{
+    let mut texts = Texts::with_language(alloc, files.seed(), language);
+    open_first(alloc, root, first, files, &mut texts)?;
+    let read = read_texts(alloc, &texts, first);
+    if lacks_file(&read) {
+        drop(read);
+        return gather_wanted(alloc, root, first, files, texts);
+    }
+    Ok(TreeReading { texts, read })
+}
+
+/// Inserts the first file of a tree, and the files that the lines of its files seem to source.
+fn open_first<F: Files>(
+    alloc: Global,
+    root: &str,
+    first: &str,
+    files: &mut F,
+    texts: &mut Texts,
+) -> Result<(), AllocError>
+    requires below { AreTextsBelow (F.surroundings files.old).content root.now texts.old.language texts.old }
+    ensures same { F.surroundings files.new ≡ F.surroundings files.old }
+    ensures below { AreTextsBelow (F.surroundings files.old).content root.now texts.old.language texts.new }
+{
+    let mut room = Room::whole();
+    insert_one(alloc, root, first, &mut room, files, texts)?;
+    open_ahead(alloc, root, &mut room, files, texts)
+}
+
+/// Adds the files that a tree wants beside those of `texts`, until a reading misses none, and returns the result of
+/// that reading.
+fn gather_wanted<F: Files>(
+    alloc: Global,
+    root: &str,
+    first: &str,
+    files: &mut F,
+    mut texts: Texts,
+) -> Result<TreeReading, AllocError>
+    requires below { AreTextsBelow (F.surroundings files.old).content root.now texts.language texts }
+    ensures same { F.surroundings files.new ≡ F.surroundings files.old }
+    ensures below { IfOk result (λ g. AreTextsBelow (F.surroundings files.old).content root.now texts.language g.texts) }
+    ensures read { IfOk result (λ g. IsRead g.texts first.now g.read) }
+{
+    open_wanted(alloc, root, first, files, &mut texts)?;
+    let read = read_texts(alloc, &texts, first);
+    Ok(TreeReading { texts, read })
+}
+
+/// Whether a reading missed a file.
+fn lacks_file(read: &Result<Tree, TreeFault>) -> bool {
+    match read {
+        Ok(_) => false,
+        Err(fault) => fault.kind == TreeKind::MissingFile,
+    }
+}
+
+/// Inserts the files that the lines of the texts seem to source, as long as there is room. A file that no reading
+/// sources has no influence on the tree.
+fn open_ahead<F: Files>(
+    alloc: Global,
+    root: &str,
+    room: &mut Room,
+    files: &mut F,
+    texts: &mut Texts,
+) -> Result<(), AllocError>
+    requires below { AreTextsBelow (F.surroundings files.old).content root.now texts.old.language texts.old }
+    ensures same { F.surroundings files.new ≡ F.surroundings files.old }
+    ensures below { AreTextsBelow (F.surroundings files.old).content root.now texts.old.language texts.new }
+{
+    for number in 0..MAX_FILES as u32 {
+        if room.is_used() {
+            return Ok(());
+        }
+        let Some(paths) = absent_paths_of_file(alloc, texts, number)? else {
+            return Ok(());
+        };
+        insert_all(alloc, root, &paths, room, files, texts)?;
+    }
+    Ok(())
+}
+
+/// Inserts the files that a reading wants, until it wants none that can be opened and read.
+fn open_wanted<F: Files>(
+    alloc: Global,
+    root: &str,
+    first: &str,
+    files: &mut F,
+    texts: &mut Texts,
+) -> Result<(), AllocError>
+    requires below { AreTextsBelow (F.surroundings files.old).content root.now texts.old.language texts.old }
+    ensures same { F.surroundings files.new ≡ F.surroundings files.old }
+    ensures below { AreTextsBelow (F.surroundings files.old).content root.now texts.old.language texts.new }
+{
+    for _ in 0..MAX_ROUNDS {
+        let paths = match wanted(alloc, texts, first) {
+            Ok(paths) => paths,
+            Err(fault) if fault.kind == TreeKind::OutOfMemory => return Err(AllocError),
+            Err(_) => return Ok(()),
+        };
+        if !insert_all(alloc, root, &paths, &mut Room::whole(), files, texts)? {
+            return Ok(());
+        }
+    }
+    Ok(())
+}
+
+/// Inserts the files of these paths, as long as there is room, and returns whether any was inserted.
+fn insert_all<F: Files>(
+    alloc: Global,
+    root: &str,
+    paths: &[String],
+    room: &mut Room,
+    files: &mut F,
+    texts: &mut Texts,
+) -> Result<bool, AllocError>
+    requires below { AreTextsBelow (F.surroundings files.old).content root.now texts.old.language texts.old }
+    ensures same { F.surroundings files.new ≡ F.surroundings files.old }
+    ensures below { AreTextsBelow (F.surroundings files.old).content root.now texts.old.language texts.new }
+{
+    let mut any = false;
+    for path in paths {
+        if room.is_used() {
+            return Ok(any);
+        }
+        any |= insert_one(alloc, root, path.as_str(), room, files, texts)?;
+    }
+    Ok(any)
+}
+
+/// Inserts the file of a path, unless the texts have it or it can't be opened or read, and returns whether it did.
+fn insert_one<F: Files>(
+    alloc: Global,
+    root: &str,
+    path: &str,
+    room: &mut Room,
+    files: &mut F,
+    texts: &mut Texts,
+) -> Result<bool, AllocError>
+    requires below { AreTextsBelow (F.surroundings files.old).content root.now texts.old.language texts.old }
+    ensures same { F.surroundings files.new ≡ F.surroundings files.old }
+    ensures below { AreTextsBelow (F.surroundings files.old).content root.now texts.old.language texts.new }
+{
+    if texts.get(path).is_some() {
+        return Ok(false);
+    }
+    let Some(bytes) = read_below(alloc, root, path, files)? else {
+        room.take(0);
+        return Ok(false);
+    };
+    room.take(bytes.len());
+    texts.insert(path, &bytes)?;
+    Ok(true)
+}
+
+/// The bytes of the file of a path below the root; `None` if it can't be opened or read.
+fn read_below<F: Files>(
+    alloc: Global,
+    root: &str,
+    path: &str,
+    files: &mut F,
+) -> Result<Option<Vec<u8>>, AllocError>
+    ensures same { F.surroundings files.new ≡ F.surroundings files.old }
+    ensures bytes { IfOk result (λ found. IfSome found (λ bytes. MatchContentStart ((F.surroundings files.old).content (path_below root.now path.now)) bytes.items)) }
+{
+    let mut place = String::from_str(alloc, root)?;
+    place.push_str("/")?;
+    place.push_str(path)?;
+    match files.reader_for(&place) {
+        Some(mut reader) => {
+            let room = files.size_of(&reader).min(MAX_FILE_BYTES);
+            read_front(alloc, &mut reader, room)
+        }
+        None => Ok(None),
+    }
+}
+
+/// The bytes that a reader has left, up to `MAX_FILE_BYTES`; `None` if a read fails. The vector begins with room for
+/// `room` bytes.
+fn read_front<S: Source>(
+    alloc: Global,
+    source: &mut S,
+    room: usize,
+) -> Result<Option<Vec<u8>>, AllocError>
+    ensures bytes { IfOk result (λ found. IfSome found (λ bytes. Consumes (S.left source.old) (S.left source.new) bytes.items × (length bytes.items ≤ MAX_FILE_BYTES) × ((length bytes.items ≡ MAX_FILE_BYTES) ⊎ IsAtEnd (S.left source.new)))) }
+{
+    let ReadBytes { bytes, end } = read_up_to(alloc, source, MAX_FILE_BYTES, room)?;
+    match end {
+        ReadEnd::AtEnd | ReadEnd::AtLimit => Ok(Some(bytes)),
+        ReadEnd::AtFailure => Ok(None),
+    }
+}

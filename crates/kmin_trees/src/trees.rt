@@ -1,0 +1,156 @@
+//! Reading and settling a tree, with a report if it is refused.
+ghost use Rattle.std.specs.Prelude.{◌≡◌, [], ℕ, List, IfOk, IfErr, OnOk, unwrap_or, slice_get};
+ghost use Rattle.kc_tree_model.specs.TreeFiles.{path_at};
+ghost use Rattle.kc_rules.specs.between.SettledViews.{tree_of_settled, profile_of};
+ghost use Rattle.kmin_trees.specs.AcceptedTrees.{AreAccepted};
+ghost use Rattle.kmin_report.specs.Reports.{tree_fault_line, cycle_line, cycle_place, unit_place};
+ghost use Rattle.kmin_report.specs.StandardError.{TakesLine, TakesLines};
+ghost use Rattle.kmin_trees.specs.between.FileNames.{names_of};
+ghost use Rattle.kmin_trees.specs.between.Readings.{IsRead};
+ghost use Rattle.kmin_report.specs.between.RunErrors.{status_of};
+ghost use Rattle.kmin_trees.specs.between.TreeStops.{StopsAtTexts, settle_status, settle_lines};
+
+use crate::file_names::FileNames;
+use kc_rules::{Profile, SettleFault, Settled, settle};
+use kc_tree::{Texts, Tree, TreeFault, TreeKind, Unit, read_tree};
+use kc_value::Sink;
+use kmin_report::{Report, RunError, write_report};
+use std::alloc::Global;
+
+/// The result of reading texts as a tree, from the file at the path `first` on.
+pub fn read_texts(alloc: Global, texts: &Texts, first: &str) -> Result<Tree, TreeFault>
+    ensures { IsRead texts.now first.now result }
+{
+    read_tree(alloc, texts, first)
+}
+
+/// The settled tree of texts, given the result of reading them. Reports why they are refused, with these names of
+/// files.
+pub fn settled_tree<E: Sink>(
+    alloc: Global,
+    texts: &Texts,
+    names: &FileNames<'_>,
+    first: &str,
+    read: Result<Tree, TreeFault>,
+    profile: Profile,
+    err: &mut E,
+) -> Result<Settled, RunError>
+    requires read { IsRead texts.now first.now read }
+    ensures accepted { IfOk result (λ settled. AreAccepted texts.now first.now (tree_of_settled settled)) }
+    ensures profile { IfOk result (λ settled. profile_of settled ≡ profile) }
+    ensures unreported { OnOk result (TakesLines (E.taken err.old) (E.failures err.old) [] (E.taken err.new) (E.failures err.new)) }
+    ensures stopped { IfErr result (λ stop. (lines : List (List ℕ)) × StopsAtTexts texts.now (names_of names.now) first.now (status_of stop) lines × TakesLines (E.taken err.old) (E.failures err.old) lines (E.taken err.new) (E.failures err.new)) }
+{
+    let tree = match read {
+        Ok(tree) => tree,
+        Err(fault) if fault.kind == TreeKind::OutOfMemory => return Err(RunError::Memory),
+        Err(fault) => {
+            report_tree_fault(names, first, fault, err);
+            return Err(RunError::Tree);
+        }
+    };
+    match settle(alloc, tree, profile) {
+        Ok(settled) => Ok(settled),
+        Err((tree, fault)) => {
+            let stop = report_settle_fault(names, first, &tree, &fault, err);
+            drop(tree);
+            Err(stop)
+        }
+    }
+}
+
+/// Reports a fault of a tree.
+fn report_tree_fault<'a, E: Sink>(
+    names: &FileNames<'a>,
+    first: &'a str,
+    fault: TreeFault,
+    err: &mut E,
+)
+    ensures { TakesLine (E.taken err.old) (E.failures err.old) (tree_fault_line (names_of names.now) first.now fault) (E.taken err.new) (E.failures err.new) }
+{
+    let path = match fault.file {
+        Some(number) => path_of_file(names, first, number),
+        None => first.as_bytes(),
+    };
+    let TreeFault { line, kind, .. } = fault;
+    write_report(Report::TreeFault { path, line, kind }, err);
+}
+
+/// The name of the file of this number; that of the first file if there is none.
+fn path_of_file<'a>(names: &FileNames<'a>, first: &'a str, number: u32) -> &'a [u8]
+    ensures { result.now ≡ unwrap_or (path_at (names_of names.now) number) first.now }
+{
+    names.name_at(number).unwrap_or(first.as_bytes())
+}
+
+/// Reports why a tree can't be settled, and returns the error that ends the run. Out of memory is reported later.
+fn report_settle_fault<E: Sink>(
+    names: &FileNames<'_>,
+    first: &str,
+    tree: &Tree,
+    fault: &SettleFault,
+    err: &mut E,
+) -> RunError
+    ensures status { status_of result ≡ settle_status fault.now }
+    ensures reported { TakesLines (E.taken err.old) (E.failures err.old) (settle_lines (names_of names.now) first.now tree.now.tree fault.now) (E.taken err.new) (E.failures err.new) }
+{
+    match fault {
+        SettleFault::OutOfMemory => RunError::Memory,
+        SettleFault::Cycle(units) => {
+            report_cycle(names, first, tree, units, err);
+            RunError::Tree
+        }
+    }
+}
+
+/// Reports a cycle, at the place of its first unit.
+fn report_cycle<'a, E: Sink>(
+    names: &FileNames<'a>,
+    first: &'a str,
+    tree: &'a Tree,
+    units: &'a [u32],
+    err: &mut E,
+)
+    ensures { TakesLine (E.taken err.old) (E.failures err.old) (cycle_line (names_of names.now) first.now tree.now.tree units.now) (E.taken err.new) (E.failures err.new) }
+{
+    let (file, line) = place_of_cycle(tree, units);
+    let path = path_of_file(names, first, file);
+    write_report(
+        Report::Cycle {
+            path,
+            line,
+            tree,
+            units,
+        },
+        err,
+    );
+}
+
+/// The file and the line of a cycle: those of its first unit.
+fn place_of_cycle(tree: &Tree, units: &[u32]) -> (u32, u32)
+    ensures { result ≡ cycle_place tree.now.tree units.now }
+{
+    match units.first() {
+        Some(unit) => place_of_unit(tree, *unit),
+        None => (0, 0),
+    }
+}
+
+/// The file and the line at which a unit begins.
+fn place_of_unit(tree: &Tree, unit: u32) -> (u32, u32)
+    ensures { result ≡ unit_place tree.now.tree (slice_get tree.now.tree.units unit) }
+{
+    if unit >= tree.len() {
+        return (0, 0);
+    }
+    match tree.unit(unit) {
+        Unit::Symbol(s) => {
+            let symbol = tree.symbol(s);
+            (symbol.file, symbol.line)
+        }
+        Unit::Choice(c) => {
+            let choice = tree.choice(c);
+            (choice.file, choice.line)
+        }
+    }
+}
