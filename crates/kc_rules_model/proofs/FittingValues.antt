@@ -1,6 +1,6 @@
 -- The value that a rule gives fits its unit, over a consistent tree.
 use Rattle.std.proofs.Common.{◌≡◌, inl, inr, ℕ, ◌<◌, Bool, true, false, not, ◌&&◌, ◌||◌, ◌==◌, cond, IsTrue, IfSome, List, [], ◌∷◌, Option, Some, None, ℤ, pos, find, length, unwrap_or, int_lt, refl, sym, ◌∙◌, ap, arith}
-use Rattle.std.specs.Prelude.{slice_get, is_some, nat_lt}
+use Rattle.std.specs.Prelude.{slice_get, is_some, is_none, nat_lt}
 use Rattle.std.specs.Option.{option_map, option_and_then, option_or}
 use Rattle.std.specs.List.{list_any, list_all}
 use Rattle.std.proofs.lemmas.Bool.{eq-eqb, false≢true, and_parts, and_from, or_cases, or_left, or_right, eqb-true, ltb-true}
@@ -12,9 +12,9 @@ use Rattle.kc_value.specs.declared.tri.Tri.{Tri}
 use Rattle.kc_value.specs.declared.tri.Tri.TheVariants.{N, M, Y}
 use Rattle.kc_value.specs.declared.value.Kind.{Kind}
 use Rattle.kc_value.specs.declared.value.Kind.TheVariants.{Bool as Boolean, Tristate, Text, Int, Hex}
-use Rattle.kc_value.specs.Number.{number_of_text, number_spelling, IsPrintable}
+use Rattle.kc_value.specs.Number.{number_of_text, number_spelling}
 use Rattle.kc_value.proofs.NumberSpelling.{spelling_read_back}
-use Rattle.kc_expr.specs.Expr.{Expr, alone, related, negated, both, either, shown, constant, named, quoted, SymbolValue, letter, symbol_text, operand_text}
+use Rattle.kc_expr.specs.Expr.{Expr, alone, related, negated, both, either, shown, constant, named, quoted, Operand, SymbolValue, letter, symbol_text, operand_text}
 use Rattle.kc_tree_model.specs.Trees.{Tree, Symbol, Choice, Default, Range, MemberDefault}
 use Rattle.kc_tree_model.specs.declared.ids.Unit.{Unit as TreeUnit}
 use Rattle.kc_tree_model.specs.declared.ids.Unit.TheVariants.{Symbol as of_symbol, Choice as of_choice}
@@ -25,18 +25,21 @@ use Rattle.kc_rules_model.specs.declared.profile.Profile.{Profile}
 use Rattle.kc_rules_model.specs.declared.values.UnitValue.{UnitValue}
 use Rattle.kc_rules_model.specs.declared.values.UnitValue.TheVariants.{Tri as TriValue, Text as TextValue, Member as MemberValue}
 use Rattle.kc_rules_model.specs.declared.values.UserValue.{UserValue}
-use Rattle.kc_rules_model.specs.declared.values.UserValue.TheVariants.{Tri as TriUser, Text as TextUser, Member as MemberUser}
+use Rattle.kc_rules_model.specs.declared.values.UserValue.TheVariants.{Tri as TriUser, Text as TextUser, Member as MemberUser, Lines as LinesUser}
+use Rattle.kc_rules_model.specs.declared.values.MemberLine.{MemberLine}
 use Rattle.kc_rules_model.specs.Kinds.{is_n}
-use Rattle.kc_value.specs.Kinds.{is_tri_kind, is_tristate}
+use Rattle.kc_value.specs.Kinds.{is_tri_kind, is_tristate, is_number}
 use Rattle.kc_rules_model.specs.SymbolValues.{value_in_unit, tri_symbol_value, value_of_symbol, environment, condition, tri_of, text_of}
-use Rattle.kc_rules_model.specs.Rule.{rule, rule_of_unit, rule_of_symbol, rule_of_choice, symbol_rule, string_rule, number_rule, choice_rule, expression_text, default_text, number_default, clamped, bound, active_range, active_default, is_within, is_visible, is_visible_member, is_shown, assigned_text, assigned_member, modules_value, leaves_no_m}
+use Rattle.kc_rules_model.specs.Rule.{rule, rule_of_unit, rule_of_symbol, rule_of_choice, symbol_rule, string_rule, number_rule, choice_rule, expression_text, default_text, number_default, clamped, bound, bound_text, user_number, is_upside_down, text_without_number, default_member, shown_choice_rule, assigned_lines, active_range, active_default, is_within, is_visible, is_visible_member, is_shown, assigned_text, assigned_member, modules_value, leaves_no_m}
 use Rattle.kc_rules_model.specs.Shapes.{user_fits, value_fits, unit_user_fits, unit_value_fits, symbol_user_fits, symbol_value_fits, choice_user_fits, choice_value_fits, user_text_fits, text_fits, is_line}
-use Rattle.kc_rules_model.specs.checker.RestoreLaw.{fits_promoted}
+use Rattle.kc_rules_model.specs.checker.RestoreLaw.{fits_promoted, given_again, last_passes, first_passes}
 use Rattle.kc_rules_model.specs.RuleLaws.{RulesFit}
 use Rattle.kc_tree_model.proofs.Lookups.{inside, unit_is}
 use Rattle.kc_rules_model.proofs.Ink.{is_ink, isn't}
 use Rattle.kc_rules_model.proofs.Numbers.{number_ink}
-use Rattle.kc_rules_model.proofs.PrintableBounds.{int_bound, hex_bound}
+use Rattle.kc_rules_model.specs.checker.PrintableBounds.{bound_read_back, zero_printable}
+use Rattle.kc_rules_model.specs.MemberLines.{is_listed, last_y, first_listed, selected_without_y, selected_by_lines}
+use Rattle.kc_tokens.specs.Languages.{is_linux_6_12}
 
 -- bytes below 128 are UTF-8
 low_utf8 : (text : List ℕ) → list_all (λ b. nat_lt b 128) text ≡ true → IsUtf8 text
@@ -81,15 +84,6 @@ found_passes p q (y ∷ xs) x all e = let parts = and_parts (q y) (list_all q xs
   go : (t : Bool) → q y ≡ true → cond t (Some y) (find p xs) ≡ Some x → (find p xs ≡ Some x → q x ≡ true) → q x ≡ true
   go true here e next = let same : y ≡ x = cc in ap q (sym same) ∙ here
   go false here e next = next e
-
--- a bound can be printed
-bound_printable : (kind : Kind) (text : List ℕ) (o : Option ℤ) → is_tri_kind kind ≡ false → (kind ≡ Text → ⊥) → number_of_text kind text ≡ o
-    → IsPrintable kind (unwrap_or o (pos 0))
-bound_printable Boolean text o large other e = absurd (false≢true (sym large))
-bound_printable Tristate text o large other e = absurd (false≢true (sym large))
-bound_printable Text text o large other e = absurd (other refl)
-bound_printable Int text o large other e = int_bound text o e
-bound_printable Hex text o large other e = hex_bound text o e
 
 module _ (tree : Tree) (sound : IsConsistent tree) (values : List UnitValue)
     (fitting : FitsValues (length tree.units) (λ u v. IsTrue (value_fits tree u v)) values) where
@@ -162,76 +156,75 @@ module _ (tree : Tree) (sound : IsConsistent tree) (values : List UnitValue)
     go t None fits = none_line t
     go t (Some (TriUser a)) fits = none_line t
     go t (Some (MemberUser m)) fits = none_line t
+    go t (Some (LinesUser l)) fits = none_line t
     go false (Some (TextUser text)) fits = default_one_line s symbol at
     go true (Some (TextUser text)) fits = sym (ap (λ k. user_text_fits k text) is) ∙ fits
 
-  spelled_fits : (kind : Kind) (z : ℤ) → IsPrintable kind z
-      → (length (number_spelling kind z) == 0 || is_some (number_of_text kind (number_spelling kind z))) ≡ true
-  spelled_fits kind z printable =
-      or_right (length (number_spelling kind z) == 0) (is_some (number_of_text kind (number_spelling kind z)))
-      (ap is_some (spelling_read_back kind z printable))
+  -- a text is empty or a number of the type
+  abbrev IsNumber : Kind → List ℕ → Type 0
+  IsNumber kind text = (length text == 0 || is_some (number_of_text kind text)) ≡ true
 
-  limited_fits : (kind : Kind) → is_tri_kind kind ≡ false → (kind ≡ Text → ⊥) → (o : Option Range) (n : ℤ) (text : List ℕ)
-      → (length text == 0 || is_some (number_of_text kind text)) ≡ true
-      → (length (clamped tree values kind o n text) == 0 || is_some (number_of_text kind (clamped tree values kind o n text))) ≡ true
-  limited_fits kind large other None n text fits = fits
-  limited_fits kind large other (Some r) n text fits = go (int_lt n (bound tree values kind r.low)) (int_lt (bound tree values kind r.high) n) where
-    go : (a b : Bool)
-        → (length (cond a (number_spelling kind (bound tree values kind r.low)) (cond b (number_spelling kind (bound tree values kind r.high)) text)) == 0
-        || is_some (number_of_text kind (cond a (number_spelling kind (bound tree values kind r.low))
-        (cond b (number_spelling kind (bound tree values kind r.high)) text)))) ≡ true
-    go true b =
-        spelled_fits kind _ (bound_printable kind (operand_text (environment tree values) r.low)
-        (number_of_text kind (operand_text (environment tree values) r.low)) large other refl)
-    go false true =
-        spelled_fits kind _ (bound_printable kind (operand_text (environment tree values) r.high)
-        (number_of_text kind (operand_text (environment tree values) r.high)) large other refl)
+  bound_fits : (kind : Kind) → is_number kind ≡ true → (a : Operand) → IsNumber kind (bound_text tree values kind a)
+  bound_fits kind large a =
+      or_right (length (bound_text tree values kind a) == 0) (is_some (number_of_text kind (bound_text tree values kind a)))
+      (ap is_some (bound_read_back tree values kind a large))
+
+  limited_fits : (kind : Kind) → is_number kind ≡ true → (o : Option Range) (n : ℤ) (text : List ℕ) → IsNumber kind text
+      → IsNumber kind (clamped tree values kind o n text)
+  limited_fits kind large None n text fits = fits
+  limited_fits kind large (Some r) n text fits = go (int_lt n (bound tree values kind r.low)) (int_lt (bound tree values kind r.high) n) where
+    go : (a b : Bool) → IsNumber kind (cond a (bound_text tree values kind r.low) (cond b (bound_text tree values kind r.high) text))
+    go true b = bound_fits kind large r.low
+    go false true = bound_fits kind large r.high
     go false false = fits
 
-  default_fits : (symbol : Symbol) → is_tri_kind symbol.kind ≡ false → (symbol.kind ≡ Text → ⊥)
-      → (length (number_default tree values symbol) == 0 || is_some (number_of_text symbol.kind (number_default tree values symbol))) ≡ true
-  default_fits symbol large other = go (is_some (number_of_text symbol.kind (default_text tree values symbol))) refl where
-    go : (t : Bool) → is_some (number_of_text symbol.kind (default_text tree values symbol)) ≡ t
-        → (length (cond t (clamped tree values symbol.kind (active_range tree values symbol)
-        (unwrap_or (number_of_text symbol.kind (default_text tree values symbol)) (pos 0)) (default_text tree values symbol))
-        (clamped tree values symbol.kind (active_range tree values symbol) (pos 0) [])) == 0
-        || is_some (number_of_text symbol.kind (cond t (clamped tree values symbol.kind (active_range tree values symbol)
-        (unwrap_or (number_of_text symbol.kind (default_text tree values symbol)) (pos 0)) (default_text tree values symbol))
-        (clamped tree values symbol.kind (active_range tree values symbol) (pos 0) [])))) ≡ true
-    go true e =
-        limited_fits symbol.kind large other (active_range tree values symbol) _ (default_text tree values symbol)
-        (or_right (length (default_text tree values symbol) == 0) _ e)
-    go false e = limited_fits symbol.kind large other (active_range tree values symbol) (pos 0) [] refl
+  without_number_fits : (symbol : Symbol) → is_number symbol.kind ≡ true → IsNumber symbol.kind (text_without_number tree values symbol)
+  without_number_fits symbol large = go (is_linux_6_12 tree.language && is_none (active_default tree values symbol)) where
+    go : (b : Bool) → IsNumber symbol.kind (cond b (number_spelling symbol.kind (pos 0)) [])
+    go true =
+        or_right (length (number_spelling symbol.kind (pos 0)) == 0) (is_some (number_of_text symbol.kind (number_spelling symbol.kind (pos 0))))
+        (ap is_some (spelling_read_back symbol.kind (pos 0) (zero_printable symbol.kind large)))
+    go false = refl
 
-  number_fits : (symbol : Symbol) → is_tri_kind symbol.kind ≡ false → (symbol.kind ≡ Text → ⊥) → (x : Option UserValue)
+  default_fits : (symbol : Symbol) → is_number symbol.kind ≡ true → IsNumber symbol.kind (number_default tree values symbol)
+  default_fits symbol large = go (is_some (number_of_text symbol.kind (default_text tree values symbol))) refl where
+    go : (t : Bool) → is_some (number_of_text symbol.kind (default_text tree values symbol)) ≡ t
+        → IsNumber symbol.kind (cond t (clamped tree values symbol.kind (active_range tree values symbol)
+        (unwrap_or (number_of_text symbol.kind (default_text tree values symbol)) (pos 0)) (default_text tree values symbol))
+        (clamped tree values symbol.kind (active_range tree values symbol) (pos 0) (text_without_number tree values symbol)))
+    go true e =
+        limited_fits symbol.kind large (active_range tree values symbol) _ (default_text tree values symbol)
+        (or_right (length (default_text tree values symbol) == 0) _ e)
+    go false e = limited_fits symbol.kind large (active_range tree values symbol) (pos 0) (text_without_number tree values symbol) (without_number_fits symbol large)
+
+  number_fits : (symbol : Symbol) → is_number symbol.kind ≡ true → (x : Option UserValue)
       → IfSome x (λ y. IsTrue (symbol_user_fits (Some symbol) y))
-      → (length (number_rule tree symbol x values) == 0 || is_some (number_of_text symbol.kind (number_rule tree symbol x values))) ≡ true
-  number_fits symbol large other x fits = go (is_visible tree values symbol) x fits where
-    user_number : (kind : Kind) (text : List ℕ) → is_tri_kind kind ≡ false → (kind ≡ Text → ⊥) → user_text_fits kind text ≡ true
+      → IsNumber symbol.kind (number_rule tree symbol x values)
+  number_fits symbol large x fits = go (is_visible tree values symbol) x fits where
+    a_number : (kind : Kind) (text : List ℕ) → is_number kind ≡ true → user_text_fits kind text ≡ true
         → is_some (number_of_text kind text) ≡ true
-    user_number Boolean text large other e = e
-    user_number Tristate text large other e = e
-    user_number Text text large other e = absurd (other refl)
-    user_number Int text large other e = e
-    user_number Hex text large other e = e
+    a_number Boolean text large e = e
+    a_number Tristate text large e = e
+    a_number Text text large e = absurd (false≢true large)
+    a_number Int text large e = e
+    a_number Hex text large e = e
 
     go : (t : Bool) (x : Option UserValue) → IfSome x (λ y. IsTrue (symbol_user_fits (Some symbol) y))
-        → (length (unwrap_or (option_and_then (λ text. cond (is_within tree values symbol.kind (active_range tree values symbol)
-        (unwrap_or (number_of_text symbol.kind text) (pos 0))) (Some text) None) (cond t (assigned_text x) None)) (number_default tree values symbol)) == 0
-        || is_some (number_of_text symbol.kind (unwrap_or (option_and_then
-        (λ text. cond (is_within tree values symbol.kind (active_range tree values symbol) (unwrap_or (number_of_text symbol.kind text) (pos 0)))
-        (Some text) None) (cond t (assigned_text x) None)) (number_default tree values symbol)))) ≡ true
-    go false x fits = default_fits symbol large other
-    go true None fits = default_fits symbol large other
-    go true (Some (TriUser a)) fits = default_fits symbol large other
-    go true (Some (MemberUser m)) fits = default_fits symbol large other
+        → IsNumber symbol.kind (unwrap_or (option_and_then (λ text. user_number tree values symbol.kind (active_range tree values symbol)
+        (unwrap_or (number_of_text symbol.kind text) (pos 0)) text) (cond t (assigned_text x) None)) (number_default tree values symbol))
+    go false x fits = default_fits symbol large
+    go true None fits = default_fits symbol large
+    go true (Some (TriUser a)) fits = default_fits symbol large
+    go true (Some (MemberUser m)) fits = default_fits symbol large
+    go true (Some (LinesUser l)) fits = default_fits symbol large
     go true (Some (TextUser text)) fits =
-        kept (is_within tree values symbol.kind (active_range tree values symbol) (unwrap_or (number_of_text symbol.kind text) (pos 0))) where
-          kept : (b : Bool)
-              → (length (unwrap_or (cond b (Some text) None) (number_default tree values symbol)) == 0 || is_some
-              (number_of_text symbol.kind (unwrap_or (cond b (Some text) None) (number_default tree values symbol)))) ≡ true
-          kept true = or_right (length text == 0) _ (user_number symbol.kind text large other fits)
-          kept false = default_fits symbol large other
+        kept (user_number tree values symbol.kind (active_range tree values symbol) (unwrap_or (number_of_text symbol.kind text) (pos 0)) text) refl where
+          kept : (o : Option (List ℕ))
+              → user_number tree values symbol.kind (active_range tree values symbol) (unwrap_or (number_of_text symbol.kind text) (pos 0)) text ≡ o
+              → IsNumber symbol.kind (unwrap_or o (number_default tree values symbol))
+          kept (Some r) e =
+              or_right (length r == 0) _ (given_again tree values symbol.kind large (active_range tree values symbol) text r (a_number symbol.kind text large fits) e).0
+          kept None e = default_fits symbol large
 
   found_in : (p : ℕ → Bool) (xs : List ℕ) (m : ℕ) → find p xs ≡ Some m → list_any (λ k. k == m) xs ≡ true
   found_in p [] m e = cc
@@ -242,8 +235,8 @@ module _ (tree : Tree) (sound : IsConsistent tree) (values : List UnitValue)
     go false e next = or_right (x == m) (list_any (λ k. k == m) xs) (next e)
 
   choice_fits : (c : ℕ) (choice : Choice) → slice_get tree.choices c ≡ Some choice → (x : Option UserValue)
-      → IfSome x (λ y. IsTrue (choice_user_fits (Some choice) y)) → choice_value_fits (Some choice) (MemberValue (choice_rule tree choice x values)) ≡ true
-  choice_fits c choice at x fits = shown_or_not (is_shown tree values choice) where
+      → IfSome x (λ y. IsTrue (choice_user_fits tree.language (Some choice) y)) → choice_value_fits (Some choice) (MemberValue (choice_rule tree choice x values)) ≡ true
+  choice_fits c choice at x fits = by_language (is_linux_6_12 tree.language) refl where
     by_first : (o : Option ℕ) → find (is_visible_member tree values) choice.members ≡ o → choice_value_fits (Some choice) (MemberValue o) ≡ true
     by_first None e = refl
     by_first (Some m) e = found_in (is_visible_member tree values) choice.members m e
@@ -256,42 +249,78 @@ module _ (tree : Tree) (sound : IsConsistent tree) (values : List UnitValue)
     by_default (Some d) e =
         found_passes _ (λ (d : MemberDefault). list_any (λ m. m == d.member) choice.members) choice.defaults d (sound.default_members c choice at) e
 
-    others : (t : Bool) → choice_value_fits (Some choice) (MemberValue
+    others_if : (t : Bool) → choice_value_fits (Some choice) (MemberValue
         (cond t None (option_or (option_map (λ (d : MemberDefault). d.member)
         (find (λ (d : MemberDefault). not (is_n (condition tree values d.condition)) && is_visible_member tree values d.member) choice.defaults))
         (find (is_visible_member tree values) choice.members)))) ≡ true
-    others true = refl
-    others false = by_default (find (λ (d : MemberDefault). not (is_n (condition tree values d.condition)) && is_visible_member tree values d.member)
+    others_if true = refl
+    others_if false = by_default (find (λ (d : MemberDefault). not (is_n (condition tree values d.condition)) && is_visible_member tree values d.member)
         choice.defaults) refl
 
-    by_user : (x : Option UserValue) → IfSome x (λ y. IsTrue (choice_user_fits (Some choice) y))
+    others : choice_value_fits (Some choice) (MemberValue (default_member tree choice values)) ≡ true
+    others = others_if choice.optional
+
+    by_user : (x : Option UserValue) → IfSome x (λ y. IsTrue (choice_user_fits tree.language (Some choice) y))
         → choice_value_fits (Some choice)
         (MemberValue (option_or (option_and_then (λ s. cond (is_visible_member tree values s) (Some s) None) (assigned_member x))
-        (cond choice.optional None
-        (option_or (option_map (λ (d : MemberDefault). d.member) (find
-        (λ (d : MemberDefault). not (is_n (condition tree values d.condition)) && is_visible_member tree values d.member) choice.defaults))
-        (find (is_visible_member tree values) choice.members))))) ≡ true
-    by_user None fits = others choice.optional
-    by_user (Some (TriUser t)) fits = others choice.optional
-    by_user (Some (TextUser t)) fits = others choice.optional
+        (default_member tree choice values))) ≡ true
+    by_user None fits = others
+    by_user (Some (TriUser t)) fits = others
+    by_user (Some (TextUser t)) fits = others
+    by_user (Some (LinesUser l)) fits = others
     by_user (Some (MemberUser s)) fits = seen (is_visible_member tree values s) where
-      seen : (t : Bool) → choice_value_fits (Some choice) (MemberValue
-          (option_or (cond t (Some s) None) (cond choice.optional None
-          (option_or (option_map (λ (d : MemberDefault). d.member) (find
-          (λ (d : MemberDefault). not (is_n (condition tree values d.condition)) && is_visible_member tree values d.member) choice.defaults))
-          (find (is_visible_member tree values) choice.members))))) ≡ true
-      seen true = fits
-      seen false = others choice.optional
+      seen : (t : Bool) → choice_value_fits (Some choice) (MemberValue (option_or (cond t (Some s) None) (default_member tree choice values))) ≡ true
+      seen true = (and_parts (not (is_linux_6_12 tree.language)) (list_any (λ m. m == s) choice.members) fits).1
+      seen false = others
 
     shown_or_not : (t : Bool)
         → choice_value_fits (Some choice)
         (MemberValue (cond t (option_or (option_and_then (λ s. cond (is_visible_member tree values s) (Some s) None) (assigned_member x))
-        (cond choice.optional None
-        (option_or (option_map (λ (d : MemberDefault). d.member) (find
-        (λ (d : MemberDefault). not (is_n (condition tree values d.condition)) && is_visible_member tree values d.member) choice.defaults))
-        (find (is_visible_member tree values) choice.members)))) None)) ≡ true
+        (default_member tree choice values)) None)) ≡ true
     shown_or_not true = by_user x fits
     shown_or_not false = refl
+
+    lines_fit : (x : Option UserValue) → IfSome x (λ y. IsTrue (choice_user_fits tree.language (Some choice) y))
+        → list_all (λ (l : MemberLine). list_any (λ m. m == l.member) choice.members) (assigned_lines x) ≡ true
+    lines_fit None fits = refl
+    lines_fit (Some (TriUser t)) fits = refl
+    lines_fit (Some (TextUser t)) fits = refl
+    lines_fit (Some (MemberUser s)) fits = refl
+    lines_fit (Some (LinesUser lines)) fits = (and_parts (is_linux_6_12 tree.language) (list_all (λ (l : MemberLine). list_any (λ m. m == l.member) choice.members) lines) fits).1
+
+    by_lines : (lines : List MemberLine) → list_all (λ (l : MemberLine). list_any (λ m. m == l.member) choice.members) lines ≡ true
+        → choice_value_fits (Some choice) (MemberValue (selected_by_lines (is_visible_member tree values) choice.members (default_member tree choice values) lines)) ≡ true
+    by_lines lines all = last (last_y (is_visible_member tree values) lines) refl where
+      first : (o : Option ℕ) → first_listed (is_visible_member tree values) lines ≡ o → choice_value_fits (Some choice) (MemberValue o) ≡ true
+      first None e = refl
+      first (Some m) e = (first_passes (is_visible_member tree values) (λ k. list_any (λ m. m == k) choice.members) lines m all e).1
+
+      unlisted : (o : Option ℕ) → find (λ s. is_visible_member tree values s && not (is_listed lines s)) choice.members ≡ o
+          → choice_value_fits (Some choice) (MemberValue (option_or o (first_listed (is_visible_member tree values) lines))) ≡ true
+      unlisted None e = first (first_listed (is_visible_member tree values) lines) refl
+      unlisted (Some m) e = found_in (λ s. is_visible_member tree values s && not (is_listed lines s)) choice.members m e
+
+      listed : (b : Bool) (d : ℕ) → choice_value_fits (Some choice) (MemberValue (Some d)) ≡ true
+          → choice_value_fits (Some choice) (MemberValue (cond b (option_or (find (λ s. is_visible_member tree values s && not (is_listed lines s)) choice.members)
+          (first_listed (is_visible_member tree values) lines)) (Some d))) ≡ true
+      listed true d default = unlisted (find (λ s. is_visible_member tree values s && not (is_listed lines s)) choice.members) refl
+      listed false d default = default
+
+      without : (o : Option ℕ) → choice_value_fits (Some choice) (MemberValue o) ≡ true
+          → choice_value_fits (Some choice) (MemberValue (selected_without_y (is_visible_member tree values) choice.members o lines)) ≡ true
+      without None default = refl
+      without (Some d) default = listed (is_listed lines d) d default
+
+      last : (o : Option ℕ) → last_y (is_visible_member tree values) lines ≡ o
+          → choice_value_fits (Some choice) (MemberValue (option_or o (selected_without_y (is_visible_member tree values) choice.members (default_member tree choice values) lines))) ≡ true
+      last (Some m) e = (last_passes (is_visible_member tree values) (λ k. list_any (λ m. m == k) choice.members) lines m all e).1
+      last None e = without (default_member tree choice values) others
+
+    by_language : (b : Bool) → is_linux_6_12 tree.language ≡ b
+        → choice_value_fits (Some choice) (MemberValue (cond b (selected_by_lines (is_visible_member tree values) choice.members (default_member tree choice values) (assigned_lines x))
+        (shown_choice_rule tree choice x values))) ≡ true
+    by_language true e = by_lines (assigned_lines x) (lines_fit x fits)
+    by_language false e = shown_or_not (is_shown tree values choice)
 
   symbol_fits : (profile : Profile) (s : ℕ) (symbol : Symbol) → slice_get tree.symbols s ≡ Some symbol → (kind : Kind) → symbol.kind ≡ kind
       → (x : Option UserValue) → IfSome x (λ y. IsTrue (symbol_user_fits (Some symbol) y))
@@ -306,11 +335,11 @@ module _ (tree : Tree) (sound : IsConsistent tree) (values : List UnitValue)
   symbol_fits profile s symbol at Int is x fits =
       ap (λ k. text_fits k (number_rule tree symbol x values)) is ∙ ap
       (λ k. length (number_rule tree symbol x values) == 0 || is_some (number_of_text k (number_rule tree symbol x values))) (sym is)
-      ∙ number_fits symbol (ap is_tri_kind is) (λ e. cc) x fits
+      ∙ number_fits symbol (ap is_number is) x fits
   symbol_fits profile s symbol at Hex is x fits =
       ap (λ k. text_fits k (number_rule tree symbol x values)) is ∙ ap
       (λ k. length (number_rule tree symbol x values) == 0 || is_some (number_of_text k (number_rule tree symbol x values))) (sym is)
-      ∙ number_fits symbol (ap is_tri_kind is) (λ e. cc) x fits
+      ∙ number_fits symbol (ap is_number is) x fits
 
   at_symbol : (profile : Profile) (u s : ℕ) → slice_get tree.units u ≡ Some (of_symbol s) → (o : Option Symbol) → slice_get tree.symbols s ≡ o
       → (x : Option UserValue) → IfSome x (λ y. IsTrue (symbol_user_fits o y)) → symbol_value_fits o (rule_of_symbol profile tree o x values) ≡ true
@@ -318,7 +347,7 @@ module _ (tree : Tree) (sound : IsConsistent tree) (values : List UnitValue)
   at_symbol profile u s unit (Some symbol) at x fits = symbol_fits profile s symbol at symbol.kind refl x fits
 
   at_choice : (u c : ℕ) → slice_get tree.units u ≡ Some (of_choice c) → (o : Option Choice) → slice_get tree.choices c ≡ o → (x : Option UserValue)
-      → IfSome x (λ y. IsTrue (choice_user_fits o y)) → choice_value_fits o (rule_of_choice tree o x values) ≡ true
+      → IfSome x (λ y. IsTrue (choice_user_fits tree.language o y)) → choice_value_fits o (rule_of_choice tree o x values) ≡ true
   at_choice u c unit None at x fits = let found = (sound.choice_units u c unit).1 in cc
   at_choice u c unit (Some choice) at x fits = choice_fits c choice at x fits
 

@@ -1,6 +1,5 @@
 pub mod Ink
 pub mod Numbers
-pub mod PrintableBounds
 pub mod FittingValues
 pub mod OrderedTrees
 pub mod SolutionsFit

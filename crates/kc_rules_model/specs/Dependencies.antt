@@ -9,6 +9,7 @@ use Rattle.kc_tree_model.specs.declared.ids.Unit.{Unit as TreeUnit}
 use Rattle.kc_tree_model.specs.declared.ids.Unit.TheVariants.{Symbol as of_symbol, Choice as of_choice}
 use Rattle.kc_tree_model.specs.TreeLookup.{unit_of, symbol_named}
 use Rattle.kc_value.specs.Kinds.{is_tristate}
+use Rattle.kc_tokens.specs.Languages.{is_linux_6_12}
 
 -- the units of the symbols with these names; a name that no symbol has is left out
 abbrev pub units_named : Tree → List (List ℕ) → List ℕ
@@ -46,11 +47,15 @@ names_in_prompts (Some symbol) = flat_map names_in symbol.prompts
 abbrev pub names_in_member_prompts : Tree → ℕ → List (List ℕ)
 names_in_member_prompts tree s = names_in_prompts (slice_get tree.symbols s)
 
--- the units on which a choice depends: those that its prompt, its defaults' conditions, and the prompts of its members and of its
--- defaults' members name; in any order, maybe repeated
+-- the names in the condition on which a choice is shown; under the rules of Linux 6.12 none, since that counts for nothing
+abbrev pub names_in_shown : Tree → Choice → List (List ℕ)
+names_in_shown tree choice = if is_linux_6_12 tree.language then [] else names_in_prompt choice.prompt
+
+-- the units on which a choice depends: those that its prompt, where it counts, its defaults' conditions, and the prompts of its
+-- members and of its defaults' members name; in any order, maybe repeated
 abbrev pub needed_by_choice : Tree → Choice → List ℕ
 needed_by_choice tree choice =
-    units_named tree (names_in_prompt choice.prompt ++ flat_map (λ (d : MemberDefault). names_in d.condition ++ names_in_member_prompts tree d.member) choice.defaults ++ flat_map (names_in_member_prompts tree) choice.members)
+    units_named tree (names_in_shown tree choice ++ flat_map (λ (d : MemberDefault). names_in d.condition ++ names_in_member_prompts tree d.member) choice.defaults ++ flat_map (names_in_member_prompts tree) choice.members)
 
 -- the units on which a symbol depends; none without a symbol
 abbrev pub needed_by_symbol_at : Tree → Option Symbol → List ℕ

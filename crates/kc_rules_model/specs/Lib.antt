@@ -1,5 +1,6 @@
 pub mod Kinds
 pub mod SymbolValues
+pub mod MemberLines
 pub mod Rule
 pub mod Dependencies
 pub mod Shapes

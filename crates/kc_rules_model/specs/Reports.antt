@@ -9,6 +9,7 @@ use Rattle.kc_rules_model.specs.declared.profile.Profile.{Profile}
 use Rattle.kc_rules_model.specs.declared.values.UnitValue.{UnitValue}
 use Rattle.kc_rules_model.specs.Kinds.{is_n}
 use Rattle.kc_value.specs.Kinds.{is_tri_kind, is_tristate}
+use Rattle.kc_tokens.specs.Languages.{is_linux_6_12}
 use Rattle.kc_tree_model.specs.TreeLookup.{index_of_unit}
 use Rattle.kc_rules_model.specs.SymbolValues.{member_of}
 use Rattle.kc_rules_model.specs.Rule.{rule, as_user, is_visible, selected, implied, direct_dependency, active_default, default_tri}
@@ -36,13 +37,14 @@ is_unselected tree values (Some c) = is_optional_choice tree c && is_none (membe
 
 -- whether a full file (Kconfiglib's `write_config`) has a symbol: it is visible, and no member of an optional choice without a
 -- selected member; or it is outside choices and has a default, is selected, or is implied while its direct dependency isn't `n`
+-- (under the rules of Linux 6.12 also while it is)
 abbrev pub is_written_symbol : Tree → List UnitValue → Symbol → Bool
 is_written_symbol tree values symbol =
     (is_visible tree values symbol && not (is_unselected tree values symbol.choice))
     || (is_none symbol.choice
     && (has_default tree values symbol
     || not (is_n (selected tree values symbol))
-    || (not (is_n (implied tree values symbol)) && not (is_n (direct_dependency tree values symbol)))))
+    || (not (is_n (implied tree values symbol)) && (is_linux_6_12 tree.language || not (is_n (direct_dependency tree values symbol))))))
 
 -- whether the tree has a symbol of this number and a full file has it
 abbrev pub is_written : Tree → List UnitValue → ℕ → Bool
@@ -72,4 +74,4 @@ pub record IsLifted (profile : Profile) (tree : Tree) (values : List UnitValue) 
   pub tristate : is_tristate symbol.kind ≡ true
   pub visible : is_visible tree values symbol ≡ true
   pub has : slice_get values u ≡ Some value
-  pub differs : rule profile tree u (as_user value) values ≢ value
+  pub differs : rule profile tree u (as_user tree.language value) values ≢ value

@@ -1,12 +1,14 @@
 -- The value of a unit, from its user value or none and the values of all units. What is quoted in comments is a topic of
 -- kconfig-language.rst, "Menu attributes" and "Menu entries".
-use Rattle.std.specs.Prelude.{ℕ, Bool, true, false, not, ◌&&◌, ◌||◌, List, [], ◌∷◌, Option, Some, None, is_some, ℤ, pos, int_lt, slice_get, unwrap_or, find, if◌then◌else◌}
+use Rattle.std.specs.Prelude.{ℕ, Bool, true, false, not, ◌&&◌, ◌||◌, List, [], ◌∷◌, Option, Some, None, is_some, is_none, ℤ, pos, int_lt, slice_get, unwrap_or, find, if◌then◌else◌}
 use Rattle.std.specs.Option.{option_map, option_and_then, option_or}
 use Rattle.kc_value.specs.declared.tri.Tri.{Tri}
 use Rattle.kc_value.specs.declared.tri.Tri.TheVariants.{N}
 use Rattle.kc_value.specs.declared.value.Kind.{Kind}
 use Rattle.kc_value.specs.declared.value.Kind.TheVariants.{Bool as Boolean, Tristate, Text}
 use Rattle.kc_value.specs.Tri.{tri_and, tri_or}
+use Rattle.kc_tokens.specs.declared.language.Language.{Language}
+use Rattle.kc_tokens.specs.Languages.{is_linux_6_12}
 use Rattle.kc_expr.specs.Expr.{Expr, alone, Operand, operand_text, symbol_tri, modules}
 use Rattle.kc_tree_model.specs.Trees.{Tree, Symbol, Choice, Default, Range, ReverseDependency, MemberDefault}
 use Rattle.kc_tree_model.specs.declared.ids.Unit.{Unit as TreeUnit}
@@ -16,11 +18,13 @@ use Rattle.kc_rules_model.specs.declared.profile.Profile.TheVariants.{Present, C
 use Rattle.kc_rules_model.specs.declared.values.UnitValue.{UnitValue}
 use Rattle.kc_rules_model.specs.declared.values.UnitValue.TheVariants.{Tri as TriValue, Text as TextValue, Member as MemberValue}
 use Rattle.kc_rules_model.specs.declared.values.UserValue.{UserValue}
-use Rattle.kc_rules_model.specs.declared.values.UserValue.TheVariants.{Tri as TriUser, Text as TextUser, Member as MemberUser}
+use Rattle.kc_rules_model.specs.declared.values.UserValue.TheVariants.{Tri as TriUser, Text as TextUser, Member as MemberUser, Lines as LinesUser}
+use Rattle.kc_rules_model.specs.declared.values.MemberLine.{MemberLine}
 use Rattle.kc_rules_model.specs.Kinds.{is_n, is_y, largest}
 use Rattle.kc_value.specs.Tri.{y_for_m}
 use Rattle.kc_value.specs.Kinds.{is_bool, is_tristate}
 use Rattle.kc_value.specs.Number.{number_of_text, number_spelling}
+use Rattle.kc_rules_model.specs.MemberLines.{selected_by_lines}
 use Rattle.kc_rules_model.specs.SymbolValues.{environment, value_of_symbol, condition}
 
 -- the value of the symbol `MODULES`; `n` if it is undefined ("modules")
@@ -104,6 +108,11 @@ abbrev pub assigned_member : Option UserValue → Option ℕ
 assigned_member (Some (MemberUser member)) = Some member
 assigned_member _ = None
 
+-- what a user value assigns to members of a choice; nothing if there is no user value, or another one
+abbrev pub assigned_lines : Option UserValue → List MemberLine
+assigned_lines (Some (LinesUser lines)) = lines
+assigned_lines _ = []
+
 -- the lower limit for a symbol's value from the `imply`s that name it; `n` while its direct dependency is `n`
 abbrev pub implied_effect : Tree → List UnitValue → Symbol → Tri
 implied_effect tree values symbol = if is_n (direct_dependency tree values symbol)
@@ -163,33 +172,56 @@ is_within tree values kind None n = true
 is_within tree values kind (Some r) n = not (int_lt n (bound tree values kind r.low))
     && not (int_lt (bound tree values kind r.high) n)
 
--- the given text, whose number is given too, if the number is within the range; otherwise the spelling of the bound that it
--- passes
+-- the text of a range's bound, as a number gets it: the spelling of the bound's number; under the rules of Linux 6.12 the
+-- bound's own text, if that is a number of the type
+abbrev pub bound_text : Tree → List UnitValue → Kind → Operand → List ℕ
+bound_text tree values kind a =
+    let text = operand_text (environment tree values) a in
+    if is_linux_6_12 tree.language && is_some (number_of_text kind text) then text else number_spelling kind (bound tree values kind a)
+
+-- the given text, whose number is given too, if the number is within the range; otherwise the text of the bound that it passes
 abbrev pub clamped : Tree → List UnitValue → Kind → Option Range → ℤ → List ℕ → List ℕ
 clamped tree values kind None n text = text
 clamped tree values kind (Some r) n text =
     let low = bound tree values kind r.low in
     let high = bound tree values kind r.high in
-    if int_lt n low then number_spelling kind low else (if int_lt high n then number_spelling kind high else text)
+    if int_lt n low then bound_text tree values kind r.low else (if int_lt high n then bound_text tree values kind r.high else text)
 
--- the default of an int or hex, moved into its range; a default that isn't a number of the type is an empty text, which counts as
--- 0 for the range
+-- the text of an int or hex whose default isn't a number of the type, or that has no default: empty; under the rules of Linux
+-- 6.12 the spelling of 0 if there is no default whose condition isn't `n`
+abbrev pub text_without_number : Tree → List UnitValue → Symbol → List ℕ
+text_without_number tree values symbol = if is_linux_6_12 tree.language && is_none (active_default tree values symbol)
+    then number_spelling symbol.kind (pos 0)
+    else []
+
+-- the default of an int or hex, moved into its range; what isn't a number of the type counts as 0 for the range
 abbrev pub number_default : Tree → List UnitValue → Symbol → List ℕ
 number_default tree values symbol =
     let text = default_text tree values symbol in
     let range = active_range tree values symbol in
     if is_some (number_of_text symbol.kind text)
     then clamped tree values symbol.kind range (unwrap_or (number_of_text symbol.kind text) (pos 0)) text
-    else clamped tree values symbol.kind range (pos 0) []
+    else clamped tree values symbol.kind range (pos 0) (text_without_number tree values symbol)
 
--- the value of an int or hex: the user's text if the symbol is visible and the number is within the range, otherwise the default,
--- moved into the range
+-- whether the lower bound of a range is above its upper one; not if there is no range
+abbrev pub is_upside_down : Tree → List UnitValue → Kind → Option Range → Bool
+is_upside_down tree values kind None = false
+is_upside_down tree values kind (Some r) = int_lt (bound tree values kind r.high) (bound tree values kind r.low)
+
+-- the text that a user's number, given with its text, gives: that text if the number is within the range, else none; under the
+-- rules of Linux 6.12 the text of the bound that it passes, unless the lower bound is above the upper one
+abbrev pub user_number : Tree → List UnitValue → Kind → Option Range → ℤ → List ℕ → Option (List ℕ)
+user_number tree values kind range n text = if is_linux_6_12 tree.language
+    then (if is_upside_down tree values kind range then None else Some (clamped tree values kind range n text))
+    else (if is_within tree values kind range n then Some text else None)
+
+-- the value of an int or hex: what the user's number gives if the symbol is visible, otherwise the default, moved into the range
 abbrev pub number_rule : Tree → Symbol → Option UserValue → List UnitValue → List ℕ
 number_rule tree symbol user values =
     let range = active_range tree values symbol in
     let number : List ℕ → ℤ = λ text. unwrap_or (number_of_text symbol.kind text) (pos 0) in
-    let within : List ℕ → Bool = λ text. is_within tree values symbol.kind range (number text) in
-    let by_user = option_and_then (λ text. if within text then Some text else None) (visible_text tree symbol user values) in
+    let given : List ℕ → Option (List ℕ) = λ text. user_number tree values symbol.kind range (number text) text in
+    let by_user = option_and_then given (visible_text tree symbol user values) in
     unwrap_or by_user (number_default tree values symbol)
 
 -- the value of a symbol outside choices by its type, from its user value or none and the values of all units
@@ -207,16 +239,27 @@ is_visible_member tree values s = unwrap_or (option_map (is_visible tree values)
 abbrev pub is_shown : Tree → List UnitValue → Choice → Bool
 is_shown tree values choice = unwrap_or (option_map (λ e. not (is_n (condition tree values e))) choice.prompt) false
 
--- the selected member of a choice, if the choice is shown: the user's member; otherwise, unless the choice is optional, that of
--- the first default that counts, or else the first member; each only if it is visible
-abbrev pub choice_rule : Tree → Choice → Option UserValue → List UnitValue → Option ℕ
-choice_rule tree choice user values =
+-- the default member of a choice: that of the first default that counts, or else the first member, each only if it is visible;
+-- none of an optional choice
+abbrev pub default_member : Tree → Choice → List UnitValue → Option ℕ
+default_member tree choice values =
     let seen : ℕ → Bool = is_visible_member tree values in
-    let by_user = option_and_then (λ s. if seen s then Some s else None) (assigned_member user) in
     let counts : MemberDefault → Bool = λ d. not (is_n (condition tree values d.condition)) && seen d.member in
     let by_default = option_map (λ (d : MemberDefault). d.member) (find counts choice.defaults) in
-    let otherwise = if choice.optional then None else option_or by_default (find seen choice.members) in
-    if is_shown tree values choice then option_or by_user otherwise else None
+    if choice.optional then None else option_or by_default (find seen choice.members)
+
+-- the selected member of a choice, if the choice is shown: the user's member if it is visible, otherwise the default member
+abbrev pub shown_choice_rule : Tree → Choice → Option UserValue → List UnitValue → Option ℕ
+shown_choice_rule tree choice user values =
+    let by_user = option_and_then (λ s. if is_visible_member tree values s then Some s else None) (assigned_member user) in
+    if is_shown tree values choice then option_or by_user (default_member tree choice values) else None
+
+-- the selected member of a choice; under the rules of Linux 6.12 that which the user's assignments of members select, whether the
+-- choice is shown or not
+abbrev pub choice_rule : Tree → Choice → Option UserValue → List UnitValue → Option ℕ
+choice_rule tree choice user values = if is_linux_6_12 tree.language
+    then selected_by_lines (is_visible_member tree values) choice.members (default_member tree choice values) (assigned_lines user)
+    else shown_choice_rule tree choice user values
 
 -- the value of a symbol outside choices, from its user value or none and the values of all units; `n` without a symbol
 abbrev pub rule_of_symbol : Profile → Tree → Option Symbol → Option UserValue → List UnitValue → UnitValue
@@ -240,9 +283,15 @@ rule_of_unit profile tree None user values = TriValue N
 unfoldable pub rule : Profile → Tree → ℕ → Option UserValue → List UnitValue → UnitValue
 rule profile tree u user values = rule_of_unit profile tree (slice_get tree.units u) user values
 
--- the user value that equals a value; a choice without a selected member has none
-abbrev pub as_user : UnitValue → Option UserValue
-as_user (TriValue t) = Some (TriUser t)
-as_user (TextValue text) = Some (TextUser text)
-as_user (MemberValue None) = None
-as_user (MemberValue (Some s)) = Some (MemberUser s)
+-- the user value that assigns `y` to a member of a choice and nothing to others
+abbrev pub member_user : Language → ℕ → UserValue
+member_user language s = if is_linux_6_12 language
+    then LinesUser (record { member = s; is_y = true } ∷ [])
+    else MemberUser s
+
+-- the user value that equals a value, in a language; a choice without a selected member has none
+abbrev pub as_user : Language → UnitValue → Option UserValue
+as_user language (TriValue t) = Some (TriUser t)
+as_user language (TextValue text) = Some (TextUser text)
+as_user language (MemberValue None) = None
+as_user language (MemberValue (Some s)) = Some (member_user language s)

@@ -1,10 +1,12 @@
 -- Tests of whether a value or a user value fits a unit: it has the sort and the form that the unit's type asks for.
 use Rattle.std.specs.Prelude.{ℕ, Bool, true, false, not, ◌&&◌, ◌||◌, List, Option, Some, None, is_some, length, ◌==◌, slice_get}
-use Rattle.std.specs.List.{list_any}
+use Rattle.std.specs.List.{list_any, list_all}
 use Rattle.std.specs.Str.{is_utf8}
 use Rattle.kc_value.specs.declared.tri.Tri.{Tri}
 use Rattle.kc_value.specs.declared.value.Kind.{Kind}
 use Rattle.kc_value.specs.declared.value.Kind.TheVariants.{Bool as Boolean, Tristate, Text}
+use Rattle.kc_tokens.specs.declared.language.Language.{Language}
+use Rattle.kc_tokens.specs.Languages.{is_linux_6_12}
 use Rattle.kc_tree_model.specs.Trees.{Tree, Symbol, Choice}
 use Rattle.kc_tree_model.specs.declared.ids.Unit.{Unit as TreeUnit}
 use Rattle.kc_tree_model.specs.declared.ids.Unit.TheVariants.{Symbol as of_symbol, Choice as of_choice}
@@ -13,7 +15,8 @@ use Rattle.kc_rules_model.specs.Kinds.{is_m}
 use Rattle.kc_rules_model.specs.declared.values.UnitValue.{UnitValue}
 use Rattle.kc_rules_model.specs.declared.values.UnitValue.TheVariants.{Tri as TriValue, Text as TextValue, Member as MemberValue}
 use Rattle.kc_rules_model.specs.declared.values.UserValue.{UserValue}
-use Rattle.kc_rules_model.specs.declared.values.UserValue.TheVariants.{Tri as TriUser, Text as TextUser, Member as MemberUser}
+use Rattle.kc_rules_model.specs.declared.values.UserValue.TheVariants.{Tri as TriUser, Text as TextUser, Member as MemberUser, Lines as LinesUser}
+use Rattle.kc_rules_model.specs.declared.values.MemberLine.{MemberLine}
 use Rattle.kc_value.specs.Number.{number_of_text}
 
 -- whether the value `n`, `m` or `y` fits a symbol of this type: each fits a tristate, all but `m` a bool, none another type
@@ -43,16 +46,18 @@ abbrev pub is_member : Option Choice → ℕ → Bool
 is_member None s = false
 is_member (Some choice) s = list_any (λ m. m == s) choice.members
 
--- whether a user value fits a choice: it is a member of the choice; nothing fits without a choice
-abbrev pub choice_user_fits : Option Choice → UserValue → Bool
-choice_user_fits choice (MemberUser s) = is_member choice s
-choice_user_fits choice _ = false
+-- whether a user value fits a choice: it is a member of the choice, or under the rules of Linux 6.12 a list of assignments of its
+-- members; nothing fits without a choice
+abbrev pub choice_user_fits : Language → Option Choice → UserValue → Bool
+choice_user_fits language choice (MemberUser s) = not (is_linux_6_12 language) && is_member choice s
+choice_user_fits language choice (LinesUser lines) = is_linux_6_12 language && list_all (λ (l : MemberLine). is_member choice l.member) lines
+choice_user_fits language choice _ = false
 
 -- whether a user value fits a unit, which is a symbol or a choice; nothing fits without a unit
 abbrev pub unit_user_fits : Tree → Option TreeUnit → UserValue → Bool
 unit_user_fits tree None x = false
 unit_user_fits tree (Some (of_symbol s)) x = symbol_user_fits (slice_get tree.symbols s) x
-unit_user_fits tree (Some (of_choice c)) x = choice_user_fits (slice_get tree.choices c) x
+unit_user_fits tree (Some (of_choice c)) x = choice_user_fits tree.language (slice_get tree.choices c) x
 
 -- whether a user value fits unit u: it has the sort and the form that the unit's type asks for
 unfoldable pub user_fits : Tree → ℕ → UserValue → Bool

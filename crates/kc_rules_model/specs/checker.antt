@@ -1,4 +1,5 @@
 pub mod EqualityLaws
+pub mod PrintableBounds
 pub mod Agreement
 pub mod FrameLaw
 pub mod RestoreLaw

@@ -10,4 +10,4 @@ pub use laws::{
     solutions_fit, texts_are_assigned,
 };
 pub use profile::Profile;
-pub use values::{UnitValue, UserValue};
+pub use values::{MemberLine, MemberLines, UnitValue, UserValue};

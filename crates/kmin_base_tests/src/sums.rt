@@ -58,7 +58,7 @@ impl System for Sums {
 
     ghost fits_user = { λ s u x. IsSmall u x };
 
-    ghost as_user = { λ x. Some x };
+    ghost as_user = { λ s x. Some x };
 
     ghost same_value = { nat_eq };
 

@@ -1,8 +1,8 @@
 -- A unit's value depends on the values of its dependencies alone.
 use Rattle.std.proofs.Common.{◌≡◌, inl, inr, ℕ, suc, ◌+◌, ◌<◌, ◌≤◌, Bool, true, false, not, ◌&&◌, ◌||◌, ◌==◌, cond, IsTrue, List, [], ◌∷◌, ◌++◌, Option, Some, None, IfSome, slice_get, length, zero, refl, sym, ◌∙◌, ap, subst, unwrap_or, map, filter, find, pos, ℤ, int_lt, is_some, arith}
 use Rattle.std.specs.Option.{option_map, option_and_then, option_or}
-use Rattle.std.specs.List.{AllByRecursion, flat_map, cons_option, list_any, range_with_len, Contains}
-use Rattle.std.proofs.lemmas.Bool.{cases_lt, cases_eq, false≢true, or_cases, or_left, or_right, eqb-true, eq-eqb}
+use Rattle.std.specs.List.{AllByRecursion, flat_map, cons_option, list_any, list_all, range_with_len, Contains}
+use Rattle.std.proofs.lemmas.Bool.{cases_lt, cases_eq, false≢true, true≢false, and_parts, or_cases, or_left, or_right, eqb-true, eq-eqb}
 use Rattle.std.proofs.lemmas.Option.{slice_get_past}
 use Rattle.kc_value.specs.declared.tri.Tri.{Tri}
 use Rattle.kc_value.specs.declared.tri.Tri.TheVariants.{N, M, Y}
@@ -20,14 +20,17 @@ use Rattle.kc_rules_model.specs.declared.profile.Profile.TheVariants.{Present, C
 use Rattle.kc_rules_model.specs.declared.values.UnitValue.{UnitValue}
 use Rattle.kc_rules_model.specs.declared.values.UnitValue.TheVariants.{Tri as TriValue, Text as TextValue, Member as MemberValue}
 use Rattle.kc_rules_model.specs.declared.values.UserValue.{UserValue}
-use Rattle.kc_rules_model.specs.declared.values.UserValue.TheVariants.{Tri as TriUser, Text as TextUser, Member as MemberUser}
+use Rattle.kc_rules_model.specs.declared.values.UserValue.TheVariants.{Tri as TriUser, Text as TextUser, Member as MemberUser, Lines as LinesUser}
+use Rattle.kc_rules_model.specs.declared.values.MemberLine.{MemberLine}
+use Rattle.kc_rules_model.specs.MemberLines.{is_listed, last_y, first_listed, selected_without_y, selected_by_lines}
+use Rattle.kc_tokens.specs.Languages.{is_linux_6_12}
 use Rattle.kc_rules_model.specs.Kinds.{is_n, is_y, largest}
 use Rattle.kc_value.specs.Tri.{y_for_m}
 use Rattle.kc_value.specs.Kinds.{is_bool, is_tristate, is_tri_kind}
 use Rattle.kc_value.specs.Number.{number_of_text, number_spelling}
 use Rattle.kc_rules_model.specs.SymbolValues.{condition, environment, value_of_symbol, value_in_unit, tri_symbol_value, tri_if_selected, member_of, tri_of, text_of}
-use Rattle.kc_rules_model.specs.Rule.{conditions, reverse_dependency_limit, is_visible, expression_text, default_tri, is_within, clamped, promoted, modules_value, visibility, unassigned_value, base, selected, implied, implied_effect, leaves_no_m, direct_dependency, active_default, active_range, assigned_tri, assigned_text, assigned_member, tri_rule, string_rule, number_rule, number_default, default_text, visible_text, symbol_rule, choice_rule, is_shown, is_visible_member, rule, rule_of_unit, rule_of_symbol, rule_of_choice}
-use Rattle.kc_rules_model.specs.Dependencies.{units_named, units_of_reverse_dependencies, needed_by_symbol, needed_by_choice, needed_by, needed_by_symbol_at, needed_by_choice_at, dependencies, names_in_member_prompts, names_in_prompts, names_in_prompt}
+use Rattle.kc_rules_model.specs.Rule.{conditions, reverse_dependency_limit, is_visible, expression_text, default_tri, is_within, clamped, promoted, modules_value, visibility, unassigned_value, base, selected, implied, implied_effect, leaves_no_m, direct_dependency, active_default, active_range, assigned_tri, assigned_text, assigned_member, tri_rule, string_rule, number_rule, number_default, default_text, visible_text, symbol_rule, choice_rule, shown_choice_rule, default_member, assigned_lines, user_number, bound_text, bound, is_upside_down, text_without_number, is_shown, is_visible_member, rule, rule_of_unit, rule_of_symbol, rule_of_choice}
+use Rattle.kc_rules_model.specs.Dependencies.{units_named, units_of_reverse_dependencies, needed_by_symbol, needed_by_choice, needed_by, needed_by_symbol_at, needed_by_choice_at, dependencies, names_in_member_prompts, names_in_prompts, names_in_prompt, names_in_shown}
 use Rattle.kc_expr.specs.ExpressionNames.{names_in, operand_names}
 use Rattle.kc_rules_model.specs.Shapes.{user_fits, unit_user_fits, choice_user_fits}
 use Rattle.kc_rules_model.specs.checker.Agreement.{Agrees, parts, text_agrees, value_agrees, find_agrees, all_map}
@@ -46,9 +49,45 @@ promoted_as Text m n t same = refl
 promoted_as Int m n t same = refl
 promoted_as Hex m n t same = refl
 
-kept_where : (o : Option (List ℕ)) (p q : List ℕ → Bool) → ((x : List ℕ) → p x ≡ q x) → option_and_then (λ x. cond (p x) (Some x) None) o ≡ option_and_then (λ x. cond (q x) (Some x) None) o
+kept_where : (o : Option (List ℕ)) (p q : List ℕ → Option (List ℕ)) → ((x : List ℕ) → p x ≡ q x) → option_and_then p o ≡ option_and_then q o
 kept_where None p q same = refl
-kept_where (Some x) p q same = ap (λ b. cond b (Some x) None) (same x)
+kept_where (Some x) p q same = same x
+
+-- assignments of members select the same one, whatever tests agree on the members and on those that are listed
+module _ (f h : ℕ → Bool) where
+  last_agrees : (lines : List MemberLine) → AllByRecursion (λ (l : MemberLine). f l.member ≡ h l.member) lines → last_y f lines ≡ last_y h lines
+  last_agrees [] all = refl
+  last_agrees (l ∷ lines) all =
+      ap (λ o. option_or o (cond (l.is_y && f l.member) (Some l.member) None)) (last_agrees lines all.1)
+      ∙ ap (λ b. option_or (last_y h lines) (cond (l.is_y && b) (Some l.member) None)) all.0
+
+  first_agrees : (lines : List MemberLine) → AllByRecursion (λ (l : MemberLine). f l.member ≡ h l.member) lines → first_listed f lines ≡ first_listed h lines
+  first_agrees lines all =
+      find_agrees (λ (l : MemberLine). f l.member) (λ (l : MemberLine). h l.member) (λ o. option_map (λ (l : MemberLine). l.member) o) (λ o. option_map (λ (l : MemberLine). l.member) o) lines refl
+      (all_map _ _ (λ (l : MemberLine) p. (p, refl)) lines all)
+
+  unlisted_agrees : (members : List ℕ) (lines : List MemberLine) → AllByRecursion (λ s. f s ≡ h s) members
+      → find (λ s. f s && not (is_listed lines s)) members ≡ find (λ s. h s && not (is_listed lines s)) members
+  unlisted_agrees members lines all =
+      find_agrees (λ s. f s && not (is_listed lines s)) (λ s. h s && not (is_listed lines s)) (λ (o : Option ℕ). o) (λ o. o) members refl
+      (all_map _ _ (λ s p. (ap (λ b. b && not (is_listed lines s)) p, refl)) members all)
+
+  without_y_agrees : (members : List ℕ) (default : Option ℕ) (lines : List MemberLine) → AllByRecursion (λ s. f s ≡ h s) members
+      → AllByRecursion (λ (l : MemberLine). f l.member ≡ h l.member) lines → selected_without_y f members default lines ≡ selected_without_y h members default lines
+  without_y_agrees members None lines seen listed = refl
+  without_y_agrees members (Some d) lines seen listed =
+      ap (λ o. cond (is_listed lines d) (option_or o (first_listed f lines)) (Some d)) (unlisted_agrees members lines seen)
+      ∙ ap (λ o. cond (is_listed lines d) (option_or (find (λ s. h s && not (is_listed lines s)) members) o) (Some d)) (first_agrees lines listed)
+
+  lines_agree : (members : List ℕ) (default : Option ℕ) (lines : List MemberLine) → AllByRecursion (λ s. f s ≡ h s) members
+      → AllByRecursion (λ (l : MemberLine). f l.member ≡ h l.member) lines → selected_by_lines f members default lines ≡ selected_by_lines h members default lines
+  lines_agree members default lines seen listed =
+      ap (λ o. option_or o (selected_without_y f members default lines)) (last_agrees lines listed)
+      ∙ ap (λ o. option_or (last_y h lines) o) (without_y_agrees members default lines seen listed)
+
+by_either : (b : Bool) (p q r s : Option ℕ) → p ≡ q → (b ≡ false → r ≡ s) → cond b p r ≡ cond b q s
+by_either true p q r s first second = first
+by_either false p q r s first second = second refl
 
 -- under two valuations, the condition of a default has the same value, and its expression the same value and text
 abbrev DefaultAgrees : Tree → List UnitValue → List UnitValue → Default → Type 0
@@ -154,9 +193,13 @@ module _ (tree : Tree) (v w : List UnitValue) where
             ∙ ap (λ t. not (int_lt n (unwrap_or (number_of_text kind (operand_text (environment tree w) r.low)) (pos 0))) && not (int_lt (unwrap_or (number_of_text kind t) (pos 0)) n)) p.2,
       )) rs all)
 
+  -- the text of a bound with this text, if texts of bounds stay
+  abbrev bound_by : Kind → List ℕ → List ℕ
+  bound_by kind t = cond (is_linux_6_12 tree.language && is_some (number_of_text kind t)) t (number_spelling kind (unwrap_or (number_of_text kind t) (pos 0)))
+
   abbrev limited_by : Kind → ℤ → List ℕ → List ℕ → List ℕ → List ℕ
   limited_by kind n text low high =
-      cond (int_lt n (unwrap_or (number_of_text kind low) (pos 0))) (number_spelling kind (unwrap_or (number_of_text kind low) (pos 0))) (cond (int_lt (unwrap_or (number_of_text kind high) (pos 0)) n) (number_spelling kind (unwrap_or (number_of_text kind high) (pos 0))) text)
+      cond (int_lt n (unwrap_or (number_of_text kind low) (pos 0))) (bound_by kind low) (cond (int_lt (unwrap_or (number_of_text kind high) (pos 0)) n) (bound_by kind high) text)
 
   limited_agrees : (kind : Kind) (n : ℤ) (text : List ℕ) (rs : List Range) → AllByRecursion (RangeAgrees tree v w) rs
       → clamped tree v kind (find (λ (r : Range). not (is_n (condition tree v r.condition))) rs) n text ≡ clamped tree w kind (find (λ (r : Range). not (is_n (condition tree w r.condition))) rs) n text
@@ -166,6 +209,32 @@ module _ (tree : Tree) (v w : List UnitValue) where
         ap (λ t. not (is_n t)) p.0,
         ap (λ t. limited_by kind n text t (operand_text (environment tree v) r.high)) p.1 ∙ ap (λ t. limited_by kind n text (operand_text (environment tree w) r.low) t) p.2,
       )) rs all)
+
+  upside_down_agrees : (kind : Kind) (rs : List Range) → AllByRecursion (RangeAgrees tree v w) rs
+      → is_upside_down tree v kind (find (λ (r : Range). not (is_n (condition tree v r.condition))) rs) ≡ is_upside_down tree w kind (find (λ (r : Range). not (is_n (condition tree w r.condition))) rs)
+  upside_down_agrees kind rs all =
+      find_agrees (λ (r : Range). not (is_n (condition tree v r.condition))) (λ (r : Range). not (is_n (condition tree w r.condition))) (λ o. is_upside_down tree v kind o) (λ o. is_upside_down tree w kind o) rs refl
+      (all_map _ _ (λ (r : Range) p. (
+        ap (λ t. not (is_n t)) p.0,
+        ap (λ t. int_lt (unwrap_or (number_of_text kind (operand_text (environment tree v) r.high)) (pos 0)) (unwrap_or (number_of_text kind t) (pos 0))) p.1
+            ∙ ap (λ t. int_lt (unwrap_or (number_of_text kind t) (pos 0)) (unwrap_or (number_of_text kind (operand_text (environment tree w) r.low)) (pos 0))) p.2,
+      )) rs all)
+
+  user_number_agrees : (kind : Kind) (n : ℤ) (text : List ℕ) (rs : List Range) → AllByRecursion (RangeAgrees tree v w) rs
+      → user_number tree v kind (find (λ (r : Range). not (is_n (condition tree v r.condition))) rs) n text ≡ user_number tree w kind (find (λ (r : Range). not (is_n (condition tree w r.condition))) rs) n text
+  user_number_agrees kind n text rs all =
+      let F : Bool → List ℕ → Bool → Option (List ℕ) = λ down t within. cond (is_linux_6_12 tree.language) (cond down None (Some t)) (cond within (Some text) None) in
+      let R : List UnitValue → Option Range = λ values. find (λ (r : Range). not (is_n (condition tree values r.condition))) rs in
+      ap (λ b. F b (clamped tree v kind (R v) n text) (is_within tree v kind (R v) n)) (upside_down_agrees kind rs all)
+      ∙ ap (λ t. F (is_upside_down tree w kind (R w)) t (is_within tree v kind (R v) n)) (limited_agrees kind n text rs all)
+      ∙ ap (λ b. F (is_upside_down tree w kind (R w)) (clamped tree w kind (R w) n text) b) (within_agrees kind n rs all)
+
+  -- whether a default counts, and so what stands in place of a number
+  no_default_agrees : (kind : Kind) (ds : List Default) → AllByRecursion (DefaultAgrees tree v w) ds
+      → is_some (find (λ (d : Default). not (is_n (condition tree v d.condition))) ds) ≡ is_some (find (λ (d : Default). not (is_n (condition tree w d.condition))) ds)
+  no_default_agrees kind ds all =
+      find_agrees (λ (d : Default). not (is_n (condition tree v d.condition))) (λ (d : Default). not (is_n (condition tree w d.condition))) is_some is_some ds refl
+      (all_map _ _ (λ (d : Default) p. (ap (λ t. not (is_n t)) p.0, refl)) ds all)
 
   modules_agree : (b : Bool) → Agrees (environment tree v) (environment tree w) (cond b (modules ∷ []) []) → b ≡ true → modules_value tree v ≡ modules_value tree w
   modules_agree true all e = ap symbol_tri all.0
@@ -255,18 +324,22 @@ module _ (tree : Tree) (v w : List UnitValue) where
   number_default_agrees : (symbol : Symbol) → SymbolAgrees symbol → number_default tree v symbol ≡ number_default tree w symbol
   number_default_agrees symbol a =
       let L : List UnitValue → ℤ → List ℕ → List ℕ = λ values n text. clamped tree values symbol.kind (active_range tree values symbol) n text in
-      let F : List UnitValue → List ℕ → List ℕ = λ values text. cond (is_some (number_of_text symbol.kind text)) (L values (unwrap_or (number_of_text symbol.kind text) (pos 0)) text) (L values (pos 0) []) in
+      let Z : List UnitValue → List ℕ = λ values. text_without_number tree values symbol in
+      let F : List UnitValue → List ℕ → List ℕ = λ values text. cond (is_some (number_of_text symbol.kind text)) (L values (unwrap_or (number_of_text symbol.kind text) (pos 0)) text) (L values (pos 0) (Z values)) in
       let text = default_text tree w symbol in
+      let some : Bool = is_some (number_of_text symbol.kind text) in
+      let n : ℤ = unwrap_or (number_of_text symbol.kind text) (pos 0) in
       ap (F v) (default_text_agrees symbol.defaults a.defaults)
-      ∙ ap (λ r. cond (is_some (number_of_text symbol.kind text)) r (L v (pos 0) [])) (limited_agrees symbol.kind (unwrap_or (number_of_text symbol.kind text) (pos 0)) text symbol.ranges a.ranges)
-      ∙ ap (λ r. cond (is_some (number_of_text symbol.kind text)) (L w (unwrap_or (number_of_text symbol.kind text) (pos 0)) text) r) (limited_agrees symbol.kind (pos 0) [] symbol.ranges a.ranges)
+      ∙ ap (λ r. cond some r (L v (pos 0) (Z v))) (limited_agrees symbol.kind n text symbol.ranges a.ranges)
+      ∙ ap (λ b. cond some (L w n text) (L v (pos 0) (cond (is_linux_6_12 tree.language && not b) (number_spelling symbol.kind (pos 0)) []))) (no_default_agrees symbol.kind symbol.defaults a.defaults)
+      ∙ ap (λ r. cond some (L w n text) r) (limited_agrees symbol.kind (pos 0) (Z w) symbol.ranges a.ranges)
 
   number_rule_agrees : (symbol : Symbol) → SymbolAgrees symbol → (x : Option UserValue) → number_rule tree symbol x v ≡ number_rule tree symbol x w
   number_rule_agrees symbol a x =
-      let W : List UnitValue → List ℕ → Bool = λ values text. is_within tree values symbol.kind (active_range tree values symbol) (unwrap_or (number_of_text symbol.kind text) (pos 0)) in
-      let A : List UnitValue → Option (List ℕ) → Option (List ℕ) = λ values o. option_and_then (λ text. cond (W values text) (Some text) None) o in
+      let W : List UnitValue → List ℕ → Option (List ℕ) = λ values text. user_number tree values symbol.kind (active_range tree values symbol) (unwrap_or (number_of_text symbol.kind text) (pos 0)) text in
+      let A : List UnitValue → Option (List ℕ) → Option (List ℕ) = λ values o. option_and_then (W values) o in
       ap (λ o. unwrap_or (A v o) (number_default tree v symbol)) (visible_text_agrees symbol a x)
-      ∙ ap (λ o. unwrap_or o (number_default tree v symbol)) (kept_where (visible_text tree symbol x w) (W v) (W w) (λ text. within_agrees symbol.kind (unwrap_or (number_of_text symbol.kind text) (pos 0)) symbol.ranges a.ranges))
+      ∙ ap (λ o. unwrap_or o (number_default tree v symbol)) (kept_where (visible_text tree symbol x w) (W v) (W w) (λ text. user_number_agrees symbol.kind (unwrap_or (number_of_text symbol.kind text) (pos 0)) text symbol.ranges a.ranges))
       ∙ ap (unwrap_or (A w (visible_text tree symbol x w))) (number_default_agrees symbol a)
 
   symbol_rule_agrees : (kind : Kind) (profile : Profile) (symbol : Symbol) → SymbolAgrees symbol → (x : Option UserValue) → symbol_rule kind profile tree symbol x v ≡ symbol_rule kind profile tree symbol x w
@@ -312,23 +385,48 @@ module _ (tree : Tree) (v w : List UnitValue) where
   shown_agrees None all = refl
   shown_agrees (Some e) all = ap (λ t. not (is_n t)) (value_agrees (environment tree v) (environment tree w) e all)
 
-  chosen_agrees : (choice : Choice) (x : Option UserValue) → IfSome x (λ y. IsTrue (choice_user_fits (Some choice) y)) → AllByRecursion (λ s. Agrees (environment tree v) (environment tree w) (names_in_member_prompts tree s)) choice.members
+  chosen_agrees : (choice : Choice) (x : Option UserValue) → IfSome x (λ y. IsTrue (choice_user_fits tree.language (Some choice) y)) → AllByRecursion (λ s. Agrees (environment tree v) (environment tree w) (names_in_member_prompts tree s)) choice.members
       → option_and_then (λ s. cond (is_visible_member tree v s) (Some s) None) (assigned_member x) ≡ option_and_then (λ s. cond (is_visible_member tree w s) (Some s) None) (assigned_member x)
   chosen_agrees choice None fits all = refl
   chosen_agrees choice (Some (TriUser t)) fits all = refl
   chosen_agrees choice (Some (TextUser t)) fits all = refl
-  chosen_agrees choice (Some (MemberUser s)) fits all = ap (λ b. cond b (Some s) None) (visible_member_agrees s (member_agrees choice.members all s fits))
+  chosen_agrees choice (Some (LinesUser lines)) fits all = refl
+  chosen_agrees choice (Some (MemberUser s)) fits all =
+      ap (λ b. cond b (Some s) None) (visible_member_agrees s (member_agrees choice.members all s (and_parts (not (is_linux_6_12 tree.language)) (list_any (λ m. m == s) choice.members) fits).1))
 
-  choice_rule_agrees : (choice : Choice) (x : Option UserValue) → IfSome x (λ y. IsTrue (choice_user_fits (Some choice) y)) → AllByRecursion (λ d. slice_get v d ≡ slice_get w d) (needed_by_choice tree choice) → choice_rule tree choice x v ≡ choice_rule tree choice x w
+  listed_agree : (ms : List ℕ) (lines : List MemberLine) → AllByRecursion (λ s. Agrees (environment tree v) (environment tree w) (names_in_member_prompts tree s)) ms
+      → list_all (λ (l : MemberLine). list_any (λ m. m == l.member) ms) lines ≡ true → AllByRecursion (λ (l : MemberLine). is_visible_member tree v l.member ≡ is_visible_member tree w l.member) lines
+  listed_agree ms [] all fits = tt
+  listed_agree ms (l ∷ lines) all fits =
+      let p = and_parts (list_any (λ m. m == l.member) ms) (list_all (λ (k : MemberLine). list_any (λ m. m == k.member) ms) lines) fits in
+      (visible_member_agrees l.member (member_agrees ms all l.member p.0), listed_agree ms lines all p.1)
+
+  lines_listed_agree : (choice : Choice) (x : Option UserValue) → IfSome x (λ y. IsTrue (choice_user_fits tree.language (Some choice) y))
+      → AllByRecursion (λ s. Agrees (environment tree v) (environment tree w) (names_in_member_prompts tree s)) choice.members
+      → AllByRecursion (λ (l : MemberLine). is_visible_member tree v l.member ≡ is_visible_member tree w l.member) (assigned_lines x)
+  lines_listed_agree choice None fits all = tt
+  lines_listed_agree choice (Some (TriUser t)) fits all = tt
+  lines_listed_agree choice (Some (TextUser t)) fits all = tt
+  lines_listed_agree choice (Some (MemberUser s)) fits all = tt
+  lines_listed_agree choice (Some (LinesUser lines)) fits all =
+      listed_agree choice.members lines all (and_parts (is_linux_6_12 tree.language) (list_all (λ (l : MemberLine). list_any (λ m. m == l.member) choice.members) lines) fits).1
+
+  -- the names on which it depends whether a choice is shown, where that counts
+  shown_names : (b : Bool) (names : List (List ℕ)) → Agrees (environment tree v) (environment tree w) (cond b [] names) → b ≡ false → Agrees (environment tree v) (environment tree w) names
+  shown_names false names all e = all
+  shown_names true names all e = absurd (true≢false e)
+
+  choice_rule_agrees : (choice : Choice) (x : Option UserValue) → IfSome x (λ y. IsTrue (choice_user_fits tree.language (Some choice) y)) → AllByRecursion (λ d. slice_get v d ≡ slice_get w d) (needed_by_choice tree choice) → choice_rule tree choice x v ≡ choice_rule tree choice x w
   choice_rule_agrees choice x fits all =
-      let P = names_in_prompt choice.prompt in
+      let P = names_in_shown tree choice in
       let D = flat_map (λ (d : MemberDefault). names_in d.condition ++ names_in_member_prompts tree d.member) choice.defaults in
       let Q = flat_map (names_in_member_prompts tree) choice.members in
       let e = names_agree (P ++ D ++ Q) all in
       let a1 = parts _ (P ++ D) Q e in
       let a2 = parts _ P D a1.0 in
       let ms = members_agree choice.members a1.1 in
-      let F : Bool → Option ℕ → Option ℕ → Option ℕ → Option ℕ = λ shown user by_default first. cond shown (option_or user (cond choice.optional None (option_or by_default first))) None in
+      let six : Bool = is_linux_6_12 tree.language in
+      let O : Option ℕ → Option ℕ → Option ℕ = λ by_default first. cond choice.optional None (option_or by_default first) in
       let U : List UnitValue → Option ℕ = λ values. option_and_then (λ s. cond (is_visible_member tree values s) (Some s) None) (assigned_member x) in
       let B : List UnitValue → Option ℕ = λ values. option_map (λ (d : MemberDefault). d.member) (find (λ (d : MemberDefault). not (is_n (condition tree values d.condition)) && is_visible_member tree values d.member) choice.defaults) in
       let M : List UnitValue → Option ℕ = λ values. find (is_visible_member tree values) choice.members in
@@ -336,7 +434,16 @@ module _ (tree : Tree) (v w : List UnitValue) where
       let defaults : B v ≡ B w = find_agrees (λ (d : MemberDefault). not (is_n (condition tree v d.condition)) && is_visible_member tree v d.member) (λ (d : MemberDefault). not (is_n (condition tree w d.condition)) && is_visible_member tree w d.member)
       (λ o. option_map (λ (d : MemberDefault). d.member) o) (λ o. option_map (λ (d : MemberDefault). d.member) o) choice.defaults refl (choice_defaults_agree choice.defaults a2.1) in
       let firsts : M v ≡ M w = find_agrees (is_visible_member tree v) (is_visible_member tree w) (λ (o : Option ℕ). o) (λ o. o) choice.members refl (all_map _ _ (λ s p. (visible_member_agrees s p, refl)) choice.members ms) in
-      ap (λ b. F b (U v) (B v) (M v)) (shown_agrees choice.prompt a2.0) ∙ ap (λ u. F (is_shown tree w choice) u (B v) (M v)) users ∙ ap (λ b. F (is_shown tree w choice) (U w) b (M v)) defaults ∙ ap (λ m. F (is_shown tree w choice) (U w) (B w) m) firsts
+      let default : default_member tree choice v ≡ default_member tree choice w = ap (λ b. O b (M v)) defaults ∙ ap (O (B w)) firsts in
+      let lines : List MemberLine = assigned_lines x in
+      let by_lines : selected_by_lines (is_visible_member tree v) choice.members (default_member tree choice v) lines ≡ selected_by_lines (is_visible_member tree w) choice.members (default_member tree choice w) lines =
+      ap (λ d. selected_by_lines (is_visible_member tree v) choice.members d lines) default
+      ∙ lines_agree (is_visible_member tree v) (is_visible_member tree w) choice.members (default_member tree choice w) lines (all_map _ _ (λ s p. visible_member_agrees s p) choice.members ms) (lines_listed_agree choice x fits ms) in
+      let shown : six ≡ false → shown_choice_rule tree choice x v ≡ shown_choice_rule tree choice x w = λ older.
+      ap (λ b. cond b (option_or (U v) (default_member tree choice v)) None) (shown_agrees choice.prompt (shown_names six (names_in_prompt choice.prompt) a2.0 older))
+      ∙ ap (λ u. cond (is_shown tree w choice) (option_or u (default_member tree choice v)) None) users ∙ ap (λ d. cond (is_shown tree w choice) (option_or (U w) d) None) default in
+      by_either six (selected_by_lines (is_visible_member tree v) choice.members (default_member tree choice v) lines) (selected_by_lines (is_visible_member tree w) choice.members (default_member tree choice w) lines)
+      (shown_choice_rule tree choice x v) (shown_choice_rule tree choice x w) by_lines shown
 
   unit_rule_agrees : (profile : Profile) (o : Option TreeUnit) (x : Option UserValue) → IfSome x (λ y. IsTrue (unit_user_fits tree o y)) → AllByRecursion (λ d. slice_get v d ≡ slice_get w d) (needed_by tree o) → rule_of_unit profile tree o x v ≡ rule_of_unit profile tree o x w
   unit_rule_agrees profile None x fits all = refl
@@ -345,7 +452,7 @@ module _ (tree : Tree) (v w : List UnitValue) where
     at_symbol None all = refl
     at_symbol (Some symbol) all = symbol_rule_agrees symbol.kind profile symbol (symbol_agrees symbol all) x
   unit_rule_agrees profile (Some (of_choice c)) x fits all = at_choice (slice_get tree.choices c) fits all where
-    at_choice : (o : Option Choice) → IfSome x (λ y. IsTrue (choice_user_fits o y)) → AllByRecursion (λ d. slice_get v d ≡ slice_get w d) (needed_by_choice_at tree o) → rule_of_choice tree o x v ≡ rule_of_choice tree o x w
+    at_choice : (o : Option Choice) → IfSome x (λ y. IsTrue (choice_user_fits tree.language o y)) → AllByRecursion (λ d. slice_get v d ≡ slice_get w d) (needed_by_choice_at tree o) → rule_of_choice tree o x v ≡ rule_of_choice tree o x w
     at_choice None fits all = refl
     at_choice (Some choice) fits all = ap (λ m. MemberValue m) (choice_rule_agrees choice x fits all)
 

@@ -7,7 +7,7 @@ returns-clause-least g c =
     let system = c.args.system.now in
     least_gives (g.S.Graph.size system) (g.S.Graph.dependencies system) (g.S.System.rule system) (g.S.System.fits_user system) c.args.order.now c.requires.order
     (g.met.S.System.frame system)
-    (decided _ g.met.S.System.equal_values) g.S.System.as_user (g.met.S.System.restore system)
+    (decided _ g.met.S.System.equal_values) (g.S.System.as_user system) (g.met.S.System.restore system)
 
 pub returns-clause-cut : goal.returns-clause-cut
 returns-clause-cut g c =
