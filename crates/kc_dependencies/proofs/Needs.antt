@@ -12,6 +12,7 @@ use Rattle.std.proofs.lemmas.Option.{slice_get-get_or, slice_get_past, get_or_fr
 use Rattle.std.proofs.lemmas.Slice.Eq.{bytes_eq-Decides}
 use Rattle.kc_value.specs.declared.value.Kind.{Kind}
 use Rattle.kc_value.specs.declared.value.Kind.TheVariants.{Bool as Boolean, Tristate, Text, Int, Hex}
+use Rattle.kc_tokens.specs.Languages.{is_linux_6_12}
 use Rattle.kc_expr.specs.between.Arena.{Exprs, node_expr}
 use Rattle.kc_expr.specs.Expr.{modules}
 use Rattle.kc_expr.specs.ExpressionNames.{names_in, operand_names}
@@ -25,12 +26,12 @@ use Rattle.kc_tree.specs.declared.symbol.MemberDefault.{MemberDefault as KeptMem
 use Rattle.kc_tree_model.specs.Trees.{Tree, Symbol, Choice, Default, Range, ReverseDependency, MemberDefault}
 use Rattle.kc_tree_model.specs.declared.ids.Unit.TheVariants.{Symbol as of_symbol, Choice as of_choice}
 use Rattle.kc_tree_model.specs.TreeLookup.{IsConsistent, unit_of, symbol_named}
-use Rattle.kc_rules_model.specs.Dependencies.{units_named, units_of_reverse_dependencies, needed_by, needed_by_symbol, needed_by_choice, needed_by_symbol_at, needed_by_choice_at, names_in_prompt, names_in_prompts, names_in_member_prompts}
+use Rattle.kc_rules_model.specs.Dependencies.{units_named, units_of_reverse_dependencies, needed_by, needed_by_symbol, needed_by_choice, needed_by_symbol_at, needed_by_choice_at, names_in_prompt, names_in_shown, names_in_prompts, names_in_member_prompts}
 use Rattle.kc_value.specs.Kinds.{is_tristate}
 use Rattle.kc_tree_model.proofs.Lookups.{inside, index_if_found}
 use Rattle.kc_dependencies.specs.checker.ModulesSymbol.{modules_symbol}
 use Rattle.kc_expr.specs.between.Visits.{mentions, passes_some_name}
-use Rattle.kc_dependencies.specs.checker.Links.{has, is_of, in_exprs, in_defaults, in_ranges, in_reverse_dependencies, in_symbol, in_member_defaults, in_prompt, in_choice, depends_on_reverse, by_modules}
+use Rattle.kc_dependencies.specs.checker.Links.{has, is_of, in_exprs, in_defaults, in_ranges, in_reverse_dependencies, in_symbol, in_member_defaults, in_prompt, counted_prompt, in_choice, depends_on_reverse, by_modules}
 use Rattle.kc_dependencies.proofs.Pushes.{any_same, any_map, any_flat, any_filtered, operand_mention, nothing_more}
 
 -- no symbol has the empty name
@@ -195,9 +196,11 @@ module _ (tree : Tree) (exprs : Exprs) (d : ℕ) where
       ∙ ap (λ t. (w || by_modules tree d k.kind (symbol_named tree modules))
       || (depends_on_reverse tree d k.selectors.now || in_reverse_dependencies exprs p k.selectors.now) || t) (forces_needed tree exprs d k.impliers.now))
 
-  in_shown : (o : Option ℕ) → list_any (is_of tree d) (names_in_prompt (option_map (node_expr exprs) o)) ≡ in_prompt exprs (is_of tree d) o
-  in_shown None = refl
-  in_shown (Some i) = refl
+  in_shown : (six : Bool) (o : Option ℕ)
+      → list_any (is_of tree d) (cond six [] (names_in_prompt (option_map (node_expr exprs) o))) ≡ in_prompt exprs (is_of tree d) (cond six None o)
+  in_shown true o = refl
+  in_shown false None = refl
+  in_shown false (Some i) = refl
 
   in_each_member_default : (ds : List KeptMemberDefault)
       → list_any (is_of tree d) (flat_map (λ (d : MemberDefault). names_in d.condition ++ names_in_member_prompts tree d.member)
@@ -212,16 +215,16 @@ module _ (tree : Tree) (exprs : Exprs) (d : ℕ) where
   pub choice_needs : (k : KeptChoice) → in_choice tree exprs (is_of tree d) k ≡ has (needed_by_choice tree (choice_view exprs k)) d
   choice_needs k =
       let p : List ℕ → Bool = is_of tree d in
-      let a : List (List ℕ) = names_in_prompt (option_map (node_expr exprs) k.prompt) in
+      let a : List (List ℕ) = names_in_shown tree (choice_view exprs k) in
       let b : List (List ℕ) = flat_map (λ (d : MemberDefault). names_in d.condition ++ names_in_member_prompts tree d.member)
       (map (member_default_view exprs) k.defaults.now) in
       let m : List (List ℕ) = flat_map (names_in_member_prompts tree) k.members.now in
       sym (units_of_names tree d (a ++ b ++ m)
       ∙ list_any-append p (a ++ b) m
       ∙ ap (λ t. t || list_any p m) (list_any-append p a b)
-      ∙ ap (λ t. t || list_any p b || list_any p m) (in_shown k.prompt)
-      ∙ ap (λ t. in_prompt exprs p k.prompt || t || list_any p m) (in_each_member_default k.defaults.now)
-      ∙ ap (λ t. in_prompt exprs p k.prompt || in_member_defaults tree exprs p k.defaults.now || t) (any_flat p (names_in_member_prompts tree) k.members.now))
+      ∙ ap (λ t. t || list_any p b || list_any p m) (in_shown (is_linux_6_12 tree.language) k.prompt)
+      ∙ ap (λ t. in_prompt exprs p (counted_prompt tree k) || t || list_any p m) (in_each_member_default k.defaults.now)
+      ∙ ap (λ t. in_prompt exprs p (counted_prompt tree k) || in_member_defaults tree exprs p k.defaults.now || t) (any_flat p (names_in_member_prompts tree) k.members.now))
 
 pub bounds_are : (exprs : Exprs) (rs : List KeptRange) → All (HasOperands exprs) rs → (j : ℕ) (r : KeptRange) → slice_get rs j ≡ Some r → HasOperands exprs r
 bounds_are exprs rs all j r e = subst (HasOperands exprs) (get_or_from_slice_get rs j r r e) (all j r (inside rs j r e))

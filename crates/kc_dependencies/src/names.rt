@@ -6,7 +6,7 @@ ghost use Rattle.kc_expr.specs.between.Visits.{passes_some_name, mentions, HasFo
 ghost use Rattle.kc_tree.specs.between.Views.{SymbolFits, ChoiceFits};
 ghost use Rattle.kc_rules_model.specs.Dependencies.{names_in_member_prompts};
 ghost use Rattle.kc_dependencies.specs.checker.StoredRules.{AreNodes, AreDefaults, AreRanges, AreReverseDependencies, AreMemberDefaults, AreMembers};
-ghost use Rattle.kc_dependencies.specs.checker.Links.{in_exprs, in_defaults, in_ranges, in_reverse_dependencies, in_symbol, in_member_defaults, in_members, in_prompt, in_choice};
+ghost use Rattle.kc_dependencies.specs.checker.Links.{in_exprs, in_defaults, in_ranges, in_reverse_dependencies, in_symbol, in_member_defaults, in_members, in_prompt, counted_prompt, in_choice};
 
 use kc_expr::{ExprId, NameId, VisitedSet};
 use kc_tree::{Choice, Default, MemberDefault, Range, ReverseDependency, Sym, Symbol, Tree};
@@ -194,8 +194,19 @@ fn push_prompt(
     }
 }
 
-/// Appends the names in the conditions of a choice's prompt, defaults and members' prompts, but for expressions that `walk` has
-/// visited. An `Err` means out of memory.
+/// The condition on which a choice is shown; `None` under the rules of Linux 6.12, where it counts for nothing.
+fn counted_prompt(tree: &Tree, choice: &Choice<'_>) -> Option<ExprId>
+    ensures { result ≡ counted_prompt tree.now.tree choice.now }
+{
+    if tree.language().is_linux_6_12() {
+        None
+    } else {
+        choice.prompt
+    }
+}
+
+/// Appends the names in the conditions of a choice's prompt, where it counts, defaults and members' prompts, but for expressions
+/// that `walk` has visited. An `Err` means out of memory.
 pub(crate) fn push_choice(
     tree: &Tree,
     choice: &Choice<'_>,
@@ -207,7 +218,7 @@ pub(crate) fn push_choice(
     ensures names { (p : List ℕ → Bool) → OnOk result (passes_some_name tree.now.exprs p names.new.items ≡ (passes_some_name tree.now.exprs p names.old.items || in_choice tree.now.tree tree.now.exprs p choice.now)) }
     ensures found { OnOk result (HasFound tree.now.exprs walk.new names.new.items) }
 {
-    push_prompt(tree, choice.prompt, walk, names)?;
+    push_prompt(tree, counted_prompt(tree, choice), walk, names)?;
     push_member_defaults(tree, choice.defaults, walk, names)?;
     push_members(tree, choice.members, walk, names)
 }

@@ -1,8 +1,9 @@
 -- The dependencies as they are stored, and the names that are visited on the way to them.
-use Rattle.std.specs.Prelude.{◌≡◌, ℕ, ◌+◌, ◌-◌, ◌<◌, ◌≤◌, Bool, false, ◌&&◌, ◌||◌, ◌==◌, List, length, take, drop, All, Option, Some, None, slice_index}
+use Rattle.std.specs.Prelude.{◌≡◌, ℕ, ◌+◌, ◌-◌, ◌<◌, ◌≤◌, Bool, false, ◌&&◌, ◌||◌, ◌==◌, List, length, take, drop, All, Option, Some, None, slice_index, if◌then◌else◌}
 use Rattle.std.specs.List.{list_any}
 use Rattle.std.specs.Option.{option_map}
 use Rattle.kc_value.specs.declared.value.Kind.{Kind}
+use Rattle.kc_tokens.specs.Languages.{is_linux_6_12}
 use Rattle.kc_expr.specs.between.Arena.{Exprs, node_expr}
 use Rattle.kc_expr.specs.between.Visits.{mentions}
 use Rattle.kc_tree.specs.declared.symbol.Default.{Default as KeptDefault}
@@ -80,9 +81,13 @@ abbrev pub in_prompt : Exprs → (List ℕ → Bool) → Option ℕ → Bool
 in_prompt exprs p None = false
 in_prompt exprs p (Some i) = mentions p (node_expr exprs i)
 
--- whether some name in the conditions of a choice's prompt, defaults and members' prompts passes a test of names
+-- the condition on which a choice is shown, if it has a prompt and that counts; under the rules of Linux 6.12 it doesn't
+abbrev pub counted_prompt : Tree → KeptChoice → Option ℕ
+counted_prompt tree k = if is_linux_6_12 tree.language then None else k.prompt
+
+-- whether some name in the conditions of a choice's prompt, where it counts, defaults and members' prompts passes a test of names
 abbrev pub in_choice : Tree → Exprs → (List ℕ → Bool) → KeptChoice → Bool
-in_choice tree exprs p k = in_prompt exprs p k.prompt || in_member_defaults tree exprs p k.defaults.now || in_members tree p k.members.now
+in_choice tree exprs p k = in_prompt exprs p (counted_prompt tree k) || in_member_defaults tree exprs p k.defaults.now || in_members tree p k.members.now
 
 -- whether some symbol that selects or implies, in a list of selects or implies, belongs to the unit with this number
 abbrev pub depends_on_reverse : Tree → ℕ → List KeptReverseDependency → Bool

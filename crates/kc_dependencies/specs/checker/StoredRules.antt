@@ -1,10 +1,10 @@
 -- The attributes of a stored tree, as the rules have them.
-use Rattle.std.specs.Prelude.{ℕ, ◌<◌, All, Bool, not, ◌&&◌, Option, Some, None, find, List, length, if◌then◌else◌}
-use Rattle.std.specs.Option.{option_map, option_and_then, option_or}
-use Rattle.kc_tree_model.specs.Trees.{Choice, MemberDefault}
+use Rattle.std.specs.Prelude.{ℕ, ◌<◌, All, Bool, not, ◌&&◌, Option, find, List, length}
+use Rattle.std.specs.Option.{option_map}
+use Rattle.kc_tree_model.specs.Trees.{MemberDefault}
 use Rattle.kc_rules_model.specs.Kinds.{is_n}
 use Rattle.kc_rules_model.specs.SymbolValues.{condition}
-use Rattle.kc_rules_model.specs.Rule.{is_visible_member, is_shown}
+use Rattle.kc_rules_model.specs.Rule.{is_visible_member}
 use Rattle.kc_expr.specs.between.Arena.{Exprs}
 use Rattle.kc_tree_model.specs.Trees.{Tree}
 use Rattle.kc_tree.specs.between.Views.{RangeFits}
@@ -45,16 +45,3 @@ is_open tree values d = not (is_n (condition tree values d.condition)) && is_vis
 -- the member of the first of a choice's defaults that has a condition other than `n` and a visible member, if there is one
 abbrev pub default_member_of : Tree → List UnitValue → List MemberDefault → Option ℕ
 default_member_of tree values ds = option_map (λ (d : MemberDefault). d.member) (find (is_open tree values) ds)
-
--- the selection of a choice without a user's selection: the member of the first default that `is_open`, otherwise the first
--- visible member; none for an optional choice
-abbrev pub selection_without_user_of : Tree → Choice → List UnitValue → Option ℕ
-selection_without_user_of tree choice values = if choice.optional then None else option_or (default_member_of tree values choice.defaults) (find (is_visible_member tree values) choice.members)
-
--- the selection of a choice, given the user's member, if there is one: that member if it is visible, otherwise the selection
--- without a user's member; none where the choice isn't visible
-abbrev pub choice_rule_of : Tree → Choice → Option ℕ → List UnitValue → Option ℕ
-choice_rule_of tree choice user values =
-    if is_shown tree values choice
-    then option_or (option_and_then (λ s. if is_visible_member tree values s then Some s else None) user) (selection_without_user_of tree choice values)
-    else None
