@@ -5,3 +5,4 @@ pub mod Bounds
 pub mod HeldNames
 pub mod Filters
 pub mod UserFits
+pub mod AssignedMembers

@@ -3,3 +3,4 @@ pub mod RuleParts
 pub mod Texts
 pub mod ValuationView
 pub mod Fits
+pub mod Choices

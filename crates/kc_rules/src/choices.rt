@@ -1,8 +1,9 @@
 //! The rule of choices.
 ghost use Rattle.std.specs.Prelude.{◌≡◌, ◌<◌, ◌&&◌, length, map, find, IfSome};
 ghost use Rattle.kc_tree.specs.between.Views.{choice_view, member_default_view, ChoiceFits};
-ghost use Rattle.kc_dependencies.specs.checker.StoredRules.{AreMemberDefaults, AreMembers, default_member_of, is_open, selection_without_user_of, choice_rule_of};
-ghost use Rattle.kc_rules_model.specs.Rule.{is_shown, is_visible_member};
+ghost use Rattle.kc_dependencies.specs.checker.StoredRules.{AreMemberDefaults, AreMembers, default_member_of, is_open};
+ghost use Rattle.kc_rules_model.specs.Rule.{is_shown, is_visible_member, default_member};
+ghost use Rattle.kc_rules.specs.checker.Choices.{shown_choice_rule_of};
 ghost use Rattle.kc_rules.specs.checker.ValuationView.{valuation_tree, valuation_exprs, valuation_values};
 
 use super::symbol_values::is_n;
@@ -22,7 +23,7 @@ fn is_shown(under: &Valuation<'_>, choice: &Choice<'_>) -> bool
 }
 
 /// Whether a member of a choice is visible.
-fn is_member_visible(under: &Valuation<'_>, s: Sym) -> bool
+pub(crate) fn is_member_visible(under: &Valuation<'_>, s: Sym) -> bool
     requires there { s < length (valuation_tree under.now).symbols }
     ensures value { result ≡ is_visible_member (valuation_tree under.now) (valuation_values under.now) s }
 {
@@ -39,7 +40,7 @@ fn is_default_open(under: &Valuation<'_>, default: MemberDefault) -> bool
 }
 
 /// The member of a choice's first default whose condition isn't `n` and whose member is visible.
-fn default_member(under: &Valuation<'_>, defaults: &[MemberDefault]) -> Option<Sym>
+fn member_by_default(under: &Valuation<'_>, defaults: &[MemberDefault]) -> Option<Sym>
     requires fits { AreMemberDefaults (valuation_exprs under.now) (valuation_tree under.now) defaults.now }
     ensures value { result ≡ default_member_of (valuation_tree under.now) (valuation_values under.now) (map (member_default_view (valuation_exprs under.now)) defaults.now) }
 {
@@ -64,31 +65,31 @@ fn first_member(under: &Valuation<'_>, members: &[Sym]) -> Option<Sym>
     None
 }
 
-/// The selection of a choice without a user's: the member of the first default that counts, otherwise the first visible one;
-/// `None` for an optional choice.
-fn selection_without_user(under: &Valuation<'_>, choice: &Choice<'_>) -> Option<Sym>
+/// The default member of a choice: the member of the first default that counts, otherwise the first visible one; `None` for an
+/// optional choice.
+pub(crate) fn default_member(under: &Valuation<'_>, choice: &Choice<'_>) -> Option<Sym>
     requires fits { ChoiceFits (valuation_exprs under.now) (length (valuation_tree under.now).symbols) choice.now }
-    ensures value { result ≡ selection_without_user_of (valuation_tree under.now) (choice_view (valuation_exprs under.now) choice.now) (valuation_values under.now) }
+    ensures value { result ≡ default_member (valuation_tree under.now) (choice_view (valuation_exprs under.now) choice.now) (valuation_values under.now) }
 {
     if choice.optional {
         return None;
     }
-    if let Some(s) = default_member(under, choice.defaults) {
+    if let Some(s) = member_by_default(under, choice.defaults) {
         return Some(s);
     }
     first_member(under, choice.members)
 }
 
-/// The selection of a choice: the user's member if it is visible, otherwise the member of the first default that `is_open`,
-/// otherwise the first visible member. `None` where the choice isn't visible, or is optional and no user's member is visible.
-pub(crate) fn choice_rule(
+/// The selection of a choice by the rules that Linux had before 6.10: the user's member if it is visible, otherwise the default
+/// member. `None` where the choice isn't shown.
+pub(crate) fn shown_choice_rule(
     under: &Valuation<'_>,
     choice: &Choice<'_>,
     user: Option<Sym>,
 ) -> Option<Sym>
     requires fits { ChoiceFits (valuation_exprs under.now) (length (valuation_tree under.now).symbols) choice.now }
     requires user { IfSome user (λ s. s < length (valuation_tree under.now).symbols) }
-    ensures value { result ≡ choice_rule_of (valuation_tree under.now) (choice_view (valuation_exprs under.now) choice.now) user (valuation_values under.now) }
+    ensures value { result ≡ shown_choice_rule_of (valuation_tree under.now) (choice_view (valuation_exprs under.now) choice.now) user (valuation_values under.now) }
 {
     if !is_shown(under, choice) {
         return None;
@@ -98,5 +99,5 @@ pub(crate) fn choice_rule(
             return Some(s);
         }
     }
-    selection_without_user(under, choice)
+    default_member(under, choice)
 }

@@ -5,6 +5,7 @@ mod choices;
 mod evaluation;
 mod fault;
 mod graphs;
+mod member_lines;
 mod queries;
 mod reports;
 mod rules;
@@ -18,7 +19,7 @@ mod tristate_rules;
 mod valuation;
 
 pub use fault::SettleFault;
-pub use kc_rules_model::{Profile, UnitValue, UserValue};
+pub use kc_rules_model::{MemberLine, MemberLines, Profile, UnitValue, UserValue};
 pub use rules::Settled;
 pub use settlement::settle;
 pub use steps::Steps;

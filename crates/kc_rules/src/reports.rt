@@ -1,7 +1,10 @@
 //! Tests of whether a symbol is written or unmet, given the values of the units.
-ghost use Rattle.std.specs.Prelude.{◌≡◌, ◌<◌, ◌++◌, ◌∷◌, [], length, nat_lt, IfOk, OnOk, if◌then◌else◌};
+ghost use Rattle.std.specs.Prelude.{◌≡◌, ◌<◌, ◌++◌, ◌∷◌, ◌&&◌, ◌||◌, [], not, length, nat_lt, IfOk, OnOk, if◌then◌else◌};
 ghost use Rattle.kc_value.specs.Tri.{rank};
 ghost use Rattle.kc_tree.specs.between.Views.{SymbolFits, symbol_view};
+ghost use Rattle.kc_tokens.specs.Languages.{is_linux_6_12};
+ghost use Rattle.kc_rules_model.specs.Kinds.{is_n};
+ghost use Rattle.kc_rules_model.specs.Rule.{implied, direct_dependency};
 ghost use Rattle.kc_rules_model.specs.Reports.{has_default, is_unselected, is_written_symbol, is_written, is_unmet_symbol, is_unmet, unmet};
 ghost use Rattle.kc_rules.specs.between.SettledViews.{tree_of_settled};
 ghost use Rattle.kc_rules.specs.checker.ValuationView.{valuation_tree, valuation_exprs, valuation_values};
@@ -44,6 +47,15 @@ fn is_unselected(under: &Valuation<'_>, choice: Option<u32>) -> bool
     choice.optional && has_no_member(under.values.get(choice.unit as usize))
 }
 
+/// Whether a symbol is implied, by the rules that Linux had before 6.10 while its direct dependency isn't `n`.
+fn is_implied(under: &Valuation<'_>, symbol: &Symbol<'_>) -> bool
+    requires fits { SymbolFits (valuation_exprs under.now) (length (valuation_tree under.now).symbols) symbol.now }
+    ensures value { let tree = valuation_tree under.now in let values = valuation_values under.now in let seen = symbol_view (valuation_exprs under.now) symbol.now in result ≡ (not (is_n (implied tree values seen)) && (is_linux_6_12 tree.language || not (is_n (direct_dependency tree values seen)))) }
+{
+    !is_n(reverse_limit(under, symbol.impliers))
+        && (under.rules.tree.language().is_linux_6_12() || !is_n(largest(under, symbol.direct)))
+}
+
 /// Whether a full file has the symbol.
 fn is_symbol_written(under: &Valuation<'_>, symbol: &Symbol<'_>) -> bool
     requires fits { SymbolFits (valuation_exprs under.now) (length (valuation_tree under.now).symbols) symbol.now }
@@ -57,7 +69,7 @@ fn is_symbol_written(under: &Valuation<'_>, symbol: &Symbol<'_>) -> bool
     }
     has_default(under, symbol)
         || !is_n(reverse_limit(under, symbol.selectors))
-        || (!is_n(reverse_limit(under, symbol.impliers)) && !is_n(largest(under, symbol.direct)))
+        || is_implied(under, symbol)
 }
 
 /// Whether the first is below the second.
@@ -114,7 +126,8 @@ fn push_if(found: &mut Vec<Sym>, s: Sym, counts: bool) -> Result<(), AllocError>
 
 impl Settled {
     /// Whether a full file has a line for a symbol: if it is visible, unless its optional choice has no selection; outside
-    /// choices also if it has a default, is selected, or is implied while its direct dependency isn't `n`. Takes no memory.
+    /// choices also if it has a default, is selected, or is implied, before Linux 6.10 while its direct dependency isn't `n`.
+    /// Takes no memory.
     pub fn written(&self, s: Sym, values: &[UnitValue]) -> bool
         requires there { s < length (tree_of_settled self.now).symbols }
         ensures value { result ≡ is_written (tree_of_settled self.now) values.now s }

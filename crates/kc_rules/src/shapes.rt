@@ -1,14 +1,15 @@
 //! Tests of whether a user value fits a unit.
-ghost use Rattle.std.specs.Prelude.{◌≡◌, ◌<◌, ◌==◌, length};
-ghost use Rattle.std.specs.List.{list_any};
-ghost use Rattle.kc_rules_model.specs.Shapes.{tri_fits, user_text_fits, user_fits};
+ghost use Rattle.std.specs.Prelude.{◌≡◌, ◌<◌, length, slice_get};
+ghost use Rattle.std.specs.List.{list_all};
+ghost use Rattle.kc_tree_model.specs.TreeLookup.{IsConsistent};
+ghost use Rattle.kc_rules_model.specs.Shapes.{tri_fits, user_text_fits, is_member, choice_user_fits, user_fits};
 ghost use Rattle.kc_rules.specs.between.SettledViews.{tree_of_settled};
-ghost use Rattle.kc_rules.specs.checker.Fits.{kind_user_fits, member_user_fits};
+ghost use Rattle.kc_rules.specs.checker.Fits.{kind_user_fits};
 
 use super::rules::Settled;
 use super::text_rules::number_of;
-use kc_rules_model::UserValue;
-use kc_tree::{Sym, Unit};
+use kc_rules_model::{MemberLine, UserValue};
+use kc_tree::{Sym, Tree, Unit};
 use kc_value::{Kind, Text, Tri, has_newline};
 
 /// Whether a tristate fits a type: any fits a tristate, all but `m` a bool, none another type.
@@ -44,42 +45,64 @@ fn is_kind_fit(kind: Kind, value: &UserValue) -> bool
         UserValue::Tri(t) => is_tri_fit(kind, *t),
         UserValue::Text(text) => is_text_fit(kind, text),
         UserValue::Member(_) => false,
+        UserValue::Lines(_) => false,
     }
 }
 
-/// Whether a symbol is one of these members.
-fn is_member(members: &[Sym], s: Sym) -> bool
-    ensures { result ≡ list_any (λ m. m == s) members.now }
+/// Whether a symbol is a member of a choice.
+fn is_member(tree: &Tree, c: u32, s: Sym) -> bool
+    requires consistent { IsConsistent tree.now.tree }
+    ensures value { result ≡ is_member (slice_get tree.now.tree.choices c) s }
 {
-    for member in members {
-        if member.number() == s.number() {
-            return true;
+    if s.number() >= tree.symbol_count() {
+        return false;
+    }
+    match tree.symbol(s).choice {
+        None => false,
+        Some(choice) => choice == c,
+    }
+}
+
+/// Whether something is assigned to members of a choice alone.
+fn are_lines_fit(tree: &Tree, c: u32, lines: &[MemberLine]) -> bool
+    requires consistent { IsConsistent tree.now.tree }
+    ensures value { result ≡ list_all (λ l. is_member (slice_get tree.now.tree.choices c) l.member) lines.now }
+{
+    for line in lines {
+        if !is_member(tree, c, line.member) {
+            return false;
         }
     }
-    false
+    true
 }
 
-/// A member for a choice.
-fn is_choice_fit(members: &[Sym], value: &UserValue) -> bool
-    ensures { result ≡ member_user_fits members.now value.now }
+/// A member for a choice; under the rules of Linux 6.12 assignments of its members.
+fn is_choice_fit(tree: &Tree, c: u32, value: &UserValue) -> bool
+    requires consistent { IsConsistent tree.now.tree }
+    ensures value { result ≡ choice_user_fits tree.now.tree.language (slice_get tree.now.tree.choices c) value.now }
 {
     match value {
         UserValue::Tri(_) => false,
         UserValue::Text(_) => false,
-        UserValue::Member(s) => is_member(members, *s),
+        UserValue::Member(s) => !tree.language().is_linux_6_12() && is_member(tree, c, *s),
+        UserValue::Lines(lines) => {
+            tree.language().is_linux_6_12() && are_lines_fit(tree, c, lines.as_slice())
+        }
     }
 }
 
 impl Settled {
     /// Whether a user value has the shape of a unit: `n` or `y` for a bool, any tristate for a tristate, a text that is a number
-    /// of its type for an int or hex, a text without newline for a string, one of its members for a choice. Takes no memory.
+    /// of its type for an int or hex, a text without newline for a string, one of its members for a choice, or under the rules of
+    /// Linux 6.12 assignments of its members. Takes no memory.
     pub fn user_fits(&self, u: u32, value: &UserValue) -> bool
         requires there { u < length (tree_of_settled self.now).units }
         ensures value { result ≡ user_fits (tree_of_settled self.now) u value.now }
     {
+        let _ = self.rules.tree.arena();
         match self.rules.tree.unit(u) {
             Unit::Symbol(s) => is_kind_fit(self.rules.tree.symbol(s).kind, value),
-            Unit::Choice(c) => is_choice_fit(self.rules.tree.choice(c).members, value),
+            Unit::Choice(c) => is_choice_fit(&self.rules.tree, c, value),
         }
     }
 }

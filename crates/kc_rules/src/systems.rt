@@ -1,10 +1,10 @@
 //! Kconfig as a system.
-ghost use Rattle.std.specs.Prelude.{IsTrue};
+ghost use Rattle.std.specs.Prelude.{◌≡◌, IsTrue};
 ghost use Rattle.std.proofs.Common.{rules};
 ghost use Rattle.kc_rules.specs.between.Meters.{counted};
 ghost use Rattle.kc_rules_model.specs.Rule.{rule, as_user};
 ghost use Rattle.kc_rules_model.specs.Shapes.{value_fits, user_fits};
-ghost use Rattle.kc_rules_model.specs.Equality.{same_value, same_user};
+ghost use Rattle.kc_rules_model.specs.Equality.{same_value, same_line, same_lines, same_user};
 ghost use Rattle.kc_rules_model.specs.checker.EqualityLaws.{values_decided, users_decided};
 ghost use Rattle.kc_rules_model.specs.checker.FrameLaw.{rules_frame};
 ghost use Rattle.kc_rules_model.specs.checker.RestoreLaw.{rules_restore};
@@ -12,11 +12,33 @@ ghost use Rattle.kc_rules_model.specs.checker.RestoreLaw.{rules_restore};
 use super::evaluation::value_of;
 use super::rules::Settled;
 use super::steps::Steps;
-use kc_rules_model::{UnitValue, UserValue};
+use kc_rules_model::{MemberLine, MemberLines, UnitValue, UserValue};
 use kc_system::System;
 use kc_tree::Unit;
 use kc_value::{Kind, Text, Tri};
 use std::alloc::{AllocError, Global};
+
+/// Whether two assignments of members are equal.
+fn is_same_line(a: MemberLine, b: MemberLine) -> bool
+    ensures { result ≡ same_line a b }
+{
+    a.member.number() == b.member.number() && a.is_y == b.is_y
+}
+
+/// Whether two lists have the same assignments of members, in the same order.
+fn are_same_lines(a: &[MemberLine], b: &[MemberLine]) -> bool
+    ensures { result ≡ same_lines a.now b.now }
+{
+    if a.len() != b.len() {
+        return false;
+    }
+    for (i, line) in a.iter().enumerate() {
+        if !is_same_line(*line, b[i]) {
+            return false;
+        }
+    }
+    true
+}
 
 impl System for Settled {
     type Value = UnitValue;
@@ -31,7 +53,7 @@ impl System for Settled {
 
     ghost fits_user = { λ s u x. IsTrue (user_fits s.rules.tree.tree u x) };
 
-    ghost as_user = { as_user };
+    ghost as_user = { λ s. as_user s.rules.tree.tree.language };
 
     ghost same_value = { same_value };
 
@@ -87,6 +109,7 @@ impl System for Settled {
             UserValue::Tri(t) => Ok(UserValue::Tri(*t)),
             UserValue::Text(t) => Ok(UserValue::Text(Text::copied(alloc, t.as_str())?)),
             UserValue::Member(m) => Ok(UserValue::Member(*m)),
+            UserValue::Lines(l) => Ok(UserValue::Lines(MemberLines::copied(alloc, l.as_slice())?)),
         }
     }
 
@@ -107,6 +130,10 @@ impl System for Settled {
             (UserValue::Text(a), UserValue::Text(b)) => a.as_str().as_bytes()
                 == b.as_str().as_bytes(),
             (UserValue::Member(a), UserValue::Member(b)) => a.number() == b.number(),
+            (UserValue::Lines(a), UserValue::Lines(b)) => are_same_lines(
+                a.as_slice(),
+                b.as_slice(),
+            ),
             _ => false,
         }
     }

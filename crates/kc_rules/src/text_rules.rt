@@ -1,12 +1,12 @@
 //! The rules of strings, ints and hexes.
 ghost use Rattle.std.specs.Prelude.{◌≡◌, ◌<◌, length, map, IfOk, IfSome, option_map, unwrap_or, pos};
 ghost use Rattle.std.specs.Option.{option_copied};
-ghost use Rattle.kc_value.specs.Number.{number_of_text, IsPrintable};
+ghost use Rattle.kc_value.specs.Number.{number_of_text, number_spelling, IsPrintable};
 ghost use Rattle.kc_expr.specs.between.Arena.{node_expr};
 ghost use Rattle.kc_tree.specs.between.Views.{symbol_view, default_view, range_view, operand_or_empty, SymbolFits};
 ghost use Rattle.kc_dependencies.specs.checker.StoredRules.{AreDefaults, AreRanges};
-ghost use Rattle.kc_rules_model.specs.Rule.{bound, is_within, clamped, default_text, number_default};
-ghost use Rattle.kc_rules.specs.checker.Texts.{IsNumber, active_value_of, active_range_of, string_rule_of, number_rule_of};
+ghost use Rattle.kc_rules_model.specs.Rule.{bound, is_within, is_upside_down, bound_text, clamped, user_number, text_without_number, default_text, number_default};
+ghost use Rattle.kc_rules.specs.checker.Texts.{IsNumber, active_value_of, active_range_of, string_rule_of, visible_number_of, number_rule_of};
 ghost use Rattle.kc_rules.specs.checker.ValuationView.{valuation_tree, valuation_exprs, valuation_values};
 
 use super::symbol_values::is_n;
@@ -114,16 +114,40 @@ fn is_within(under: &Valuation<'_>, kind: Kind, range: &Option<Range>, number: i
     }
 }
 
-/// Whether the number of a text is within the range, if there is one.
-fn is_text_within(under: &Valuation<'_>, kind: Kind, range: &Option<Range>, text: &str) -> bool
+/// Whether the lower bound of the range, if there is one, is above its upper one.
+fn is_upside_down(under: &Valuation<'_>, kind: Kind, range: &Option<Range>) -> bool
     requires there { IfSome range.now (λ r. (r.low < length (valuation_exprs under.now).nodes) × (r.high < length (valuation_exprs under.now).nodes)) }
     requires number { IsNumber kind }
-    ensures value { result ≡ is_within (valuation_tree under.now) (valuation_values under.now) kind (option_map (range_view (valuation_exprs under.now)) range.now) (unwrap_or (number_of_text kind text.now) (pos 0)) }
+    ensures value { result ≡ is_upside_down (valuation_tree under.now) (valuation_values under.now) kind (option_map (range_view (valuation_exprs under.now)) range.now) }
 {
-    match number_of(kind, text) {
-        None => is_within(under, kind, range, 0),
-        Some(number) => is_within(under, kind, range, number),
+    match range {
+        None => false,
+        Some(r) => bound(under, kind, r.high) < bound(under, kind, r.low),
     }
+}
+
+/// The text that a number gets from a bound of a range, whose number is given too: the number's own spelling; under the rules of
+/// Linux 6.12 the bound's text, if that is a number of the type.
+fn bound_text(
+    alloc: Global,
+    under: &Valuation<'_>,
+    kind: Kind,
+    id: ExprId,
+    number: i128,
+) -> Result<Text, AllocError>
+    requires there { id < length (valuation_exprs under.now).nodes }
+    requires number { IsNumber kind }
+    requires bound { number ≡ bound (valuation_tree under.now) (valuation_values under.now) kind (operand_or_empty (node_expr (valuation_exprs under.now) id)) }
+    requires printable { IsPrintable kind number }
+    ensures ok { IfOk result (λ t. t ≡ bound_text (valuation_tree under.now) (valuation_values under.now) kind (operand_or_empty (node_expr (valuation_exprs under.now) id))) }
+{
+    if under.rules.tree.language().is_linux_6_12() {
+        let text = under.operand_text(id);
+        if number_of(kind, text).is_some() {
+            return Text::copied(alloc, text);
+        }
+    }
+    Ok(Text::from_string(number_text(alloc, kind, number)?))
 }
 
 /// The text, where its number is within the range; below it the lower bound, above it the upper one.
@@ -145,14 +169,39 @@ fn clamped(
             let low = bound(under, kind, r.low);
             let high = bound(under, kind, r.high);
             if number < low {
-                return Ok(Text::from_string(number_text(alloc, kind, low)?));
+                return bound_text(alloc, under, kind, r.low, low);
             }
             if high < number {
-                return Ok(Text::from_string(number_text(alloc, kind, high)?));
+                return bound_text(alloc, under, kind, r.high, high);
             }
             Text::copied(alloc, text)
         }
     }
+}
+
+/// The spelling of 0 in a type.
+fn zero_text(kind: Kind) -> &'static str
+    ensures { result.now ≡ number_spelling kind (pos 0) }
+{
+    match kind {
+        Kind::Hex => "0x0",
+        _ => "0",
+    }
+}
+
+/// The text of an int or hex whose default isn't a number of the type, or that has no default that counts: empty; under the rules
+/// of Linux 6.12 the spelling of 0 if there is no such default.
+fn text_without_number(under: &Valuation<'_>, symbol: &Symbol<'_>) -> &'static str
+    requires fits { SymbolFits (valuation_exprs under.now) (length (valuation_tree under.now).symbols) symbol.now }
+    ensures value { result.now ≡ text_without_number (valuation_tree under.now) (valuation_values under.now) (symbol_view (valuation_exprs under.now) symbol.now) }
+{
+    if !under.rules.tree.language().is_linux_6_12() {
+        return "";
+    }
+    if active_default(under, symbol.defaults).is_some() {
+        return "";
+    }
+    zero_text(symbol.kind)
 }
 
 /// The value of an int or hex without a user value that counts.
@@ -170,13 +219,70 @@ fn number_default(
 {
     let text = default_text(under, symbol);
     match number_of(symbol.kind, text) {
-        None => clamped(alloc, under, symbol.kind, range, 0, ""),
+        None => clamped(
+            alloc,
+            under,
+            symbol.kind,
+            range,
+            0,
+            text_without_number(under, symbol),
+        ),
         Some(number) => clamped(alloc, under, symbol.kind, range, number, text),
     }
 }
 
-/// The value of an int or hex: the user's text if the symbol is visible and the number is within the active range, otherwise the
-/// text of its default, or the nearest bound where the default is outside the range. An `Err` means out of memory.
+/// The text that the number of a user's text gives: that text if the number is within the range, else none; under the rules of
+/// Linux 6.12 the text of the bound that it passes, unless the lower bound is above the upper one.
+fn user_number(
+    alloc: Global,
+    under: &Valuation<'_>,
+    kind: Kind,
+    range: &Option<Range>,
+    text: &str,
+) -> Result<Option<Text>, AllocError>
+    requires there { IfSome range.now (λ r. (r.low < length (valuation_exprs under.now).nodes) × (r.high < length (valuation_exprs under.now).nodes)) }
+    requires number { IsNumber kind }
+    ensures ok { IfOk result (λ given. given ≡ user_number (valuation_tree under.now) (valuation_values under.now) kind (option_map (range_view (valuation_exprs under.now)) range.now) (unwrap_or (number_of_text kind text.now) (pos 0)) text.now) }
+{
+    let number = number_of(kind, text).unwrap_or(0);
+    if under.rules.tree.language().is_linux_6_12() {
+        if is_upside_down(under, kind, range) {
+            return Ok(None);
+        }
+        return Ok(Some(clamped(alloc, under, kind, range, number, text)?));
+    }
+    if is_within(under, kind, range, number) {
+        return Ok(Some(Text::copied(alloc, text)?));
+    }
+    Ok(None)
+}
+
+/// What the number of a user's text gives, if there is one and the symbol is visible.
+fn visible_number(
+    alloc: Global,
+    under: &Valuation<'_>,
+    symbol: &Symbol<'_>,
+    range: &Option<Range>,
+    user: Option<&str>,
+) -> Result<Option<Text>, AllocError>
+    requires fits { SymbolFits (valuation_exprs under.now) (length (valuation_tree under.now).symbols) symbol.now }
+    requires there { IfSome range.now (λ r. (r.low < length (valuation_exprs under.now).nodes) × (r.high < length (valuation_exprs under.now).nodes)) }
+    requires range { option_map (range_view (valuation_exprs under.now)) range.now ≡ active_range_of (valuation_tree under.now) (valuation_values under.now) (map (range_view (valuation_exprs under.now)) symbol.now.ranges.now) }
+    requires number { IsNumber symbol.now.kind }
+    ensures ok { IfOk result (λ given. given ≡ visible_number_of (valuation_tree under.now) (valuation_values under.now) (symbol_view (valuation_exprs under.now) symbol.now) (option_copied user.entry)) }
+{
+    let Some(text) = user else {
+        return Ok(None);
+    };
+    if is_visible(under, symbol) {
+        user_number(alloc, under, symbol.kind, range, text)
+    } else {
+        Ok(None)
+    }
+}
+
+/// The value of an int or hex: what the user's number gives if the symbol is visible, otherwise the text of its default, or the
+/// nearest bound where the default is outside the range. An `Err` means out of memory.
 pub(crate) fn number_rule(
     alloc: Global,
     under: &Valuation<'_>,
@@ -188,15 +294,8 @@ pub(crate) fn number_rule(
     ensures ok { IfOk result (λ text. text ≡ number_rule_of (valuation_tree under.now) (valuation_values under.now) (symbol_view (valuation_exprs under.now) symbol.now) (option_copied user.entry)) }
 {
     let range = active_range(under, symbol.ranges);
-    match user {
-        Some(assigned) => {
-            let within = is_text_within(under, symbol.kind, &range, assigned);
-            if within && is_visible(under, symbol) {
-                Text::copied(alloc, assigned)
-            } else {
-                number_default(alloc, under, symbol, &range)
-            }
-        }
+    match visible_number(alloc, under, symbol, &range, user)? {
+        Some(text) => Ok(text),
         None => number_default(alloc, under, symbol, &range),
     }
 }

@@ -1,5 +1,5 @@
 -- The rules of strings, ints and hexes, with the user value as a text.
-use Rattle.std.specs.Prelude.{ℕ, Bool, not, List, Option, Some, None, ℤ, pos, unwrap_or, find, if◌then◌else◌}
+use Rattle.std.specs.Prelude.{ℕ, not, List, Option, None, ℤ, pos, unwrap_or, find, if◌then◌else◌}
 use Rattle.std.specs.Option.{option_map, option_and_then}
 use Rattle.kc_value.specs.declared.value.Kind.{Kind}
 use Rattle.kc_value.specs.declared.value.Kind.TheVariants.{Int, Hex}
@@ -9,7 +9,7 @@ use Rattle.kc_tree_model.specs.Trees.{Tree, Symbol, Default, Range}
 use Rattle.kc_rules_model.specs.declared.values.UnitValue.{UnitValue}
 use Rattle.kc_rules_model.specs.Kinds.{is_n}
 use Rattle.kc_rules_model.specs.SymbolValues.{condition}
-use Rattle.kc_rules_model.specs.Rule.{is_visible, default_text, number_default, active_range, is_within}
+use Rattle.kc_rules_model.specs.Rule.{is_visible, default_text, number_default, active_range, user_number}
 use Rattle.kc_rules.specs.checker.RuleParts.{active_default_of}
 
 -- a type is int or hex
@@ -34,11 +34,14 @@ visible_text_of tree values symbol user = if is_visible tree values symbol then 
 abbrev pub string_rule_of : Tree → List UnitValue → Symbol → Option (List ℕ) → List ℕ
 string_rule_of tree values symbol user = unwrap_or (visible_text_of tree values symbol user) (default_text tree values symbol)
 
--- the value of an int or hex: the user's text if the symbol is visible and the number is within its range, otherwise the default,
--- moved into the range
-abbrev pub number_rule_of : Tree → List UnitValue → Symbol → Option (List ℕ) → List ℕ
-number_rule_of tree values symbol user =
+-- what the user's number gives to an int or hex, if there is one and the symbol is visible
+abbrev pub visible_number_of : Tree → List UnitValue → Symbol → Option (List ℕ) → Option (List ℕ)
+visible_number_of tree values symbol user =
     let range = active_range tree values symbol in
     let number : List ℕ → ℤ = λ text. unwrap_or (number_of_text symbol.kind text) (pos 0) in
-    let within : List ℕ → Bool = λ text. is_within tree values symbol.kind range (number text) in
-    unwrap_or (option_and_then (λ text. if within text then Some text else None) (visible_text_of tree values symbol user)) (number_default tree values symbol)
+    let given : List ℕ → Option (List ℕ) = λ text. user_number tree values symbol.kind range (number text) text in
+    option_and_then given (visible_text_of tree values symbol user)
+
+-- the value of an int or hex: what the user's number gives if the symbol is visible, otherwise the default, moved into the range
+abbrev pub number_rule_of : Tree → List UnitValue → Symbol → Option (List ℕ) → List ℕ
+number_rule_of tree values symbol user = unwrap_or (visible_number_of tree values symbol user) (number_default tree values symbol)

@@ -4,16 +4,20 @@ use Rattle.std.specs.Option.{option_copied}
 use Rattle.std.proofs.lemmas.Result.{IfOk-weaker}
 use Rattle.kc_tree.specs.between.Views.{choice_view, symbol_view}
 use Rattle.kc_rules_model.specs.declared.values.UnitValue.TheVariants.{Member as MemberValue}
-use Rattle.kc_dependencies.specs.checker.StoredRules.{choice_rule_of}
-use Rattle.kc_rules.proofs.Evaluations.{rule_symbol, rule_choice, member_there}
+use Rattle.kc_rules.proofs.Evaluations.{rule_symbol, rule_choice, member_there, lines_there}
 use Rattle.kc_rules.proofs.evaluation.value_of.Goals as goal
 
-pub choice_rule-requires-clause-user : goal.choice_rule-requires-clause-user
-choice_rule-requires-clause-user c =
+pub choice_rule-requires-clause-member : goal.choice_rule-requires-clause-member
+choice_rule-requires-clause-member c =
     let r = c.args.rules.now in
-    let t = r.tree.tree in
-    rw c.assigned_member.ensures (member_there t c.args.u c.in-Choice.c (choice_view r.tree.exprs c.choice.result) (option_copied c.args.user)
-    c.in-Choice.ensures.unit c.choice.ensures.choice c.choice.ensures.fits.members c.requires.user)
+    member_there r.tree.tree c.args.u c.in-Choice.c (choice_view r.tree.exprs c.choice.result) (option_copied c.args.user)
+    c.in-Choice.ensures.unit c.choice.ensures.choice c.choice.ensures.fits.members c.requires.user
+
+pub choice_rule-requires-clause-lines : goal.choice_rule-requires-clause-lines
+choice_rule-requires-clause-lines c =
+    let r = c.args.rules.now in
+    lines_there r.tree.tree c.args.u c.in-Choice.c (choice_view r.tree.exprs c.choice.result) (option_copied c.args.user)
+    c.in-Choice.ensures.unit c.choice.ensures.choice c.choice.ensures.fits.members c.requires.user
 
 pub returns-in-Symbol : goal.returns-in-Symbol
 returns-in-Symbol c = record {
@@ -23,13 +27,12 @@ returns-in-Symbol c = record {
       (option_copied c.args.user) c.args.values.now c.in-Symbol.ensures.unit c.symbol.ensures.symbol) c.symbol_rule.ensures.ok;
 }
 
-pub returns-in-Choice : goal.returns-in-Choice
-returns-in-Choice c = record {
+pub returns-in_ok-choice_rule-in-Choice : goal.returns-in_ok-choice_rule-in-Choice
+returns-in_ok-choice_rule-in-Choice c = record {
   ok = let r = c.args.rules.now in
-      let t = r.tree.tree in
-      let k = choice_view r.tree.exprs c.choice.result in
-      ap (λ m. MemberValue m) (c.choice_rule.ensures.value ∙ ap (λ m. choice_rule_of t k m c.args.values.now) c.assigned_member.ensures)
-      ∙ rule_choice r.profile t c.args.u c.in-Choice.c k (option_copied c.args.user) c.args.values.now c.in-Choice.ensures.unit c.choice.ensures.choice;
+      ap (λ m. MemberValue m) c.in_ok-choice_rule-in-Choice.ensures.ok
+      ∙ rule_choice r.profile r.tree.tree c.args.u c.in-Choice.c (choice_view r.tree.exprs c.choice.result) (option_copied c.args.user) c.args.values.now
+      c.in-Choice.ensures.unit c.choice.ensures.choice;
 }
 
 pub choice-requires : goal.choice-requires

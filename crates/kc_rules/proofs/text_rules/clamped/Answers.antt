@@ -14,11 +14,5 @@ bound-low-requires-clause-number c = grind (arith, common_steps)
 pub bound-low-requires-clause-there : goal.bound-low-requires-clause-there
 bound-low-requires-clause-there c = grind (arith, common_steps)
 
-pub number_text-requires : goal.number_text-requires
-number_text-requires c = grind (arith, common_steps)
-
 pub bound-high-requires-clause-there : goal.bound-high-requires-clause-there
 bound-high-requires-clause-there c = grind (arith, common_steps)
-
-pub number_text-requires-then-high-number : goal.number_text-requires-then-high-number
-number_text-requires-then-high-number c = grind (arith, common_steps)

@@ -1,6 +1,6 @@
 use Rattle.std.proofs.Common.{◌∙◌, arith}
-use Rattle.std.proofs.lemmas.Grind.{common_steps, elements}
-use Rattle.kc_tree.specs.between.Views.{symbol_view, choice_view}
+use Rattle.std.proofs.lemmas.Grind.{elements}
+use Rattle.kc_tree.specs.between.Views.{symbol_view}
 use Rattle.kc_rules.proofs.UserFits.{fits_symbol, fits_choice}
 use Rattle.kc_rules.proofs.rules.Settled.user_fits.Goals as goal
 
@@ -14,12 +14,8 @@ returns-in-Symbol c = record {
 pub returns-in-Choice : goal.returns-in-Choice
 returns-in-Choice c = record {
   value = let t = c.args.self.now.rules.tree in
-      c.is_choice_fit.ensures ∙ fits_choice t.tree c.args.u c.in-Choice.c (choice_view t.exprs c.choice.result) c.args.value.now c.in-Choice.ensures.unit
-      c.choice.ensures.choice;
+      c.is_choice_fit.ensures.value ∙ fits_choice t.tree c.args.u c.in-Choice.c c.args.value.now c.in-Choice.ensures.unit;
 }
 
 pub symbol-requires : goal.symbol-requires
 symbol-requires c = record { there = grind (arith, elements) }
-
-pub choice-requires : goal.choice-requires
-choice-requires c = grind (arith, common_steps)

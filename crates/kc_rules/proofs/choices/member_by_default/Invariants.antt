@@ -2,7 +2,7 @@ use Rattle.std.proofs.Common.{◌≡◌, map, drop}
 use Rattle.kc_tree.specs.between.Views.{member_default_view}
 use Rattle.kc_dependencies.specs.checker.StoredRules.{default_member_of}
 use Rattle.kc_rules.specs.checker.ValuationView.{valuation_tree, valuation_exprs, valuation_values}
-use Rattle.kc_rules.proofs.choices.default_member.Given as goal
+use Rattle.kc_rules.proofs.choices.member_by_default.Given as goal
 
 abbrev pub invariant-loop-default : goal.invariant-loop-default
 invariant-loop-default l =

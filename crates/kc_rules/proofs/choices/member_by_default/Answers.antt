@@ -1,6 +1,6 @@
 use Rattle.std.proofs.Common.{arith}
 use Rattle.std.proofs.lemmas.Grind.{common_steps, elements}
-use Rattle.kc_rules.proofs.choices.default_member.Goals as goal
+use Rattle.kc_rules.proofs.choices.member_by_default.Goals as goal
 
 pub is_default_open-requires-clause-condition : goal.is_default_open-requires-clause-condition
 is_default_open-requires-clause-condition c = grind (arith, elements)

@@ -1,6 +1,6 @@
 use Rattle.std.proofs.Common.{arith}
 use Rattle.std.proofs.lemmas.Grind.{common_steps, elements}
-use Rattle.kc_rules.proofs.choices.choice_rule.Goals as goal
+use Rattle.kc_rules.proofs.choices.shown_choice_rule.Goals as goal
 
 pub is_member_visible-requires : goal.is_member_visible-requires
 is_member_visible-requires c = grind (arith, common_steps)

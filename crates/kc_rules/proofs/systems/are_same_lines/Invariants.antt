@@ -1,0 +1,6 @@
+use Rattle.std.proofs.Common.{◌≡◌, drop}
+use Rattle.kc_rules_model.specs.Equality.{same_lines}
+use Rattle.kc_rules.proofs.systems.are_same_lines.Given as goal
+
+abbrev pub invariant-loop-i : goal.invariant-loop-i
+invariant-loop-i l = same_lines (drop l.i l.a) (drop l.i l.b) ≡ same_lines l.a l.b
