@@ -15,14 +15,17 @@ use Rattle.kc_tree_model.specs.declared.ids.Unit.TheVariants.{Symbol as of_symbo
 use Rattle.kc_tree_model.specs.TreeLookup.{IsConsistent, unit_of, symbol_named}
 use Rattle.kc_system.specs.Solutions.{user_of}
 use Rattle.kc_rules_model.specs.declared.values.UserValue.{UserValue}
-use Rattle.kc_rules_model.specs.declared.values.UserValue.TheVariants.{Tri as TriUser, Text as TextUser}
+use Rattle.kc_rules_model.specs.declared.values.UserValue.TheVariants.{Tri as TriUser, Text as TextUser, Member as MemberUser, Lines as LinesUser}
+use Rattle.kc_rules_model.specs.Rule.{member_user}
+use Rattle.kc_tokens.specs.declared.language.Language.{Language}
+use Rattle.kc_tokens.specs.Languages.{is_linux_6_12}
 use Rattle.kc_value.specs.Kinds.{is_tri_kind}
 use Rattle.kc_tree_model.proofs.Lookups.{unit_is, index_if_found}
 use Rattle.kc_dotconfig_model.specs.declared.format.Strings.{Strings}
 use Rattle.kc_dotconfig_model.specs.Formats.{FileFormat, IsStringSpelling}
-use Rattle.kc_dotconfig_model.specs.ConfigLines.{LineMeaning, assigns, notice, silent, unset_meaning, ValueMeans, tri, chosen, not_chosen, quoted, number, no_int, no_hex, no_tri, no_text, no_number, Means, value, unset, unknown_value, unknown_unset, empty, comment}
+use Rattle.kc_dotconfig_model.specs.ConfigLines.{LineMeaning, assigns, notice, silent, unchosen_meaning, unset_meaning, ValueMeans, tri, chosen, not_chosen, quoted, number, no_int, no_hex, no_tri, no_text, no_number, Means, value, unset, unknown_value, unknown_unset, empty, comment}
 use Rattle.kc_tree_model.specs.LogicalLines.{without_white_end}
-use Rattle.kc_dotconfig_model.specs.ConfigFiles.{assigned_over}
+use Rattle.kc_dotconfig_model.specs.ConfigFiles.{over, assigned_over}
 
 abbrev Reads : FileFormat → Tree → List (List ℕ) → List LineMeaning → Type 0
 Reads format tree lines meanings = AllZip (λ line meaning. Means format tree (without_white_end line) meaning) lines meanings
@@ -38,42 +41,58 @@ one_further : (format : FileFormat) (tree : Tree) (first : List ℕ) (lines : Li
     → HasAssigningLine format tree (first ∷ lines) u x
 one_further format tree first lines u x h = record { number = suc h.number; line = h.line; at = h.at; has_meaning = h.has_meaning }
 
--- a user value that a unit has after some lines of a configuration file it had before them, or one of the lines assigns it
+-- a text that is a user value over another one is either of these
+text_over : (y : UserValue) (o : Option UserValue) (means : List ℕ) → over y o ≡ TextUser means → (y ≡ TextUser means) ⊎ (o ≡ Some (TextUser means))
+text_over (TriUser t) o means e = cc
+text_over (MemberUser s) o means e = cc
+text_over (TextUser t) o means e = inl e
+text_over (LinesUser l) None means e = cc
+text_over (LinesUser l) (Some (TriUser t)) means e = cc
+text_over (LinesUser l) (Some (MemberUser s)) means e = cc
+text_over (LinesUser l) (Some (LinesUser k)) means e = cc
+text_over (LinesUser l) (Some (TextUser t)) means e = inr (ap Some e)
+
+-- a text that a unit has as its user value after some lines of a configuration file it had before them, or one of the lines
+-- assigns it
 pub assigning_line : (format : FileFormat) (tree : Tree) (lines : List (List ℕ)) (meanings : List LineMeaning) (held : List (Option UserValue)) (u : ℕ)
-    (x : UserValue)
+    (means : List ℕ)
     → Reads format tree lines meanings → u < length held
-    → user_of (assigned_over meanings held) u ≡ Some x → (user_of held u ≡ Some x) ⊎ HasAssigningLine format tree lines u x
-assigning_line format tree [] [] held u x reads inside has = inl has
-assigning_line format tree [] (meaning ∷ meanings) held u x reads inside has = absurd reads
-assigning_line format tree (line ∷ lines) [] held u x reads inside has = absurd reads
-assigning_line format tree (line ∷ lines) (notice kind ∷ meanings) held u x reads inside has =
-    elim (assigning_line format tree lines meanings held u x reads.1 inside has) [
+    → user_of (assigned_over meanings held) u ≡ Some (TextUser means) → (user_of held u ≡ Some (TextUser means)) ⊎ HasAssigningLine format tree lines u (TextUser means)
+assigning_line format tree [] [] held u means reads inside has = inl has
+assigning_line format tree [] (meaning ∷ meanings) held u means reads inside has = absurd reads
+assigning_line format tree (line ∷ lines) [] held u means reads inside has = absurd reads
+assigning_line format tree (line ∷ lines) (notice kind ∷ meanings) held u means reads inside has =
+    elim (assigning_line format tree lines meanings held u means reads.1 inside has) [
       | inl before ↦ inl before
-      | inr later ↦ inr (one_further format tree line lines u x later)
+      | inr later ↦ inr (one_further format tree line lines u (TextUser means) later)
     ]
-assigning_line format tree (line ∷ lines) (silent ∷ meanings) held u x reads inside has =
-    elim (assigning_line format tree lines meanings held u x reads.1 inside has) [
+assigning_line format tree (line ∷ lines) (silent ∷ meanings) held u means reads inside has =
+    elim (assigning_line format tree lines meanings held u means reads.1 inside has) [
       | inl before ↦ inl before
-      | inr later ↦ inr (one_further format tree line lines u x later)
+      | inr later ↦ inr (one_further format tree line lines u (TextUser means) later)
     ]
-assigning_line format tree (line ∷ lines) (assigns w y ∷ meanings) held u x reads inside has =
-    let len = length-set held w (Some y) in
-    elim (assigning_line format tree lines meanings (slice_set held w (Some y)) u x reads.1 (omega arith) has) [
+assigning_line format tree (line ∷ lines) (assigns w y ∷ meanings) held u means reads inside has =
+    let z = over y (user_of held w) in
+    let len = length-set held w (Some z) in
+    elim (assigning_line format tree lines meanings (slice_set held w (Some z)) u means reads.1 (omega arith) has) [
       | inl before ↦ elim (cases_eq u w) [
         | inl same ↦
-            let here : user_of (slice_set held w (Some y)) u ≡ Some y = ap (λ k. user_of (slice_set held k (Some y)) u) (sym same)
-            ∙ get_or-set_same held u (Some y) None inside in
-            let value : y ≡ x = cc (here, before) in
-            inr (record {
-              number = 0;
-              line = line;
-              at = refl;
-              has_meaning = subst (λ k. Means format tree (without_white_end line) (assigns k x)) (sym same)
-                  (subst (λ z. Means format tree (without_white_end line) (assigns w z)) value reads.0);
-            })
-        | inr other ↦ inl (sym (get_or-set_other held w u (Some y) None other) ∙ before)
+            let here : user_of (slice_set held w (Some z)) u ≡ Some z = ap (λ k. user_of (slice_set held k (Some z)) u) (sym same)
+            ∙ get_or-set_same held u (Some z) None inside in
+            let value : z ≡ TextUser means = cc (here, before) in
+            elim (text_over y (user_of held w) means value) [
+              | inl own ↦ inr (record {
+                number = 0;
+                line = line;
+                at = refl;
+                has_meaning = subst (λ k. Means format tree (without_white_end line) (assigns k (TextUser means))) (sym same)
+                    (subst (λ z. Means format tree (without_white_end line) (assigns w z)) own reads.0);
+              })
+              | inr held_before ↦ inl (ap (user_of held) same ∙ held_before)
+            ]
+        | inr other ↦ inl (sym (get_or-set_other held w u (Some z) None other) ∙ before)
       ]
-      | inr later ↦ inr (one_further format tree line lines u x later)
+      | inr later ↦ inr (one_further format tree line lines u (TextUser means) later)
     ]
 
 -- the line has the form `CONFIG_NAME=text` for a string, int or hex of the unit `u`, and `means` is the text that it assigns
@@ -93,12 +112,24 @@ TextMeans strings tree s symbol text u means =
     (unit_of tree s ≡ u) × ((IsStringSpelling strings text means × (symbol.kind ≡ Text))
     ⊎ ((text ≡ means) × (is_some (number_of_text symbol.kind text) ≡ true)))
 
+member_no_text : (language : Language) (w s u : ℕ) (means : List ℕ) → assigns w (member_user language s) ≡ assigns u (TextUser means) → ⊥
+member_no_text language w s u means e = go (is_linux_6_12 language) e where
+  go : (b : Bool) → assigns w (cond b (LinesUser (record { member = s; is_y = true } ∷ [])) (MemberUser s)) ≡ assigns u (TextUser means) → ⊥
+  go true e = cc
+  go false e = cc
+
+unchosen_no_text : (language : Language) (w s u : ℕ) (means : List ℕ) → unchosen_meaning language w s ≡ assigns u (TextUser means) → ⊥
+unchosen_no_text language w s u means e = go (is_linux_6_12 language) e where
+  go : (b : Bool) → cond b (assigns w (LinesUser (record { member = s; is_y = false } ∷ []))) silent ≡ assigns u (TextUser means) → ⊥
+  go true e = cc
+  go false e = cc
+
 text_means : (strings : Strings) (tree : Tree) (s : ℕ) (symbol : Symbol) (text : List ℕ) (meaning : LineMeaning) (u : ℕ) (means : List ℕ)
     → ValueMeans strings tree s symbol text meaning
     → meaning ≡ assigns u (TextUser means) → TextMeans strings tree s symbol text u means
 text_means strings tree s symbol text meaning u means (tri _ t out meant) e = cc
-text_means strings tree s symbol text meaning u means (chosen c _ within meant) e = cc
-text_means strings tree s symbol text meaning u means (not_chosen c _ t within meant other) e = cc
+text_means strings tree s symbol text meaning u means (chosen c _ within meant) e = absurd (member_no_text tree.language (unit_of tree s) s u means e)
+text_means strings tree s symbol text meaning u means (not_chosen c _ t within meant other) e = absurd (unchosen_no_text tree.language (unit_of tree s) s u means e)
 text_means strings tree s symbol text meaning u means (quoted _ other is is_spelling) e =
     let unit : unit_of tree s ≡ u = cc in
     let same : other ≡ means = cc in
@@ -114,7 +145,7 @@ text_means strings tree s symbol text meaning u means (no_text _ is without) e =
 text_means strings tree s symbol text meaning u means (no_number b rest large other without) e = cc
 
 unset_no_text : (tree : Tree) (s : ℕ) (symbol : Symbol) (o : Option ℕ) (u : ℕ) (means : List ℕ) → unset_meaning tree s symbol o ≡ assigns u (TextUser means) → ⊥
-unset_no_text tree s symbol (Some c) u means e = cc
+unset_no_text tree s symbol (Some c) u means e = unchosen_no_text tree.language (unit_of tree s) s u means e
 unset_no_text tree s symbol None u means e = go (is_tri_kind symbol.kind) e where
   go : (t : Bool) → cond t (assigns (unit_of tree s) (TriUser N)) silent ≡ assigns u (TextUser means) → ⊥
   go true e = cc

@@ -1,5 +1,5 @@
 -- The assignments of a file of UTF-8 fit its units.
-use Rattle.std.proofs.Common.{◌≡◌, ◌≢◌, inl, inr, ℕ, zero, suc, ◌+◌, ◌<◌, Bool, true, false, not, ◌||◌, ◌==◌, cond, IsTrue, IfSome, List, [], ◌∷◌, ◌++◌, Option, Some, None, length, take, drop, get_or, append_assoc, length-append, drop_at, refl, sym, ◌∙◌, ap, subst, arith}
+use Rattle.std.proofs.Common.{◌≡◌, ◌≢◌, inl, inr, ℕ, zero, suc, ◌+◌, ◌<◌, Bool, true, false, not, ◌||◌, ◌&&◌, ◌==◌, cond, filter, IsTrue, IfSome, List, [], ◌∷◌, ◌++◌, Option, Some, None, length, take, drop, get_or, append_assoc, length-append, drop_at, refl, sym, ◌∙◌, ap, subst, arith}
 use Rattle.std.specs.Prelude.{slice_get, slice_set, is_some, replicate, codes, bytes_eq}
 use Rattle.std.specs.List.{AllZip, AllByRecursion, list_all, onto_first}
 use Rattle.std.specs.Str.{IsUtf8, is_utf8}
@@ -10,8 +10,8 @@ use Rattle.kc_dotconfig_model.specs.declared.format.Strings.{Strings}
 use Rattle.kc_dotconfig_model.specs.declared.format.Strings.TheVariants.{Escaped, Raw}
 use Rattle.kc_dotconfig_model.specs.Formats.{FileFormat, IsStringSpelling}
 use Rattle.kc_dotconfig_model.proofs.TrimmedLines.{trimmed_utf8}
-use Rattle.std.proofs.lemmas.Bool.{cases_eq, false≢true, and_parts, and_from, not-true}
-use Rattle.std.proofs.lemmas.List.{get_or-set_same, get_or-set_other, length-set}
+use Rattle.std.proofs.lemmas.Bool.{cases_eq, cases_lt, false≢true, and_parts, and_from, not-true}
+use Rattle.std.proofs.lemmas.List.{get_or-set_same, get_or-set_other, get_or_past, length-set}
 use Rattle.std.proofs.lemmas.List.Folds.{list_all-append}
 use Rattle.kc_value.specs.declared.tri.Tri.{Tri}
 use Rattle.kc_value.specs.declared.tri.Tri.TheVariants.{N, Y}
@@ -19,19 +19,25 @@ use Rattle.kc_value.specs.declared.value.Kind.{Kind}
 use Rattle.kc_value.specs.declared.value.Kind.TheVariants.{Bool as Boolean, Tristate, Text, Int, Hex}
 use Rattle.kc_value.specs.QuotedTexts.{IsBody, none, plain, pair, IsQuoted}
 use Rattle.kc_tree_model.specs.Trees.{Tree, Symbol}
+use Rattle.kc_tree_model.specs.declared.ids.Unit.{Unit as TreeUnit}
+use Rattle.kc_tree_model.specs.declared.ids.Unit.TheVariants.{Symbol as of_symbol, Choice as of_choice}
 use Rattle.kc_tree_model.specs.TreeLookup.{IsConsistent, unit_of}
 use Rattle.kc_system.specs.Solutions.{user_of, FitsUsers}
 use Rattle.kc_rules_model.specs.declared.values.UserValue.{UserValue}
-use Rattle.kc_rules_model.specs.declared.values.UserValue.TheVariants.{Tri as TriUser, Text as TextUser, Member as MemberUser}
+use Rattle.kc_rules_model.specs.declared.values.UserValue.TheVariants.{Tri as TriUser, Text as TextUser, Member as MemberUser, Lines as LinesUser}
+use Rattle.kc_rules_model.specs.declared.values.MemberLine.{MemberLine}
+use Rattle.kc_rules_model.specs.MemberLines.{is_listed, laid_over}
+use Rattle.kc_rules_model.specs.Rule.{member_user}
+use Rattle.kc_tokens.specs.Languages.{is_linux_6_12}
 use Rattle.kc_rules_model.specs.Kinds.{is_m}
 use Rattle.kc_value.specs.Kinds.{is_tri_kind}
 use Rattle.kc_value.specs.Number.{number_of_text}
-use Rattle.kc_rules_model.specs.Shapes.{user_fits, unit_user_fits, symbol_user_fits, is_member, tri_fits, user_text_fits}
+use Rattle.kc_rules_model.specs.Shapes.{user_fits, unit_user_fits, symbol_user_fits, choice_user_fits, is_member, tri_fits, user_text_fits}
 use Rattle.kc_tree_model.proofs.Lookups.{unit_is}
 use Rattle.kc_value.specs.Lines.{has_no_byte, has_newline}
-use Rattle.kc_dotconfig_model.specs.ConfigLines.{LineMeaning, assigns, notice, silent, tri_of_text, ValueMeans, tri, chosen, not_chosen, quoted, number, no_int, no_hex, no_tri, no_text, no_number, unset_meaning, Means, value, unset, unknown_value, unknown_unset, empty, comment}
+use Rattle.kc_dotconfig_model.specs.ConfigLines.{LineMeaning, assigns, notice, silent, tri_of_text, unchosen_meaning, ValueMeans, tri, chosen, not_chosen, quoted, number, no_int, no_hex, no_tri, no_text, no_number, unset_meaning, Means, value, unset, unknown_value, unknown_unset, empty, comment}
 use Rattle.kc_tree_model.specs.LogicalLines.{without_white_end}
-use Rattle.kc_dotconfig_model.specs.ConfigFiles.{file_lines, assigned_over, empty_assignment}
+use Rattle.kc_dotconfig_model.specs.ConfigFiles.{file_lines, over, assigned_over, empty_assignment}
 use Rattle.kc_dotconfig_model.specs.FileLaws.{FilesFit}
 
 -- the assignment of a meaning fits
@@ -123,13 +129,37 @@ module _ (tree : Tree) (sound : IsConsistent tree) (s : ℕ) (symbol : Symbol) (
       ap (λ o. unit_user_fits tree o x) (ap (slice_get tree.units) (unit_is tree sound s own.0 symbol None at out own.1) ∙ own.1)
       ∙ ap (λ o. symbol_user_fits o x) at ∙ fits
 
-  member_fits : (c : ℕ) → symbol.choice ≡ Some c → user_fits tree (unit_of tree s) (MemberUser s) ≡ true
+  -- what fits the choice of a member fits the member's unit
+  of_choice_fits : (c : ℕ) → symbol.choice ≡ Some c → (x : UserValue) → choice_user_fits tree.language (slice_get tree.choices c) x ≡ true
+      → user_fits tree (unit_of tree s) x ≡ true
   unfolding user_fits
-  member_fits c within =
+  of_choice_fits c within x fits =
       let own = sound.units_of_members s c symbol at within in
-      let listed = sound.listed s c symbol at within in
-      ap (λ o. unit_user_fits tree o (MemberUser s)) (ap (slice_get tree.units) (unit_is tree sound s own.0 symbol (Some c) at within own.1) ∙ own.1)
-      ∙ ap (λ o. is_member o s) listed.1 ∙ listed.2
+      ap (λ o. unit_user_fits tree o x) (ap (slice_get tree.units) (unit_is tree sound s own.0 symbol (Some c) at within own.1) ∙ own.1) ∙ fits
+
+  is_its_member : (c : ℕ) → symbol.choice ≡ Some c → is_member (slice_get tree.choices c) s ≡ true
+  is_its_member c within = let listed = sound.listed s c symbol at within in ap (λ o. is_member o s) listed.1 ∙ listed.2
+
+  line_of_member_fits : (c : ℕ) → symbol.choice ≡ Some c → is_linux_6_12 tree.language ≡ true → (is_y : Bool)
+      → user_fits tree (unit_of tree s) (LinesUser (record { member = s; is_y = is_y } ∷ [])) ≡ true
+  line_of_member_fits c within since is_y =
+      of_choice_fits c within (LinesUser (record { member = s; is_y = is_y } ∷ []))
+      (and_from (is_linux_6_12 tree.language) (is_member (slice_get tree.choices c) s && true) since (and_from (is_member (slice_get tree.choices c) s) true (is_its_member c within) refl))
+
+  member_fits : (c : ℕ) → symbol.choice ≡ Some c → user_fits tree (unit_of tree s) (member_user tree.language s) ≡ true
+  member_fits c within = go (is_linux_6_12 tree.language) refl where
+    go : (b : Bool) → is_linux_6_12 tree.language ≡ b → user_fits tree (unit_of tree s) (cond b (LinesUser (record { member = s; is_y = true } ∷ [])) (MemberUser s)) ≡ true
+    go true since = line_of_member_fits c within since true
+    go false before =
+        of_choice_fits c within (MemberUser s)
+        (and_from (not (is_linux_6_12 tree.language)) (is_member (slice_get tree.choices c) s) (ap not before) (is_its_member c within))
+
+  unchosen_fits : (c : ℕ) → symbol.choice ≡ Some c → SayingFits tree (unchosen_meaning tree.language (unit_of tree s) s)
+  unchosen_fits c within = go (is_linux_6_12 tree.language) refl where
+    go : (b : Bool) → is_linux_6_12 tree.language ≡ b
+        → SayingFits tree (cond b (assigns (unit_of tree s) (LinesUser (record { member = s; is_y = false } ∷ []))) silent)
+    go true since = line_of_member_fits c within since false
+    go false before = tt
 
   -- only bools are members
   outside : (o : Option ℕ) → symbol.choice ≡ o → symbol.kind ≢ Boolean → symbol.choice ≡ None
@@ -141,7 +171,7 @@ module _ (tree : Tree) (sound : IsConsistent tree) (s : ℕ) (symbol : Symbol) (
       → SayingFits tree meaning
   value_fits_unit strings text meaning one utf8 (tri _ t out meant) = outside_fits (TriUser t) out (tri_meant_fits symbol.kind text t meant)
   value_fits_unit strings text meaning one utf8 (chosen c _ within meant) = member_fits c within
-  value_fits_unit strings text meaning one utf8 (not_chosen c _ t within meant other) = tt
+  value_fits_unit strings text meaning one utf8 (not_chosen c _ t within meant other) = unchosen_fits c within
   value_fits_unit strings text meaning one utf8 (quoted _ means is is_spelling) =
       outside_fits (TextUser means) (outside symbol.choice refl (λ same. cc (is, same)))
       (ap (λ k. user_text_fits k means) is ∙ and_from (not (has_newline means)) (is_utf8 means) (ap not (string_one_line strings text means is_spelling one))
@@ -155,7 +185,7 @@ module _ (tree : Tree) (sound : IsConsistent tree) (s : ℕ) (symbol : Symbol) (
   value_fits_unit strings text meaning one utf8 (no_number b rest large other without) = tt
 
   unset_fits : (o : Option ℕ) → symbol.choice ≡ o → (t : Bool) → is_tri_kind symbol.kind ≡ t → SayingFits tree (unset_meaning tree s symbol o)
-  unset_fits (Some c) e t small = tt
+  unset_fits (Some c) e t small = unchosen_fits c e
   unset_fits None e true small =
       subst (λ b. SayingFits tree (cond b (assigns (unit_of tree s) (TriUser N)) silent)) (sym small) (outside_fits (TriUser N) e (n_fits symbol.kind small))
   unset_fits None e false small = subst (λ b. SayingFits tree (cond b (assigns (unit_of tree s) (TriUser N)) silent)) (sym small) tt
@@ -221,10 +251,51 @@ module _ (format : FileFormat) (tree : Tree) (sound : IsConsistent tree) where
     ],
   )
 
+  -- assignments of members that are laid over others fit where both do
+  all_kept : (q p : MemberLine → Bool) (lines : List MemberLine) → list_all q lines ≡ true → list_all q (filter p lines) ≡ true
+  all_kept q p [] all = refl
+  all_kept q p (l ∷ lines) all = go (p l) (all_kept q p lines (and_parts (q l) (list_all q lines) all).1) where
+    go : (b : Bool) → list_all q (filter p lines) ≡ true → list_all q (cond b (l ∷ filter p lines) (filter p lines)) ≡ true
+    go true rest = and_from (q l) (list_all q (filter p lines)) (and_parts (q l) (list_all q lines) all).0 rest
+    go false rest = rest
+
+  laid_over_fits : (o : Option TreeUnit) (later earlier : List MemberLine) → unit_user_fits tree o (LinesUser later) ≡ true
+      → unit_user_fits tree o (LinesUser earlier) ≡ true → unit_user_fits tree o (LinesUser (laid_over later earlier)) ≡ true
+  laid_over_fits None later earlier a b = absurd (false≢true a)
+  laid_over_fits (Some (of_symbol s)) later earlier a b = go (slice_get tree.symbols s) a where
+    go : (o : Option Symbol) → symbol_user_fits o (LinesUser later) ≡ true → symbol_user_fits o (LinesUser (laid_over later earlier)) ≡ true
+    go None a = absurd (false≢true a)
+    go (Some symbol) a = absurd (false≢true a)
+  laid_over_fits (Some (of_choice c)) later earlier a b =
+      let q : MemberLine → Bool = λ l. is_member (slice_get tree.choices c) l.member in
+      let p : MemberLine → Bool = λ l. not (is_listed later l.member) in
+      let first = and_parts (is_linux_6_12 tree.language) (list_all q later) a in
+      let second = and_parts (is_linux_6_12 tree.language) (list_all q earlier) b in
+      and_from (is_linux_6_12 tree.language) (list_all q (filter p earlier ++ later)) first.0
+      (list_all-append q (filter p earlier) later ∙ and_from (list_all q (filter p earlier)) (list_all q later) (all_kept q p earlier second.1) first.1)
+
+  over_user_fits : (u : ℕ) (x : UserValue) (o : Option UserValue) → user_fits tree u x ≡ true → IfSome o (λ y. IsTrue (user_fits tree u y)) → user_fits tree u (over x o) ≡ true
+  unfolding user_fits
+  over_user_fits u (TriUser t) o fits held = fits
+  over_user_fits u (TextUser t) o fits held = fits
+  over_user_fits u (MemberUser s) o fits held = fits
+  over_user_fits u (LinesUser l) None fits held = fits
+  over_user_fits u (LinesUser l) (Some (TriUser t)) fits held = held
+  over_user_fits u (LinesUser l) (Some (TextUser t)) fits held = held
+  over_user_fits u (LinesUser l) (Some (MemberUser s)) fits held = held
+  over_user_fits u (LinesUser l) (Some (LinesUser k)) fits held = laid_over_fits (slice_get tree.units u) l k fits held
+
+  held_fits : (users : List (Option UserValue)) (u : ℕ) → FitsUsers (length tree.units) (λ w y. IsTrue (user_fits tree w y)) users
+      → IfSome (user_of users u) (λ y. IsTrue (user_fits tree u y))
+  held_fits users u fitting = elim (cases_lt u (length tree.units)) [
+    | inl inside ↦ fitting.1 u inside
+    | inr past ↦ subst (λ o. IfSome o (λ y. IsTrue (user_fits tree u y))) (sym (get_or_past users u None (let len = fitting.0 in omega arith))) tt
+  ]
+
   over_fits : (meanings : List LineMeaning) (users : List (Option UserValue)) → FitsUsers (length tree.units) (λ w y. IsTrue (user_fits tree w y)) users
       → AllByRecursion (SayingFits tree) meanings → FitsUsers (length tree.units) (λ w y. IsTrue (user_fits tree w y)) (assigned_over meanings users)
   over_fits [] users fitting all = fitting
-  over_fits (assigns u x ∷ meanings) users fitting all = over_fits meanings (slice_set users u (Some x)) (set_fits users u x fitting all.0) all.1
+  over_fits (assigns u x ∷ meanings) users fitting all = over_fits meanings (slice_set users u (Some (over x (user_of users u)))) (set_fits users u (over x (user_of users u)) fitting (over_user_fits u x (user_of users u) all.0 (held_fits users u fitting))) all.1
   over_fits (notice kind ∷ meanings) users fitting all = over_fits meanings users fitting all.1
   over_fits (silent ∷ meanings) users fitting all = over_fits meanings users fitting all.1
 

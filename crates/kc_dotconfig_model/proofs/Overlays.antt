@@ -1,11 +1,25 @@
 -- A file over an assignment is its own assignment over it.
-use Rattle.std.proofs.Common.{◌≡◌, ℕ, zero, suc, List, [], ◌∷◌, Option, Some, None, length, refl, sym, ◌∙◌, ap, arith}
+use Rattle.std.proofs.Common.{◌≡◌, ℕ, zero, suc, Bool, true, false, not, ◌||◌, ◌==◌, cond, filter, ◌++◌, append_assoc, List, [], ◌∷◌, Option, Some, None, length, refl, sym, ◌∙◌, ap, arith}
 use Rattle.std.specs.Prelude.{slice_set, replicate}
 use Rattle.std.proofs.lemmas.List.{length-set}
+use Rattle.std.proofs.lemmas.List.Elements.{filter-append}
+use Rattle.std.proofs.lemmas.Bool.{eqb-true}
+use Rattle.kc_system.specs.Solutions.{user_of}
+use Rattle.kc_rules_model.specs.declared.values.MemberLine.{MemberLine}
+use Rattle.kc_rules_model.specs.MemberLines.{is_listed, laid_over}
+use Rattle.kc_rules_model.specs.declared.values.UserValue.TheVariants.{Tri as TriUser, Text as TextUser, Member as MemberUser, Lines as LinesUser}
 use Rattle.kc_rules_model.specs.declared.values.UserValue.{UserValue}
 use Rattle.kc_dotconfig_model.specs.ConfigLines.{LineMeaning, assigns, notice, silent}
-use Rattle.kc_dotconfig_model.specs.ConfigFiles.{assigned_over, overlay, empty_assignment}
+use Rattle.kc_dotconfig_model.specs.ConfigFiles.{assigned_over, over, overlay, empty_assignment}
 use Rattle.kc_dotconfig_model.specs.FileLaws.{FilesLieOverAssignments}
+
+or_assoc : (a b c : Bool) → (a || (b || c)) ≡ ((a || b) || c)
+or_assoc true b c = refl
+or_assoc false b c = refl
+
+or_true : (a : Bool) → (a || true) ≡ true
+or_true true = refl
+or_true false = refl
 
 none_over : (n : ℕ) (users : List (Option UserValue)) → length users ≡ n → overlay (replicate n None) users ≡ users
 none_over zero users e = refl
@@ -16,25 +30,88 @@ none_length : (n : ℕ) → length {A = Option UserValue} (replicate n None) ≡
 none_length zero = refl
 none_length (suc n) = let rest = none_length n in omega arith
 
-set_over : (over users : List (Option UserValue)) (u : ℕ) (x : UserValue) → length over ≡ length users
-    → slice_set (overlay over users) u (Some x) ≡ overlay (slice_set over u (Some x)) users
+-- which members are listed in a list that is laid over another one
+listed_over : (z p : List MemberLine) (s : ℕ) → is_listed (filter (λ (l : MemberLine). not (is_listed z l.member)) p ++ z) s ≡ (is_listed p s || is_listed z s)
+listed_over z [] s = refl
+listed_over z (l ∷ p) s = go (is_listed z l.member) refl (l.member == s) refl (listed_over z p s) where
+  go : (a : Bool) → is_listed z l.member ≡ a → (b : Bool) → (l.member == s) ≡ b
+      → is_listed (filter (λ (k : MemberLine). not (is_listed z k.member)) p ++ z) s ≡ (is_listed p s || is_listed z s)
+      → is_listed (cond (not a) (l ∷ filter (λ (k : MemberLine). not (is_listed z k.member)) p) (filter (λ (k : MemberLine). not (is_listed z k.member)) p) ++ z) s
+      ≡ ((b || is_listed p s) || is_listed z s)
+  go false unlisted b same next = ap (λ t. (l.member == s) || t) next ∙ ap (λ t. t || (is_listed p s || is_listed z s)) same ∙ or_assoc b (is_listed p s) (is_listed z s)
+  go true listed true same next = next ∙ ap (λ t. is_listed p s || t) (ap (is_listed z) (sym (eqb-true l.member s same)) ∙ listed) ∙ or_true (is_listed p s)
+  go true listed false same next = next
+
+module _ (z p : List MemberLine) where
+  kept_over : (q : List MemberLine) → filter (λ (l : MemberLine). not (is_listed z l.member)) (filter (λ (l : MemberLine). not (is_listed p l.member)) q)
+      ≡ filter (λ (l : MemberLine). not (is_listed (laid_over z p) l.member)) q
+  kept_over [] = refl
+  kept_over (l ∷ q) = go (is_listed p l.member) (is_listed z l.member) refl refl (kept_over q) where
+    go : (a b : Bool) → is_listed p l.member ≡ a → is_listed z l.member ≡ b
+        → filter (λ (k : MemberLine). not (is_listed z k.member)) (filter (λ (k : MemberLine). not (is_listed p k.member)) q) ≡ filter (λ (k : MemberLine). not (is_listed (laid_over z p) k.member)) q
+        → filter (λ (k : MemberLine). not (is_listed z k.member)) (cond (not a) (l ∷ filter (λ (k : MemberLine). not (is_listed p k.member)) q) (filter (λ (k : MemberLine). not (is_listed p k.member)) q))
+        ≡ cond (not (is_listed (laid_over z p) l.member)) (l ∷ filter (λ (k : MemberLine). not (is_listed (laid_over z p) k.member)) q) (filter (λ (k : MemberLine). not (is_listed (laid_over z p) k.member)) q)
+    go a b in_p in_z next =
+        pick a b in_z next ∙ ap (λ t. cond (not t) (l ∷ filter (λ (k : MemberLine). not (is_listed (laid_over z p) k.member)) q) (filter (λ (k : MemberLine). not (is_listed (laid_over z p) k.member)) q))
+        (sym (listed_over z p l.member ∙ ap (λ t. t || is_listed z l.member) in_p ∙ ap (λ t. a || t) in_z)) where
+          pick : (a b : Bool) → is_listed z l.member ≡ b
+              → filter (λ (k : MemberLine). not (is_listed z k.member)) (filter (λ (k : MemberLine). not (is_listed p k.member)) q) ≡ filter (λ (k : MemberLine). not (is_listed (laid_over z p) k.member)) q
+              → filter (λ (k : MemberLine). not (is_listed z k.member)) (cond (not a) (l ∷ filter (λ (k : MemberLine). not (is_listed p k.member)) q) (filter (λ (k : MemberLine). not (is_listed p k.member)) q))
+              ≡ cond (not (a || b)) (l ∷ filter (λ (k : MemberLine). not (is_listed (laid_over z p) k.member)) q) (filter (λ (k : MemberLine). not (is_listed (laid_over z p) k.member)) q)
+          pick true b in_z next = next
+          pick false b in_z next =
+              ap (λ t. cond (not t) (l ∷ filter (λ (k : MemberLine). not (is_listed z k.member)) (filter (λ (k : MemberLine). not (is_listed p k.member)) q))
+              (filter (λ (k : MemberLine). not (is_listed z k.member)) (filter (λ (k : MemberLine). not (is_listed p k.member)) q))) in_z
+              ∙ ap (λ r. cond (not b) (l ∷ r) r) next
+
+-- laying over is associative
+pub laid_over_twice : (z p q : List MemberLine) → laid_over z (laid_over p q) ≡ laid_over (laid_over z p) q
+laid_over_twice z p q =
+    ap (λ r. r ++ z) (filter-append (λ (l : MemberLine). not (is_listed z l.member)) (filter (λ (l : MemberLine). not (is_listed p l.member)) q) p)
+    ∙ append_assoc (filter (λ (l : MemberLine). not (is_listed z l.member)) (filter (λ (l : MemberLine). not (is_listed p l.member)) q))
+    (filter (λ (l : MemberLine). not (is_listed z l.member)) p) z
+    ∙ ap (λ r. r ++ (filter (λ (l : MemberLine). not (is_listed z l.member)) p ++ z)) (kept_over z p q)
+
+-- a user value over none is itself
+pub over_none : (x : UserValue) → over x None ≡ x
+over_none (TriUser t) = refl
+over_none (TextUser t) = refl
+over_none (MemberUser s) = refl
+over_none (LinesUser l) = refl
+
+pub over_twice : (x o : UserValue) (y : Option UserValue) → over x (Some (over o y)) ≡ over (over x (Some o)) y
+over_twice (TriUser t) o y = refl
+over_twice (TextUser t) o y = refl
+over_twice (MemberUser s) o y = refl
+over_twice (LinesUser z) (TriUser t) y = refl
+over_twice (LinesUser z) (TextUser t) y = refl
+over_twice (LinesUser z) (MemberUser s) y = refl
+over_twice (LinesUser z) (LinesUser p) None = refl
+over_twice (LinesUser z) (LinesUser p) (Some (TriUser t)) = refl
+over_twice (LinesUser z) (LinesUser p) (Some (TextUser t)) = refl
+over_twice (LinesUser z) (LinesUser p) (Some (MemberUser s)) = refl
+over_twice (LinesUser z) (LinesUser p) (Some (LinesUser q)) = ap (λ l. LinesUser l) (laid_over_twice z p q)
+
+set_over : (later users : List (Option UserValue)) (u : ℕ) (x : UserValue) → length later ≡ length users
+    → slice_set (overlay later users) u (Some (over x (user_of (overlay later users) u))) ≡ overlay (slice_set later u (Some (over x (user_of later u)))) users
 set_over [] [] u x e = refl
 set_over [] (y ∷ users) u x e = absurd (omega arith)
-set_over (o ∷ over) [] u x e = absurd (omega arith)
-set_over (None ∷ over) (y ∷ users) zero x e = refl
-set_over (None ∷ over) (y ∷ users) (suc u) x e = ap (λ l. y ∷ l) (set_over over users u x (omega arith))
-set_over (Some o ∷ over) (y ∷ users) zero x e = refl
-set_over (Some o ∷ over) (y ∷ users) (suc u) x e = ap (λ l. Some o ∷ l) (set_over over users u x (omega arith))
+set_over (o ∷ later) [] u x e = absurd (omega arith)
+set_over (None ∷ later) (y ∷ users) zero x e = ap (λ z. Some (over z y) ∷ overlay later users) (sym (over_none x))
+set_over (None ∷ later) (y ∷ users) (suc u) x e = ap (λ l. y ∷ l) (set_over later users u x (omega arith))
+set_over (Some o ∷ later) (y ∷ users) zero x e = ap (λ z. Some z ∷ overlay later users) (over_twice x o y)
+set_over (Some o ∷ later) (y ∷ users) (suc u) x e = ap (λ l. Some (over o y) ∷ l) (set_over later users u x (omega arith))
 
-lines_over : (meanings : List LineMeaning) (over users : List (Option UserValue)) → length over ≡ length users
-    → assigned_over meanings (overlay over users) ≡ overlay (assigned_over meanings over) users
-lines_over [] over users e = refl
-lines_over (assigns u x ∷ meanings) over users e =
-    ap (assigned_over meanings) (set_over over users u x e) ∙ lines_over meanings (slice_set over u (Some x)) users (length-set over u (Some x) ∙ e)
-lines_over (notice kind ∷ meanings) over users e = lines_over meanings over users e
-lines_over (silent ∷ meanings) over users e = lines_over meanings over users e
+file_lines_over : (meanings : List LineMeaning) (later users : List (Option UserValue)) → length later ≡ length users
+    → assigned_over meanings (overlay later users) ≡ overlay (assigned_over meanings later) users
+file_lines_over [] later users e = refl
+file_lines_over (assigns u x ∷ meanings) later users e =
+    ap (assigned_over meanings) (set_over later users u x e)
+    ∙ file_lines_over meanings (slice_set later u (Some (over x (user_of later u)))) users (length-set later u (Some (over x (user_of later u))) ∙ e)
+file_lines_over (notice kind ∷ meanings) later users e = file_lines_over meanings later users e
+file_lines_over (silent ∷ meanings) later users e = file_lines_over meanings later users e
 
 pub file_over : FilesLieOverAssignments
 file_over tree meanings users e =
     ap (assigned_over meanings) (sym (none_over (length tree.units) users e))
-    ∙ lines_over meanings (empty_assignment tree) users (none_length (length tree.units) ∙ sym e)
+    ∙ file_lines_over meanings (empty_assignment tree) users (none_length (length tree.units) ∙ sym e)

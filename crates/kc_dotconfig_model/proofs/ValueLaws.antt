@@ -10,7 +10,9 @@ use Rattle.kc_value.specs.Number.{int_text, hex_text}
 use Rattle.kc_value.specs.QuotedTexts.{IsBody, none, plain, pair, IsQuoted}
 use Rattle.kc_tree_model.specs.Trees.{Tree, Symbol}
 use Rattle.kc_tree_model.specs.TreeLookup.{unit_of}
-use Rattle.kc_rules_model.specs.declared.values.UserValue.TheVariants.{Text as TextUser, Member as MemberUser}
+use Rattle.kc_rules_model.specs.declared.values.UserValue.TheVariants.{Text as TextUser}
+use Rattle.kc_rules_model.specs.Rule.{member_user}
+use Rattle.kc_tokens.specs.declared.language.Language.{Language}
 use Rattle.kc_rules_model.specs.Kinds.{is_y}
 use Rattle.kc_value.specs.Kinds.{is_tri_kind}
 use Rattle.kc_value.specs.Number.{number_of_text}
@@ -18,7 +20,7 @@ use Rattle.kc_dotconfig_model.specs.declared.notice.NoticeKind.TheVariants.{NotO
 use Rattle.kc_dotconfig_model.specs.declared.format.Strings.{Strings}
 use Rattle.kc_dotconfig_model.specs.declared.format.Strings.TheVariants.{Escaped, Raw}
 use Rattle.kc_dotconfig_model.specs.Formats.{between_quotes, IsStringSpelling}
-use Rattle.kc_dotconfig_model.specs.ConfigLines.{LineMeaning, assigns, notice, silent, tri_of_text, ValueMeans, tri, chosen, not_chosen, quoted, number, no_int, no_hex, no_tri, no_text, no_number}
+use Rattle.kc_dotconfig_model.specs.ConfigLines.{LineMeaning, assigns, notice, silent, tri_of_text, unchosen_meaning, ValueMeans, tri, chosen, not_chosen, quoted, number, no_int, no_hex, no_tri, no_text, no_number}
 use Rattle.kc_dotconfig_model.specs.between.LineMeanings.{ended, unquoted_rest, unquoted, before_quote, raw_text, string_text, tri_meaning, string_meaning, without_number, number_meaning, meaning_of_kind, value_meaning}
 
 -- what is read after an opening quote is a body and a closing quote
@@ -125,7 +127,7 @@ string_read Raw text means is = ap raw_text is ∙ before_its_quote means
 tri_sound : (strings : Strings) (tree : Tree) (s : ℕ) (symbol : Symbol) (kind : Kind) (text : List ℕ) → symbol.kind ≡ kind → is_tri_kind kind ≡ true
     → (c : Option ℕ)
     → symbol.choice ≡ c → (o : Option Tri) → tri_of_text symbol.kind text ≡ o
-    → ValueMeans strings tree s symbol text (tri_meaning (unit_of tree s) s c o)
+    → ValueMeans strings tree s symbol text (tri_meaning tree.language (unit_of tree s) s c o)
 tri_sound strings tree s symbol kind text is small c choice None meant = no_tri text (ap is_tri_kind is ∙ small) meant
 tri_sound strings tree s symbol kind text is small None choice (Some t) meant = tri text t choice meant
 tri_sound strings tree s symbol kind text is small (Some c) choice (Some Y) meant = chosen c text choice meant
@@ -146,7 +148,7 @@ number_sound strings tree s symbol [] large other empty None e = empty
 number_sound strings tree s symbol (b ∷ text) large other empty None e = no_number b text large other e
 
 means_at_kind : (strings : Strings) (tree : Tree) (s : ℕ) (symbol : Symbol) (text : List ℕ) (kind : Kind) → symbol.kind ≡ kind
-    → ValueMeans strings tree s symbol text (meaning_of_kind strings kind (unit_of tree s) s symbol.choice text)
+    → ValueMeans strings tree s symbol text (meaning_of_kind tree.language strings kind (unit_of tree s) s symbol.choice text)
 means_at_kind strings tree s symbol text Boolean is =
     tri_sound strings tree s symbol Boolean text is refl symbol.choice refl (tri_of_text Boolean text) (ap (λ k. tri_of_text k text) is)
 means_at_kind strings tree s symbol text Tristate is =
@@ -169,21 +171,21 @@ is_tri_meant Text text t e = cc
 is_tri_meant Int text t e = cc
 is_tri_meant Hex text t e = cc
 
-of_tri_kind : (strings : Strings) (kind : Kind) (u s : ℕ) (choice : Option ℕ) (text : List ℕ) → is_tri_kind kind ≡ true
-    → meaning_of_kind strings kind u s choice text ≡ tri_meaning u s choice (tri_of_text kind text)
-of_tri_kind strings Boolean u s choice text e = refl
-of_tri_kind strings Tristate u s choice text e = refl
-of_tri_kind strings Text u s choice text e = absurd (false≢true e)
-of_tri_kind strings Int u s choice text e = absurd (false≢true e)
-of_tri_kind strings Hex u s choice text e = absurd (false≢true e)
+of_tri_kind : (language : Language) (strings : Strings) (kind : Kind) (u s : ℕ) (choice : Option ℕ) (text : List ℕ) → is_tri_kind kind ≡ true
+    → meaning_of_kind language strings kind u s choice text ≡ tri_meaning language u s choice (tri_of_text kind text)
+of_tri_kind language strings Boolean u s choice text e = refl
+of_tri_kind language strings Tristate u s choice text e = refl
+of_tri_kind language strings Text u s choice text e = absurd (false≢true e)
+of_tri_kind language strings Int u s choice text e = absurd (false≢true e)
+of_tri_kind language strings Hex u s choice text e = absurd (false≢true e)
 
-of_number_kind : (strings : Strings) (kind : Kind) (u s : ℕ) (choice : Option ℕ) (text : List ℕ) → is_tri_kind kind ≡ false → kind ≢ Text
-    → meaning_of_kind strings kind u s choice text ≡ number_meaning u kind text
-of_number_kind strings Boolean u s choice text e other = absurd (false≢true (sym e))
-of_number_kind strings Tristate u s choice text e other = absurd (false≢true (sym e))
-of_number_kind strings Text u s choice text e other = absurd (other refl)
-of_number_kind strings Int u s choice text e other = refl
-of_number_kind strings Hex u s choice text e other = refl
+of_number_kind : (language : Language) (strings : Strings) (kind : Kind) (u s : ℕ) (choice : Option ℕ) (text : List ℕ) → is_tri_kind kind ≡ false → kind ≢ Text
+    → meaning_of_kind language strings kind u s choice text ≡ number_meaning u kind text
+of_number_kind language strings Boolean u s choice text e other = absurd (false≢true (sym e))
+of_number_kind language strings Tristate u s choice text e other = absurd (false≢true (sym e))
+of_number_kind language strings Text u s choice text e other = absurd (other refl)
+of_number_kind language strings Int u s choice text e other = refl
+of_number_kind language strings Hex u s choice text e other = refl
 
 number_kind : (kind : Kind) (text : List ℕ) → is_some (number_of_text kind text) ≡ true → (is_tri_kind kind ≡ false) × (kind ≢ Text)
 number_kind Boolean text e = absurd (false≢true e)
@@ -216,32 +218,32 @@ pub value_meaning_is : (strings : Strings) (tree : Tree) (s : ℕ) (symbol : Sym
     → ValueMeans strings tree s symbol text meaning
     → value_meaning strings tree s symbol text ≡ meaning
 value_meaning_is strings tree s symbol text meaning (tri _ t out meant) =
-    of_tri_kind strings symbol.kind (unit_of tree s) s symbol.choice text (is_tri_meant symbol.kind text t meant)
-    ∙ ap (λ o. tri_meaning (unit_of tree s) s symbol.choice o) meant ∙ ap (λ c. tri_meaning (unit_of tree s) s c (Some t)) out
+    of_tri_kind tree.language strings symbol.kind (unit_of tree s) s symbol.choice text (is_tri_meant symbol.kind text t meant)
+    ∙ ap (λ o. tri_meaning tree.language (unit_of tree s) s symbol.choice o) meant ∙ ap (λ c. tri_meaning tree.language (unit_of tree s) s c (Some t)) out
 value_meaning_is strings tree s symbol text meaning (chosen c _ within meant) =
-    of_tri_kind strings symbol.kind (unit_of tree s) s symbol.choice text (is_tri_meant symbol.kind text Y meant)
-    ∙ ap (λ o. tri_meaning (unit_of tree s) s symbol.choice o) meant ∙ ap (λ k. tri_meaning (unit_of tree s) s k (Some Y)) within
+    of_tri_kind tree.language strings symbol.kind (unit_of tree s) s symbol.choice text (is_tri_meant symbol.kind text Y meant)
+    ∙ ap (λ o. tri_meaning tree.language (unit_of tree s) s symbol.choice o) meant ∙ ap (λ k. tri_meaning tree.language (unit_of tree s) s k (Some Y)) within
 value_meaning_is strings tree s symbol text meaning (not_chosen c _ t within meant other) =
-    of_tri_kind strings symbol.kind (unit_of tree s) s symbol.choice text (is_tri_meant symbol.kind text t meant)
-    ∙ ap (λ o. tri_meaning (unit_of tree s) s symbol.choice o) meant ∙ ap (λ k. tri_meaning (unit_of tree s) s k (Some t)) within
-    ∙ ap (λ b. cond b (assigns (unit_of tree s) (MemberUser s)) silent) (not_y t other)
+    of_tri_kind tree.language strings symbol.kind (unit_of tree s) s symbol.choice text (is_tri_meant symbol.kind text t meant)
+    ∙ ap (λ o. tri_meaning tree.language (unit_of tree s) s symbol.choice o) meant ∙ ap (λ k. tri_meaning tree.language (unit_of tree s) s k (Some t)) within
+    ∙ ap (λ b. cond b (assigns (unit_of tree s) (member_user tree.language s)) (unchosen_meaning tree.language (unit_of tree s) s)) (not_y t other)
 value_meaning_is strings tree s symbol text meaning (quoted _ means is is_body) =
-    ap (λ k. meaning_of_kind strings k (unit_of tree s) s symbol.choice text) is ∙ ap (string_meaning (unit_of tree s)) (string_read strings text means is_body)
+    ap (λ k. meaning_of_kind tree.language strings k (unit_of tree s) s symbol.choice text) is ∙ ap (string_meaning (unit_of tree s)) (string_read strings text means is_body)
 value_meaning_is strings tree s symbol text meaning (number _ some) =
     let kinds = number_kind symbol.kind text some in
-    of_number_kind strings symbol.kind (unit_of tree s) s symbol.choice text kinds.0 kinds.1
+    of_number_kind tree.language strings symbol.kind (unit_of tree s) s symbol.choice text kinds.0 kinds.1
     ∙ ap (λ b. cond b (assigns (unit_of tree s) (TextUser text)) (without_number text)) some
 value_meaning_is strings tree s symbol text meaning (no_int is) =
-    ap (λ k. meaning_of_kind strings k (unit_of tree s) s symbol.choice []) is
+    ap (λ k. meaning_of_kind tree.language strings k (unit_of tree s) s symbol.choice []) is
     ∙ ap (λ o. cond (is_some o) (assigns (unit_of tree s) (TextUser [])) silent) no_int_number
 value_meaning_is strings tree s symbol text meaning (no_hex is) =
-    ap (λ k. meaning_of_kind strings k (unit_of tree s) s symbol.choice []) is
+    ap (λ k. meaning_of_kind tree.language strings k (unit_of tree s) s symbol.choice []) is
     ∙ ap (λ o. cond (is_some o) (assigns (unit_of tree s) (TextUser [])) silent) no_hex_number
 value_meaning_is strings tree s symbol text meaning (no_tri _ small meant) =
-    of_tri_kind strings symbol.kind (unit_of tree s) s symbol.choice text small ∙ ap (λ o. tri_meaning (unit_of tree s) s symbol.choice o) meant
+    of_tri_kind tree.language strings symbol.kind (unit_of tree s) s symbol.choice text small ∙ ap (λ o. tri_meaning tree.language (unit_of tree s) s symbol.choice o) meant
 value_meaning_is strings tree s symbol text meaning (no_text _ is lacks) =
-    ap (λ k. meaning_of_kind strings k (unit_of tree s) s symbol.choice text) is ∙ ap (string_meaning (unit_of tree s))
+    ap (λ k. meaning_of_kind tree.language strings k (unit_of tree s) s symbol.choice text) is ∙ ap (string_meaning (unit_of tree s))
     (no_meaning strings text (string_text strings text) refl lacks)
 value_meaning_is strings tree s symbol text meaning (no_number b rest large other lacks) =
-    of_number_kind strings symbol.kind (unit_of tree s) s symbol.choice (b ∷ rest) large other
+    of_number_kind tree.language strings symbol.kind (unit_of tree s) s symbol.choice (b ∷ rest) large other
     ∙ ap (λ o. cond (is_some o) (assigns (unit_of tree s) (TextUser (b ∷ rest))) (notice NotOfType)) lacks

@@ -4,7 +4,11 @@ use Rattle.std.specs.List.{AllZip, list_all}
 use Rattle.std.specs.Str.{is_utf8}
 use Rattle.kc_value.specs.Lines.{pieces}
 use Rattle.kc_tree_model.specs.Trees.{Tree}
+use Rattle.kc_system.specs.Solutions.{user_of}
 use Rattle.kc_rules_model.specs.declared.values.UserValue.{UserValue}
+use Rattle.kc_rules_model.specs.declared.values.UserValue.TheVariants.{Tri as TriUser, Text as TextUser, Member as MemberUser, Lines as LinesUser}
+use Rattle.kc_rules_model.specs.declared.values.MemberLine.{MemberLine}
+use Rattle.kc_rules_model.specs.MemberLines.{laid_over}
 use Rattle.kc_dotconfig_model.specs.Formats.{FileFormat}
 use Rattle.kc_dotconfig_model.specs.declared.notice.NoticeKind.{NoticeKind}
 use Rattle.kc_dotconfig_model.specs.ConfigLines.{LineMeaning, assigns, notice, silent, Means}
@@ -23,14 +27,29 @@ abbrev pub FileMeans : FileFormat → Tree → List ℕ → List LineMeaning →
 FileMeans format tree bytes meanings =
     AllZip (λ line meaning. Means format tree (without_white_end line) meaning) (file_lines bytes) meanings
 
+-- assignments of members over an earlier user value: laid over it, if that too is assignments of members; over another user
+-- value, which no unit with assignments of members has, they change nothing
+abbrev pub lines_over : List MemberLine → UserValue → UserValue
+lines_over later (LinesUser earlier) = LinesUser (laid_over later earlier)
+lines_over later (TriUser t) = TriUser t
+lines_over later (TextUser text) = TextUser text
+lines_over later (MemberUser s) = MemberUser s
+
+-- a user value over an earlier one of the same unit, if there is one: it replaces it, but assignments of members are laid over it
+abbrev pub over : UserValue → Option UserValue → UserValue
+over (LinesUser later) (Some earlier) = lines_over later earlier
+over (LinesUser later) None = LinesUser later
+over (TriUser t) earlier = TriUser t
+over (TextUser text) earlier = TextUser text
+over (MemberUser s) earlier = MemberUser s
+
 -- the assignment of user values after a line of a configuration file, from the assignment before the line
 abbrev pub assigned : LineMeaning → List (Option UserValue) → List (Option UserValue)
-assigned (assigns u x) users = slice_set users u (Some x)
+assigned (assigns u x) users = slice_set users u (Some (over x (user_of users u)))
 assigned (notice kind) users = users
 assigned silent users = users
 
--- the assignment of user values after the lines of a file: a later line overrides an earlier one and the assignment
--- before the file
+-- the assignment of user values after the lines of a file, each over the assignment before it (`over`)
 abbrev pub assigned_over : List LineMeaning → List (Option UserValue) → List (Option UserValue)
 assigned_over [] users = users
 assigned_over (meaning ∷ meanings) users = assigned_over meanings (assigned meaning users)
@@ -43,13 +62,13 @@ empty_assignment tree = replicate (length tree.units) None
 abbrev pub file_assignment : Tree → List LineMeaning → List (Option UserValue)
 file_assignment tree meanings = assigned_over meanings (empty_assignment tree)
 
--- the first assignment laid over the second: a unit has the user value of the first, or that of the second if the
--- first has none for it
+-- the first assignment laid over the second: a unit has the user value of the first over that of the second (`over`), or that of
+-- the second if the first has none for it
 abbrev pub overlay : List (Option UserValue) → List (Option UserValue) → List (Option UserValue)
 overlay [] users = users
-overlay (x ∷ over) [] = []
-overlay (None ∷ over) (x ∷ users) = x ∷ overlay over users
-overlay (Some y ∷ over) (x ∷ users) = Some y ∷ overlay over users
+overlay (y ∷ later) [] = []
+overlay (None ∷ later) (x ∷ users) = x ∷ overlay later users
+overlay (Some y ∷ later) (x ∷ users) = Some (over y x) ∷ overlay later users
 
 -- the notices among the meanings of a file's lines, with the numbers of their lines, where the first line has the number `n`
 abbrev pub notices_from : ℕ → List LineMeaning → List (ℕ × NoticeKind)

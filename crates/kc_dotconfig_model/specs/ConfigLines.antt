@@ -11,7 +11,10 @@ use Rattle.kc_tree_model.specs.TreeLookup.{symbol_named, unit_of}
 use Rattle.kc_value.specs.Kinds.{is_tri_kind}
 use Rattle.kc_value.specs.Number.{number_of_text}
 use Rattle.kc_rules_model.specs.declared.values.UserValue.{UserValue}
-use Rattle.kc_rules_model.specs.declared.values.UserValue.TheVariants.{Tri as TriUser, Text as TextUser, Member as MemberUser}
+use Rattle.kc_rules_model.specs.declared.values.UserValue.TheVariants.{Tri as TriUser, Text as TextUser, Lines as LinesUser}
+use Rattle.kc_rules_model.specs.Rule.{member_user}
+use Rattle.kc_tokens.specs.declared.language.Language.{Language}
+use Rattle.kc_tokens.specs.Languages.{is_linux_6_12}
 use Rattle.kc_dotconfig_model.specs.declared.format.Strings.{Strings}
 use Rattle.kc_dotconfig_model.specs.Formats.{FileFormat, IsStringSpelling}
 use Rattle.kc_dotconfig_model.specs.declared.notice.NoticeKind.{NoticeKind}
@@ -35,15 +38,22 @@ tri_of_text Tristate text = if bytes_eq text (codes "y")
     else (if bytes_eq text (codes "m") then Some M else (if bytes_eq text (codes "n") then Some N else None))
 tri_of_text _ text = None
 
--- the text after `=` has this meaning, by the type of the symbol and the form of strings; a value other than `y` for
--- a member of a choice and an empty int or hex assign nothing and give no notice
+-- the meaning of a line that gives the member s of a choice, whose unit is u, another value than `y`: under the rules of Linux
+-- 6.12 it assigns `n` to the member, before it assigns nothing
+abbrev pub unchosen_meaning : Language → ℕ → ℕ → LineMeaning
+unchosen_meaning language u s = if is_linux_6_12 language
+    then assigns u (LinesUser (record { member = s; is_y = false } ∷ []))
+    else silent
+
+-- the text after `=` has this meaning, by the type of the symbol and the form of strings; an empty int or hex assigns nothing and
+-- gives no notice
 pub data ValueMeans (strings : Strings) (tree : Tree) (s : ℕ) (symbol : Symbol) : List ℕ → LineMeaning → Type 0 where
   tri : (text : List ℕ) (t : Tri) → symbol.choice ≡ None → tri_of_text symbol.kind text ≡ Some t
       → ValueMeans strings tree s symbol text (assigns (unit_of tree s) (TriUser t))
   chosen : (c : ℕ) (text : List ℕ) → symbol.choice ≡ Some c → tri_of_text symbol.kind text ≡ Some Y
-      → ValueMeans strings tree s symbol text (assigns (unit_of tree s) (MemberUser s))
+      → ValueMeans strings tree s symbol text (assigns (unit_of tree s) (member_user tree.language s))
   not_chosen : (c : ℕ) (text : List ℕ) (t : Tri) → symbol.choice ≡ Some c → tri_of_text symbol.kind text ≡ Some t
-      → t ≢ Y → ValueMeans strings tree s symbol text silent
+      → t ≢ Y → ValueMeans strings tree s symbol text (unchosen_meaning tree.language (unit_of tree s) s)
   quoted : (text means : List ℕ) → symbol.kind ≡ Text → IsStringSpelling strings text means
       → ValueMeans strings tree s symbol text (assigns (unit_of tree s) (TextUser means))
   number : (text : List ℕ) → is_some (number_of_text symbol.kind text) ≡ true
@@ -57,11 +67,11 @@ pub data ValueMeans (strings : Strings) (tree : Tree) (s : ℕ) (symbol : Symbol
   no_number : (b : ℕ) (text : List ℕ) → is_tri_kind symbol.kind ≡ false → symbol.kind ≢ Text
       → number_of_text symbol.kind (b ∷ text) ≡ None → ValueMeans strings tree s symbol (b ∷ text) (notice NotOfType)
 
--- the meaning of a line `# CONFIG_NAME is not set`: it assigns `n` to a bool or tristate outside choices, and nothing
--- to any other symbol
+-- the meaning of a line `# CONFIG_NAME is not set`: it assigns `n` to a bool or tristate outside choices, under the rules of
+-- Linux 6.12 also to a member of a choice, and nothing to any other symbol
 abbrev pub unset_meaning : Tree → ℕ → Symbol → Option ℕ → LineMeaning
 unset_meaning tree s symbol None = if is_tri_kind symbol.kind then assigns (unit_of tree s) (TriUser N) else silent
-unset_meaning tree s symbol (Some c) = silent
+unset_meaning tree s symbol (Some c) = unchosen_meaning tree.language (unit_of tree s) s
 
 -- the line is `# CONFIG_NAME is not set`, with this prefix and this name
 abbrev pub IsUnsetLine : List ℕ → List ℕ → List ℕ → Type 0

@@ -10,12 +10,14 @@ use Rattle.kc_tree_model.specs.Trees.{Tree, Symbol}
 use Rattle.kc_tree_model.specs.TreeLookup.{symbol_named, unit_of}
 use Rattle.kc_rules_model.specs.Kinds.{is_y}
 use Rattle.kc_value.specs.Number.{number_of_text}
-use Rattle.kc_rules_model.specs.declared.values.UserValue.TheVariants.{Tri as TriUser, Text as TextUser, Member as MemberUser}
+use Rattle.kc_rules_model.specs.declared.values.UserValue.TheVariants.{Tri as TriUser, Text as TextUser}
+use Rattle.kc_rules_model.specs.Rule.{member_user}
+use Rattle.kc_tokens.specs.declared.language.Language.{Language}
 use Rattle.kc_dotconfig_model.specs.declared.notice.NoticeKind.TheVariants.{UnknownSymbol, NotOfType}
 use Rattle.kc_dotconfig_model.specs.declared.format.Strings.{Strings}
 use Rattle.kc_dotconfig_model.specs.declared.format.Strings.TheVariants.{Escaped, Raw}
 use Rattle.kc_dotconfig_model.specs.Formats.{FileFormat}
-use Rattle.kc_dotconfig_model.specs.ConfigLines.{LineMeaning, assigns, notice, silent, tri_of_text, unset_meaning}
+use Rattle.kc_dotconfig_model.specs.ConfigLines.{LineMeaning, assigns, notice, silent, tri_of_text, unchosen_meaning, unset_meaning}
 use Rattle.kc_tree_model.specs.LogicalLines.{without_white_end}
 use Rattle.kc_dotconfig_model.specs.ConfigFiles.{file_lines}
 
@@ -55,12 +57,12 @@ abbrev pub string_text : Strings → List ℕ → Option (List ℕ)
 string_text Escaped text = unquoted text
 string_text Raw text = raw_text text
 
--- the meaning of a line for a bool or tristate, by its unit, its number, its choice (None outside choices) and the tristate after
+-- the meaning of a line for a bool or tristate, by the tree's language, its unit, its number, its choice (None outside choices) and the tristate after
 -- `=` (None if the text there isn't a tristate)
-abbrev pub tri_meaning : ℕ → ℕ → Option ℕ → Option Tri → LineMeaning
-tri_meaning u s choice None = notice NotOfType
-tri_meaning u s None (Some t) = assigns u (TriUser t)
-tri_meaning u s (Some c) (Some t) = if is_y t then assigns u (MemberUser s) else silent
+abbrev pub tri_meaning : Language → ℕ → ℕ → Option ℕ → Option Tri → LineMeaning
+tri_meaning language u s choice None = notice NotOfType
+tri_meaning language u s None (Some t) = assigns u (TriUser t)
+tri_meaning language u s (Some c) (Some t) = if is_y t then assigns u (member_user language s) else unchosen_meaning language u s
 
 -- the meaning of a line for a string symbol, by its unit and the text between the quotes (None if what follows `=`
 -- isn't a string)
@@ -79,17 +81,18 @@ number_meaning u kind text = if is_some (number_of_text kind text)
     then assigns u (TextUser text)
     else without_number text
 
--- the meaning of the text after `=`, by the form of strings, and by the type, unit, number and choice of its symbol
-abbrev pub meaning_of_kind : Strings → Kind → ℕ → ℕ → Option ℕ → List ℕ → LineMeaning
-meaning_of_kind strings Boolean u s choice text = tri_meaning u s choice (tri_of_text Boolean text)
-meaning_of_kind strings Tristate u s choice text = tri_meaning u s choice (tri_of_text Tristate text)
-meaning_of_kind strings Text u s choice text = string_meaning u (string_text strings text)
-meaning_of_kind strings Int u s choice text = number_meaning u Int text
-meaning_of_kind strings Hex u s choice text = number_meaning u Hex text
+-- the meaning of the text after `=`, by the tree's language and the form of strings, and by the type,
+-- unit, number and choice of its symbol
+abbrev pub meaning_of_kind : Language → Strings → Kind → ℕ → ℕ → Option ℕ → List ℕ → LineMeaning
+meaning_of_kind language strings Boolean u s choice text = tri_meaning language u s choice (tri_of_text Boolean text)
+meaning_of_kind language strings Tristate u s choice text = tri_meaning language u s choice (tri_of_text Tristate text)
+meaning_of_kind language strings Text u s choice text = string_meaning u (string_text strings text)
+meaning_of_kind language strings Int u s choice text = number_meaning u Int text
+meaning_of_kind language strings Hex u s choice text = number_meaning u Hex text
 
 -- the meaning of the text after `=` for the symbol of this number
 abbrev pub value_meaning : Strings → Tree → ℕ → Symbol → List ℕ → LineMeaning
-value_meaning strings tree s symbol text = meaning_of_kind strings symbol.kind (unit_of tree s) s symbol.choice text
+value_meaning strings tree s symbol text = meaning_of_kind tree.language strings symbol.kind (unit_of tree s) s symbol.choice text
 
 -- the rest of a text (the second list) after a front (the first); None if the text doesn't begin with the front
 abbrev pub after_front : List ℕ → List ℕ → Option (List ℕ)
