@@ -92,7 +92,7 @@ module _ (format : FileFormat) (valid : is_prefix format.prefix ≡ true) (profi
   reads_back users values fitting solved =
       let l = reads_as_least format valid profile tree settled.consistent users values fitting solved in
       let given = least_gives (length tree.units) (dependencies tree) (rule profile tree) (λ u x. IsTrue (user_fits tree u x)) settled.order settled.ordered
-      (rules_frame profile tree) decides as_user (rules_restore profile tree)
+      (rules_frame profile tree) decides (as_user tree.language) (rules_restore profile tree)
       users (file_assignment tree l.meanings) values fitting solved l.least in
       record {
         utf8 = lines_are_utf8 format valid profile tree settled.consistent users values fitting solved (minimal_symbols profile tree values)
@@ -159,19 +159,19 @@ module _ (format : FileFormat) (valid : is_prefix format.prefix ≡ true) (profi
       some_have_lines
 
   some_lines_mean : FileMeans format tree (symbol_lines keeps format profile tree values)
-      (map (λ s. meant values (unit_of tree s)) (filter keeps (minimal_symbols profile tree values)))
+      (map (λ s. meant tree.language values (unit_of tree s)) (filter keeps (minimal_symbols profile tree values)))
   some_lines_mean = lines_mean format valid profile tree settled.consistent users values fitting solved (filter keeps (minimal_symbols profile tree values))
       some_have_lines
 
-  user_after : (xs : List ℕ) (u : ℕ) → u < length tree.units → user_of (file_assignment tree (map (λ s. meant values (unit_of tree s)) xs)) u
-      ≡ cond (list_any (λ s. unit_of tree s == u) xs) (user_meant values u) None
+  user_after : (xs : List ℕ) (u : ℕ) → u < length tree.units → user_of (file_assignment tree (map (λ s. meant tree.language values (unit_of tree s)) xs)) u
+      ≡ cond (list_any (λ s. unit_of tree s == u) xs) (user_meant tree.language values u) None
   user_after xs u h =
       after_lines tree values u xs (empty_assignment tree) false (let len = none_length (length tree.units) in omega (arith, len))
       (none_held (length tree.units) u)
 
   cut : IsCutTo (length tree.units) (λ u. list_any (λ s. unit_of tree s == u) (filter keeps (minimal_symbols profile tree values)))
-      (file_assignment tree (map (λ s. meant values (unit_of tree s)) (minimal_symbols profile tree values)))
-      (file_assignment tree (map (λ s. meant values (unit_of tree s)) (filter keeps (minimal_symbols profile tree values))))
+      (file_assignment tree (map (λ s. meant tree.language values (unit_of tree s)) (minimal_symbols profile tree values)))
+      (file_assignment tree (map (λ s. meant tree.language values (unit_of tree s)) (filter keeps (minimal_symbols profile tree values))))
   cut = record {
     one_each = length_after tree values (filter keeps (minimal_symbols profile tree values)) (empty_assignment tree) ∙ none_length (length tree.units);
     cut =
@@ -179,13 +179,13 @@ module _ (format : FileFormat) (valid : is_prefix format.prefix ≡ true) (profi
         ∙ elim (cases_Bool (list_any (λ s. unit_of tree s == u) (filter keeps (minimal_symbols profile tree values)))) [
           | inl some ↦
               let there = any_of_filter (λ s. unit_of tree s == u) keeps (minimal_symbols profile tree values) some in
-              ap (λ b. cond b (user_meant values u) None) some
-              ∙ sym (ap (λ b. cond b (user_of (file_assignment tree (map (λ s. meant values (unit_of tree s)) (minimal_symbols profile tree values))) u)
+              ap (λ b. cond b (user_meant tree.language values u) None) some
+              ∙ sym (ap (λ b. cond b (user_of (file_assignment tree (map (λ s. meant tree.language values (unit_of tree s)) (minimal_symbols profile tree values))) u)
               None) some
-              ∙ user_after (minimal_symbols profile tree values) u h ∙ ap (λ b. cond b (user_meant values u) None) there)
+              ∙ user_after (minimal_symbols profile tree values) u h ∙ ap (λ b. cond b (user_meant tree.language values u) None) there)
           | inr lost ↦
-              ap (λ b. cond b (user_meant values u) None) lost ∙ sym (ap (λ b. cond b
-              (user_of (file_assignment tree (map (λ s. meant values (unit_of tree s)) (minimal_symbols profile tree values))) u) None) lost)
+              ap (λ b. cond b (user_meant tree.language values u) None) lost ∙ sym (ap (λ b. cond b
+              (user_of (file_assignment tree (map (λ s. meant tree.language values (unit_of tree s)) (minimal_symbols profile tree values))) u) None) lost)
         ];
   }
 
@@ -207,16 +207,16 @@ module _ (format : FileFormat) (valid : is_prefix format.prefix ≡ true) (profi
       ] in
       let lost = none_of_two (λ t. unit_of tree t == unit_of tree s) keeps (has_line profile tree values) (symbol_numbers tree) fails in
       let given = least_gives (length tree.units) (dependencies tree) (rule profile tree) (λ u x. IsTrue (user_fits tree u x)) settled.order settled.ordered
-      (rules_frame profile tree) decides as_user (rules_restore profile tree)
-      users (file_assignment tree (map (λ t. meant values (unit_of tree t)) (minimal_symbols profile tree values))) values fitting solved
+      (rules_frame profile tree) decides (as_user tree.language) (rules_restore profile tree)
+      users (file_assignment tree (map (λ t. meant tree.language values (unit_of tree t)) (minimal_symbols profile tree values))) values fitting solved
       (least_of_lines format valid profile tree settled.consistent users values fitting solved) in
       let found = given.3 (λ u. list_any (λ t. unit_of tree t == u) (filter keeps (minimal_symbols profile tree values)))
-      (file_assignment tree (map (λ t. meant values (unit_of tree t)) (filter keeps (minimal_symbols profile tree values)))) (unit_of tree s) cut inside
+      (file_assignment tree (map (λ t. meant tree.language values (unit_of tree t)) (filter keeps (minimal_symbols profile tree values)))) (unit_of tree s) cut inside
       kept lost in (
         found.0,
         record {
           utf8 = utf8_some;
-          meanings = map (λ t. meant values (unit_of tree t)) (filter keeps (minimal_symbols profile tree values));
+          meanings = map (λ t. meant tree.language values (unit_of tree t)) (filter keeps (minimal_symbols profile tree values));
           has_meaning =
               some_lines_mean;
           gives = found.1;

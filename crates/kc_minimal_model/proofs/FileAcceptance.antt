@@ -92,7 +92,7 @@ module _ (format : FileFormat) (valid : is_prefix format.prefix ≡ true) (profi
       let bytes = flat_map (ended_line format tree values) xs in
       let lines = ap length (lines_of_symbols format valid profile tree sound users values fitting solved xs all) in
       let count = length-map xs (symbol_line format tree values) in
-      accepted_within format tree bytes (map (λ s. meant values (unit_of tree s)) xs)
+      accepted_within format tree bytes (map (λ s. meant tree.language values (unit_of tree s)) xs)
       (lines_are_utf8 format valid profile tree sound users values fitting solved xs all)
       (lines_mean format valid profile tree sound users values fitting solved xs all) small (omega (arith, lines, count, few)) (short_lines xs all ∙ short)
 

@@ -13,7 +13,7 @@ use Rattle.kc_rules_model.specs.declared.values.UserValue.{UserValue}
 use Rattle.kc_rules_model.specs.Shapes.{user_fits}
 use Rattle.kc_dotconfig_model.specs.Formats.{FileFormat}
 use Rattle.kc_dotconfig_model.specs.ConfigLines.{LineMeaning, assigns, notice, silent}
-use Rattle.kc_dotconfig_model.specs.ConfigFiles.{file_assignment, assigned_over, empty_assignment}
+use Rattle.kc_dotconfig_model.specs.ConfigFiles.{file_assignment, over, assigned_over, empty_assignment}
 use Rattle.kc_dotconfig_model.proofs.FittingFiles.{file_fits}
 use Rattle.kc_minimal_model.specs.MinimalFile.{has_line, minimal_symbols}
 use Rattle.kc_rules_model.proofs.OrderedTrees.{IsOrderedTree, ordered_tree}
@@ -51,10 +51,10 @@ by_a_line : (meanings : List LineMeaning) (held : List (Option UserValue)) (u : 
 by_a_line [] held u some = inl some
 by_a_line (notice kind ∷ meanings) held u some = by_a_line meanings held u some
 by_a_line (silent ∷ meanings) held u some = by_a_line meanings held u some
-by_a_line (assigns w x ∷ meanings) held u some = elim (by_a_line meanings (slice_set held w (Some x)) u some) [
+by_a_line (assigns w x ∷ meanings) held u some = elim (by_a_line meanings (slice_set held w (Some (over x (user_of held w)))) u some) [
   | inl before ↦ elim (cases_eq u w) [
     | inl same ↦ inr (or_left (eqb u w) (list_any (eqb u) (assigned_units meanings)) (eq-eqb u w same))
-    | inr other ↦ inl (ap is_some (sym (get_or-set_other held w u (Some x) None other)) ∙ before)
+    | inr other ↦ inl (ap is_some (sym (get_or-set_other held w u (Some (over x (user_of held w))) None other)) ∙ before)
   ]
   | inr later ↦ inr (or_right (eqb u w) (list_any (eqb u) (assigned_units meanings)) later)
 ]

@@ -32,11 +32,12 @@ use Rattle.kc_minimal_model.proofs.Bytes.{first_line, all_of_both}
 use Rattle.kc_minimal_model.proofs.HeadingLines.{blank_is_silent, hash_is_silent, heading_is_silent, end_is_silent}
 use Rattle.kc_minimal_model.proofs.KeptLines.{line_reads, read_as_assignment, meant, user_meant, meaning_of_user}
 use Rattle.kc_minimal_model.proofs.LineReads.{IsLine}
+use Rattle.kc_minimal_model.proofs.MemberUsers.{gives, meant_gives}
 use Rattle.kc_minimal_model.proofs.OwnLines.{IsOwn, own_line}
 
--- whether a line of a configuration file assigns to the unit `u`
+-- whether a line of a configuration file gives the unit `u` a value; `n` of a member gives its choice none
 abbrev pub is_for : ℕ → LineMeaning → Bool
-is_for u (assigns w x) = nat_eq w u
+is_for u (assigns w x) = nat_eq w u && gives x
 is_for u (notice kind) = false
 is_for u silent = false
 
@@ -45,7 +46,7 @@ pub record HasOwnLines (format : FileFormat) (tree : Tree) (values : List UnitVa
   pub meanings : List LineMeaning
   pub has_meaning : FileMeans format tree bytes meanings
   pub utf8 : has_utf8_lines bytes ≡ true
-  pub own : AllByRecursion (IsOwn values) meanings
+  pub own : AllByRecursion (IsOwn tree.language values) meanings
   pub covers : (s : ℕ) → covered s → list_any (is_for (unit_of tree s)) meanings ≡ true
 
 one_line : (title : List ℕ) → has_newline title ≡ false → has_no_byte 10 title ≡ true
@@ -70,7 +71,7 @@ plain_title title e =
 module _ (format : FileFormat) (valid : is_prefix format.prefix ≡ true) (tree : Tree) (values : List UnitValue) where
   -- one more line
   own_lines_line : (C D : ℕ → Type 0) (line rest : List ℕ) (meaning : LineMeaning) → has_no_byte 10 line ≡ true → IsUtf8 line
-      → Means format tree (without_white_end line) meaning → IsOwn values meaning → HasOwnLines format tree values C rest
+      → Means format tree (without_white_end line) meaning → IsOwn tree.language values meaning → HasOwnLines format tree values C rest
       → ((s : ℕ) → D s → (is_for (unit_of tree s) meaning ≡ true) ⊎ C s) → HasOwnLines format tree values D (line ++ 10 ∷ rest)
   own_lines_line C D line rest meaning one utf8 has_meaning own t covers = record {
     meanings = meaning ∷ t.meanings;
@@ -149,28 +150,29 @@ module _ (format : FileFormat) (valid : is_prefix format.prefix ≡ true) (profi
   record SymbolHasOwnLine (s : ℕ) : Type 0 where
     meaning : LineMeaning
     reads : IsLine format tree (symbol_line format tree values s) meaning
-    own : IsOwn values meaning
+    own : IsOwn tree.language values meaning
     assigning : has_line profile tree values s ≡ true → is_for (unit_of tree s) meaning ≡ true
 
-  own_meant : (u : ℕ) (o : Option UserValue) → user_meant values u ≡ o → IsOwn values (meaning_of_user u o)
+  own_meant : (u : ℕ) (o : Option UserValue) → user_meant tree.language values u ≡ o → IsOwn tree.language values (meaning_of_user u o)
   own_meant u None e = tt
-  own_meant u (Some x) e = e
+  own_meant u (Some x) e = inl e
 
-  for_meant : (u : ℕ) (o : Option UserValue) → (x : UserValue) → o ≡ Some x → is_for u (meaning_of_user u o) ≡ true
-  for_meant u None x e = cc
-  for_meant u (Some y) x e = eq-eqb u u refl
+  for_meant : (u : ℕ) (x : UserValue) → user_meant tree.language values u ≡ Some x → is_for u (meant tree.language values u) ≡ true
+  for_meant u x e =
+      ap (λ o. is_for u (meaning_of_user u o)) e
+      ∙ and_from (nat_eq u u) (gives x) (eq-eqb u u refl) (meant_gives tree.language (slice_get values u) x e).0
 
   symbol_own_line : (s : ℕ) (symbol : Symbol) → slice_get tree.symbols s ≡ Some symbol → SymbolHasOwnLine s
   symbol_own_line s symbol at = elim (cases_Bool (has_line profile tree values s)) [
     | inl has ↦
         let r = read_as_assignment format valid profile tree settled.consistent users values fitting solved s has in
         let u = unit_of tree s in
-        let some : user_meant values u ≡ Some r.user = ap (option_and_then as_user) r.has ∙ r.meant in
+        let some : user_meant tree.language values u ≡ Some r.user = ap (option_and_then (as_user tree.language)) r.has ∙ r.meant in
         record {
-          meaning = meant values u;
+          meaning = meant tree.language values u;
           reads = line_reads format valid profile tree settled.consistent users values fitting solved s has;
-          own = own_meant u (user_meant values u) refl;
-          assigning = λ e. for_meant u (user_meant values u) r.user some;
+          own = own_meant u (user_meant tree.language values u) refl;
+          assigning = λ e. for_meant u r.user some;
         }
     | inr none ↦
         let line = own_line format valid tree settled.consistent values fits s symbol at in

@@ -1,5 +1,5 @@
 -- Each line of a minimal file is read as the assignment of its symbol's unit.
-use Rattle.std.proofs.Common.{◌≡◌, inl, inr, ℕ, ◌<◌, Bool, true, false, not, ◌==◌, cond, IsTrue, List, Option, Some, None, length, refl, sym, ◌∙◌, ap, subst}
+use Rattle.std.proofs.Common.{◌≡◌, inl, inr, ℕ, ◌<◌, Bool, true, false, not, ◌==◌, cond, IsTrue, List, [], ◌∷◌, Option, Some, None, length, refl, sym, ◌∙◌, ap, subst}
 use Rattle.std.specs.Prelude.{slice_get}
 use Rattle.std.specs.Option.{option_map, option_and_then}
 use Rattle.std.proofs.lemmas.Bool.{cases_Bool, false≢true, and_parts, eqb-true}
@@ -16,11 +16,13 @@ use Rattle.kc_rules_model.specs.declared.profile.Profile.{Profile}
 use Rattle.kc_rules_model.specs.declared.values.UnitValue.{UnitValue}
 use Rattle.kc_rules_model.specs.declared.values.UnitValue.TheVariants.{Tri as TriValue, Text as TextValue, Member as MemberValue}
 use Rattle.kc_rules_model.specs.declared.values.UserValue.{UserValue}
-use Rattle.kc_rules_model.specs.declared.values.UserValue.TheVariants.{Tri as TriUser, Text as TextUser, Member as MemberUser}
+use Rattle.kc_rules_model.specs.declared.values.UserValue.TheVariants.{Tri as TriUser, Text as TextUser, Member as MemberUser, Lines as LinesUser}
+use Rattle.kc_tokens.specs.declared.language.Language.{Language}
+use Rattle.kc_tokens.specs.Languages.{is_linux_6_12}
 use Rattle.kc_rules_model.specs.Kinds.{is_n}
 use Rattle.kc_value.specs.Kinds.{is_tri_kind}
 use Rattle.kc_rules_model.specs.SymbolValues.{value_of_symbol, value_in_unit, tri_symbol_value, tri_of, text_of, member_of, tri_if_selected}
-use Rattle.kc_rules_model.specs.Rule.{rule, as_user}
+use Rattle.kc_rules_model.specs.Rule.{rule, as_user, member_user}
 use Rattle.kc_rules_model.specs.Shapes.{user_fits, unit_user_fits, symbol_user_fits, choice_user_fits, tri_fits, user_text_fits}
 use Rattle.kc_dotconfig_model.specs.Formats.{FileFormat}
 use Rattle.kc_dotconfig_model.specs.PrefixGrammar.{is_prefix}
@@ -31,36 +33,37 @@ use Rattle.kc_minimal_model.specs.MinimalFileLaws.{IsReadAsItsAssignment}
 use Rattle.kc_tree_model.proofs.Lookups.{inside, place_is, unit_is}
 use Rattle.kc_minimal_model.proofs.LineReads.{IsLine, tri_line, text_line, member_line}
 use Rattle.kc_minimal_model.proofs.KeptUnits.{KeptUnit, kept_unit}
+use Rattle.kc_minimal_model.proofs.MemberUsers.{chosen_member}
 
 abbrev pub meaning_of_user : ℕ → Option UserValue → LineMeaning
 meaning_of_user u None = silent
 meaning_of_user u (Some x) = assigns u x
 
--- the user value that represents a unit's value; None if there is no such unit or value
-abbrev pub user_meant : List UnitValue → ℕ → Option UserValue
-user_meant values u = option_and_then as_user (slice_get values u)
+-- the user value that represents a unit's value, in a language; None if there is no such unit or value
+abbrev pub user_meant : Language → List UnitValue → ℕ → Option UserValue
+user_meant language values u = option_and_then (as_user language) (slice_get values u)
 
 -- the meaning of a line that assigns a unit the user value that represents its own value
-abbrev pub meant : List UnitValue → ℕ → LineMeaning
-meant values u = meaning_of_user u (user_meant values u)
+abbrev pub meant : Language → List UnitValue → ℕ → LineMeaning
+meant language values u = meaning_of_user u (user_meant language values u)
 
-value_of_tri : (held : UnitValue) (t : Tri) → as_user held ≡ Some (TriUser t) → held ≡ TriValue t
-value_of_tri (TriValue a) t e = cc
-value_of_tri (TextValue a) t e = cc
-value_of_tri (MemberValue None) t e = cc
-value_of_tri (MemberValue (Some a)) t e = cc
+value_of_tri : (language : Language) (held : UnitValue) (t : Tri) → as_user language held ≡ Some (TriUser t) → held ≡ TriValue t
+value_of_tri language (TriValue a) t e = cc
+value_of_tri language (TextValue a) t e = cc
+value_of_tri language (MemberValue None) t e = cc
+value_of_tri language (MemberValue (Some a)) t e = go (is_linux_6_12 language) e where
+  go : (b : Bool) → Some (cond b (LinesUser (record { member = a; is_y = true } ∷ [])) (MemberUser a)) ≡ Some (TriUser t) → MemberValue (Some a) ≡ TriValue t
+  go true e = cc
+  go false e = cc
 
-pub value_of_text : (held : UnitValue) (text : List ℕ) → as_user held ≡ Some (TextUser text) → held ≡ TextValue text
-value_of_text (TriValue a) t e = cc
-value_of_text (TextValue a) t e = cc
-value_of_text (MemberValue None) t e = cc
-value_of_text (MemberValue (Some a)) t e = cc
-
-pub value_of_member : (held : UnitValue) (m : ℕ) → as_user held ≡ Some (MemberUser m) → held ≡ MemberValue (Some m)
-value_of_member (TriValue a) t e = cc
-value_of_member (TextValue a) t e = cc
-value_of_member (MemberValue None) t e = cc
-value_of_member (MemberValue (Some a)) t e = cc
+pub value_of_text : (language : Language) (held : UnitValue) (text : List ℕ) → as_user language held ≡ Some (TextUser text) → held ≡ TextValue text
+value_of_text language (TriValue a) t e = cc
+value_of_text language (TextValue a) t e = cc
+value_of_text language (MemberValue None) t e = cc
+value_of_text language (MemberValue (Some a)) t e = go (is_linux_6_12 language) e where
+  go : (b : Bool) → Some (cond b (LinesUser (record { member = a; is_y = true } ∷ [])) (MemberUser a)) ≡ Some (TextUser t) → MemberValue (Some a) ≡ TextValue t
+  go true e = cc
+  go false e = cc
 
 pub tri_kind : (kind : Kind) (t : Tri) → tri_fits kind t ≡ true → is_tri_kind kind ≡ true
 tri_kind Boolean t e = refl
@@ -83,30 +86,31 @@ module _ (format : FileFormat) (valid : is_prefix format.prefix ≡ true) (profi
   -- a symbol outside choices, by the user value that gives its value again
   line_by_user : (s : ℕ) (symbol : Symbol) → slice_get tree.symbols s ≡ Some symbol → symbol.choice ≡ None → (held : UnitValue)
       → slice_get values (unit_of tree s) ≡ Some held
-      → (again : UserValue) → as_user held ≡ Some again → symbol_user_fits (Some symbol) again ≡ true
+      → (again : UserValue) → as_user tree.language held ≡ Some again → symbol_user_fits (Some symbol) again ≡ true
       → IsLine format tree (line_with format symbol.name (value_in_unit tree values s symbol None)) (assigns (unit_of tree s) again)
   line_by_user s symbol at out held has (TriUser t) assigned fits =
       let F : Option UnitValue → Bool → SymbolValue = λ h b. cond b (tri_symbol_value symbol.kind (tri_of h))
       (record { kind = symbol.kind; tri = N; text = text_of h }) in
       let seen : value_in_unit tree values s symbol None ≡ tri_symbol_value symbol.kind t =
-      ap (λ h. F h (is_tri_kind symbol.kind)) (has ∙ ap Some (value_of_tri held t assigned)) ∙ ap (F (Some (TriValue t))) (tri_kind symbol.kind t fits) in
+      ap (λ h. F h (is_tri_kind symbol.kind)) (has ∙ ap Some (value_of_tri tree.language held t assigned)) ∙ ap (F (Some (TriValue t))) (tri_kind symbol.kind t fits) in
       subst (λ e. IsLine format tree (line_with format symbol.name e) (assigns (unit_of tree s) (TriUser t))) (sym seen)
       (tri_line format valid tree sound s symbol at symbol.kind t refl out fits)
   line_by_user s symbol at out held has (TextUser text) assigned fits =
       let F : Option UnitValue → Bool → SymbolValue = λ h b. cond b (tri_symbol_value symbol.kind (tri_of h))
       (record { kind = symbol.kind; tri = N; text = text_of h }) in
       let seen : value_in_unit tree values s symbol None ≡ record { kind = symbol.kind; tri = N; text = text } =
-      ap (λ h. F h (is_tri_kind symbol.kind)) (has ∙ ap Some (value_of_text held text assigned))
+      ap (λ h. F h (is_tri_kind symbol.kind)) (has ∙ ap Some (value_of_text tree.language held text assigned))
       ∙ ap (F (Some (TextValue text))) (text_kind symbol.kind text fits) in
       subst (λ e. IsLine format tree (line_with format symbol.name e) (assigns (unit_of tree s) (TextUser text))) (sym seen)
       (text_line format valid tree sound s symbol at symbol.kind text refl fits)
   line_by_user s symbol at out held has (MemberUser m) assigned fits = absurd (false≢true fits)
+  line_by_user s symbol at out held has (LinesUser l) assigned fits = absurd (false≢true fits)
 
-  meaning : (u : ℕ) (k : KeptUnit tree values u) → assigns u k.again ≡ meant values u
-  meaning u k = sym (ap (λ o. meaning_of_user u (option_and_then as_user o)) k.has ∙ ap (meaning_of_user u) k.assigned)
+  meaning : (u : ℕ) (k : KeptUnit tree values u) → assigns u k.again ≡ meant tree.language values u
+  meaning u k = sym (ap (λ o. meaning_of_user u (option_and_then (as_user tree.language) o)) k.has ∙ ap (meaning_of_user u) k.assigned)
 
   outside : (s : ℕ) (symbol : Symbol) → slice_get tree.symbols s ≡ Some symbol → symbol.choice ≡ None → is_kept profile tree values (unit_of tree s) ≡ true
-      → IsLine format tree (line_with format symbol.name (value_in_unit tree values s symbol None)) (meant values (unit_of tree s))
+      → IsLine format tree (line_with format symbol.name (value_in_unit tree values s symbol None)) (meant tree.language values (unit_of tree s))
   unfolding user_fits
   outside s symbol at out kept =
       let own = sound.own_units s symbol at out in
@@ -121,54 +125,53 @@ module _ (format : FileFormat) (valid : is_prefix format.prefix ≡ true) (profi
   -- a member, by the user's member that gives its choice's value again
   member_by_user : (s c : ℕ) (symbol : Symbol) → slice_get tree.symbols s ≡ Some symbol → symbol.choice ≡ Some c
       → index_of_unit tree (of_choice c) ≡ unit_of tree s → not (is_n (value_in_unit tree values s symbol (Some c)).tri) ≡ true
-      → (held : UnitValue) → slice_get values (unit_of tree s) ≡ Some held → (again : UserValue) → as_user held ≡ Some again
-      → choice_user_fits (slice_get tree.choices c) again ≡ true
+      → (held : UnitValue) → slice_get values (unit_of tree s) ≡ Some held → (again : UserValue) → as_user tree.language held ≡ Some again
+      → choice_user_fits tree.language (slice_get tree.choices c) again ≡ true
       → IsLine format tree (line_with format symbol.name (value_in_unit tree values s symbol (Some c))) (assigns (unit_of tree s) again)
-  member_by_user s c symbol at within place chosen held has (TriUser t) assigned fits = absurd (false≢true fits)
-  member_by_user s c symbol at within place chosen held has (TextUser t) assigned fits = absurd (false≢true fits)
-  member_by_user s c symbol at within place chosen held has (MemberUser m) assigned fits =
-      let tri : (value_in_unit tree values s symbol (Some c)).tri ≡ cond (m == s) Y N =
-      ap (λ o. tri_if_selected s (member_of o)) (ap (slice_get values) place ∙ has ∙ ap Some (value_of_member held m assigned)) in
-      elim (cases_Bool (m == s)) [
+  member_by_user s c symbol at within place chosen held has again assigned fits =
+      let is = chosen_member tree.language (slice_get tree.choices c) held again assigned fits in
+      let tri : (value_in_unit tree values s symbol (Some c)).tri ≡ cond (is.0 == s) Y N =
+      ap (λ o. tri_if_selected s (member_of o)) (ap (slice_get values) place ∙ has ∙ ap Some is.1) in
+      elim (cases_Bool (is.0 == s)) [
         | inl same ↦
             let seen : value_in_unit tree values s symbol (Some c) ≡ tri_symbol_value Boolean Y = ap (tri_symbol_value symbol.kind)
             (tri ∙ ap (λ b. cond b Y N) same) ∙ ap (λ k. tri_symbol_value k Y) (sound.bool_members s c symbol at within) in
             let line = member_line format valid tree sound s symbol at c within (sound.bool_members s c symbol at within) in
-            subst (λ e. IsLine format tree (line_with format symbol.name e) (assigns (unit_of tree s) (MemberUser m))) (sym seen)
-            (subst (λ x. IsLine format tree (line_with format symbol.name (tri_symbol_value Boolean Y)) (assigns (unit_of tree s) (MemberUser x)))
-            (sym (eqb-true m s same)) line)
+            subst (λ e. IsLine format tree (line_with format symbol.name e) (assigns (unit_of tree s) again)) (sym seen)
+            (subst (λ x. IsLine format tree (line_with format symbol.name (tri_symbol_value Boolean Y)) (assigns (unit_of tree s) x))
+            (ap (member_user tree.language) (sym (eqb-true is.0 s same)) ∙ sym is.2) line)
         | inr other ↦ absurd (false≢true (sym (ap (λ t. not (is_n t)) (tri ∙ ap (λ b. cond b Y N) other)) ∙ chosen))
       ]
 
   within_choice : (s c : ℕ) (symbol : Symbol) → slice_get tree.symbols s ≡ Some symbol → symbol.choice ≡ Some c
       → is_kept profile tree values (unit_of tree s) ≡ true → not (is_n (value_in_unit tree values s symbol (Some c)).tri) ≡ true
-      → IsLine format tree (line_with format symbol.name (value_in_unit tree values s symbol (Some c))) (meant values (unit_of tree s))
+      → IsLine format tree (line_with format symbol.name (value_in_unit tree values s symbol (Some c))) (meant tree.language values (unit_of tree s))
   unfolding user_fits
   within_choice s c symbol at within kept chosen =
       let own = sound.units_of_members s c symbol at within in
       let number : unit_of tree s ≡ own.0 = unit_is tree sound s own.0 symbol (Some c) at within own.1 in
       let here : slice_get tree.units (unit_of tree s) ≡ Some (of_choice c) = ap (slice_get tree.units) number ∙ own.1 in
       let k = kept_unit profile tree users values fitting solved (unit_of tree s) (inside tree.units (unit_of tree s) (of_choice c) here) kept in
-      let fits : choice_user_fits (slice_get tree.choices c) k.again ≡ true = sym (ap (λ o. unit_user_fits tree o k.again) here) ∙ k.fits in
+      let fits : choice_user_fits tree.language (slice_get tree.choices c) k.again ≡ true = sym (ap (λ o. unit_user_fits tree o k.again) here) ∙ k.fits in
       subst (IsLine format tree (line_with format symbol.name (value_in_unit tree values s symbol (Some c)))) (meaning (unit_of tree s) k)
       (member_by_user s c symbol at within (place_is tree sound (unit_of tree s) (of_choice c) here) chosen k.held k.has k.again k.assigned fits)
 
   at_choice : (s : ℕ) (symbol : Symbol) → slice_get tree.symbols s ≡ Some symbol → (c : Option ℕ) → symbol.choice ≡ c
       → is_kept profile tree values (unit_of tree s) ≡ true → is_line_of_its_unit c (value_in_unit tree values s symbol c) ≡ true
-      → IsLine format tree (line_with format symbol.name (value_in_unit tree values s symbol c)) (meant values (unit_of tree s))
+      → IsLine format tree (line_with format symbol.name (value_in_unit tree values s symbol c)) (meant tree.language values (unit_of tree s))
   at_choice s symbol at None out kept may = outside s symbol at out kept
   at_choice s symbol at (Some c) within kept may = within_choice s c symbol at within kept may
 
   at_symbol : (s : ℕ) (o : Option Symbol) → slice_get tree.symbols s ≡ o → is_kept profile tree values (unit_of tree s) ≡ true
       → may_have_line o (option_map (λ (symbol : Symbol). value_in_unit tree values s symbol symbol.choice) o) ≡ true
       → IsLine format tree (line_of_value format o (option_map (λ (symbol : Symbol). value_in_unit tree values s symbol symbol.choice) o))
-      (meant values (unit_of tree s))
+      (meant tree.language values (unit_of tree s))
   at_symbol s None at kept may = absurd (false≢true may)
   at_symbol s (Some symbol) at kept may = at_choice s symbol at symbol.choice refl kept may
 
   -- the line of a symbol of the minimal file assigns its unit its own value; it is UTF-8, without a newline and without
   -- white bytes at its end
-  pub line_reads : (s : ℕ) → has_line profile tree values s ≡ true → IsLine format tree (symbol_line format tree values s) (meant values (unit_of tree s))
+  pub line_reads : (s : ℕ) → has_line profile tree values s ≡ true → IsLine format tree (symbol_line format tree values s) (meant tree.language values (unit_of tree s))
   unfolding symbol_line
   line_reads s has =
       let parts = and_parts (is_kept profile tree values (unit_of tree s)) (may_have_line (slice_get tree.symbols s) (value_of_symbol tree values s)) has in

@@ -20,7 +20,7 @@ pub record KeptUnit (tree : Tree) (values : List UnitValue) (u : ℕ) : Type 0 w
   pub held : UnitValue
   pub again : UserValue
   pub has : slice_get values u ≡ Some held
-  pub assigned : as_user held ≡ Some again
+  pub assigned : as_user tree.language held ≡ Some again
   pub fits : user_fits tree u again ≡ true
 
 module _ (profile : Profile) (tree : Tree) (users : List (Option UserValue)) (values : List UnitValue)

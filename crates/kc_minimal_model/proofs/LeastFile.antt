@@ -26,14 +26,16 @@ use Rattle.kc_dotconfig_model.specs.Formats.{FileFormat}
 use Rattle.kc_dotconfig_model.specs.PrefixGrammar.{is_prefix}
 use Rattle.kc_dotconfig_model.specs.ConfigLines.{LineMeaning, Means}
 use Rattle.kc_tree_model.specs.LogicalLines.{without_white_end}
-use Rattle.kc_dotconfig_model.specs.ConfigFiles.{file_lines, assigned, assigned_over, file_assignment, empty_assignment}
+use Rattle.kc_dotconfig_model.specs.ConfigFiles.{file_lines, over, assigned, assigned_over, file_assignment, empty_assignment}
 use Rattle.kc_minimal_model.specs.SymbolLine.{symbol_line, ended_line}
 use Rattle.kc_minimal_model.specs.MinimalFile.{is_kept, has_line, may_have_line, is_line_of_its_unit, minimal_symbols}
 use Rattle.kc_minimal_model.specs.MinimalFileLaws.{IsReadAsLeast}
 use Rattle.kc_minimal_model.proofs.Bytes.{first_line}
 use Rattle.kc_tree_model.proofs.Lookups.{inside, place_is, unit_is}
 use Rattle.kc_minimal_model.proofs.KeptUnits.{KeptUnit, kept_unit, kept_passes, others_fail}
-use Rattle.kc_minimal_model.proofs.KeptLines.{line_reads, meant, user_meant, meaning_of_user, value_of_member}
+use Rattle.kc_minimal_model.proofs.KeptLines.{line_reads, meant, user_meant, meaning_of_user}
+use Rattle.kc_minimal_model.proofs.MemberUsers.{chosen_member, meant_gives}
+use Rattle.kc_dotconfig_model.proofs.Overlays.{over_none}
 
 -- all numbers that are left of a list by a filter pass the test of the filter
 pub passes_filter : (p : ℕ → Bool) (xs : List ℕ) → list_all p (filter p xs) ≡ true
@@ -89,48 +91,55 @@ or_assoc true b c = refl
 or_assoc false b c = refl
 
 -- after one line, a unit has its user value where the line or one before it is of the unit
-after_line : (X : Option UserValue) (w u : ℕ) (o : Option UserValue) (users : List (Option UserValue)) (before : Bool) → (w ≡ u → o ≡ X) → u < length users
+after_line : (X : Option UserValue) → ((x : UserValue) → X ≡ Some x → over x (Some x) ≡ x) → (w u : ℕ) (o : Option UserValue) (users : List (Option UserValue))
+    (before : Bool) → (w ≡ u → o ≡ X) → u < length users
     → user_of users u ≡ cond before X None
     → user_of (assigned (meaning_of_user w o) users) u ≡ cond (before || (w == u)) X None
-after_line X w u None users before same h e = elim (cases_Bool (w == u)) [
+after_line X again w u None users before same h e = elim (cases_Bool (w == u)) [
   | inl here ↦ e ∙ either_none before X (sym (same (eqb-true w u here))) ∙ sym (either_none (before || (w == u)) X (sym (same (eqb-true w u here))))
   | inr other ↦ e ∙ sym (ap (λ b. cond (before || b) X None) other ∙ ap (λ b. cond b X None) (or_false before))
 ]
-after_line X w u (Some x) users before same h e = elim (cases_Bool (w == u)) [
+after_line X again w u (Some x) users before same h e = elim (cases_Bool (w == u)) [
   | inl here ↦
       let equal : w ≡ u = eqb-true w u here in
-      subst (λ k. get_or (slice_set users k (Some x)) u None ≡ Some x) (sym equal) (get_or-set_same users u (Some x) None h)
-      ∙ same equal ∙ sym (ap (λ b. cond (before || b) X None) here ∙ ap (λ b. cond b X None) (or_true before))
+      let z = over x (user_of users w) in
+      let own : z ≡ x = ap (λ k. over x (user_of users k)) equal ∙ ap (over x) (e ∙ ap (λ y. cond before y None) (sym (same equal)))
+      ∙ stays before x (again x (sym (same equal))) in
+      subst (λ k. get_or (slice_set users k (Some z)) u None ≡ Some z) (sym equal) (get_or-set_same users u (Some z) None h)
+      ∙ ap Some own ∙ same equal ∙ sym (ap (λ b. cond (before || b) X None) here ∙ ap (λ b. cond b X None) (or_true before))
   | inr other ↦
-      get_or-set_other users w u (Some x) None (λ equal. eqb-false w u other (sym equal)) ∙ e
+      get_or-set_other users w u (Some (over x (user_of users w))) None (λ equal. eqb-false w u other (sym equal)) ∙ e
       ∙ sym (ap (λ b. cond (before || b) X None) other ∙ ap (λ b. cond b X None) (or_false before))
-]
+] where
+  stays : (b : Bool) (y : UserValue) → over y (Some y) ≡ y → over y (cond b (Some y) None) ≡ y
+  stays true y again = again
+  stays false y again = over_none y
 
 same_length : (w : ℕ) (o : Option UserValue) (users : List (Option UserValue)) → length (assigned (meaning_of_user w o) users) ≡ length users
 same_length w None users = refl
-same_length w (Some x) users = length-set users w (Some x)
+same_length w (Some x) users = length-set users w (Some (over x (user_of users w)))
 
 module _ (tree : Tree) (values : List UnitValue) where
   -- the meanings of the lines of some symbols, each of which assigns the symbol's unit its own value
   abbrev pub meanings_of : List ℕ → List LineMeaning
-  meanings_of xs = map (λ s. meant values (unit_of tree s)) xs
+  meanings_of xs = map (λ s. meant tree.language values (unit_of tree s)) xs
 
   pub after_lines : (u : ℕ) (xs : List ℕ) (users : List (Option UserValue)) (before : Bool) → u < length users
-      → user_of users u ≡ cond before (user_meant values u) None
-      → user_of (assigned_over (map (λ s. meant values (unit_of tree s)) xs) users) u ≡ cond (before || list_any (λ s. unit_of tree s == u) xs)
-      (user_meant values u) None
-  after_lines u [] users before h e = e ∙ sym (ap (λ b. cond b (user_meant values u) None) (or_false before))
+      → user_of users u ≡ cond before (user_meant tree.language values u) None
+      → user_of (assigned_over (map (λ s. meant tree.language values (unit_of tree s)) xs) users) u ≡ cond (before || list_any (λ s. unit_of tree s == u) xs)
+      (user_meant tree.language values u) None
+  after_lines u [] users before h e = e ∙ sym (ap (λ b. cond b (user_meant tree.language values u) None) (or_false before))
   after_lines u (s ∷ xs) users before h e =
       let w = unit_of tree s in
-      let now = after_line (user_meant values u) w u (user_meant values w) users before (λ same. ap (user_meant values) same) h e in
-      let len = same_length w (user_meant values w) users in
-      after_lines u xs (assigned (meant values w) users) (before || (w == u)) (omega (arith, len)) now
-      ∙ ap (λ b. cond b (user_meant values u) None) (or_assoc before (w == u) (list_any (λ t. unit_of tree t == u) xs))
+      let now = after_line (user_meant tree.language values u) (λ x is. (meant_gives tree.language (slice_get values u) x is).1) w u (user_meant tree.language values w) users before (λ same. ap (user_meant tree.language values) same) h e in
+      let len = same_length w (user_meant tree.language values w) users in
+      after_lines u xs (assigned (meant tree.language values w) users) (before || (w == u)) (omega (arith, len)) now
+      ∙ ap (λ b. cond b (user_meant tree.language values u) None) (or_assoc before (w == u) (list_any (λ t. unit_of tree t == u) xs))
 
-  pub length_after : (xs : List ℕ) (users : List (Option UserValue)) → length (assigned_over (map (λ s. meant values (unit_of tree s)) xs) users) ≡ length users
+  pub length_after : (xs : List ℕ) (users : List (Option UserValue)) → length (assigned_over (map (λ s. meant tree.language values (unit_of tree s)) xs) users) ≡ length users
   length_after [] users = refl
   length_after (s ∷ xs) users =
-      length_after xs (assigned (meant values (unit_of tree s)) users) ∙ same_length (unit_of tree s) (user_meant values (unit_of tree s)) users
+      length_after xs (assigned (meant tree.language values (unit_of tree s)) users) ∙ same_length (unit_of tree s) (user_meant tree.language values (unit_of tree s)) users
 
 module _ (format : FileFormat) (valid : is_prefix format.prefix ≡ true) (profile : Profile) (tree : Tree) (sound : IsConsistent tree)
     (users : List (Option UserValue)) (values : List UnitValue)
@@ -139,7 +148,7 @@ module _ (format : FileFormat) (valid : is_prefix format.prefix ≡ true) (profi
   -- in a text of the lines of some symbols of the minimal file, each line assigns its symbol's unit its own value
   pub lines_mean : (xs : List ℕ) → list_all (has_line profile tree values) xs ≡ true
       → AllZip (λ line meaning. Means format tree (without_white_end line) meaning) (file_lines (flat_map (ended_line format tree values) xs))
-      (map (λ s. meant values (unit_of tree s)) xs)
+      (map (λ s. meant tree.language values (unit_of tree s)) xs)
   lines_mean [] all = tt
   lines_mean (s ∷ xs) all =
       let rest = flat_map (ended_line format tree values) xs in
@@ -148,8 +157,8 @@ module _ (format : FileFormat) (valid : is_prefix format.prefix ≡ true) (profi
       let cut : file_lines (ended_line format tree values s ++ rest) ≡ symbol_line format tree values s ∷ file_lines rest =
       ap file_lines (append_assoc (symbol_line format tree values s) (10 ∷ []) rest) ∙ first_line (symbol_line format tree values s) rest line.one in
       subst (λ lines. AllZip (λ l meaning. Means format tree (without_white_end l) meaning) lines
-      (meant values (unit_of tree s) ∷ map (λ t. meant values (unit_of tree t)) xs)) (sym cut)
-      (subst (λ l. Means format tree l (meant values (unit_of tree s))) (sym line.whole) line.has_meaning, lines_mean xs parts.1)
+      (meant tree.language values (unit_of tree s) ∷ map (λ t. meant tree.language values (unit_of tree t)) xs)) (sym cut)
+      (subst (λ l. Means format tree l (meant tree.language values (unit_of tree s))) (sym line.whole) line.has_meaning, lines_mean xs parts.1)
 
   -- a unit that is kept has a line in the minimal file: that of one of its symbols
   pub speaks_at : (u : ℕ) → is_kept profile tree values u ≡ true → KeptUnit tree values u → (unit : TreeUnit) → slice_get tree.units u ≡ Some unit
@@ -166,17 +175,17 @@ module _ (format : FileFormat) (valid : is_prefix format.prefix ≡ true) (profi
       one_of_filter (λ t. unit_of tree t == u) (has_line profile tree values) (length tree.symbols) 0 s (omega arith) (omega arith)
       (and_from (is_kept profile tree values (unit_of tree s)) _ (ap (is_kept profile tree values) number ∙ kept) may) (eq-eqb (unit_of tree s) u number)
   speaks_at u kept k (of_choice c) at = by_member k.again k.assigned (sym (ap (λ o. unit_user_fits tree o k.again) at) ∙ k.fits) where
-    by_member : (again : UserValue) → as_user k.held ≡ Some again → choice_user_fits (slice_get tree.choices c) again ≡ true
+    by_member : (again : UserValue) → as_user tree.language k.held ≡ Some again → choice_user_fits tree.language (slice_get tree.choices c) again ≡ true
         → list_any (λ s. unit_of tree s == u) (minimal_symbols profile tree values) ≡ true
-    by_member (TriUser t) again fits = absurd (false≢true fits)
-    by_member (TextUser t) again fits = absurd (false≢true fits)
-    by_member (MemberUser m) gives fits =
+    by_member again gives fits =
+        let is = chosen_member tree.language (slice_get tree.choices c) k.held again gives fits in
+        let m = is.0 in
         let choice = sound.choice_units u c at in
-        let found = sound.members c m choice.0 choice.1 (sym (ap (λ o. is_member o m) choice.1) ∙ fits) in
+        let found = sound.members c m choice.0 choice.1 (sym (ap (λ o. is_member o m) choice.1) ∙ is.3) in
         let number : unit_of tree m ≡ u = unit_is tree sound m u found.0 (Some c) found.1 found.2 at in
         let tri : tri_if_selected m (member_of (slice_get values (index_of_unit tree (of_choice c)))) ≡ Y =
         ap (λ o. tri_if_selected m (member_of o)) (ap (slice_get values) (place_is tree sound u (of_choice c) at) ∙ k.has
-        ∙ ap Some (value_of_member k.held m gives)) ∙ ap (λ b. cond b Y N) (eq-eqb m m refl) in
+        ∙ ap Some is.1) ∙ ap (λ b. cond b Y N) (eq-eqb m m refl) in
         let may : may_have_line (slice_get tree.symbols m) (option_map (λ (symbol : Symbol). value_in_unit tree values m symbol symbol.choice)
         (slice_get tree.symbols m)) ≡ true =
         ap (λ o. may_have_line o (option_map (λ (symbol : Symbol). value_in_unit tree values m symbol symbol.choice) o)) found.1
@@ -189,22 +198,22 @@ module _ (format : FileFormat) (valid : is_prefix format.prefix ≡ true) (profi
   unit_there u h = (get_or tree.units u (of_symbol 0), slice_get-get_or tree.units u (of_symbol 0) h)
 
   pub file_user : (u : ℕ) → u < length tree.units
-      → user_of (file_assignment tree (map (λ s. meant values (unit_of tree s)) (minimal_symbols profile tree values))) u
-      ≡ cond (list_any (λ s. unit_of tree s == u) (minimal_symbols profile tree values)) (user_meant values u) None
+      → user_of (file_assignment tree (map (λ s. meant tree.language values (unit_of tree s)) (minimal_symbols profile tree values))) u
+      ≡ cond (list_any (λ s. unit_of tree s == u) (minimal_symbols profile tree values)) (user_meant tree.language values u) None
   file_user u h =
       after_lines tree values u (minimal_symbols profile tree values) (empty_assignment tree) false
       (let len = none_length (length tree.units) in omega (arith, len)) (none_held (length tree.units) u)
 
   -- the lines of the minimal file assign the least assignment of the values
-  pub least_of_lines : IsLeastAssignment (length tree.units) (rule profile tree) as_user values
-      (file_assignment tree (map (λ s. meant values (unit_of tree s)) (minimal_symbols profile tree values)))
+  pub least_of_lines : IsLeastAssignment (length tree.units) (rule profile tree) (as_user tree.language) values
+      (file_assignment tree (map (λ s. meant tree.language values (unit_of tree s)) (minimal_symbols profile tree values)))
   least_of_lines = record {
     one_each = length_after tree values (minimal_symbols profile tree values) (empty_assignment tree) ∙ none_length (length tree.units);
     kept = λ u value h has kept.
         let test = kept_passes profile tree users values fitting solved u h kept in
         let unit = unit_there u h in
         let k = kept_unit profile tree users values fitting solved u h test in
-        file_user u h ∙ ap (λ b. cond b (user_meant values u) None) (speaks_at u test k unit.0 unit.1) ∙ ap (option_and_then as_user) has;
+        file_user u h ∙ ap (λ b. cond b (user_meant tree.language values u) None) (speaks_at u test k unit.0 unit.1) ∙ ap (option_and_then (as_user tree.language)) has;
     others = λ u h same.
         let fails : (s : ℕ) → has_line profile tree values s ≡ true → (unit_of tree s == u) ≡ false = λ s has. elim (cases_Bool (unit_of tree s == u)) [
           | inl here ↦
@@ -213,14 +222,14 @@ module _ (format : FileFormat) (valid : is_prefix format.prefix ≡ true) (profi
               ∙ ap (is_kept profile tree values) (sym (eqb-true (unit_of tree s) u here)) ∙ kept))
           | inr other ↦ other
         ] in
-        file_user u h ∙ ap (λ b. cond b (user_meant values u) None) (none_of_filter (λ s. unit_of tree s == u) (has_line profile tree values)
+        file_user u h ∙ ap (λ b. cond b (user_meant tree.language values u) None) (none_of_filter (λ s. unit_of tree s == u) (has_line profile tree values)
         (symbol_numbers tree) fails);
   }
 
   -- the minimal file is read as the least assignment of its values
   pub reads_as_least : IsReadAsLeast format profile tree values
   reads_as_least = record {
-    meanings = map (λ s. meant values (unit_of tree s)) (minimal_symbols profile tree values);
+    meanings = map (λ s. meant tree.language values (unit_of tree s)) (minimal_symbols profile tree values);
     has_meaning = lines_mean (minimal_symbols profile tree values) (passes_filter (has_line profile tree values) (symbol_numbers tree));
     least = least_of_lines;
   }

@@ -1,6 +1,7 @@
 pub mod Bytes
 pub mod LineReads
 pub mod KeptUnits
+pub mod MemberUsers
 pub mod KeptLines
 pub mod LeastFile
 pub mod LineUnits

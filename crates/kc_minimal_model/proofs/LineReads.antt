@@ -11,7 +11,8 @@ use Rattle.kc_value.specs.QuotedTexts.{quoted, escaped_byte, IsBody, none, plain
 use Rattle.kc_expr.specs.Expr.{SymbolValue, letter}
 use Rattle.kc_tree_model.specs.Trees.{Tree, Symbol}
 use Rattle.kc_tree_model.specs.TreeLookup.{IsConsistent, is_name_byte, unit_of}
-use Rattle.kc_rules_model.specs.declared.values.UserValue.TheVariants.{Tri as TriUser, Text as TextUser, Member as MemberUser}
+use Rattle.kc_rules_model.specs.declared.values.UserValue.TheVariants.{Tri as TriUser, Text as TextUser}
+use Rattle.kc_rules_model.specs.Rule.{member_user}
 use Rattle.kc_value.specs.Kinds.{is_tri_kind}
 use Rattle.kc_value.specs.Number.{number_of_text}
 use Rattle.kc_rules_model.specs.Shapes.{tri_fits, user_text_fits}
@@ -220,9 +221,9 @@ module _ (format : FileFormat) (valid : is_prefix format.prefix ≡ true) (tree 
 
   -- the line of a choice's selected member is read as the assignment that selects this member
   pub member_line : (c : ℕ) → symbol.choice ≡ Some c → symbol.kind ≡ Boolean
-      → IsLine format tree (line_with format symbol.name (of_tri Boolean Y)) (assigns (unit_of tree s) (MemberUser s))
+      → IsLine format tree (line_with format symbol.name (of_tri Boolean Y)) (assigns (unit_of tree s) (member_user tree.language s))
   member_line c within is =
-      ink_line (letter Y) (assigns (unit_of tree s) (MemberUser s)) (record { some = omega arith; ink = refl; low = refl })
+      ink_line (letter Y) (assigns (unit_of tree s) (member_user tree.language s)) (record { some = omega arith; ink = refl; low = refl })
       (chosen c (letter Y) within (ap (λ k. tri_of_text k (letter Y)) is))
 
 pub strings_read_back : StringsAreReadBack

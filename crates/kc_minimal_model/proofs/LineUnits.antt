@@ -10,6 +10,7 @@ use Rattle.kc_tree_model.specs.TreeLookup.{IsConsistent, unit_of, index_of_unit}
 use Rattle.kc_system.specs.Solutions.{Solves, FitsUsers}
 use Rattle.kc_rules_model.specs.declared.profile.Profile.{Profile}
 use Rattle.kc_rules_model.specs.declared.values.UnitValue.{UnitValue}
+use Rattle.kc_rules_model.specs.declared.values.UnitValue.TheVariants.{Member as MemberValue}
 use Rattle.kc_rules_model.specs.declared.values.UserValue.{UserValue}
 use Rattle.kc_rules_model.specs.declared.values.UserValue.TheVariants.{Tri as TriUser, Text as TextUser, Member as MemberUser}
 use Rattle.kc_rules_model.specs.Kinds.{is_n}
@@ -19,7 +20,7 @@ use Rattle.kc_rules_model.specs.Shapes.{user_fits, unit_user_fits, choice_user_f
 use Rattle.kc_minimal_model.specs.MinimalFile.{is_kept, has_line, may_have_line, is_line_of_its_unit}
 use Rattle.kc_tree_model.proofs.Lookups.{inside, place_is, unit_is}
 use Rattle.kc_minimal_model.proofs.KeptUnits.{kept_unit}
-use Rattle.kc_minimal_model.proofs.KeptLines.{user_meant, value_of_member}
+use Rattle.kc_minimal_model.proofs.MemberUsers.{chosen_member}
 
 module _ (profile : Profile) (tree : Tree) (sound : IsConsistent tree) (users : List (Option UserValue)) (values : List UnitValue)
     (fitting : FitsUsers (length tree.units) (λ u x. IsTrue (user_fits tree u x)) users)
@@ -28,36 +29,27 @@ module _ (profile : Profile) (tree : Tree) (sound : IsConsistent tree) (users : 
   abbrev SpeaksOf : ℕ → Type 0
   SpeaksOf s =
       (slice_get tree.units (unit_of tree s) ≡ Some (of_symbol s)) ⊎ ((c : ℕ) × (slice_get tree.units (unit_of tree s) ≡ Some (of_choice c))
-      × (user_meant values (unit_of tree s) ≡ Some (MemberUser s)))
+      × (slice_get values (unit_of tree s) ≡ Some (MemberValue (Some s))))
 
   of_member : (s c : ℕ) (symbol : Symbol) → slice_get tree.symbols s ≡ Some symbol → symbol.choice ≡ Some c
       → is_kept profile tree values (unit_of tree s) ≡ true
       → not (is_n (value_in_unit tree values s symbol (Some c)).tri) ≡ true
-      → (c : ℕ) × (slice_get tree.units (unit_of tree s) ≡ Some (of_choice c)) × (user_meant values (unit_of tree s) ≡ Some (MemberUser s))
+      → (c : ℕ) × (slice_get tree.units (unit_of tree s) ≡ Some (of_choice c)) × (slice_get values (unit_of tree s) ≡ Some (MemberValue (Some s)))
   unfolding user_fits
   of_member s c symbol at within kept chosen =
       let own = sound.units_of_members s c symbol at within in
       let here : slice_get tree.units (unit_of tree s) ≡ Some (of_choice c) = ap (slice_get tree.units)
       (unit_is tree sound s own.0 symbol (Some c) at within own.1) ∙ own.1 in
       let k = kept_unit profile tree users values fitting solved (unit_of tree s) (inside tree.units (unit_of tree s) (of_choice c) here) kept in
-      let fits : choice_user_fits (slice_get tree.choices c) k.again ≡ true = sym (ap (λ o. unit_user_fits tree o k.again) here) ∙ k.fits in (
-        c,
-        here,
-        ap (option_and_then as_user) k.has ∙ k.assigned ∙ by_member k.held k.has k.again k.assigned fits
-            (place_is tree sound (unit_of tree s) (of_choice c) here),
-      ) where
-        by_member : (held : UnitValue) → slice_get values (unit_of tree s) ≡ Some held → (again : UserValue) → as_user held ≡ Some again
-            → choice_user_fits (slice_get tree.choices c) again ≡ true
-            → index_of_unit tree (of_choice c) ≡ unit_of tree s → Some again ≡ Some (MemberUser s)
-        by_member held has (TriUser t) gives fits place = absurd (false≢true fits)
-        by_member held has (TextUser t) gives fits place = absurd (false≢true fits)
-        by_member held has (MemberUser m) gives fits place =
-            let tri : (value_in_unit tree values s symbol (Some c)).tri ≡ cond (m == s) Y N = ap (λ o. tri_if_selected s (member_of o))
-            (ap (slice_get values) place ∙ has ∙ ap Some (value_of_member held m gives)) in
-            elim (cases_Bool (m == s)) [
-              | inl same ↦ ap (λ x. Some (MemberUser x)) (eqb-true m s same)
-              | inr other ↦ absurd (false≢true (sym (ap (λ t. not (is_n t)) (tri ∙ ap (λ b. cond b Y N) other)) ∙ chosen))
-            ]
+      let fits : choice_user_fits tree.language (slice_get tree.choices c) k.again ≡ true = sym (ap (λ o. unit_user_fits tree o k.again) here) ∙ k.fits in
+      let is = chosen_member tree.language (slice_get tree.choices c) k.held k.again k.assigned fits in
+      let has : slice_get values (unit_of tree s) ≡ Some (MemberValue (Some is.0)) = k.has ∙ ap Some is.1 in
+      let tri : (value_in_unit tree values s symbol (Some c)).tri ≡ cond (is.0 == s) Y N = ap (λ o. tri_if_selected s (member_of o))
+      (ap (slice_get values) (place_is tree sound (unit_of tree s) (of_choice c) here) ∙ has) in
+      elim (cases_Bool (is.0 == s)) [
+        | inl same ↦ (c, here, has ∙ ap (λ m. Some (MemberValue (Some m))) (eqb-true is.0 s same))
+        | inr other ↦ absurd (false≢true (sym (ap (λ t. not (is_n t)) (tri ∙ ap (λ b. cond b Y N) other)) ∙ chosen))
+      ]
 
   speaks_of : (s : ℕ) → has_line profile tree values s ≡ true → SpeaksOf s
   speaks_of s has =
@@ -80,4 +72,4 @@ module _ (profile : Profile) (tree : Tree) (sound : IsConsistent tree) (users : 
     go (inl a) (inl b) = cc (ap (slice_get tree.units) same)
     go (inl a) (inr b) = cc (ap (slice_get tree.units) same, b.1)
     go (inr a) (inl b) = cc (ap (slice_get tree.units) same, a.1)
-    go (inr a) (inr b) = cc (ap (user_meant values) same, a.2, b.2)
+    go (inr a) (inr b) = cc (ap (slice_get values) same, a.2, b.2)

@@ -1,14 +1,18 @@
 -- A minimal file of an accepted file passes no limit but the size.
-use Rattle.std.proofs.Common.{◌≡◌, ◌⊎◌, inl, inr, ℕ, ◌+◌, ◌<◌, ◌≤◌, Bool, true, false, IsTrue, cond, List, [], ◌∷◌, ◌++◌, Option, Some, None, length, IsUtf8, refl, sym, ap, ◌∙◌, subst, arith, length-append}
+use Rattle.std.proofs.Common.{◌≡◌, ◌⊎◌, inl, inr, ℕ, ◌+◌, ◌<◌, ◌≤◌, Bool, true, false, ◌&&◌, ℤ, unwrap_or, IsTrue, cond, List, [], ◌∷◌, ◌++◌, Option, Some, None, length, IsUtf8, refl, sym, ap, ◌∙◌, subst, arith, length-append}
 use Rattle.std.specs.Prelude.{slice_get, is_some, nat_le}
 use Rattle.std.specs.Option.{option_map}
 use Rattle.std.specs.List.{list_all}
-use Rattle.std.proofs.lemmas.Bool.{and_parts, and_from, cases_Bool, false≢true, le-leb}
+use Rattle.std.proofs.lemmas.Bool.{and_parts, and_from, cases_Bool, false≢true, le-leb, leb-true}
 use Rattle.std.proofs.lemmas.List.FromFn.{length-range_with_len}
 use Rattle.kc_value.specs.declared.tri.Tri.TheVariants.{N}
 use Rattle.kc_value.specs.declared.value.Kind.{Kind}
 use Rattle.kc_value.specs.declared.value.Kind.TheVariants.{Bool as Boolean, Tristate, Text, Int, Hex}
-use Rattle.kc_value.specs.Number.{number_of_text}
+use Rattle.kc_value.specs.Number.{number_of_text, int_text, hex_text}
+use Rattle.kc_value.specs.Kinds.{is_number}
+use Rattle.kc_tokens.specs.Languages.{is_linux_6_12}
+use Rattle.kc_rules_model.specs.RuleLaws.{moves_user_values}
+use Rattle.kc_rules_model.proofs.Numbers.{number_ink}
 use Rattle.kc_expr.specs.Expr.{SymbolValue}
 use Rattle.kc_tree_model.specs.Trees.{Tree, Symbol}
 use Rattle.kc_tree_model.specs.declared.ids.Unit.TheVariants.{Symbol as of_symbol, Choice as of_choice}
@@ -18,11 +22,11 @@ use Rattle.kc_rules_model.specs.declared.profile.Profile.{Profile}
 use Rattle.kc_rules_model.specs.declared.values.UnitValue.{UnitValue}
 use Rattle.kc_rules_model.specs.declared.values.UnitValue.TheVariants.{Text as TextValue}
 use Rattle.kc_rules_model.specs.declared.values.UserValue.{UserValue}
-use Rattle.kc_rules_model.specs.declared.values.UserValue.TheVariants.{Tri as TriUser, Text as TextUser, Member as MemberUser}
+use Rattle.kc_rules_model.specs.declared.values.UserValue.TheVariants.{Tri as TriUser, Text as TextUser, Member as MemberUser, Lines as LinesUser}
 use Rattle.kc_value.specs.Kinds.{is_tri_kind}
 use Rattle.kc_rules_model.specs.SymbolValues.{value_of_symbol, value_in_unit, tri_symbol_value, tri_of, text_of, member_of, tri_if_selected}
 use Rattle.kc_rules_model.specs.Rule.{as_user}
-use Rattle.kc_rules_model.specs.Shapes.{user_fits, unit_user_fits, symbol_user_fits}
+use Rattle.kc_rules_model.specs.Shapes.{user_fits, unit_user_fits, symbol_user_fits, user_text_fits}
 use Rattle.kc_rules_model.specs.Reports.{symbol_numbers}
 use Rattle.kc_tree_model.proofs.Lookups.{inside, unit_is}
 use Rattle.kc_value.proofs.QuotedUtf8.{quoted_utf8}
@@ -32,7 +36,7 @@ use Rattle.kc_dotconfig_model.specs.Formats.{FileFormat, string_spelling, IsStri
 use Rattle.kc_dotconfig_model.specs.PrefixGrammar.{is_prefix}
 use Rattle.kc_tree_model.specs.LogicalLines.{without_white_end}
 use Rattle.kc_dotconfig_model.specs.ConfigFiles.{file_lines, file_assignment, empty_assignment}
-use Rattle.kc_value.specs.declared.limits.TheConstants.{MAX_CONFIG_LINES, MAX_LINE_BYTES}
+use Rattle.kc_value.specs.declared.limits.TheConstants.{MAX_CONFIG_LINES, MAX_LINE_BYTES, MAX_NAME_BYTES, MAX_NUMBER_BYTES, MAX_PREFIX_BYTES}
 use Rattle.kc_dotconfig_model.specs.LoadFaults.{IsAccepted}
 use Rattle.kc_dotconfig_model.proofs.FittingFiles.{file_fits}
 use Rattle.kc_minimal_model.specs.SymbolLine.{spelled, symbol_line, line_of_value, line_with}
@@ -49,7 +53,7 @@ use Rattle.kc_minimal_model.proofs.KeptLines.{value_of_text, tri_kind}
 use Rattle.kc_minimal_model.proofs.KeptUnits.{kept_unit}
 use Rattle.kc_minimal_model.proofs.LeastFile.{none_held, none_length, passes_filter}
 use Rattle.kc_minimal_model.proofs.NeededUnits.{needs_values}
-use Rattle.kc_dotconfig_model.proofs.TrimmedLines.{name_utf8, trimmed_utf8, trimmed_no_longer}
+use Rattle.kc_dotconfig_model.proofs.TrimmedLines.{low_utf8, name_utf8, trimmed_utf8, trimmed_no_longer}
 use Rattle.kc_value.proofs.UnquotedUtf8.{ascii_alone, utf8_after, unquoted_utf8, quoted_no_longer}
 
 abbrev TextStands : Strings → Symbol → List ℕ → List ℕ → Type 0
@@ -83,11 +87,30 @@ spelled_no_longer strings kind symbol text means is (inr n) u =
     (ap (λ k. is_some (number_of_text k text)) (sym is) ∙ n.1) in
     subst (λ l. (length l ≤ length text) × IsUtf8 l) (sym same) (omega arith, u)
 
-text_held : (symbol : Symbol) (held : UnitValue) (again : UserValue) → is_tri_kind symbol.kind ≡ false → as_user held ≡ Some again
+and_nothing : (b : Bool) → (b && false) ≡ false
+and_nothing true = refl
+and_nothing false = refl
+
+if_short : (n : ℕ) (o : Option ℤ) → is_some (cond (nat_le n MAX_NUMBER_BYTES) o None) ≡ true → n ≤ MAX_NUMBER_BYTES
+if_short n o some = go (nat_le n MAX_NUMBER_BYTES) refl some where
+  go : (b : Bool) → nat_le n MAX_NUMBER_BYTES ≡ b → is_some (cond b o None) ≡ true → n ≤ MAX_NUMBER_BYTES
+  go true e some = leb-true n MAX_NUMBER_BYTES e
+  go false e some = absurd (false≢true some)
+
+int_short : (text : List ℕ) → is_some (number_of_text Int text) ≡ true → length text ≤ MAX_NUMBER_BYTES
+unfolding int_text
+int_short text some = if_short (length text) _ some
+
+hex_short : (text : List ℕ) → is_some (number_of_text Hex text) ≡ true → length text ≤ MAX_NUMBER_BYTES
+unfolding hex_text
+hex_short text some = if_short (length text) _ some
+
+text_held : (tree : Tree) (symbol : Symbol) (held : UnitValue) (again : UserValue) → is_tri_kind symbol.kind ≡ false → as_user tree.language held ≡ Some again
     → symbol_user_fits (Some symbol) again ≡ true → (text : List ℕ) × (held ≡ TextValue text)
-text_held symbol held (TriUser t) large e fits = absurd (false≢true (sym large ∙ tri_kind symbol.kind t fits))
-text_held symbol held (TextUser text) large e fits = (text, value_of_text held text e)
-text_held symbol held (MemberUser m) large e fits = absurd (false≢true fits)
+text_held tree symbol held (TriUser t) large e fits = absurd (false≢true (sym large ∙ tri_kind symbol.kind t fits))
+text_held tree symbol held (TextUser text) large e fits = (text, value_of_text tree.language held text e)
+text_held tree symbol held (MemberUser m) large e fits = absurd (false≢true fits)
+text_held tree symbol held (LinesUser l) large e fits = absurd (false≢true fits)
 
 module _ (format : FileFormat) (profile : Profile) (tree : Tree) (bytes : List ℕ) (values : List UnitValue) (valid : is_prefix format.prefix ≡ true)
     (settled : IsOrderedTree tree)
@@ -106,7 +129,7 @@ module _ (format : FileFormat) (profile : Profile) (tree : Tree) (bytes : List �
   text_is_short s symbol text at out below has =
       let u = unit_of tree s in
       let all = none_length (length tree.units) in
-      elim (assigning_line format tree (file_lines bytes) reads.meanings (empty_assignment tree) u (TextUser text) reads.has_meaning (omega arith) has) [
+      elim (assigning_line format tree (file_lines bytes) reads.meanings (empty_assignment tree) u text reads.has_meaning (omega arith) has) [
         | inl before ↦ (let none = none_held (length tree.units) u in absurd (some_not_none (sym before ∙ none)))
         | inr l ↦ on_line l
       ] where
@@ -156,6 +179,37 @@ module _ (format : FileFormat) (profile : Profile) (tree : Tree) (bytes : List �
               outside r other written there stands (Some c) e = absurd
                   (not_bool format.strings other written text stands (settled.consistent.bool_members r c other there e))
 
+  -- the text that a symbol has as its value is on a short line: a number is short, a string is the one that the file assigns
+  value_is_short : (s : ℕ) (symbol : Symbol) (text : List ℕ) → slice_get tree.symbols s ≡ Some symbol → symbol.choice ≡ None → unit_of tree s < length tree.units
+      → slice_get tree.units (unit_of tree s) ≡ Some (of_symbol s) → user_text_fits symbol.kind text ≡ true → has_line profile tree values s ≡ true
+      → slice_get values (unit_of tree s) ≡ Some (TextValue text)
+      → (length format.prefix + length symbol.name + 1 + length (spelled format.strings symbol.kind text) ≤ MAX_LINE_BYTES)
+      × IsUtf8 (spelled format.strings symbol.kind text)
+  value_is_short s symbol text at out below here fits has holds = by_kind symbol.kind refl fits where
+    a_number : (kind : Kind) → symbol.kind ≡ kind → is_some (number_of_text kind text) ≡ true → length text ≤ MAX_NUMBER_BYTES → spelled format.strings kind text ≡ text
+        → (length format.prefix + length symbol.name + 1 + length (spelled format.strings symbol.kind text) ≤ MAX_LINE_BYTES)
+        × IsUtf8 (spelled format.strings symbol.kind text)
+    a_number kind is some short plain =
+        let name = settled.consistent.short_names s symbol at in
+        let prefix = (prefix_fits format.prefix valid).0 in
+        let same : spelled format.strings symbol.kind text ≡ text = ap (λ k. spelled format.strings k text) is ∙ plain in
+        subst (λ t. (length format.prefix + length symbol.name + 1 + length t ≤ MAX_LINE_BYTES) × IsUtf8 t) (sym same)
+        (omega (arith, name, prefix, short), low_utf8 text (number_ink kind text some).low)
+
+    by_kind : (kind : Kind) → symbol.kind ≡ kind → user_text_fits kind text ≡ true
+        → (length format.prefix + length symbol.name + 1 + length (spelled format.strings symbol.kind text) ≤ MAX_LINE_BYTES)
+        × IsUtf8 (spelled format.strings symbol.kind text)
+    by_kind Boolean is fits = absurd (false≢true fits)
+    by_kind Tristate is fits = absurd (false≢true fits)
+    by_kind Int is fits = a_number Int is fits (int_short text fits) refl
+    by_kind Hex is fits = a_number Hex is fits (hex_short text fits) refl
+    by_kind Text is fits =
+        let stays : moves_user_values tree (slice_get tree.units (unit_of tree s)) ≡ false =
+        ap (moves_user_values tree) here ∙ ap (λ o. is_linux_6_12 tree.language && unwrap_or (option_map (λ (x : Symbol). is_number x.kind) o) false) at
+        ∙ ap (λ k. is_linux_6_12 tree.language && is_number k) is ∙ and_nothing (is_linux_6_12 tree.language) in
+        text_is_short s symbol text at out below
+        ((needs_values profile tree (file_assignment tree reads.meanings) values settled fitting reads.gives.solves s (TextValue text) has holds refl).0 stays)
+
   outside_line : (s : ℕ) (symbol : Symbol) → slice_get tree.symbols s ≡ Some symbol → symbol.choice ≡ None → has_line profile tree values s ≡ true
       → is_kept profile tree values (unit_of tree s) ≡ true
       → IsFitLine (line_with format symbol.name (value_in_unit tree values s symbol None))
@@ -179,13 +233,12 @@ module _ (format : FileFormat) (profile : Profile) (tree : Tree) (bytes : List �
             subst (λ e. IsFitLine (line_with format symbol.name e)) (sym seen)
             (tri_fits_line format valid symbol.name short word symbol.kind (tri_of (slice_get values (unit_of tree s))) small)
         | inr large ↦
-            let t = text_held symbol k.held k.again large k.assigned fits in
+            let t = text_held tree symbol k.held k.again large k.assigned fits in
             let holds : slice_get values (unit_of tree s) ≡ Some (TextValue t.0) = k.has ∙ ap Some t.1 in
             let seen : value_in_unit tree values s symbol None ≡ record { kind = symbol.kind; tri = N; text = t.0 } = ap (λ h. F h (is_tri_kind symbol.kind))
             holds ∙ ap (F (Some (TextValue t.0))) large in
-            let assigned = needs_values profile tree (file_assignment tree reads.meanings) values settled fitting reads.gives.solves s (TextValue t.0) has holds
-            refl in
-            let good = text_is_short s symbol t.0 at out below assigned in
+            let again : TextUser t.0 ≡ k.again = let e : Some (TextUser t.0) ≡ Some k.again = sym (ap (as_user tree.language) t.1) ∙ k.assigned in cc in
+            let good = value_is_short s symbol t.0 at out below here (ap (symbol_user_fits (Some symbol)) again ∙ fits) has holds in
             subst (λ e. IsFitLine (line_with format symbol.name e)) (sym seen)
             (text_fits_line format valid symbol.name short word symbol.kind t.0 good.0 good.1)
       ]

@@ -84,6 +84,8 @@ module _ (profile : Profile) (tree : Tree) (users : List (Option UserValue)) (va
       let kept = line_kept s has in
       let u = unit_of tree s in
       let result = rule profile tree u (user_of users u) values in
-      let value_is : value ≡ result = let e = solved.holds u kept.0 in cc (e, holds) in
-      texts_assigned profile tree u (user_of users u) values (λ e. kept.1 (solved.holds u kept.0 ∙ ap Some e)) (ap is_tri_value (sym value_is) ∙ text)
-      ∙ ap as_user (sym value_is)
+      let value_is : value ≡ result = let e = solved.holds u kept.0 in cc (e, holds) in (
+        λ stays. texts_assigned profile tree u (user_of users u) values (λ e. kept.1 (solved.holds u kept.0 ∙ ap Some e)) (ap is_tri_value (sym value_is) ∙ text) stays
+            ∙ ap (as_user tree.language) (sym value_is),
+        λ none. kept.1 (solved.holds u kept.0 ∙ ap (λ x. Some (rule profile tree u x values)) none),
+      )

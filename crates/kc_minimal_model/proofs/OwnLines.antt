@@ -1,10 +1,10 @@
 -- The line of each symbol assigns nothing, or assigns its unit the value that it has.
-use Rattle.std.proofs.Common.{◌≡◌, inl, inr, ℕ, Bool, true, not, ◌||◌, ◌==◌, cond, IsTrue, IfSome, List, [], ◌∷◌, ◌++◌, Option, Some, None, length, refl, sym, ap, ◌∙◌, subst, arith, append_assoc}
+use Rattle.std.proofs.Common.{◌≡◌, ◌≢◌, ◌⊎◌, false, inl, inr, ℕ, Bool, true, not, ◌||◌, ◌==◌, cond, IsTrue, IfSome, List, [], ◌∷◌, ◌++◌, Option, Some, None, length, refl, sym, ap, ◌∙◌, subst, arith, append_assoc}
 use Rattle.std.specs.Prelude.{slice_get, is_some}
 use Rattle.std.specs.Option.{option_map, option_and_then}
 use Rattle.std.specs.List.{list_all}
 use Rattle.std.proofs.lemmas.Str.{IsUtf8-nil}
-use Rattle.std.proofs.lemmas.Bool.{cases_Bool, false≢true, and_parts, or_cases, eqb-true}
+use Rattle.std.proofs.lemmas.Bool.{cases_Bool, false≢true, and_parts, or_cases, eqb-true, eqb-false}
 use Rattle.kc_value.specs.declared.tri.Tri.{Tri}
 use Rattle.kc_value.specs.declared.tri.Tri.TheVariants.{N, Y}
 use Rattle.kc_value.specs.declared.value.Kind.{Kind}
@@ -18,15 +18,18 @@ use Rattle.kc_system.specs.Solutions.{FitsValues}
 use Rattle.kc_system.proofs.Lists.{get-some}
 use Rattle.kc_rules_model.specs.declared.values.UnitValue.{UnitValue}
 use Rattle.kc_rules_model.specs.declared.values.UnitValue.TheVariants.{Tri as TriValue, Text as TextValue, Member as MemberValue}
-use Rattle.kc_rules_model.specs.declared.values.UserValue.TheVariants.{Tri as TriUser, Text as TextUser, Member as MemberUser}
+use Rattle.kc_rules_model.specs.declared.values.UserValue.TheVariants.{Tri as TriUser, Text as TextUser, Lines as LinesUser}
+use Rattle.kc_rules_model.specs.declared.values.UserValue.{UserValue}
+use Rattle.kc_tokens.specs.declared.language.Language.{Language}
+use Rattle.kc_tokens.specs.Languages.{is_linux_6_12}
 use Rattle.kc_value.specs.Kinds.{is_tri_kind}
 use Rattle.kc_rules_model.specs.SymbolValues.{value_in_unit, tri_symbol_value, tri_of, text_of, member_of, tri_if_selected}
-use Rattle.kc_rules_model.specs.Rule.{as_user}
+use Rattle.kc_rules_model.specs.Rule.{as_user, member_user}
 use Rattle.kc_rules_model.specs.Shapes.{value_fits, unit_value_fits, symbol_value_fits, text_fits, user_text_fits}
 use Rattle.kc_tree_model.proofs.Lookups.{inside, found_by_name, place_is, unit_is}
 use Rattle.kc_dotconfig_model.specs.Formats.{FileFormat}
 use Rattle.kc_dotconfig_model.specs.PrefixGrammar.{is_prefix}
-use Rattle.kc_dotconfig_model.specs.ConfigLines.{LineMeaning, assigns, notice, silent, value, unset_meaning, ValueMeans, no_int, no_hex}
+use Rattle.kc_dotconfig_model.specs.ConfigLines.{LineMeaning, assigns, notice, silent, value, unchosen_meaning, unset_meaning, ValueMeans, no_int, no_hex}
 use Rattle.kc_tree_model.specs.LogicalLines.{without_white_end}
 use Rattle.kc_minimal_model.specs.SymbolLine.{symbol_line, line_of_value, line_with, value_line, unset_line}
 use Rattle.kc_minimal_model.proofs.Bytes.{name_lacks, all_of_both, ends_in_ink}
@@ -34,17 +37,21 @@ use Rattle.kc_minimal_model.proofs.DifferenceLaws.{text_kind}
 use Rattle.kc_minimal_model.proofs.KeptLines.{tri_kind, user_meant}
 use Rattle.kc_minimal_model.proofs.LineReads.{IsLine, utf8_value_line, tri_line, text_line, member_line, not_set_line}
 
--- a line of this meaning assigns a unit its own value, or assigns nothing without a notice
-abbrev pub IsOwn : List UnitValue → LineMeaning → Type 0
-IsOwn values (assigns u x) = user_meant values u ≡ Some x
-IsOwn values (notice kind) = ⊥
-IsOwn values silent = Unit {0}
+-- a user value gives `n` to a member of a choice that isn't selected
+abbrev pub IsUnchosen : List UnitValue → ℕ → UserValue → Type 0
+IsUnchosen values u x = (s : ℕ) × (x ≡ LinesUser (record { member = s; is_y = false } ∷ [])) × (slice_get values u ≢ Some (MemberValue (Some s)))
+
+-- a line of this meaning assigns a unit its own value, or `n` to a member that isn't selected, or assigns nothing without a notice
+abbrev pub IsOwn : Language → List UnitValue → LineMeaning → Type 0
+IsOwn language values (assigns u x) = (user_meant language values u ≡ Some x) ⊎ IsUnchosen values u x
+IsOwn language values (notice kind) = ⊥
+IsOwn language values silent = Unit {0}
 
 -- the line is read, and assigns a unit its own value or assigns nothing
 pub record IsOwnLine (format : FileFormat) (tree : Tree) (values : List UnitValue) (line : List ℕ) : Type 0 where
   pub meaning : LineMeaning
   pub reads : IsLine format tree line meaning
-  pub own : IsOwn values meaning
+  pub own : IsOwn tree.language values meaning
 
 no_bytes : (text : List ℕ) → (length text == 0) ≡ true → text ≡ []
 no_bytes [] e = refl
@@ -72,18 +79,18 @@ module _ (format : FileFormat) (valid : is_prefix format.prefix ≡ true) (tree 
   of_text kind text = record { kind = kind; tri = N; text = text }
 
   text_is_own_line : (s : ℕ) (symbol : Symbol) → slice_get tree.symbols s ≡ Some symbol → (text : List ℕ)
-      → user_meant values (unit_of tree s) ≡ Some (TextUser text)
+      → user_meant tree.language values (unit_of tree s) ≡ Some (TextUser text)
       → user_text_fits symbol.kind text ≡ true
       → IsOwnLine format tree values (line_with format symbol.name (of_text symbol.kind text))
   text_is_own_line s symbol at text held good =
       record {
         meaning = assigns (unit_of tree s) (TextUser text);
         reads = text_line format valid tree sound s symbol at symbol.kind text refl good;
-        own = held;
+        own = inl held;
       }
 
   number_is_own_line : (s : ℕ) (symbol : Symbol) → slice_get tree.symbols s ≡ Some symbol → (text : List ℕ)
-      → user_meant values (unit_of tree s) ≡ Some (TextUser text)
+      → user_meant tree.language values (unit_of tree s) ≡ Some (TextUser text)
       → (kind : Kind) → symbol.kind ≡ kind
       → ((length text == 0) || is_some (number_of_text kind text)) ≡ true → (is_some (number_of_text kind text) ≡ true → user_text_fits kind text ≡ true)
       → (value_line format.prefix symbol.name [] ≡ line_with format symbol.name (of_text kind [])) → ValueMeans format.strings tree s symbol [] silent
@@ -104,7 +111,7 @@ module _ (format : FileFormat) (valid : is_prefix format.prefix ≡ true) (tree 
   ]
 
   text_of_kind : (s : ℕ) (symbol : Symbol) → slice_get tree.symbols s ≡ Some symbol → (text : List ℕ)
-      → user_meant values (unit_of tree s) ≡ Some (TextUser text)
+      → user_meant tree.language values (unit_of tree s) ≡ Some (TextUser text)
       → (kind : Kind) → symbol.kind ≡ kind → text_fits kind text ≡ true
       → IsOwnLine format tree values (line_with format symbol.name (of_text symbol.kind text))
   text_of_kind s symbol at text held Boolean is good = absurd (false≢true good)
@@ -125,8 +132,7 @@ module _ (format : FileFormat) (valid : is_prefix format.prefix ≡ true) (tree 
       (record {
         meaning = assigns (unit_of tree s) (TriUser t);
         reads = tri_line format valid tree sound s symbol at symbol.kind t refl out good;
-        own = ap
-            (option_and_then as_user) has;
+        own = inl (ap (option_and_then (as_user tree.language)) has);
       })
   by_held s symbol at out (TextValue text) has good =
       let F : Option UnitValue → Bool → SymbolValue = λ h b. cond b (tri_symbol_value symbol.kind (tri_of h))
@@ -134,7 +140,7 @@ module _ (format : FileFormat) (valid : is_prefix format.prefix ≡ true) (tree 
       let seen : value_in_unit tree values s symbol None ≡ record { kind = symbol.kind; tri = N; text = text } = ap (λ h. F h (is_tri_kind symbol.kind)) has
       ∙ ap (F (Some (TextValue text))) (text_kind symbol.kind text good) in
       subst (λ e. IsOwnLine format tree values (line_with format symbol.name e)) (sym seen)
-      (text_of_kind s symbol at text (ap (option_and_then as_user) has) symbol.kind refl good)
+      (text_of_kind s symbol at text (ap (option_and_then (as_user tree.language)) has) symbol.kind refl good)
   by_held s symbol at out (MemberValue m) has good = absurd (false≢true good)
 
   outside : (s : ℕ) (symbol : Symbol) → slice_get tree.symbols s ≡ Some symbol → symbol.choice ≡ None
@@ -152,41 +158,49 @@ module _ (format : FileFormat) (valid : is_prefix format.prefix ≡ true) (tree 
       by_held s symbol at out held.0 held.1 (sym (ap (λ o. unit_value_fits tree o held.0) here ∙ ap (λ o. symbol_value_fits o held.0) at) ∙ good)
 
   -- a member that isn't selected
-  n_line : (s c : ℕ) (symbol : Symbol) → slice_get tree.symbols s ≡ Some symbol → symbol.choice ≡ Some c → (t : Tri) → t ≡ N
+  unchosen_is_own : (u s : ℕ) → slice_get values u ≢ Some (MemberValue (Some s)) → IsOwn tree.language values (unchosen_meaning tree.language u s)
+  unchosen_is_own u s differs = go (is_linux_6_12 tree.language) where
+    go : (b : Bool) → IsOwn tree.language values (cond b (assigns u (LinesUser (record { member = s; is_y = false } ∷ []))) silent)
+    go true = inr (s, refl, differs)
+    go false = tt
+
+  n_line : (s c : ℕ) (symbol : Symbol) → slice_get tree.symbols s ≡ Some symbol → symbol.choice ≡ Some c → slice_get values (unit_of tree s) ≢ Some (MemberValue (Some s))
+      → (t : Tri) → t ≡ N
       → IsOwnLine format tree values (line_with format symbol.name (tri_symbol_value symbol.kind t))
-  n_line s c symbol at within t is =
+  n_line s c symbol at within differs t is =
       let kind = sound.bool_members s c symbol at within in
-      let line : IsLine format tree (line_with format symbol.name (tri_symbol_value Boolean N)) silent = subst
+      let meaning = unchosen_meaning tree.language (unit_of tree s) s in
+      let line : IsLine format tree (line_with format symbol.name (tri_symbol_value Boolean N)) meaning = subst
       (IsLine format tree (unset_line format.prefix symbol.name)) (ap (unset_meaning tree s symbol) within)
       (not_set_line format valid tree sound s symbol at) in
       record {
-        meaning = silent;
-        own = tt;
-        reads = subst (λ k. IsLine format tree (line_with format symbol.name (tri_symbol_value k t)) silent) (sym kind)
-            (subst (λ x. IsLine format tree (line_with format symbol.name (tri_symbol_value Boolean x)) silent) (sym is) line);
+        meaning = meaning;
+        own = unchosen_is_own (unit_of tree s) s differs;
+        reads = subst (λ k. IsLine format tree (line_with format symbol.name (tri_symbol_value k t)) meaning) (sym kind)
+            (subst (λ x. IsLine format tree (line_with format symbol.name (tri_symbol_value Boolean x)) meaning) (sym is) line);
       }
 
   member_by_held : (s c : ℕ) (symbol : Symbol) → slice_get tree.symbols s ≡ Some symbol → symbol.choice ≡ Some c → (o : Option UnitValue)
       → slice_get values (unit_of tree s) ≡ o
       → IsOwnLine format tree values (line_with format symbol.name (tri_symbol_value symbol.kind (tri_if_selected s (member_of o))))
-  member_by_held s c symbol at within None has = n_line s c symbol at within N refl
-  member_by_held s c symbol at within (Some (TriValue t)) has = n_line s c symbol at within N refl
-  member_by_held s c symbol at within (Some (TextValue t)) has = n_line s c symbol at within N refl
-  member_by_held s c symbol at within (Some (MemberValue None)) has = n_line s c symbol at within N refl
+  member_by_held s c symbol at within None has = n_line s c symbol at within (λ e. cc (has, e)) N refl
+  member_by_held s c symbol at within (Some (TriValue t)) has = n_line s c symbol at within (λ e. cc (has, e)) N refl
+  member_by_held s c symbol at within (Some (TextValue t)) has = n_line s c symbol at within (λ e. cc (has, e)) N refl
+  member_by_held s c symbol at within (Some (MemberValue None)) has = n_line s c symbol at within (λ e. cc (has, e)) N refl
   member_by_held s c symbol at within (Some (MemberValue (Some m))) has = elim (cases_Bool (m == s)) [
     | inl same ↦
         let kind = sound.bool_members s c symbol at within in
         let line = member_line format valid tree sound s symbol at c within kind in
         let tri : cond (m == s) Y N ≡ Y = ap (λ b. cond b Y N) same in
         record {
-          meaning = assigns (unit_of tree s) (MemberUser s);
+          meaning = assigns (unit_of tree s) (member_user tree.language s);
           reads = subst (λ k. IsLine format tree (line_with format symbol.name (tri_symbol_value k (cond (m == s) Y N)))
-              (assigns (unit_of tree s) (MemberUser s))) (sym kind)
-              (subst (λ t. IsLine format tree (line_with format symbol.name (tri_symbol_value Boolean t)) (assigns (unit_of tree s) (MemberUser s))) (sym tri)
+              (assigns (unit_of tree s) (member_user tree.language s))) (sym kind)
+              (subst (λ t. IsLine format tree (line_with format symbol.name (tri_symbol_value Boolean t)) (assigns (unit_of tree s) (member_user tree.language s))) (sym tri)
               line);
-          own = ap (option_and_then as_user) has ∙ ap (λ n. Some (MemberUser n)) (eqb-true m s same);
+          own = inl (ap (option_and_then (as_user tree.language)) has ∙ ap (λ n. Some (member_user tree.language n)) (eqb-true m s same));
         }
-    | inr other ↦ n_line s c symbol at within (cond (m == s) Y N) (ap (λ b. cond b Y N) other)
+    | inr other ↦ n_line s c symbol at within (λ e. eqb-false m s other (let one : m ≡ s = cc (has, e) in one)) (cond (m == s) Y N) (ap (λ b. cond b Y N) other)
   ]
 
   within_choice : (s c : ℕ) (symbol : Symbol) → slice_get tree.symbols s ≡ Some symbol → symbol.choice ≡ Some c

@@ -1,5 +1,5 @@
 -- The canonical file of values.
-use Rattle.std.specs.Prelude.{◌≡◌, ◌↔◌, ℕ, ◌+◌, ◌<◌, ◌≤◌, Bool, true, false, eqb, List, [], ◌∷◌, ◌++◌, Option, Some, length, slice_get, IsTrue, if◌then◌else◌}
+use Rattle.std.specs.Prelude.{◌≡◌, ◌≢◌, ◌↔◌, ℕ, ◌+◌, ◌<◌, ◌≤◌, Bool, true, false, eqb, List, [], ◌∷◌, ◌++◌, Option, Some, None, length, slice_get, IsTrue, if◌then◌else◌}
 use Rattle.std.specs.List.{list_any, flat_map}
 use Rattle.kc_tree_model.specs.Trees.{Tree}
 use Rattle.kc_tree_model.specs.TreeLookup.{unit_of}
@@ -10,7 +10,7 @@ use Rattle.kc_rules_model.specs.declared.values.UnitValue.{UnitValue}
 use Rattle.kc_rules_model.specs.declared.values.UserValue.{UserValue}
 use Rattle.kc_rules_model.specs.Rule.{rule, as_user}
 use Rattle.kc_rules_model.specs.Shapes.{user_fits}
-use Rattle.kc_rules_model.specs.RuleLaws.{is_tri_value}
+use Rattle.kc_rules_model.specs.RuleLaws.{is_tri_value, moves_user_values}
 use Rattle.kc_rules_model.specs.SettledTrees.{IsSettledTree}
 use Rattle.kc_dotconfig_model.specs.Formats.{FileFormat}
 use Rattle.kc_dotconfig_model.specs.PrefixGrammar.{is_prefix}
@@ -34,11 +34,17 @@ with_lines keeps bytes = flat_map (λ (line : List ℕ). line ++ 10 ∷ []) (at_
 abbrev pub HasUnitsOfLines : Profile → Tree → List UnitValue → (ℕ → Bool) → Type 0
 HasUnitsOfLines profile tree values keeps = (s : ℕ) → has_line profile tree values s ≡ true → keeps (unit_of tree s) ≡ true
 
+-- a unit's user value is the one that represents this value; where user values of the unit may be moved (`moves_user_values`),
+-- it has some user value
+abbrev pub IsAssigned : Tree → ℕ → UnitValue → Option UserValue → Type 0
+IsAssigned tree u value user = (moves_user_values tree (slice_get tree.units u) ≡ false → user ≡ as_user tree.language value)
+    × (user ≢ None)
+
 -- the assignment has the user values of those lines of the minimal file that assign a member, a string or a number
 abbrev pub HasValuesOfLines : Profile → Tree → List UnitValue → List (Option UserValue) → Type 0
 HasValuesOfLines profile tree values users = (s : ℕ) (value : UnitValue) → has_line profile tree values s ≡ true
     → slice_get values (unit_of tree s) ≡ Some value → is_tri_value value ≡ false
-    → user_of users (unit_of tree s) ≡ as_user value
+    → IsAssigned tree (unit_of tree s) value (user_of users (unit_of tree s))
 
 -- the units to which the lines of a configuration file assign, one for each line that assigns
 abbrev pub assigned_units : List LineMeaning → List ℕ

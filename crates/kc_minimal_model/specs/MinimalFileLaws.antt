@@ -25,14 +25,14 @@ use Rattle.kc_minimal_model.specs.MinimalFile.{minimal_file, has_line}
 pub record IsReadAsLeast (format : FileFormat) (profile : Profile) (tree : Tree) (values : List UnitValue) : Type 0 where
   pub meanings : List LineMeaning
   pub has_meaning : FileMeans format tree (minimal_file format profile tree values) meanings
-  pub least : IsLeastAssignment (length tree.units) (rule profile tree) as_user values (file_assignment tree meanings)
+  pub least : IsLeastAssignment (length tree.units) (rule profile tree) (as_user tree.language) values (file_assignment tree meanings)
 
 -- a symbol's line is read as the assignment of its unit's value to its unit
 pub record IsReadAsItsAssignment (format : FileFormat) (tree : Tree) (values : List UnitValue) (s : ℕ) : Type 0 where
   pub value : UnitValue
   pub user : UserValue
   pub has : slice_get values (unit_of tree s) ≡ Some value
-  pub meant : as_user value ≡ Some user
+  pub meant : as_user tree.language value ≡ Some user
   pub trimmed : without_white_end (symbol_line format tree values s) ≡ symbol_line format tree values s
   pub has_meaning : Means format tree (symbol_line format tree values s) (assigns (unit_of tree s) user)
 

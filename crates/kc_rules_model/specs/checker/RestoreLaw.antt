@@ -139,38 +139,37 @@ some_is (Some z) e = refl
 some_is None e = absurd (false≢true e)
 
 module _ (tree : Tree) (values : List UnitValue) (kind : Kind) (large : is_number kind ≡ true) where
-  -- what a range makes of a number, if its bounds aren't upside down, stays as it is
-  clamped_again : (o : Option Range) (t : List ℕ) → is_some (number_of_text kind t) ≡ true → is_upside_down tree values kind o ≡ false
-      → (is_some (number_of_text kind (clamped tree values kind o (unwrap_or (number_of_text kind t) (pos 0)) t)) ≡ true)
-      × (clamped tree values kind o (unwrap_or (number_of_text kind (clamped tree values kind o (unwrap_or (number_of_text kind t) (pos 0)) t)) (pos 0))
-      (clamped tree values kind o (unwrap_or (number_of_text kind t) (pos 0)) t) ≡ clamped tree values kind o (unwrap_or (number_of_text kind t) (pos 0)) t)
-  clamped_again None t fits level = (fits, refl)
-  clamped_again (Some r) t fits level =
-      go (int_lt (unwrap_or (number_of_text kind t) (pos 0)) (bound tree values kind r.low)) (int_lt (bound tree values kind r.high) (unwrap_or (number_of_text kind t) (pos 0))) refl refl where
-        go : (below above : Bool) → int_lt (unwrap_or (number_of_text kind t) (pos 0)) (bound tree values kind r.low) ≡ below
-            → int_lt (bound tree values kind r.high) (unwrap_or (number_of_text kind t) (pos 0)) ≡ above
-            → (is_some (number_of_text kind (cond below (bound_text tree values kind r.low) (cond above (bound_text tree values kind r.high) t))) ≡ true)
-            × (clamped tree values kind (Some r) (unwrap_or (number_of_text kind (cond below (bound_text tree values kind r.low) (cond above (bound_text tree values kind r.high) t))) (pos 0))
-            (cond below (bound_text tree values kind r.low) (cond above (bound_text tree values kind r.high) t)) ≡ cond below (bound_text tree values kind r.low) (cond above (bound_text tree values kind r.high) t))
-        go true above eb ea =
-            let back = bound_read_back tree values kind r.low large in (
-              ap is_some back,
-              ap (λ o. clamped tree values kind (Some r) (unwrap_or o (pos 0)) (bound_text tree values kind r.low)) back
-                  ∙ ap (λ b. cond b (bound_text tree values kind r.low) (cond (int_lt (bound tree values kind r.high) (bound tree values kind r.low)) (bound_text tree values kind r.high) (bound_text tree values kind r.low))) (not_below_itself (bound tree values kind r.low))
-                  ∙ ap (λ b. cond b (bound_text tree values kind r.high) (bound_text tree values kind r.low)) level,
-            )
-        go false true eb ea =
-            let back = bound_read_back tree values kind r.high large in (
-              ap is_some back,
-              ap (λ o. clamped tree values kind (Some r) (unwrap_or o (pos 0)) (bound_text tree values kind r.high)) back
-                  ∙ ap (λ b. cond b (bound_text tree values kind r.low) (cond (int_lt (bound tree values kind r.high) (bound tree values kind r.high)) (bound_text tree values kind r.high) (bound_text tree values kind r.high))) level
-                  ∙ ap (λ b. cond b (bound_text tree values kind r.high) (bound_text tree values kind r.high)) (not_below_itself (bound tree values kind r.high)),
-            )
-        go false false eb ea = (
-          fits,
-          ap (λ b. cond b (bound_text tree values kind r.low) (cond (int_lt (bound tree values kind r.high) (unwrap_or (number_of_text kind t) (pos 0))) (bound_text tree values kind r.high) t)) eb
-              ∙ ap (λ b. cond b (bound_text tree values kind r.high) t) ea,
+  -- what a range makes of a number n, which is given with its text, if the bounds aren't upside down: it is that text or a number,
+  -- and the range makes the same of it
+  pub clamped_again : (o : Option Range) (n : ℤ) (t : List ℕ) → unwrap_or (number_of_text kind t) (pos 0) ≡ n → is_upside_down tree values kind o ≡ false
+      → (is_some (number_of_text kind t) ≡ true → is_some (number_of_text kind (clamped tree values kind o n t)) ≡ true)
+      × (clamped tree values kind o (unwrap_or (number_of_text kind (clamped tree values kind o n t)) (pos 0)) (clamped tree values kind o n t) ≡ clamped tree values kind o n t)
+  clamped_again None n t is level = (λ fits. fits, refl)
+  clamped_again (Some r) n t is level = go (int_lt n (bound tree values kind r.low)) (int_lt (bound tree values kind r.high) n) refl refl where
+    go : (below above : Bool) → int_lt n (bound tree values kind r.low) ≡ below → int_lt (bound tree values kind r.high) n ≡ above
+        → (is_some (number_of_text kind t) ≡ true → is_some (number_of_text kind (cond below (bound_text tree values kind r.low) (cond above (bound_text tree values kind r.high) t))) ≡ true)
+        × (clamped tree values kind (Some r) (unwrap_or (number_of_text kind (cond below (bound_text tree values kind r.low) (cond above (bound_text tree values kind r.high) t))) (pos 0))
+        (cond below (bound_text tree values kind r.low) (cond above (bound_text tree values kind r.high) t)) ≡ cond below (bound_text tree values kind r.low) (cond above (bound_text tree values kind r.high) t))
+    go true above eb ea =
+        let back = bound_read_back tree values kind r.low large in (
+          λ fits. ap is_some back,
+          ap (λ o. clamped tree values kind (Some r) (unwrap_or o (pos 0)) (bound_text tree values kind r.low)) back
+              ∙ ap (λ b. cond b (bound_text tree values kind r.low) (cond (int_lt (bound tree values kind r.high) (bound tree values kind r.low)) (bound_text tree values kind r.high) (bound_text tree values kind r.low))) (not_below_itself (bound tree values kind r.low))
+              ∙ ap (λ b. cond b (bound_text tree values kind r.high) (bound_text tree values kind r.low)) level,
         )
+    go false true eb ea =
+        let back = bound_read_back tree values kind r.high large in (
+          λ fits. ap is_some back,
+          ap (λ o. clamped tree values kind (Some r) (unwrap_or o (pos 0)) (bound_text tree values kind r.high)) back
+              ∙ ap (λ b. cond b (bound_text tree values kind r.low) (cond (int_lt (bound tree values kind r.high) (bound tree values kind r.high)) (bound_text tree values kind r.high) (bound_text tree values kind r.high))) level
+              ∙ ap (λ b. cond b (bound_text tree values kind r.high) (bound_text tree values kind r.high)) (not_below_itself (bound tree values kind r.high)),
+        )
+    go false false eb ea = (
+      λ fits. fits,
+      ap (λ k. clamped tree values kind (Some r) k t) is
+          ∙ ap (λ b. cond b (bound_text tree values kind r.low) (cond (int_lt (bound tree values kind r.high) n) (bound_text tree values kind r.high) t)) eb
+          ∙ ap (λ b. cond b (bound_text tree values kind r.high) t) ea,
+    )
 
   -- what a user's number gives is a number, and gives itself
   pub given_again : (o : Option Range) (t r : List ℕ) → is_some (number_of_text kind t) ≡ true
@@ -188,7 +187,7 @@ module _ (tree : Tree) (values : List UnitValue) (kind : Kind) (large : is_numbe
       down false level e =
           let same : clamped tree values kind o (unwrap_or (number_of_text kind t) (pos 0)) t ≡ r = cc in
           subst (λ x. (is_some (number_of_text kind x) ≡ true) × (Some (clamped tree values kind o (unwrap_or (number_of_text kind x) (pos 0)) x) ≡ Some x)) same
-          (let again = clamped_again o t fits level in (again.0, ap Some again.1))
+          (let again = clamped_again o (unwrap_or (number_of_text kind t) (pos 0)) t refl level in (again.0 fits, ap Some again.1))
     go false language e = within (is_within tree values kind o (unwrap_or (number_of_text kind t) (pos 0))) refl e where
       within : (b : Bool) → is_within tree values kind o (unwrap_or (number_of_text kind t) (pos 0)) ≡ b → cond b (Some t) None ≡ Some r
           → (is_some (number_of_text kind r) ≡ true) × (cond (is_within tree values kind o (unwrap_or (number_of_text kind r) (pos 0))) (Some r) None ≡ Some r)
