@@ -1,7 +1,8 @@
-"""What trees give under configuration files, by the rules of docs/RULES.md, apart from the program.
+"""What trees give under configuration files, by the rules of docs/RULES.md, apart from the program: by those of the strict language,
+or by those of Linux 6.12.
 
-An expression is ("name", N), ("constant", LETTER), ("quoted", TEXT), ("relation", OP, A, B), ("not", E), ("and", A, B), ("or", A, B)
-or ("shown", CHOICE). A condition is a list of expressions that are joined."""
+An expression is ("name", N), ("constant", LETTER), ("quoted", TEXT), ("relation", OP, A, B), ("not", E), ("and", A, B), ("or", A, B),
+or, of what is in a choice, ("inside", CHOICE) or ("in sight", CHOICE). A condition is a list of expressions that are joined."""
 import operator
 import re
 
@@ -19,6 +20,7 @@ class Symbol:
 class Choice:
     def __init__(self, rank):
         self.rank, self.prompt, self.defaults, self.members = rank, None, [], []
+        self.direct, self.hidden = [], []
 
 
 def quoted(text):
@@ -55,8 +57,9 @@ def number_of(kind, text):
 class Values:
     """Values of units: of a symbol outside choices a tristate (0, 1, 2) or a text, of a choice a member or none."""
 
-    def __init__(self, symbols, choices, is_classic):
-        self.symbols, self.choices, self.is_classic = {it.name: it for it in symbols}, choices, is_classic
+    def __init__(self, symbols, choices, is_classic, is_newer):
+        self.symbols, self.choices = {it.name: it for it in symbols}, choices
+        self.is_classic, self.is_newer = is_classic, is_newer
         self.by_unit = {}
 
     def tristate(self, name):
@@ -89,8 +92,10 @@ class Values:
             return 0
         if form == "not":
             return 2 - self.value(e[1], is_condition)
-        if form == "shown":
-            return 2 * (e[1].prompt is not None and self.all_of(e[1].prompt) > 0)
+        if form == "inside":
+            return self.all_of(e[1].direct) if self.is_newer else 2 * (e[1].prompt is not None and self.all_of(e[1].prompt) > 0)
+        if form == "in sight":
+            return self.all_of(e[1].hidden) if self.is_newer else 2
         if form in ("and", "or"):
             return (min if form == "and" else max)(self.value(e[1], is_condition), self.value(e[2], is_condition))
         a, b = self.side(e[2]), self.side(e[3])
@@ -133,16 +138,39 @@ class Values:
             return user if user is not None and self.visibility(it) else text
         bounds = next(((low, high) for low, high, when in it.ranges if self.all_of(when)), None)
         low, high = ((number_of(it.kind, self.side(e)[2]) or 0) for e in bounds) if bounds else (float("-inf"), float("inf"))
-        number = number_of(it.kind, user or "")
-        if number is not None and self.visibility(it) and low <= number <= high:
-            return user
-        if number_of(it.kind, text) is None:
-            text = ""
-        number = number_of(it.kind, text) or 0
         spell = hex if it.kind == HEX else str
-        return spell(low) if number < low else spell(high) if high < number else text
+
+        def moved(number, text):
+            if low <= number <= high:
+                return text
+            bound, limit = (bounds[0], low) if bounds and number < low else (bounds[1], high)
+            own = self.side(bound)[2]
+            return own if self.is_newer and number_of(it.kind, own) is not None else spell(limit)
+
+        number = number_of(it.kind, user or "")
+        if number is not None and self.visibility(it) and (low <= high if self.is_newer else low <= number <= high):
+            return moved(number, user)
+        if number_of(it.kind, text) is None:
+            text = spell(0) if self.is_newer and not active else ""
+        return moved(number_of(it.kind, text) or 0, text)
+
+    def of_newer_choice(self, choice, user):
+        """The member of a choice that is selected by the rules of Linux 6.12; `user` has what the members are given, in order
+        of their last lines."""
+        given = user or {}
+        seen = [it for it in choice.members if self.visibility(it)]
+        asked = [self.symbols[name] for name, when in choice.defaults if self.all_of(when)]
+        chosen = [it for it, is_y in given.items() if is_y and it in seen]
+        if chosen or not seen:
+            return chosen[-1] if chosen else None
+        default = next((it for it in asked if it in seen), seen[0])
+        if default not in given:
+            return default
+        return next((it for it in seen if it not in given), None) or next(it for it in given if it in seen)
 
     def of_choice(self, choice, user):
+        if self.is_newer:
+            return self.of_newer_choice(choice, user)
         if choice.prompt is None or not self.all_of(choice.prompt):
             return None
         asked = [self.symbols[name] for name, when in choice.defaults if self.all_of(when)]
@@ -162,7 +190,12 @@ class Values:
             return self.visibility(it) > 0
         active = self.default(it)
         counts = active and (it.kind not in (BOOL, TRISTATE) or min(self.value(active[0]), active[1]))
-        return bool(counts or self.forced(it, "select") or (self.forced(it, "imply") and self.all_of(it.direct)))
+        return bool(counts or self.forced(it, "select") or (self.forced(it, "imply") and (self.is_newer or self.all_of(it.direct))))
+
+    def is_unmet(self, it):
+        """Whether a symbol is selected above its direct dependency; Linux counts an `m` of that as `y` where the symbol is a bool."""
+        direct = self.all_of(it.direct)
+        return (2 if direct and it.kind == BOOL and self.is_newer else direct) < self.forced(it, "select")
 
     def line(self, it):
         if it.kind in (BOOL, TRISTATE):
@@ -171,14 +204,20 @@ class Values:
         return f"CONFIG_{it.name}={quoted(self.by_unit[it]) if it.kind == STRING else self.by_unit[it]}"
 
 
-def users_of(symbols, lines):
-    """What the lines of configuration files assign."""
+def users_of(symbols, lines, is_newer):
+    """What the lines of configuration files assign; by the rules of Linux 6.12 to a choice what each member is given by its last
+    line, in order of these lines."""
     named, users = {it.name: it for it in symbols}, {}
     for line in lines:
         unset = re.fullmatch(r"# CONFIG_(.*) is not set", line)
         name, text = (unset[1], "n") if unset else line[len("CONFIG_"):].split("=", 1)
         it = named[name]
-        if it.choice:
+        if it.choice and is_newer:
+            if text in ("y", "n"):
+                given = users.setdefault(it.choice, {})
+                given.pop(it, None)
+                given[it] = text == "y"
+        elif it.choice:
             if text == "y":
                 users[it.choice] = it
         elif it.kind in (BOOL, TRISTATE):
@@ -197,15 +236,26 @@ def is_needed(values, users, it):
     return values.by_unit[unit] is it and values.rule(unit, None) is not it if it.choice else values.rule(unit, None) != values.by_unit[unit]
 
 
-def results(symbols, choices, lines, is_classic):
+def is_missed(values, users, it):
+    """Whether a symbol didn't get what the lines ask for."""
+    if not it.choice:
+        return it in users and users[it] != values.by_unit[it]
+    if not values.is_newer:
+        return users.get(it.choice) is it and values.by_unit[it.choice] is not it
+    given = users.get(it.choice, {})
+    if values.by_unit[it.choice] is it:
+        return given.get(it) is False
+    return [one for one, is_y in given.items() if is_y][-1:] == [it]
+
+
+def results(symbols, choices, lines, is_classic, is_newer):
     """The lines of the full and the minimal file, the names that are missed, and the lines of what is unmet."""
-    users = users_of(symbols, lines)
-    values = Values(symbols, choices, is_classic)
+    users = users_of(symbols, lines, is_newer)
+    values = Values(symbols, choices, is_classic, is_newer)
     values.solve(users)
-    is_missed = lambda it: (users.get(it.choice) is it and values.by_unit[it.choice] is not it) if it.choice else it in users and users[it] != values.by_unit[it]
     return {
         "full": [values.line(it) for it in symbols if values.is_written(it)],
         "min": [values.line(it) for it in symbols if is_needed(values, users, it)],
-        "missed": [it.name for it in symbols if is_missed(it)],
-        "check": [f"unmet {it.name}" for it in symbols if not it.choice and values.all_of(it.direct) < values.forced(it, "select")],
+        "missed": [it.name for it in symbols if is_missed(values, users, it)],
+        "check": [f"unmet {it.name}" for it in symbols if not it.choice and values.is_unmet(it)],
     }

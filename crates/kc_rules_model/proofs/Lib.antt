@@ -4,6 +4,7 @@ pub mod FittingValues
 pub mod OrderedTrees
 pub mod SolutionsFit
 pub mod AssignedTexts
+pub mod SelectedMembers
 pub mod RowTrees
 mod TristateRows
 mod ImplyRows

@@ -8,4 +8,5 @@ pub mod SettledTrees
 pub mod Equality
 pub mod Reports
 pub mod RuleLaws
+pub mod MemberLineLaws
 pub mod checker

@@ -2,17 +2,25 @@
 use Rattle.std.specs.Prelude.{◌≡◌, ◌≢◌, ℕ, Bool, true, false, not, ◌&&◌, ◌||◌, List, Option, Some, None, is_some, is_none, length, nat_lt, slice_get, filter, unwrap_or, if◌then◌else◌}
 use Rattle.std.specs.List.{range_with_len}
 use Rattle.std.specs.Option.{option_map}
-use Rattle.kc_value.specs.Tri.{rank}
+use Rattle.kc_value.specs.declared.tri.Tri.{Tri}
+use Rattle.kc_value.specs.Tri.{rank, y_for_m}
+use Rattle.kc_tokens.specs.declared.language.Language.{Language}
+use Rattle.kc_tokens.specs.declared.language.Language.TheVariants.{Strict, Linux}
 use Rattle.kc_tree_model.specs.Trees.{Tree, Symbol, Choice}
 use Rattle.kc_tree_model.specs.declared.ids.Unit.TheVariants.{Symbol as of_symbol, Choice as of_choice}
 use Rattle.kc_rules_model.specs.declared.profile.Profile.{Profile}
 use Rattle.kc_rules_model.specs.declared.values.UnitValue.{UnitValue}
 use Rattle.kc_rules_model.specs.Kinds.{is_n}
-use Rattle.kc_value.specs.Kinds.{is_tri_kind, is_tristate}
+use Rattle.kc_value.specs.Kinds.{is_bool, is_tri_kind, is_tristate}
 use Rattle.kc_tokens.specs.Languages.{is_linux_6_12}
 use Rattle.kc_tree_model.specs.TreeLookup.{index_of_unit}
 use Rattle.kc_rules_model.specs.SymbolValues.{member_of}
 use Rattle.kc_rules_model.specs.Rule.{rule, as_user, is_visible, selected, implied, direct_dependency, active_default, default_tri}
+
+-- whether a tree is in a language of Linux
+abbrev pub is_linux : Language → Bool
+is_linux Strict = false
+is_linux (Linux version) = true
 
 -- the numbers of all symbols of a tree, from 0, in order of first definition
 abbrev pub symbol_numbers : Tree → List ℕ
@@ -50,11 +58,17 @@ is_written_symbol tree values symbol =
 abbrev pub is_written : Tree → List UnitValue → ℕ → Bool
 is_written tree values s = unwrap_or (option_map (is_written_symbol tree values) (slice_get tree.symbols s)) false
 
+-- the direct dependency of a symbol up to which it may be selected: in the languages of Linux `m` counts as `y` for a bool
+abbrev pub allowed : Tree → List UnitValue → Symbol → Tri
+allowed tree values symbol = if is_linux tree.language && is_bool symbol.kind
+    then y_for_m (direct_dependency tree values symbol)
+    else direct_dependency tree values symbol
+
 -- whether a symbol has an unmet dependency: it is outside choices and selected above its direct dependency ("Menu attributes",
 -- reverse dependencies)
 abbrev pub is_unmet_symbol : Tree → List UnitValue → Symbol → Bool
 is_unmet_symbol tree values symbol = is_none symbol.choice
-    && nat_lt (rank (direct_dependency tree values symbol)) (rank (selected tree values symbol))
+    && nat_lt (rank (allowed tree values symbol)) (rank (selected tree values symbol))
 
 -- whether the tree has a symbol of this number and it has an unmet dependency
 abbrev pub is_unmet : Tree → List UnitValue → ℕ → Bool

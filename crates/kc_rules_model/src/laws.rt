@@ -3,6 +3,7 @@ ghost use Rattle.std.specs.Prelude.{◌≡◌, ◌↔◌, IsTrue};
 ghost use Rattle.kc_rules_model.specs.declared.values.UnitValue.{UnitValue};
 ghost use Rattle.kc_rules_model.specs.declared.values.UserValue.{UserValue};
 ghost use Rattle.kc_rules_model.specs.RuleLaws.{DependenciesAreGraph, RulesKeepFrame, RulesRestore, RulesFit, TextsAreAssigned, SolutionsFit};
+ghost use Rattle.kc_rules_model.specs.MemberLineLaws.{ListsAreTwoLists, RulesAgreeWithoutN, FirstUnsetIsSelected};
 ghost use Rattle.kc_rules_model.specs.Equality.{same_value, same_user};
 
 /// The law that in every tree the dependencies of each unit ascend without repeats and are numbers of units.
@@ -37,6 +38,15 @@ pub fn solutions_fit()
 /// it without its user value.
 pub fn texts_are_assigned()
     ensures { TextsAreAssigned }
+{}
+
+/// Laws of what assignments of members select under the rules of Linux 6.12: the order of those with `y` to those with `n` counts
+/// for nothing; without `n` the rules before Linux 6.10 select the same, where the member that comes last is visible; where each
+/// visible member has `n`, the one whose line comes first is selected.
+pub fn members_are_selected_by_lines()
+    ensures lists { ListsAreTwoLists }
+    ensures agree { RulesAgreeWithoutN }
+    ensures first { FirstUnsetIsSelected }
 {}
 
 /// The law that the tests of equality, of values of units and of user values, hold exactly for equal ones.

@@ -6,7 +6,7 @@ mod profile;
 mod values;
 
 pub use laws::{
-    dependencies_are_a_graph, equality_is_decided, rules_fit, rules_keep_the_frame, rules_restore,
+    dependencies_are_a_graph, equality_is_decided, members_are_selected_by_lines, rules_fit, rules_keep_the_frame, rules_restore,
     solutions_fit, texts_are_assigned,
 };
 pub use profile::Profile;

@@ -126,7 +126,7 @@ static FORMS: [&str; 2] = ["escaped", "raw"];
 static PROFILES: [&str; 2] = ["present", "classic"];
 
 /// The values of `--language`, which has no default.
-static LANGUAGES: [&str; 2] = ["strict", "linux"];
+static LANGUAGES: [&str; 4] = ["strict", "linux", "linux-6.1", "linux-6.12"];
 
 /// A repeatable option: its name, the name of its value, and its help.
 struct ListHelp {

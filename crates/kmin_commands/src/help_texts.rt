@@ -192,13 +192,16 @@ classic  there in full, unless that dependency is n; and under an implied y
 
 pub(crate) const STRICT: &str = "Refuses a file with a line that the tree can't read";
 
-pub(crate) const LANGUAGE: &str = "Forms that the tree may have";
+pub(crate) const LANGUAGE: &str = "Forms that the tree may have, and its rules";
 
 pub(crate) const LANGUAGE_LONG: &str = "\
-Forms that the tree may have; strict by default, linux where the tree is expanded:
-strict  those of share/doc/kmin/RULES.md
-linux   besides, a `\\$` in quotes, optional choices, def_int, def_hex and def_string,
-        and further definitions of a choice's members";
+Forms that the tree may have, and its rules; strict by default, linux where the tree is
+expanded:
+strict      those of share/doc/kmin/RULES.md
+linux       besides, a `\\$` in quotes, optional choices, def_int, def_hex and def_string,
+            and further definitions of a choice's members
+linux-6.1   as linux, for a Linux before 6.10
+linux-6.12  as linux, with the rules of choices and numbers of Linux from 6.10 on";
 
 pub(crate) const EXPAND: &str = "Expands the tree's macros, as each of the next three does";
 

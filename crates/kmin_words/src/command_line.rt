@@ -261,6 +261,8 @@ fn language_of(value: &str, is_expanded: bool) -> Language
     match value {
         "strict" => Language::Strict,
         "linux" => Language::Linux(LinuxVersion::Unknown),
+        "linux-6.1" => Language::Linux(LinuxVersion::V6_1),
+        "linux-6.12" => Language::Linux(LinuxVersion::V6_12),
         _ if is_expanded => Language::Linux(LinuxVersion::Unknown),
         _ => Language::Strict,
     }

@@ -7,7 +7,7 @@ use Rattle.clap.specs.declared.parser.matches.Found.{Found}
 use Rattle.kc_value.specs.declared.limits.TheConstants.{MAX_VARIABLE_BYTES}
 use Rattle.kc_tokens.specs.declared.language.Language.{Language}
 use Rattle.kc_tokens.specs.declared.language.Language.TheVariants.{Strict, Linux}
-use Rattle.kc_tokens.specs.declared.language.LinuxVersion.TheVariants.{Unknown}
+use Rattle.kc_tokens.specs.declared.language.LinuxVersion.TheVariants.{Unknown, V6_1, V6_12}
 use Rattle.kc_rules_model.specs.declared.profile.Profile.{Profile}
 use Rattle.kc_rules_model.specs.declared.profile.Profile.TheVariants.{Present, Classic}
 use Rattle.kc_dotconfig_model.specs.declared.format.Strings.{Strings}
@@ -59,7 +59,9 @@ abbrev pub language_of : List ℕ → (is_expanded : Bool) → Language
 language_of value is_expanded =
     if bytes_eq value (codes "strict") then Strict
     else (if bytes_eq value (codes "linux") then Linux Unknown
-    else (if is_expanded then Linux Unknown else Strict))
+    else (if bytes_eq value (codes "linux-6.1") then Linux V6_1
+    else (if bytes_eq value (codes "linux-6.12") then Linux V6_12
+    else (if is_expanded then Linux Unknown else Strict))))
 
 -- the command with this name: a verb over its files in order, or the comparison of two files
 abbrev pub task_of : List ℕ → Found → Task
