@@ -5,16 +5,17 @@ ghost use Rattle.kc_tree.specs.between.Views.{SymbolFits, symbol_view};
 ghost use Rattle.kc_tokens.specs.Languages.{is_linux_6_12};
 ghost use Rattle.kc_rules_model.specs.Kinds.{is_n};
 ghost use Rattle.kc_rules_model.specs.Rule.{implied, direct_dependency};
-ghost use Rattle.kc_rules_model.specs.Reports.{has_default, is_unselected, is_written_symbol, is_written, is_unmet_symbol, is_unmet, unmet};
+ghost use Rattle.kc_rules_model.specs.Reports.{allowed, has_default, is_unselected, is_written_symbol, is_written, is_unmet_symbol, is_unmet, unmet};
 ghost use Rattle.kc_rules.specs.between.SettledViews.{tree_of_settled};
 ghost use Rattle.kc_rules.specs.checker.ValuationView.{valuation_tree, valuation_exprs, valuation_values};
 
 use super::rules::Settled;
 use super::symbol_values::{has_no_member, is_n};
 use super::text_rules::active_default;
-use super::tristate_rules::{default_value, is_visible, largest, reverse_limit};
+use super::tristate_rules::{default_value, is_visible, largest, reverse_limit, y_for_m};
 use super::valuation::Valuation;
 use kc_rules_model::UnitValue;
+use kc_tokens::Language;
 use kc_tree::{Sym, Symbol};
 use kc_value::{Kind, Tri};
 use std::alloc::{AllocError, Global};
@@ -89,6 +90,18 @@ fn is_below(a: Tri, b: Tri) -> bool
     }
 }
 
+/// The direct dependency of a symbol, up to which it may be selected: in the languages of Linux `m` counts as `y` for a bool.
+fn allowed(under: &Valuation<'_>, symbol: &Symbol<'_>) -> Tri
+    requires fits { SymbolFits (valuation_exprs under.now) (length (valuation_tree under.now).symbols) symbol.now }
+    ensures value { result ≡ allowed (valuation_tree under.now) (valuation_values under.now) (symbol_view (valuation_exprs under.now) symbol.now) }
+{
+    let direct = largest(under, symbol.direct);
+    match (under.rules.tree.language(), symbol.kind) {
+        (Language::Linux(_), Kind::Bool) => y_for_m(direct),
+        _ => direct,
+    }
+}
+
 /// Whether a symbol outside choices is selected above its direct dependency.
 fn is_symbol_unmet(under: &Valuation<'_>, symbol: &Symbol<'_>) -> bool
     requires fits { SymbolFits (valuation_exprs under.now) (length (valuation_tree under.now).symbols) symbol.now }
@@ -98,7 +111,7 @@ fn is_symbol_unmet(under: &Valuation<'_>, symbol: &Symbol<'_>) -> bool
         return false;
     }
     is_below(
-        largest(under, symbol.direct),
+        allowed(under, symbol),
         reverse_limit(under, symbol.selectors),
     )
 }
