@@ -30,7 +30,7 @@ class Release(typing.NamedTuple):
     refused: dict
 
 
-RELEASES = (Release("6.12", "linux", True, {}), Release("6.1", "linux", False, {"mips": "Cycle"}))
+RELEASES = (Release("6.12", "linux-6.12", True, {}), Release("6.1", "linux-6.1", False, {"mips": "Cycle"}))
 ARCHITECTURES = ("x86", "arm64", "arm", "riscv", "powerpc", "mips")
 # the files that conf and the commands of macros read, and those that build conf
 UNPACKED = ("*Kconfig*", "*Makefile*", "*Kbuild*", "*Platform", "scripts/*", "arch/*/configs/*", "arch/*/tools/*")
