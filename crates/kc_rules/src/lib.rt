@@ -1,22 +1,15 @@
 //! Kconfig as a system of units, each with a rule for its value.
 #![tactic(auto)]
 
-mod choices;
-mod evaluation;
 mod fault;
 mod graphs;
-mod member_lines;
 mod queries;
 mod reports;
 mod rules;
 mod settlement;
 mod shapes;
 mod steps;
-mod symbol_values;
 mod systems;
-mod text_rules;
-mod tristate_rules;
-mod valuation;
 
 pub use fault::SettleFault;
 pub use kc_rules_model::{MemberLine, MemberLines, Profile, UnitValue, UserValue};

@@ -9,7 +9,7 @@ ghost use Rattle.kc_rules.specs.between.SettledViews.{tree_model_of, tree_of_set
 ghost use Rattle.kc_system.specs.Dependencies.{IsOrder};
 
 use super::rules::Settled;
-use super::valuation::Valuation;
+use kc_evaluation::Valuation;
 use kc_expr::{ExprId, Looked};
 use kc_rules_model::{Profile, UnitValue};
 use kc_system::Order;

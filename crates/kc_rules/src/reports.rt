@@ -7,13 +7,13 @@ ghost use Rattle.kc_rules_model.specs.Kinds.{is_n};
 ghost use Rattle.kc_rules_model.specs.Rule.{implied, direct_dependency};
 ghost use Rattle.kc_rules_model.specs.Reports.{allowed, has_default, is_unselected, is_written_symbol, is_written, is_unmet_symbol, is_unmet, unmet};
 ghost use Rattle.kc_rules.specs.between.SettledViews.{tree_of_settled};
-ghost use Rattle.kc_rules.specs.checker.ValuationView.{valuation_tree, valuation_exprs, valuation_values};
+ghost use Rattle.kc_evaluation.specs.checker.ValuationView.{valuation_tree, valuation_exprs, valuation_values};
 
 use super::rules::Settled;
-use super::symbol_values::{has_no_member, is_n};
-use super::text_rules::active_default;
-use super::tristate_rules::{default_value, is_visible, largest, reverse_limit, y_for_m};
-use super::valuation::Valuation;
+use kc_evaluation::{
+    Valuation, active_default, default_value, has_no_member, is_n, is_visible, largest,
+    reverse_limit, y_for_m,
+};
 use kc_rules_model::UnitValue;
 use kc_tokens::Language;
 use kc_tree::{Sym, Symbol};

@@ -8,8 +8,8 @@ ghost use Rattle.kc_rules.specs.between.SettledViews.{tree_model_of, profile_of}
 ghost use Rattle.kc_rules.specs.SettleFaults.{ReportsTreeCycle};
 
 use super::fault::SettleFault;
-use super::rules::{Rules, Settled};
-use kc_dependencies::{Links, links_of, modules_of};
+use super::rules::Settled;
+use kc_evaluation::{Links, Rules, links_of, modules_of};
 use kc_rules_model::Profile;
 use kc_system::{Order, OrderFault, order};
 use kc_tree::Tree;

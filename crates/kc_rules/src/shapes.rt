@@ -7,7 +7,7 @@ ghost use Rattle.kc_rules.specs.between.SettledViews.{tree_of_settled};
 ghost use Rattle.kc_rules.specs.checker.Fits.{kind_user_fits};
 
 use super::rules::Settled;
-use super::text_rules::number_of;
+use kc_evaluation::number_of;
 use kc_rules_model::{MemberLine, UserValue};
 use kc_tree::{Sym, Tree, Unit};
 use kc_value::{Kind, Text, Tri, has_newline};

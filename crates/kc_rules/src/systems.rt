@@ -9,9 +9,9 @@ ghost use Rattle.kc_rules_model.specs.checker.EqualityLaws.{values_decided, user
 ghost use Rattle.kc_rules_model.specs.checker.FrameLaw.{rules_frame};
 ghost use Rattle.kc_rules_model.specs.checker.RestoreLaw.{rules_restore};
 
-use super::evaluation::value_of;
 use super::rules::Settled;
 use super::steps::Steps;
+use kc_evaluation::value_of;
 use kc_rules_model::{MemberLine, MemberLines, UnitValue, UserValue};
 use kc_system::System;
 use kc_tree::Unit;

@@ -1,5 +1,5 @@
 use Rattle.std.proofs.Common.{sym, arith}
-use Rattle.kc_rules.proofs.AssignedMembers.{lengths_differ}
+use Rattle.kc_rules.proofs.LineLists.{lengths_differ}
 use Rattle.kc_rules.proofs.systems.are_same_lines.Goals as goal
 
 pub returns-then-a-b : goal.returns-then-a-b

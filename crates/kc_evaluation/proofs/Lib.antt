@@ -1,0 +1,4 @@
+pub mod Evaluations
+pub mod Bounds
+pub mod HeldNames
+pub mod AssignedMembers

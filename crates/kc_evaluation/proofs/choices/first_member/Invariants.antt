@@ -1,0 +1,9 @@
+use Rattle.std.proofs.Common.{◌≡◌, find, drop}
+use Rattle.kc_rules_model.specs.Rule.{is_visible_member}
+use Rattle.kc_evaluation.specs.checker.ValuationView.{valuation_tree, valuation_values}
+use Rattle.kc_evaluation.proofs.choices.first_member.Given as goal
+
+abbrev pub invariant-loop-s : goal.invariant-loop-s
+invariant-loop-s l =
+    find (is_visible_member (valuation_tree l.under) (valuation_values l.under)) (drop l.s-index l.members) ≡ find
+    (is_visible_member (valuation_tree l.under) (valuation_values l.under)) l.members

@@ -1,0 +1,10 @@
+use Rattle.std.proofs.Common.{◌≡◌, drop}
+use Rattle.kc_rules_model.specs.MemberLines.{first_listed}
+use Rattle.kc_rules_model.specs.Rule.{is_visible_member}
+use Rattle.kc_evaluation.specs.checker.ValuationView.{valuation_tree, valuation_values}
+use Rattle.kc_evaluation.proofs.member_lines.first_listed.Given as goal
+
+abbrev pub invariant-loop-line : goal.invariant-loop-line
+invariant-loop-line l =
+    first_listed (is_visible_member (valuation_tree l.under) (valuation_values l.under)) (drop l.line-index l.lines)
+    ≡ first_listed (is_visible_member (valuation_tree l.under) (valuation_values l.under)) l.lines

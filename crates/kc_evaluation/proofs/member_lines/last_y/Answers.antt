@@ -1,0 +1,17 @@
+use Rattle.std.proofs.Common.{◌≡◌, ◌+◌, ◌-◌, drop, sym, ap, ◌∙◌, arith}
+use Rattle.std.proofs.lemmas.Bool.{and_from}
+use Rattle.kc_rules_model.specs.MemberLines.{last_y}
+use Rattle.kc_rules_model.specs.Rule.{is_visible_member}
+use Rattle.kc_evaluation.specs.checker.ValuationView.{valuation_tree, valuation_values}
+use Rattle.kc_evaluation.proofs.AssignedMembers.{last_at}
+use Rattle.kc_evaluation.proofs.member_lines.last_y.Goals as goal
+
+pub returns-then-is_member_visible : goal.returns-then-is_member_visible
+returns-then-is_member_visible c = record {
+  value = let seen = is_visible_member (valuation_tree c.args.under.now) (valuation_values c.args.under.now) in
+      let line = c.index-lines-i.result in
+      let next : (c.loop-i.i - 1) + 1 ≡ c.loop-i.i = omega arith in
+      sym (last_at seen c.args.lines.now (c.loop-i.i - 1) line (omega arith) c.index-lines-i.is
+      (and_from line.is_y (seen line.member) c.if-line.true (sym c.is_member_visible.ensures.value ∙ c.if-is_member_visible.true))
+      (ap (λ n. last_y seen (drop n c.args.lines.now)) next ∙ c.loop-i.invariant));
+}

@@ -1,0 +1,8 @@
+use Rattle.std.proofs.Common.{◌≡◌, None, drop}
+use Rattle.kc_rules_model.specs.MemberLines.{last_y}
+use Rattle.kc_rules_model.specs.Rule.{is_visible_member}
+use Rattle.kc_evaluation.specs.checker.ValuationView.{valuation_tree, valuation_values}
+use Rattle.kc_evaluation.proofs.member_lines.last_y.Given as goal
+
+abbrev pub invariant-loop-i : goal.invariant-loop-i
+invariant-loop-i l = last_y (is_visible_member (valuation_tree l.under) (valuation_values l.under)) (drop l.i l.lines) ≡ None

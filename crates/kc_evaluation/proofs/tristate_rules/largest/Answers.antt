@@ -1,0 +1,12 @@
+use Rattle.std.proofs.Common.{arith}
+use Rattle.std.proofs.lemmas.Grind.{common_steps, elements}
+use Rattle.kc_evaluation.proofs.tristate_rules.largest.Goals as goal
+
+pub condition-requires : goal.condition-requires
+condition-requires c = record { there = grind (arith, elements) }
+
+pub returns : goal.returns
+returns c = grind (arith, common_steps)
+
+pub loop-id-preserved : goal.loop-id-preserved
+loop-id-preserved c = grind (arith, common_steps)

@@ -1,0 +1,12 @@
+use Rattle.std.proofs.Common.{◌≡◌, map, drop}
+use Rattle.kc_value.specs.Tri.{tri_or}
+use Rattle.kc_expr.specs.between.Arena.{node_expr}
+use Rattle.kc_rules_model.specs.Kinds.{largest}
+use Rattle.kc_rules_model.specs.Rule.{conditions}
+use Rattle.kc_evaluation.specs.checker.ValuationView.{valuation_tree, valuation_exprs, valuation_values}
+use Rattle.kc_evaluation.proofs.tristate_rules.largest.Given as goal
+
+abbrev pub invariant-loop-id : goal.invariant-loop-id
+invariant-loop-id l =
+    tri_or l.most (largest (conditions (valuation_tree l.under) (valuation_values l.under) (map (node_expr (valuation_exprs l.under)) (drop l.id-index l.ids))))
+    ≡ largest (conditions (valuation_tree l.under) (valuation_values l.under) (map (node_expr (valuation_exprs l.under)) l.ids))

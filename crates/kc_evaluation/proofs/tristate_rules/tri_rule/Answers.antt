@@ -1,0 +1,22 @@
+use Rattle.std.proofs.Common.{ap, cond, ◌∙◌, arith}
+use Rattle.std.proofs.lemmas.Grind.{elements}
+use Rattle.kc_value.specs.Tri.{tri_or}
+use Rattle.kc_tree.specs.between.Views.{symbol_view}
+use Rattle.kc_value.specs.Tri.{y_for_m}
+use Rattle.kc_rules_model.specs.Rule.{base, promoted, leaves_no_m}
+use Rattle.kc_evaluation.specs.checker.ValuationView.{valuation_tree, valuation_exprs, valuation_values}
+use Rattle.kc_evaluation.proofs.tristate_rules.tri_rule.Goals as goal
+
+pub returns : goal.returns
+returns c = record {
+  value = let tree = valuation_tree c.args.under.now in
+      let values = valuation_values c.args.under.now in
+      let symbol = symbol_view (valuation_exprs c.args.under.now) c.args.symbol.now in
+      let whole = c.or.ensures.value ∙ ap (λ t. tri_or t c.reverse_limit-selected.result) c.base-base.ensures.value
+      ∙ ap (tri_or (base c.args.profile tree values symbol c.args.user)) c.reverse_limit-selected.ensures.value in
+      c.without_m.ensures.value ∙ ap (λ t. cond (leaves_no_m c.args.profile tree values symbol) (y_for_m t) t)
+      (c.promoted-value.ensures ∙ ap (promoted tree values symbol.kind) whole);
+}
+
+pub reverse_limit-selected-requires : goal.reverse_limit-selected-requires
+reverse_limit-selected-requires c = record { fits = grind (arith, elements) }

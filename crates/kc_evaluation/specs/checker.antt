@@ -1,0 +1,5 @@
+pub mod SymbolValueViews
+pub mod RuleParts
+pub mod Texts
+pub mod ValuationView
+pub mod Choices

@@ -1,0 +1,198 @@
+//! The rule of bools and tristates.
+ghost use Rattle.std.specs.Prelude.{◌≡◌, ◌<◌, length, map, if◌then◌else◌};
+ghost use Rattle.kc_expr.specs.between.Arena.{node_expr};
+ghost use Rattle.kc_tree.specs.between.Views.{symbol_view, reverse_dependency_view as kept_force, default_view, SymbolFits};
+ghost use Rattle.kc_dependencies.specs.checker.StoredRules.{AreNodes, AreReverseDependencies, AreDefaults};
+ghost use Rattle.kc_rules_model.specs.Kinds.{is_n, largest};
+ghost use Rattle.kc_value.specs.Tri.{y_for_m};
+ghost use Rattle.kc_rules_model.specs.Rule.{conditions, reverse_dependency_value, reverse_dependency_limit, promoted, visibility, is_visible, default_tri, implied_effect, unassigned_value, base, leaves_no_m};
+ghost use Rattle.kc_evaluation.specs.checker.RuleParts.{active_default_of, tri_rule_of};
+ghost use Rattle.kc_evaluation.specs.checker.ValuationView.{valuation_tree, valuation_exprs, valuation_values};
+
+use super::symbol_values::is_n;
+use super::valuation::Valuation;
+use kc_expr::ExprId;
+use kc_rules_model::Profile;
+use kc_tree::{Default, ReverseDependency, Symbol};
+use kc_value::{Kind, Tri};
+
+/// The largest value of some expressions, `n` without any.
+#[inline(always)]
+pub fn largest(under: &Valuation<'_>, ids: &[ExprId]) -> Tri
+    requires fits { AreNodes (valuation_exprs under.now) ids.now }
+    ensures value { result ≡ largest (conditions (valuation_tree under.now) (valuation_values under.now) (map (node_expr (valuation_exprs under.now)) ids.now)) }
+{
+    let mut most = Tri::N;
+    for id in ids {
+        most = most.or(under.condition(*id));
+    }
+    most
+}
+
+/// The least value that a select or imply demands.
+#[inline(never)]
+fn reverse_value(under: &Valuation<'_>, force: ReverseDependency) -> Tri
+    requires by { force.by < length (valuation_tree under.now).symbols }
+    requires condition { force.condition < length (valuation_exprs under.now).nodes }
+    ensures value { result ≡ reverse_dependency_value (valuation_tree under.now) (valuation_values under.now) (kept_force (valuation_exprs under.now) force) }
+{
+    let by = under.tristate(force.by);
+    match by {
+        Tri::N => Tri::N,
+        Tri::M | Tri::Y => by.and(under.condition(force.condition)),
+    }
+}
+
+/// The largest of the values that some selects or implies demand of a symbol, `n` without any.
+#[inline(always)]
+pub fn reverse_limit(under: &Valuation<'_>, all: &[ReverseDependency]) -> Tri
+    requires fits { AreReverseDependencies (valuation_exprs under.now) (valuation_tree under.now) all.now }
+    ensures value { result ≡ largest (reverse_dependency_limit (valuation_tree under.now) (valuation_values under.now) (map (kept_force (valuation_exprs under.now)) all.now)) }
+{
+    let mut most = Tri::N;
+    for force in all {
+        most = most.or(reverse_value(under, *force));
+    }
+    most
+}
+
+/// A tristate, with `y` in place of `m`.
+pub fn y_for_m(value: Tri) -> Tri
+    ensures { result ≡ y_for_m value }
+{
+    match value {
+        Tri::N => Tri::N,
+        Tri::M | Tri::Y => Tri::Y,
+    }
+}
+
+/// A value for a symbol of this type, with `y` in place of `m` for a bool, and for a tristate while `MODULES` is `n`.
+pub(crate) fn promoted(under: &Valuation<'_>, kind: Kind, value: Tri) -> Tri
+    ensures { result ≡ promoted (valuation_tree under.now) (valuation_values under.now) kind value }
+{
+    if value != Tri::M {
+        return value;
+    }
+    match kind {
+        Kind::Bool => Tri::Y,
+        Kind::Tristate => {
+            if is_n(under.modules()) {
+                Tri::Y
+            } else {
+                Tri::M
+            }
+        }
+        Kind::Text | Kind::Int | Kind::Hex => Tri::M,
+    }
+}
+
+/// The visibility of a symbol: the largest value of its prompts' conditions, with `y` in place of `m` where the symbol can't be
+/// `m`.
+pub(crate) fn visibility(under: &Valuation<'_>, symbol: &Symbol<'_>) -> Tri
+    requires fits { SymbolFits (valuation_exprs under.now) (length (valuation_tree under.now).symbols) symbol.now }
+    ensures value { result ≡ visibility (valuation_tree under.now) (valuation_values under.now) (symbol_view (valuation_exprs under.now) symbol.now) }
+{
+    promoted(under, symbol.kind, largest(under, symbol.prompts))
+}
+
+/// Whether a symbol is visible: the condition of some prompt isn't `n`.
+pub fn is_visible(under: &Valuation<'_>, symbol: &Symbol<'_>) -> bool
+    requires fits { SymbolFits (valuation_exprs under.now) (length (valuation_tree under.now).symbols) symbol.now }
+    ensures value { result ≡ is_visible (valuation_tree under.now) (valuation_values under.now) (symbol_view (valuation_exprs under.now) symbol.now) }
+{
+    !is_n(largest(under, symbol.prompts))
+}
+
+/// The value of a bool's or tristate's first default whose condition isn't `n`, limited to the condition; `n` without one.
+#[inline(always)]
+pub fn default_value(under: &Valuation<'_>, defaults: &[Default]) -> Tri
+    requires fits { AreDefaults (valuation_exprs under.now) defaults.now }
+    ensures value { result ≡ default_tri (valuation_tree under.now) (valuation_values under.now) (active_default_of (valuation_tree under.now) (valuation_values under.now) (map (default_view (valuation_exprs under.now)) defaults.now)) }
+{
+    for default in defaults {
+        let condition = under.condition(default.condition);
+        if !is_n(condition) {
+            return condition.and(under.condition(default.value));
+        }
+    }
+    Tri::N
+}
+
+/// The largest value that some `imply` demands of a symbol; `n` without any, and where the symbol's direct dependency is `n`.
+pub(crate) fn implied_effect(under: &Valuation<'_>, symbol: &Symbol<'_>) -> Tri
+    requires fits { SymbolFits (valuation_exprs under.now) (length (valuation_tree under.now).symbols) symbol.now }
+    ensures value { result ≡ implied_effect (valuation_tree under.now) (valuation_values under.now) (symbol_view (valuation_exprs under.now) symbol.now) }
+{
+    let implied = reverse_limit(under, symbol.impliers);
+    if is_n(implied) || is_n(largest(under, symbol.direct)) {
+        Tri::N
+    } else {
+        implied
+    }
+}
+
+/// The value of a bool or tristate by its defaults and the implies that name it, without regard to user values and selects.
+pub(crate) fn unassigned_value(under: &Valuation<'_>, profile: Profile, symbol: &Symbol<'_>) -> Tri
+    requires fits { SymbolFits (valuation_exprs under.now) (length (valuation_tree under.now).symbols) symbol.now }
+    ensures value { result ≡ unassigned_value profile (valuation_tree under.now) (valuation_values under.now) (symbol_view (valuation_exprs under.now) symbol.now) }
+{
+    let default = default_value(under, symbol.defaults);
+    match profile {
+        Profile::Present => {
+            let implied = reverse_limit(under, symbol.impliers);
+            if is_n(implied) {
+                default
+            } else {
+                default.or(implied).and(largest(under, symbol.direct))
+            }
+        }
+        Profile::Classic => default.or(implied_effect(under, symbol)),
+    }
+}
+
+/// The value of a bool or tristate before selects: the user value up to the visibility, or the value without a user value.
+fn base(under: &Valuation<'_>, profile: Profile, symbol: &Symbol<'_>, user: Option<Tri>) -> Tri
+    requires fits { SymbolFits (valuation_exprs under.now) (length (valuation_tree under.now).symbols) symbol.now }
+    ensures value { result ≡ base profile (valuation_tree under.now) (valuation_values under.now) (symbol_view (valuation_exprs under.now) symbol.now) user }
+{
+    if let Some(assigned) = user {
+        let visibility = visibility(under, symbol);
+        if !is_n(visibility) {
+            return assigned.and(visibility);
+        }
+    }
+    unassigned_value(under, profile, symbol)
+}
+
+/// The value of a symbol with `y` in place of `m` where the profile is the classic one and the symbol is implied as `y`.
+fn without_m(under: &Valuation<'_>, profile: Profile, symbol: &Symbol<'_>, value: Tri) -> Tri
+    requires fits { SymbolFits (valuation_exprs under.now) (length (valuation_tree under.now).symbols) symbol.now }
+    ensures value { result ≡ (if leaves_no_m profile (valuation_tree under.now) (valuation_values under.now) (symbol_view (valuation_exprs under.now) symbol.now) then y_for_m value else value) }
+{
+    match profile {
+        Profile::Present => value,
+        Profile::Classic => {
+            if value == Tri::M && implied_effect(under, symbol) == Tri::Y {
+                Tri::Y
+            } else {
+                value
+            }
+        }
+    }
+}
+
+/// The value of a bool or tristate outside choices, by its user value, if there is one, and its rule in this profile.
+pub(crate) fn tri_rule(
+    under: &Valuation<'_>,
+    profile: Profile,
+    symbol: &Symbol<'_>,
+    user: Option<Tri>,
+) -> Tri
+    requires fits { SymbolFits (valuation_exprs under.now) (length (valuation_tree under.now).symbols) symbol.now }
+    ensures value { result ≡ tri_rule_of profile (valuation_tree under.now) (valuation_values under.now) (symbol_view (valuation_exprs under.now) symbol.now) user }
+{
+    let base = base(under, profile, symbol, user);
+    let selected = reverse_limit(under, symbol.selectors);
+    let value = promoted(under, symbol.kind, base.or(selected));
+    without_m(under, profile, symbol, value)
+}

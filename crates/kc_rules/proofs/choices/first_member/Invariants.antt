@@ -1,9 +1,0 @@
-use Rattle.std.proofs.Common.{◌≡◌, find, drop}
-use Rattle.kc_rules_model.specs.Rule.{is_visible_member}
-use Rattle.kc_rules.specs.checker.ValuationView.{valuation_tree, valuation_values}
-use Rattle.kc_rules.proofs.choices.first_member.Given as goal
-
-abbrev pub invariant-loop-s : goal.invariant-loop-s
-invariant-loop-s l =
-    find (is_visible_member (valuation_tree l.under) (valuation_values l.under)) (drop l.s-index l.members) ≡ find
-    (is_visible_member (valuation_tree l.under) (valuation_values l.under)) l.members

@@ -1,9 +1,0 @@
-use Rattle.std.proofs.Common.{arith}
-use Rattle.std.proofs.lemmas.Grind.{common_steps, elements}
-use Rattle.kc_rules.proofs.choices.shown_choice_rule.Goals as goal
-
-pub is_member_visible-requires : goal.is_member_visible-requires
-is_member_visible-requires c = grind (arith, common_steps)
-
-pub is_shown-requires : goal.is_shown-requires
-is_shown-requires c = record { fits = grind (arith, elements) }
