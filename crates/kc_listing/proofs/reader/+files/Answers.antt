@@ -3,26 +3,35 @@ use Rattle.std.proofs.lemmas.Grind.{common_steps, elements}
 use Rattle.std.proofs.lemmas.Result.{err_from_is_err_and}
 use Rattle.kc_listing.specs.checker.StateViews.{file_source_of}
 use Rattle.kc_tree_model.specs.TreeReading.{read_file}
-use Rattle.kc_listing.proofs.ReaderSteps.{one_faulty, one_next, one_help, one_help_faulty, one_source, one_source_faulty, all_left, file_ended, file_lines, not_sourced}
+use Rattle.kc_listing.proofs.ReaderSteps.{one_faulty, one_next, one_help, one_help_faulty, one_source, one_source_faulty, all_left, file_ended, file_lines, not_sourced, file_faulty, source_done}
 use Rattle.kc_listing.proofs.reader.+files.Goals as goal
 
-pub read_statement-returns-in-Err-clause-read : goal.read_statement-returns-in-Err-clause-read
-read_statement-returns-in-Err-clause-read t c = λ before d.
-    one_faulty (file_source_of c.args.from) (read_file c.args.depth (file_source_of c.args.from)) c.args.file.number c.args.file.bytes.now c.args.at
-    c.args.number before _ _ _ c.requires.here c.in-Ok.ensures.line c.read_logical.new.read c.in-Err.kind _ (c.in-Err.ensures before d)
-    c.fault_or_out_of_memory.ensures.memory c.fault_or_out_of_memory.ensures.placed
+pub read_statement-returns-in-Err : goal.read_statement-returns-in-Err
+read_statement-returns-in-Err t c = record {
+  bounds = grind (arith, common_steps);
+  read = λ before d.
+      one_faulty (file_source_of c.args.from) (read_file c.args.depth (file_source_of c.args.from)) c.args.file.number c.args.file.bytes.now c.args.at
+      c.args.number before _ _ _ c.requires.here c.in-Ok.ensures.line c.read_logical.new.read c.in-Err.kind _ (c.in-Err.ensures before d)
+      c.fault_or_out_of_memory.ensures.memory c.fault_or_out_of_memory.ensures.placed;
+}
 
-pub read_statement-returns-in-Ok-Next-clause-read : goal.read_statement-returns-in-Ok-Next-clause-read
-read_statement-returns-in-Ok-Next-clause-read t c = λ before d.
-    one_next (file_source_of c.args.from) (read_file c.args.depth (file_source_of c.args.from)) c.args.file.number c.args.file.bytes.now c.args.at c.args.number
-    before _ _ _ c.requires.here c.in-Ok.ensures.line c.read_logical.new.read (rw c.in-Ok-Next.field-0-is at (c.in-Ok-Next.ensures before d))
+pub read_statement-returns-in-Ok-Next : goal.read_statement-returns-in-Ok-Next
+read_statement-returns-in-Ok-Next t c = record {
+  bounds = grind (arith, common_steps);
+  read = λ before d.
+      one_next (file_source_of c.args.from) (read_file c.args.depth (file_source_of c.args.from)) c.args.file.number c.args.file.bytes.now c.args.at c.args.number
+      before _ _ _ c.requires.here c.in-Ok.ensures.line c.read_logical.new.read (rw c.in-Ok-Next.field-0-is at (c.in-Ok-Next.ensures before d));
+}
 
-pub read_statement-returns-in_err-end-in-Ok-Help-clause-read : goal.read_statement-returns-in_err-end-in-Ok-Help-clause-read
-read_statement-returns-in_err-end-in-Ok-Help-clause-read t c = λ before d.
-    let p = err_from_is_err_and c.from_residual.result c.from_residual.ensures.1 in
-    rw (p.1, p.2) (one_help_faulty (file_source_of c.args.from) (read_file c.args.depth (file_source_of c.args.from)) c.args.file.number c.args.file.bytes.now
-    c.args.at c.args.number before _ _ _ c.requires.here c.in-Ok.ensures.line c.read_logical.new.read _ _
-    (rw c.in-Ok-Help.field-0-is at (c.in-Ok-Help.ensures before d)) refl c.in_err-end-in-Ok-Help.ensures.read)
+pub read_statement-returns-in_err-end-in-Ok-Help : goal.read_statement-returns-in_err-end-in-Ok-Help
+read_statement-returns-in_err-end-in-Ok-Help t c =
+    let p = err_from_is_err_and c.from_residual.result c.from_residual.ensures.1 in record {
+      bounds = rw p.1 tt;
+      read = λ before d.
+          rw (p.1, p.2) (one_help_faulty (file_source_of c.args.from) (read_file c.args.depth (file_source_of c.args.from)) c.args.file.number c.args.file.bytes.now
+          c.args.at c.args.number before _ _ _ c.requires.here c.in-Ok.ensures.line c.read_logical.new.read _ _
+          (rw c.in-Ok-Help.field-0-is at (c.in-Ok-Help.ensures before d)) refl c.in_err-end-in-Ok-Help.ensures.read);
+    }
 
 pub read_statement-returns-in-Ok-Help-clause-read : goal.read_statement-returns-in-Ok-Help-clause-read
 read_statement-returns-in-Ok-Help-clause-read t c = λ before d.
@@ -30,20 +39,26 @@ read_statement-returns-in-Ok-Help-clause-read t c = λ before d.
     before _ _ _ c.requires.here c.in-Ok.ensures.line c.read_logical.new.read _ _ (rw c.in-Ok-Help.field-0-is at (c.in-Ok-Help.ensures before d)) refl
     c.in_ok-end-in-Ok-Help.ensures.read
 
-pub read_statement-returns-in_err-read_sourced-in-Ok-Source-clause-read : goal.read_statement-returns-in_err-read_sourced-in-Ok-Source-clause-read
-read_statement-returns-in_err-read_sourced-in-Ok-Source-clause-read t c = λ before d.
-    let s = rw c.in-Ok-Source.field-0-is at (c.in-Ok-Source.ensures before d) in
-    let p = err_from_is_err_and c.from_residual-in_err-read_sourced-in-Ok-Source.result c.from_residual-in_err-read_sourced-in-Ok-Source.ensures.1 in
-    rw (p.1, p.2) (one_source_faulty (file_source_of c.args.from) (read_file c.args.depth (file_source_of c.args.from)) c.args.file.number c.args.file.bytes.now
-    c.args.at c.args.number before _ _ _ c.requires.here c.in-Ok.ensures.line c.in-Ok-Source.path c.read_logical.new.read c.read_sourced.new.read _ s
-    (c.in_err-read_sourced-in-Ok-Source.ensures before s.describes))
+pub read_statement-returns-in_err-read_sourced-in-Ok-Source : goal.read_statement-returns-in_err-read_sourced-in-Ok-Source
+read_statement-returns-in_err-read_sourced-in-Ok-Source t c =
+    let p = err_from_is_err_and c.from_residual-in_err-read_sourced-in-Ok-Source.result c.from_residual-in_err-read_sourced-in-Ok-Source.ensures.1 in record {
+      bounds = rw p.1 tt;
+      read = λ before d.
+          let s = rw c.in-Ok-Source.field-0-is at (c.in-Ok-Source.ensures before d) in
+          rw (p.1, p.2) (one_source_faulty (file_source_of c.args.from) (read_file c.args.depth (file_source_of c.args.from)) c.args.file.number c.args.file.bytes.now
+          c.args.at c.args.number before _ _ _ c.requires.here c.in-Ok.ensures.line c.in-Ok-Source.path c.read_logical.new.read c.read_sourced.new.read _ s
+          (c.in_err-read_sourced-in-Ok-Source.ensures before s.describes));
+    }
 
-pub read_statement-returns-clause-read : goal.read_statement-returns-clause-read
-read_statement-returns-clause-read t c = λ before d.
-    let s = rw c.in-Ok-Source.field-0-is at (c.in-Ok-Source.ensures before d) in
-    one_source (file_source_of c.args.from) (read_file c.args.depth (file_source_of c.args.from)) c.args.file.number c.args.file.bytes.now c.args.at
-    c.args.number before _ _ _ c.requires.here c.in-Ok.ensures.line c.in-Ok-Source.path c.read_logical.new.read c.read_sourced.new.read s
-    (c.in_ok-read_sourced-in-Ok-Source.ensures before s.describes)
+pub read_statement-returns : goal.read_statement-returns
+read_statement-returns t c = record {
+  bounds = grind (arith, common_steps);
+  read = λ before d.
+      let s = rw c.in-Ok-Source.field-0-is at (c.in-Ok-Source.ensures before d) in
+      one_source (file_source_of c.args.from) (read_file c.args.depth (file_source_of c.args.from)) c.args.file.number c.args.file.bytes.now c.args.at
+      c.args.number before _ _ _ c.requires.here c.in-Ok.ensures.line c.in-Ok-Source.path c.read_logical.new.read c.read_sourced.new.read s
+      (c.in_ok-read_sourced-in-Ok-Source.ensures before s.describes);
+}
 
 pub read_open_file-lines-init : goal.read_open_file-lines-init
 read_open_file-lines-init t c = record {
@@ -82,44 +97,53 @@ read_sourced-returns-in_err-sourced t c = λ before d.
 pub read_open_file-overflow_add-number : goal.read_open_file-overflow_add-number
 read_open_file-overflow_add-number t c = grind (arith, common_steps)
 
-pub read_statement-returns-in_default-clause-bounds : goal.read_statement-returns-in_default-clause-bounds
-read_statement-returns-in_default-clause-bounds t c = omega arith
+pub read_statement-returns-in_default : goal.read_statement-returns-in_default
+read_statement-returns-in_default t c = record {
+  bounds = omega arith;
+  read = grind (arith, elements);
+}
 
 pub read_open_file-returns-then-depth-eq0 : goal.read_open_file-returns-then-depth-eq0
 read_open_file-returns-then-depth-eq0 t c = grind (arith, common_steps)
 
-pub read_statement-read_help-requires-clause-within : goal.read_statement-read_help-requires-clause-within
-read_statement-read_help-requires-clause-within t c = grind (arith, common_steps)
+pub read_statement-read_help-requires : goal.read_statement-read_help-requires
+read_statement-read_help-requires t c = record {
+  within = grind (arith, common_steps);
+  small = omega arith;
+  few = grind (arith, common_steps);
+}
 
 pub read_open_file-overflow_sub-depth : goal.read_open_file-overflow_sub-depth
 read_open_file-overflow_sub-depth t c = grind (arith, common_steps)
 
-pub read_statement-returns-clause-bounds : goal.read_statement-returns-clause-bounds
-read_statement-returns-clause-bounds t c = grind (arith, common_steps)
-
-pub read_statement-returns-in_default-clause-read : goal.read_statement-returns-in_default-clause-read
-read_statement-returns-in_default-clause-read t c = grind (arith, elements)
-
-pub read_statement-returns-in-Err-clause-bounds : goal.read_statement-returns-in-Err-clause-bounds
-read_statement-returns-in-Err-clause-bounds t c = grind (arith, common_steps)
-
 pub read_statement-overflow_add-number : goal.read_statement-overflow_add-number
 read_statement-overflow_add-number t c = grind (arith, common_steps)
 
+pub read_sourced-returns-in_err-read_open_file : goal.read_sourced-returns-in_err-read_open_file
+read_sourced-returns-in_err-read_open_file t c = λ before d.
+    let p = err_from_is_err_and c.from_residual-in_err-read_open_file.result c.from_residual-in_err-read_open_file.ensures.1 in
+    let s = c.in_ok-sourced.ensures.sourced before d in
+    rw (p.1, p.2) (file_faulty (file_source_of c.args.from) (read_file c.args.depth (file_source_of c.args.from)) c.args.file c.args.line c.args.path before
+    c.read_open_file.new.read _ s.0 (c.in_err-read_open_file.ensures.read _ s.3 c.args.path s.1 s.2))
+
 pub read_sourced-returns : goal.read_sourced-returns
-read_sourced-returns t c = grind (arith, common_steps)
+read_sourced-returns t c = λ before d.
+    let s = c.in_ok-sourced.ensures.sourced before d in
+    let f = c.in_ok-read_open_file.ensures.read _ s.3 c.args.path s.1 s.2 in
+    source_done (file_source_of c.args.from) (read_file c.args.depth (file_source_of c.args.from)) c.args.file c.args.line c.args.path before
+    c.close_source.new.read c.close_source.result s.0 f.0 (c.close_source.ensures _ f.1)
 
-pub read_statement-read_help-requires-clause-small : goal.read_statement-read_help-requires-clause-small
-read_statement-read_help-requires-clause-small t c = omega arith
-
-pub read_statement-read_help-requires-clause-few : goal.read_statement-read_help-requires-clause-few
-read_statement-read_help-requires-clause-few t c = grind (arith, common_steps)
+pub read_open_file-returns-in_err-next : goal.read_open_file-returns-in_err-next
+read_open_file-returns-in_err-next t c =
+    let p = err_from_is_err_and c.from_residual.result c.from_residual.ensures.1 in record {
+      read = λ before d path n b.
+          let l = c.lines.invariant.left before d in
+          let e = file_lines c.args.depth (file_source_of c.args.from) path before (omega arith) in
+          rw (p.1, p.2, e, ← n, ← b, ← l.left) (c.in_err-next.ensures.read l.now l.describes);
+    }
 
 pub read_open_file-lines-smaller : goal.read_open_file-lines-smaller
 read_open_file-lines-smaller t c = grind (arith, common_steps)
-
-pub read_statement-returns-in-Ok-Next-clause-bounds : goal.read_statement-returns-in-Ok-Next-clause-bounds
-read_statement-returns-in-Ok-Next-clause-bounds t c = grind (arith, common_steps)
 
 pub read_sourced-read_open_file-requires : goal.read_sourced-read_open_file-requires
 read_sourced-read_open_file-requires t c = grind (arith, common_steps)
