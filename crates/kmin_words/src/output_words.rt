@@ -25,12 +25,19 @@ pub(crate) fn job_and_output<'a>(
     Ok((job, output))
 }
 
-/// The value of `--output`, if it is given. A path with a newline is refused.
+/// The message with which `-` is refused as the output file.
+const UNWRITTEN_DASH: &str = "error: '-' isn't written as a file
+
+  tip: without -o standard output is written, ./- is a file of that name
+";
+
+/// The value of `--output`, if it is given. A path with a newline is refused, and so is `-`.
 fn output_of<'a>(matches: &ArgMatches<'a>) -> Result<Option<&'a str>, Refusal>
     ensures { Agrees (option_map (λ path. path.now)) (parsed.output_of (found_of matches.now)) result }
 {
     match matches.get_str("output") {
         Some(path) if has_newline(path.as_bytes()) => Err(Refusal::Words("file: Malformed\n")),
+        Some("-") => Err(Refusal::Words(UNWRITTEN_DASH)),
         output => Ok(output),
     }
 }

@@ -104,10 +104,28 @@ expanded_tree_of path = if has_newline path then Err (codes "tree: Malformed\n")
 abbrev pub inputs_among : List (List ℕ) → ℕ
 inputs_among paths = count_by (λ path. bytes_eq path (codes "/dev/stdin")) paths
 
--- the paths of configuration files; refused if they and those of answer files name standard input more than once, compared as
--- texts
+-- whether a path isn't `-`, by which many programs name standard input or output
+abbrev pub names_file : List ℕ → Bool
+names_file path = not (bytes_eq path (codes "-"))
+
+-- whether no path is `-`, of the answer files and of the configuration files
+abbrev pub name_files : (answers paths : List (List ℕ)) → Bool
+name_files answers paths = list_all names_file answers && list_all names_file paths
+
+-- the message with which `-` is refused as a file that is read
+abbrev pub unread_dash : List ℕ
+unread_dash = codes "error: '-' isn't read as a file\n\n  tip: /dev/stdin is standard input, ./- a file of that name\n"
+
+-- the message with which `-` is refused as a file that is written
+abbrev pub unwritten_dash : List ℕ
+unwritten_dash = codes "error: '-' isn't written as a file\n\n  tip: without -o standard output is written, ./- is a file of that name\n"
+
+-- the paths of configuration files; refused if one of them or of those of answer files is `-`, or if they name standard input
+-- more than once, compared as texts
 abbrev pub paths_beside : (answers paths : List (List ℕ)) → ValueResult (List (List ℕ))
-paths_beside answers paths = if nat_lt 1 (inputs_among answers + inputs_among paths) then Err (codes "stdin: NamedTwice\n") else Ok paths
+paths_beside answers paths =
+    if not (name_files answers paths) then Err unread_dash
+    else (if nat_lt 1 (inputs_among answers + inputs_among paths) then Err (codes "stdin: NamedTwice\n") else Ok paths)
 
 -- the result of a function on a value, or the refusal of that value
 abbrev pub and_then : {A B : Type 0} → ValueResult A → (A → ValueResult B) → ValueResult B
@@ -158,14 +176,15 @@ settings_of found paths =
 abbrev pub job_of : List ℕ → Found → ValueResult (Settings × Task)
 job_of name found = and_then (settings_of found (paths_of (task_of name found))) (λ settings. Ok (settings, task_of name found))
 
--- the path of an output file, if it is given; refused if it has a newline
-abbrev pub one_line_output : Option (List ℕ) → ValueResult (Option (List ℕ))
-one_line_output None = Ok None
-one_line_output (Some path) = if has_newline path then Err (codes "file: Malformed\n") else Ok (Some path)
+-- the path of an output file, if it is given; refused if it has a newline or is `-`
+abbrev pub output_path : Option (List ℕ) → ValueResult (Option (List ℕ))
+output_path None = Ok None
+output_path (Some path) =
+    if has_newline path then Err (codes "file: Malformed\n") else (if names_file path then Ok (Some path) else Err unwritten_dash)
 
--- the value of `--output`, if it is given; refused if it has a newline
+-- the value of `--output`, if it is given; refused if it has a newline or is `-`
 abbrev pub output_of : Found → ValueResult (Option (List ℕ))
-output_of found = one_line_output (first_value found (codes "output"))
+output_of found = output_path (first_value found (codes "output"))
 
 -- the options of a command, the command with this name and its files, and the path of its output file, if it is given
 abbrev pub job_and_output_of : List ℕ → Found → ValueResult ((Settings × Task) × Option (List ℕ))
