@@ -115,7 +115,7 @@ tree can't read is never lost unasked: a file with a notice is then refused, unl
 given, too. With --strict it is refused with and without --write.
 
 A file that is refused or can't be written is reported and left as it is, and the others are gone
-over. Standard output is written at the end.";
+over. Standard output is written at the end, with --write a line for each file that was replaced.";
 
 pub(crate) const TIDY_AFTER: &str = "\
 Example:
