@@ -107,8 +107,8 @@ pub(crate) const TIDY: &str = "Lists, or rewrites, the files that aren't their o
 pub(crate) const TIDY_LONG: &str = "\
 Goes over configuration files, each alone and over no assignments, with the tree read once, and
 writes a line for each that isn't its own minimal file: `FILE: K out, L in`, how many of its lines
-aren't in its minimal file, and the other way round; or `FILE: order` where just their order, or
-the end of a line, is another.
+aren't in its minimal file, and the other way round; `FILE: order` where just their order is
+another; or `FILE: line ends` where just carriage returns or the last newline are.
 
 With --write each such file is replaced by its minimal file, whole or not at all. A line that the
 tree can't read is never lost unasked: a file with a notice is then refused, unless --drop is
