@@ -48,7 +48,9 @@ Example:
   kmin min -o defconfig .config
 
 The output is made whole before its first byte is written. With `-o` FILE may be one that is read,
-too: it is replaced at the end, whole or not at all. A shell empties `> FILE` before kmin reads it."
+too: it is replaced at the end, whole or not at all. A line that the tree can't read is then never
+lost unasked: a file with a notice is refused, unless --drop is given, too. A shell empties
+`> FILE` before kmin reads it."
 );
 
 pub(crate) const FULL: &str =
@@ -130,6 +132,9 @@ pub(crate) const WRITE: &str = "Replaces each file that isn't minimal by its min
 
 pub(crate) const DROP: &str =
     "Writes files without the lines that the tree can't read; with --write";
+
+pub(crate) const DROP_IN_PLACE: &str =
+    "Replaces a FILE without the lines that the tree can't read; with -o";
 
 pub(crate) const FROM: &str = "File of further paths, a line each; - is standard input";
 

@@ -1,6 +1,6 @@
 -- The job of accepted words, by the values that their parser found.
 use Rattle.std.specs.Prelude.{◌≡◌, ℕ, ◌+◌, Bool, true, false, not, ◌&&◌, ◌||◌, ◌==◌, nat_lt, nat_le, List, [], ◌∷◌, ◌++◌, length, take, drop, position, count_by, Option, Some, None, Result, Ok, Err, is_some, codes, unwrap_or, option_map, bytes_eq, if◌then◌else◌}
-use Rattle.std.specs.List.{list_all, filter_map}
+use Rattle.std.specs.List.{list_all, list_any, filter_map}
 use Rattle.clap.specs.Words.{matched_of, first_value}
 use Rattle.clap.specs.Matches.{raw_values}
 use Rattle.clap.specs.declared.parser.matches.Found.{Found}
@@ -186,9 +186,28 @@ output_path (Some path) =
 abbrev pub output_of : Found → ValueResult (Option (List ℕ))
 output_of found = output_path (first_value found (codes "output"))
 
+-- whether a verb is `min`
+abbrev pub is_min : Verb → Bool
+is_min Min = true
+is_min verb = false
+
+-- whether a command is `min` with an output file that is one of the files that it reads; paths are compared as texts
+abbrev pub minimises_in_place : Task → (output : Option (List ℕ)) → Bool
+minimises_in_place (over verb paths) (Some output) = is_min verb && list_any (λ path. bytes_eq path output) paths
+minimises_in_place task output = false
+
+-- the options of a command and the command with its files; a file with a notice is refused as with `--strict` where `min` replaces
+-- a file that it reads, since the line with the notice would be lost, unless `drop`
+abbrev pub kept_in_place : (drop : Bool) → (output : Option (List ℕ)) → Settings × Task → Settings × Task
+kept_in_place drop output job =
+    (record job.0 { strict = job.0.strict || (minimises_in_place job.1 output && not drop) }, job.1)
+
 -- the options of a command, the command with this name and its files, and the path of its output file, if it is given
 abbrev pub job_and_output_of : List ℕ → Found → ValueResult ((Settings × Task) × Option (List ℕ))
-job_and_output_of name found = and_then (output_of found) (λ output. and_then (job_of name found) (λ job. Ok (job, output)))
+job_and_output_of name found =
+    and_then (output_of found) (λ output.
+    and_then (job_of name found) (λ job.
+    Ok (kept_in_place (is_given found (codes "drop")) output job, output)))
 
 -- the folder, first Kconfig file and sources of answers that the words of the command `wants` give, or why they are refused
 abbrev pub questions_of : Found → ValueResult Questions
