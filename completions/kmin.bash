@@ -21,6 +21,9 @@ _kmin_words() {
         min|full) echo "-o --output" ;;
     esac
     case $1 in
+        min) echo "--drop" ;;
+    esac
+    case $1 in
         missed|check) echo "--exit-code" ;;
     esac
     case $1 in

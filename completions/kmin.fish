@@ -54,6 +54,7 @@ complete -c kmin -n "__fish_seen_subcommand_from min full missed check compare t
 complete -c kmin -n "__fish_seen_subcommand_from min full missed check compare tidy" -l imply -d "Rule of imply" -x -a "present classic"
 complete -c kmin -n "__fish_seen_subcommand_from min full missed check compare tidy" -l strict -d "Refuses a file with a line that the tree can't read"
 complete -c kmin -n "__fish_seen_subcommand_from min full" -s o -l output -d "File to write in place of standard output" -r
+complete -c kmin -n "__fish_seen_subcommand_from min" -l drop -d "Replaces a FILE without the lines that the tree can't read; with -o"
 complete -c kmin -n "__fish_seen_subcommand_from missed check" -l exit-code -d "Ends with status 1 where a symbol is listed"
 complete -c kmin -n "__fish_seen_subcommand_from tidy" -l write -d "Replaces each file that isn't minimal by its minimal file"
 complete -c kmin -n "__fish_seen_subcommand_from tidy" -l drop -d "Writes files without the lines that the tree can't read; with --write"

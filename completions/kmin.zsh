@@ -62,6 +62,11 @@ _kmin_specs() {
         ) ;;
     esac
     case $1 in
+        min) specs+=(
+            '(--strict)--drop[Replaces a FILE without the lines that the tree can'\''t read; with -o]'
+        ) ;;
+    esac
+    case $1 in
         missed|check) specs+=(
             '--exit-code[Ends with status 1 where a symbol is listed]'
         ) ;;

@@ -94,7 +94,7 @@ fn ends_as(
 fn lists_files(rt: &HostRuntime) -> Result<bool, Fail> {
     let mut disk = disk_with_files(rt)?;
     let mut holds = ends_as(rt, &mut disk, NOTHING, &["minimal"], (0, "", ""))?;
-    let text = "longer: 1 out, 0 in\nends: order\n";
+    let text = "longer: 1 out, 0 in\nends: line ends\n";
     let paths = ["longer", "minimal", "ends"];
     holds &= ends_as(rt, &mut disk, NOTHING, &paths, (1, text, ""))?;
     let text = "unknown: 1 out, 0 in\n";
@@ -115,7 +115,7 @@ fn files_that_are_not_minimal_are_listed(rt: HostRuntime) -> Result<(), Fail> {
 fn replaces_files(rt: &HostRuntime) -> Result<bool, Fail> {
     let mut disk = disk_with_files(rt)?;
     let paths = ["longer", "other", "minimal", "ends"];
-    let text = "longer: 1 out, 0 in\nother: 2 out, 0 in\nends: order\n";
+    let text = "longer: 1 out, 0 in\nother: 2 out, 0 in\nends: line ends\n";
     let mut holds = ends_as(rt, &mut disk, WRITE, &paths, (0, text, ""))?;
     holds &= disk.bytes_at("longer") == Some(MINIMAL) && disk.bytes_at("other") == Some(b"");
     holds &= disk.bytes_at("ends") == Some(MINIMAL) && disk.changes() == 13;
@@ -171,7 +171,7 @@ fn passes_refused_files(rt: &HostRuntime) -> Result<bool, Fail> {
         &mut disk,
         NOTHING,
         &["link", "ends"],
-        (5, "ends: order\n", errors),
+        (5, "ends: line ends\n", errors),
     )?;
     Ok(holds && disk.changes() == 9)
 }
@@ -183,12 +183,16 @@ fn the_first_refused_file_decides(rt: HostRuntime) -> Result<(), Fail> {
     Ok(())
 }
 
-/// Whether a file stays where a call fails, and the run goes on to the next. The calls are a creation, three writes, a
-/// sync and a rename; the folder is synced last, when the new bytes are in place.
+/// Whether a file stays where a call fails and has no line, and the run goes on to the next. The calls are a creation, three
+/// writes, a sync and a rename; the folder is synced last, when the new bytes are in place.
 fn goes_on_after(rt: &HostRuntime, calls: u64) -> Result<bool, Fail> {
     let mut disk = disk_with_files(rt)?;
     disk.fail_after(calls, 1);
-    let text = "longer: 1 out, 0 in\nends: order\n";
+    let text = if calls < 6 {
+        "ends: line ends\n"
+    } else {
+        "longer: 1 out, 0 in\nends: line ends\n"
+    };
     let paths = ["longer", "ends"];
     let mut holds = ends_as(rt, &mut disk, WRITE, &paths, (5, text, "longer: Write\n"))?;
     let kept = disk.bytes_at("longer") == Some(b"CONFIG_A=y\nCONFIG_B=y\n");

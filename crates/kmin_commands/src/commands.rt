@@ -272,7 +272,7 @@ fn over_files<'a>(alloc: Global, help: &CommandHelp) -> Result<Command<'a>, Allo
     command.arg(any_number(alloc, "FILE", help_texts::FILES))
 }
 
-/// Adds `--output` to a command if it writes a configuration file.
+/// Adds `--output` to a command if it writes a configuration file, and `--drop` to `min`.
 fn with_output<'a>(
     alloc: Global,
     help: &CommandHelp,
@@ -281,9 +281,18 @@ fn with_output<'a>(
     ensures { IfOk result (λ made. HasLocalArguments command.entry → HasLocalArguments made) }
 {
     match help.name {
-        "min" | "full" => command.arg(output(alloc)),
+        "min" => with_output_and_drop(alloc, command),
+        "full" => command.arg(output(alloc)),
         _ => Ok(command),
     }
+}
+
+/// Adds `--output` and `--drop` to a command.
+fn with_output_and_drop<'a>(alloc: Global, command: Command<'a>) -> Result<Command<'a>, AllocError>
+    ensures { IfOk result (λ made. HasLocalArguments command.entry → HasLocalArguments made) }
+{
+    let command = command.arg(output(alloc))?;
+    command.arg(dropping(alloc, help_texts::DROP_IN_PLACE, "output")?)
 }
 
 /// A command that lists symbols of a configuration, with `--exit-code`.
@@ -337,14 +346,14 @@ fn with_tidy_flags<'a>(alloc: Global, command: Command<'a>) -> Result<Command<'a
     ensures { IfOk result (λ made. HasLocalArguments command.entry → HasLocalArguments made) }
 {
     let command = command.arg(flag(alloc, "write", help_texts::WRITE))?;
-    command.arg(dropping(alloc)?)
+    command.arg(dropping(alloc, help_texts::DROP, "write")?)
 }
 
-/// The option to leave lines out, which goes with `--write` and not with `--strict`.
-fn dropping<'a>(alloc: Global) -> Result<Arg<'a>, AllocError>
+/// The option to leave lines out, with its help, which goes with the option `beside` and not with `--strict`.
+fn dropping<'a>(alloc: Global, help: &'a str, beside: &'a str) -> Result<Arg<'a>, AllocError>
     ensures { IfOk result IsLocal }
 {
-    let dropping = flag(alloc, "drop", help_texts::DROP).requires_arg("write")?;
+    let dropping = flag(alloc, "drop", help).requires_arg(beside)?;
     dropping.conflicts_with("strict")
 }
 

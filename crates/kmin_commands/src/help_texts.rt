@@ -48,7 +48,9 @@ Example:
   kmin min -o defconfig .config
 
 The output is made whole before its first byte is written. With `-o` FILE may be one that is read,
-too: it is replaced at the end, whole or not at all. A shell empties `> FILE` before kmin reads it."
+too: it is replaced at the end, whole or not at all. A line that the tree can't read is then never
+lost unasked: a file with a notice is refused, unless --drop is given, too. A shell empties
+`> FILE` before kmin reads it."
 );
 
 pub(crate) const FULL: &str =
@@ -107,15 +109,15 @@ pub(crate) const TIDY: &str = "Lists, or rewrites, the files that aren't their o
 pub(crate) const TIDY_LONG: &str = "\
 Goes over configuration files, each alone and over no assignments, with the tree read once, and
 writes a line for each that isn't its own minimal file: `FILE: K out, L in`, how many of its lines
-aren't in its minimal file, and the other way round; or `FILE: order` where just their order, or
-the end of a line, is another.
+aren't in its minimal file, and the other way round; `FILE: order` where just their order is
+another; or `FILE: line ends` where just carriage returns or the last newline are.
 
 With --write each such file is replaced by its minimal file, whole or not at all. A line that the
 tree can't read is never lost unasked: a file with a notice is then refused, unless --drop is
 given, too. With --strict it is refused with and without --write.
 
 A file that is refused or can't be written is reported and left as it is, and the others are gone
-over. Standard output is written at the end.";
+over. Standard output is written at the end, with --write a line for each file that was replaced.";
 
 pub(crate) const TIDY_AFTER: &str = "\
 Example:
@@ -130,6 +132,9 @@ pub(crate) const WRITE: &str = "Replaces each file that isn't minimal by its min
 
 pub(crate) const DROP: &str =
     "Writes files without the lines that the tree can't read; with --write";
+
+pub(crate) const DROP_IN_PLACE: &str =
+    "Replaces a FILE without the lines that the tree can't read; with -o";
 
 pub(crate) const FROM: &str = "File of further paths, a line each; - is standard input";
 

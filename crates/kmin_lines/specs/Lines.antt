@@ -1,5 +1,5 @@
 -- The lines of a text, and those of them that aren't in another text.
-use Rattle.std.specs.Prelude.{◌≡◌, ℕ, List, [], ◌∷◌, ◌++◌, ◌⊎◌, ◌==◌, length, map, if◌then◌else◌}
+use Rattle.std.specs.Prelude.{◌≡◌, ℕ, Bool, true, false, ◌&&◌, List, [], ◌∷◌, ◌++◌, ◌⊎◌, ◌==◌, length, map, if◌then◌else◌}
 use Rattle.std.specs.Str.{bytes_eq}
 use Rattle.kc_value.specs.Lines.{pieces}
 
@@ -16,6 +16,17 @@ without_carriage_return (b ∷ c ∷ line) = b ∷ without_carriage_return (c �
 -- the lines of a text, each without a carriage return at its end; the last needs no newline
 abbrev pub lines_of : List ℕ → List (List ℕ)
 lines_of text = map without_carriage_return (pieces 10 text)
+
+-- whether two lists have the same lines in the same order
+abbrev pub are_same : (lines others : List (List ℕ)) → Bool
+are_same [] [] = true
+are_same (line ∷ lines) (other ∷ others) = bytes_eq line other && are_same lines others
+are_same lines others = false
+
+-- whether two texts have the same lines in the same order: they differ at most in carriage returns at the ends of lines, and in
+-- whether the last line has a newline
+abbrev pub have_same_lines : (text other : List ℕ) → Bool
+have_same_lines text other = are_same (lines_of text) (lines_of other)
 
 -- a list of lines without the first one that equals the line `line`, if there is one
 abbrev pub without_one : (line : List ℕ) → List (List ℕ) → List (List ℕ)

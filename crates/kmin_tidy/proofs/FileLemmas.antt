@@ -1,5 +1,6 @@
 -- Facts for `tidy_file`: from the results of its parts to a `Step` of the run.
-use Rattle.std.proofs.Common.{◌≡◌, ◌≢◌, ℕ, Bool, true, false, List, [], ◌∷◌, ◌++◌, Option, Some, None, map, length, refl, sym, ap, ◌∙◌, subst, inl, inr}
+use Rattle.std.proofs.Common.{◌≡◌, ◌≢◌, ℕ, Bool, true, false, List, [], ◌∷◌, ◌++◌, Option, Some, None, map, length, take, cond, refl, sym, ap, ◌∙◌, subst, append-nil, inl, inr}
+use Rattle.std.proofs.Math.Seq.{take-append_seam}
 use Rattle.std.specs.Str.{bytes_eq}
 use Rattle.std.proofs.lemmas.Slice.Eq.{bytes_eq-Decides}
 use Rattle.kc_system.specs.Solutions.{UniquelySolves}
@@ -29,7 +30,7 @@ use Rattle.kmin_tidy.specs.MinimalFiles.{MayBeRead, IsReadAt, HasMinimalFile, Mi
 use Rattle.kmin_tidy.specs.Refusals as refusals
 use Rattle.kmin_report.specs.Reports.{fault_line, not_regular_line}
 use Rattle.kmin_tidy.specs.Reports.{notice_lines, difference_line}
-use Rattle.kmin_tidy.specs.Steps.{Step, refused, noticed, minimal, shown, replaced, unwritten, call_failed, names_taken, not_regular, unsynced}
+use Rattle.kmin_tidy.specs.Steps.{Step, refused, noticed, minimal, shown, replaced, unwritten, unsynced, call_failed, names_taken, not_regular}
 use Rattle.kmin_tidy.specs.checker.Readings.{IsFragmentOf, IsFaulty}
 use Rattle.kmin_tidy.specs.checker.FileReports.{IsRefusedAs, IsFailedBy, IsStoppedBy}
 use Rattle.kmin_tidy.specs.checker.FileResults as results
@@ -108,6 +109,9 @@ module _ (s : Settings) (a : Disk) (path : List ℕ) (report : FileReport) where
   rewritten_step b bytes least line fragment end m (results.unwritten ne w u l q o) n p r =
       unwritten bytes least (map notice_pair fragment.notices.items) (record { minimises = m; differs = ne }) w u l
       (lines_with fragment Write n (p ∙ q)) (r ∙ o)
+  rewritten_step b bytes least line fragment end m (results.unsynced ne w u l q o) n p r =
+      unsynced bytes least (map notice_pair fragment.notices.items) (record { minimises = m; differs = ne }) w u l
+      (lines_with fragment Write n (p ∙ q)) (r ∙ o)
 
 -- a run that ends at the comparison of a file with its minimal file, or at its replacement, ends at that file
 pub stops_rewrite : (s : Settings) (a b : Disk) (path bytes least : List ℕ) (notices : Notices) (stop : Stop) → Minimises s a.state path bytes least notices
@@ -145,11 +149,11 @@ has_minimal_file settled now format options bytes text fragment users values val
 pub written_by : (a b : Disk) (path least : List ℕ) (fault : ReplaceFault) (end : FileEnd) → FaultLeaves a.state b.state path least fault
     → b.failures ≡ failures_of_fault a.failures fault → (fault ≡ NotRegular → IsOfKind (content_at a.state path) KindNotRegular)
     → (fault ≡ NamesTaken → HasTakenName a.state path) → IsFailedBy fault end → IsWritten a b path least end
-written_by a b path least NotRegular end l f k t h = results.not_in_place (not_regular l (k refl) f) h.0 h.1
-written_by a b path least Unchanged end l f k t h = results.not_in_place (call_failed l f) h.0 h.1
-written_by a b path least NamesTaken end l f k t h = results.not_in_place (names_taken l (t refl) f) h.0 h.1
+written_by a b path least NotRegular end l f k t h = results.not_in_place (not_regular l (k refl) f) h.0 h.1 h.2
+written_by a b path least Unchanged end l f k t h = results.not_in_place (call_failed l f) h.0 h.1 h.2
+written_by a b path least NamesTaken end l f k t h = results.not_in_place (names_taken l (t refl) f) h.0 h.1 h.2
 written_by a b path least (Left new_path) end l f k t h = absurd h
-written_by a b path least FolderNotSynced end l f k t h = results.not_in_place (unsynced l f) h.0 h.1
+written_by a b path least FolderNotSynced end l f k t h = results.not_synced (record { replaced = l; failures = f }) h.0 h.1 h.2
 written_by a b path least OutOfMemory end l f k t h = absurd h
 
 pub stopped_by : (a b : Disk) (path least : List ℕ) (fault : ReplaceFault) (stop : Stop) → FaultLeaves a.state b.state path least fault
@@ -163,10 +167,20 @@ stopped_by a b path least FolderNotSynced stop l f h = absurd h
 stopped_by a b path least OutOfMemory stop l f h = subst (StopsWrite a b path) (sym h) l
 
 -- the result of an attempt to replace a file by a minimal file of other bytes is one that `IsRewritten` allows
-pub rewritten_by : (a b : Disk) (path bytes least line : List ℕ) (end : FileEnd) → least ≢ bytes → line ≡ difference_line path bytes least
-    → IsWritten a b path least end → IsRewritten true a b path bytes least line end
-rewritten_by a b path bytes least line end ne l (results.in_place r f p o) = results.replaced ne refl r f l p o
-rewritten_by a b path bytes least line end ne l (results.not_in_place u p o) = results.unwritten ne refl u l p o
+pub rewritten_by : (a b : Disk) (path bytes least : List ℕ) (end : FileEnd) → least ≢ bytes → IsWritten a b path least end
+    → IsRewritten true a b path bytes least (cond end.is_replaced (difference_line path bytes least) []) end
+rewritten_by a b path bytes least end ne (results.in_place r f p o k) =
+    results.replaced ne refl r f (ap (λ b. cond b (difference_line path bytes least) []) k) p o
+rewritten_by a b path bytes least end ne (results.not_in_place u p o k) =
+    results.unwritten ne refl u (ap (λ b. cond b (difference_line path bytes least) []) k) p o
+rewritten_by a b path bytes least end ne (results.not_synced u p o k) =
+    results.unsynced ne refl u (ap (λ b. cond b (difference_line path bytes least) []) k) p o
+
+-- a text whose last line is taken back unless `is_kept` is the text before, with that line if `is_kept`
+pub listed_by : (before line after : List ℕ) (start : ℕ) (is_kept : Bool) → start ≡ length before
+    → after ≡ cond is_kept (before ++ line) (take start (before ++ line)) → after ≡ before ++ cond is_kept line []
+listed_by before line after start true s e = e
+listed_by before line after start false s e = e ∙ ap (λ n. take n (before ++ line)) s ∙ take-append_seam before line ∙ sym (append-nil before)
 
 -- the map of a list that isn't empty isn't empty
 pub map_some : {A B : Type 0} (f : A → B) (xs : List A) → xs ≢ [] → map f xs ≢ []

@@ -5,7 +5,7 @@ use Rattle.kmin_disk.specs.Disks.{Disk, DiskState, IsUnchanged, Replaces, conten
 use Rattle.kmin_disk.proofs.Places.{same_place_or_other}
 use Rattle.kmin_tidy.specs.Options.{Settings, Notices, refuses_notices}
 use Rattle.kmin_tidy.specs.MinimalFiles.{IsReadAs, HasMinimalFile, IsNotMinimal}
-use Rattle.kmin_tidy.specs.Steps.{Step, refused, noticed, minimal, shown, replaced, unwritten, IsUnwritten, call_failed, names_taken, not_regular, unsynced}
+use Rattle.kmin_tidy.specs.Steps.{Step, refused, noticed, minimal, shown, replaced, unwritten, unsynced, IsUnwritten, call_failed, names_taken, not_regular}
 use Rattle.kmin_tidy.specs.Promises.{IsMinimised, IsKept, IsTidy}
 use Rattle.kmin_tidy.specs.Runs.{HoldsMinimalFile}
 use Rattle.kmin_tidy.specs.declared.outcome.FileOutcome.{FileOutcome}
@@ -39,12 +39,10 @@ module _ (s : Settings) (a b : Disk) (path : List ℕ) where
         | inr other ↦ inl (r.others place other)
       ]
 
-  unwritten_kept : (bytes least : List ℕ) (notices : Notices) → IsNotMinimal s a.state path bytes least notices → IsUnwritten a b path least
-      → (place : List ℕ) → IsKept s (a.state.history place) (b.state.history place)
-  unwritten_kept bytes least notices d (call_failed u f) place = unchanged_kept u place
-  unwritten_kept bytes least notices d (names_taken u t f) place = unchanged_kept u place
-  unwritten_kept bytes least notices d (not_regular u k f) place = unchanged_kept u place
-  unwritten_kept bytes least notices d (unsynced r f) place = replaced_kept bytes least notices d r place
+  unwritten_kept : IsUnwritten a b path → (place : List ℕ) → IsKept s (a.state.history place) (b.state.history place)
+  unwritten_kept (call_failed u f) place = unchanged_kept u place
+  unwritten_kept (names_taken u t f) place = unchanged_kept u place
+  unwritten_kept (not_regular u k f) place = unchanged_kept u place
 
   -- after one file of a run, each place is as before, or its file was replaced by its minimal file
   pub step_kept : (line : List ℕ) (reports : List (List ℕ)) (outcome : FileOutcome) → Step s a b path line reports outcome
@@ -54,16 +52,16 @@ module _ (s : Settings) (a b : Disk) (path : List ℕ) where
   step_kept line reports outcome (minimal bytes notices m e l k o) place = same_kept e place
   step_kept line reports outcome (shown bytes least notices d w e l k o) place = same_kept e place
   step_kept line reports outcome (replaced bytes least notices d w r f l k o) place = replaced_kept bytes least notices d r place
-  step_kept line reports outcome (unwritten bytes least notices d w u l k o) place = unwritten_kept bytes least notices d u place
+  step_kept line reports outcome (unwritten bytes least notices d w u l k o) place = unwritten_kept u place
+  step_kept line reports outcome (unsynced bytes least notices d w u l k o) place = replaced_kept bytes least notices d u.replaced place
 
   same_places : b ≡ a → (any : List ℕ) → b.state.place any ≡ a.state.place any
   same_places e any = ap (λ (d : Disk). d.state.place any) e
 
-  unwritten_places : (least : List ℕ) → IsUnwritten a b path least → (any : List ℕ) → b.state.place any ≡ a.state.place any
-  unwritten_places least (call_failed u f) any = u.places any
-  unwritten_places least (names_taken u t f) any = u.places any
-  unwritten_places least (not_regular u k f) any = u.places any
-  unwritten_places least (unsynced r f) any = r.places any
+  unwritten_places : IsUnwritten a b path → (any : List ℕ) → b.state.place any ≡ a.state.place any
+  unwritten_places (call_failed u f) any = u.places any
+  unwritten_places (names_taken u t f) any = u.places any
+  unwritten_places (not_regular u k f) any = u.places any
 
   -- each path leads to the same place before and after one file of a run
   pub step_places : (line : List ℕ) (reports : List (List ℕ)) (outcome : FileOutcome) → Step s a b path line reports outcome
@@ -73,7 +71,8 @@ module _ (s : Settings) (a b : Disk) (path : List ℕ) where
   step_places line reports outcome (minimal bytes notices m e l k o) any = same_places e any
   step_places line reports outcome (shown bytes least notices d w e l k o) any = same_places e any
   step_places line reports outcome (replaced bytes least notices d w r f l k o) any = r.places any
-  step_places line reports outcome (unwritten bytes least notices d w u l k o) any = unwritten_places least u any
+  step_places line reports outcome (unwritten bytes least notices d w u l k o) any = unwritten_places u any
+  step_places line reports outcome (unsynced bytes least notices d w u l k o) any = u.replaced.places any
 
   -- without `write`, one file of a run leaves the disk unchanged
   pub step_unasked : (line : List ℕ) (reports : List (List ℕ)) (outcome : FileOutcome) → Step s a b path line reports outcome
@@ -84,6 +83,7 @@ module _ (s : Settings) (a b : Disk) (path : List ℕ) where
   step_unasked line reports outcome (shown bytes least notices d w e l k o) unasked = e
   step_unasked line reports outcome (replaced bytes least notices d w r f l k o) unasked = let z : true ≡ false = sym w ∙ unasked in (cc)
   step_unasked line reports outcome (unwritten bytes least notices d w u l k o) unasked = let z : true ≡ false = sym w ∙ unasked in (cc)
+  step_unasked line reports outcome (unsynced bytes least notices d w u l k o) unasked = let z : true ≡ false = sym w ∙ unasked in (cc)
 
   refused_not_minimal : (line : List ℕ) (outcome : FileOutcome) → IsRefused s a.state path outcome line → outcome ≡ Minimal → ⊥
   refused_not_minimal line outcome (refusals.faulty bytes kind number r first o l) m = let z : Refused ≡ Minimal = sym o ∙ m in (cc)
@@ -105,6 +105,7 @@ module _ (s : Settings) (a b : Disk) (path : List ℕ) where
       (subst (HoldsMinimalFile s) (sym r.target) (holds_written s (a.state.history (a.state.place path)) least
       (written_minimal s bytes least notices d.minimises.minimal)))
   step_minimal line reports outcome (unwritten bytes least notices d w u l k o) m = let z : Failed ≡ Minimal = sym o ∙ m in (cc)
+  step_minimal line reports outcome (unsynced bytes least notices d w u l k o) m = let z : Failed ≡ Minimal = sym o ∙ m in (cc)
 
 -- a file of a tidy content has no minimal file of other bytes, and isn't accepted unless it is minimal
 tidy_content : (s : Settings) (content : Option Content) (bytes least : List ℕ) (notices : Notices) → IsTidy s content → IsReadAs content bytes
@@ -132,3 +133,4 @@ step_tidy s a b path line reports outcome (minimal bytes notices m e l k o) t = 
 step_tidy s a b path line reports outcome (shown bytes least notices d w e l k o) t = absurd (tidy_same s a.state path bytes least notices t d)
 step_tidy s a b path line reports outcome (replaced bytes least notices d w r f l k o) t = absurd (tidy_same s a.state path bytes least notices t d)
 step_tidy s a b path line reports outcome (unwritten bytes least notices d w u l k o) t = absurd (tidy_same s a.state path bytes least notices t d)
+step_tidy s a b path line reports outcome (unsynced bytes least notices d w u l k o) t = absurd (tidy_same s a.state path bytes least notices t d)

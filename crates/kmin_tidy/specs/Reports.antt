@@ -2,20 +2,26 @@
 use Rattle.std.specs.Prelude.{ℕ, ◌==◌, ◌&&◌, List, ◌++◌, codes, map, if◌then◌else◌}
 use Rattle.std.specs.Fmt.{decimal}
 use Rattle.kmin_report.specs.Reports.{notice_line}
-use Rattle.kmin_lines.specs.Lines.{count_lines_not_in}
+use Rattle.kmin_lines.specs.Lines.{count_lines_not_in, have_same_lines}
 use Rattle.kmin_tidy.specs.Options.{Notices}
 
--- how a file differs from its minimal file, as text: `K out, L in` for K lines that only the file has and L lines that only its
--- minimal file has, or `order` where both are 0
-abbrev pub difference : (out_count in_count : ℕ) → List ℕ
-difference out_count in_count = if (out_count == 0) && (in_count == 0)
+-- how the lines of a file differ from those of its minimal file, as text: `K out, L in` for K lines that only the file has and L
+-- lines that only its minimal file has, or `order` where both are 0
+abbrev pub counted : (out_count in_count : ℕ) → List ℕ
+counted out_count in_count = if (out_count == 0) && (in_count == 0)
     then codes "order"
     else (decimal out_count ++ (codes " out, " ++ (decimal in_count ++ codes " in")))
 
--- the line of standard output for a file that isn't its own minimal file: `FILE: K out, L in` or `FILE: order`
+-- how a file of these bytes differs from its minimal file `least`, as text: `line ends` where they have the same lines in the same
+-- order, and so differ in nothing but carriage returns at the ends of lines and the newline after the last one
+abbrev pub difference : (bytes least : List ℕ) → List ℕ
+difference bytes least = if have_same_lines bytes least
+    then codes "line ends"
+    else counted (count_lines_not_in bytes least) (count_lines_not_in least bytes)
+
+-- the line of standard output for a file that isn't its own minimal file: `FILE: K out, L in`, `FILE: line ends` or `FILE: order`
 abbrev pub difference_line : (path bytes least : List ℕ) → List ℕ
-difference_line path bytes least =
-    path ++ (codes ": " ++ (difference (count_lines_not_in bytes least) (count_lines_not_in least bytes) ++ codes "\n"))
+difference_line path bytes least = path ++ (codes ": " ++ (difference bytes least ++ codes "\n"))
 
 -- the lines of standard error for the notices of a configuration file, in order
 abbrev pub notice_lines : (path : List ℕ) → Notices → List (List ℕ)

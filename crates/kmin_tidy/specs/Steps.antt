@@ -13,16 +13,19 @@ use Rattle.kmin_report.specs.Reports.{write_line}
 use Rattle.kmin_tidy.specs.declared.outcome.FileOutcome.{FileOutcome}
 use Rattle.kmin_tidy.specs.declared.outcome.FileOutcome.TheVariants.{Minimal, NotMinimal, Refused, Failed}
 
--- The file at a path couldn't be replaced, or not for good: a call failed, all names tried for the new file are in use, or the
--- file isn't regular by now; or it was replaced, and its folder couldn't be synced.
-pub data IsUnwritten (old new : Disk) (path least : List ℕ) : Type 0 where
-  call_failed : IsUnchanged old.state new.state → new.failures ≡ one_failure_more old.failures → IsUnwritten old new path least
+-- The file at a path couldn't be replaced: a call failed, all names tried for the new file are in use, or the file isn't regular by
+-- now.
+pub data IsUnwritten (old new : Disk) (path : List ℕ) : Type 0 where
+  call_failed : IsUnchanged old.state new.state → new.failures ≡ one_failure_more old.failures → IsUnwritten old new path
   names_taken : IsUnchanged old.state new.state → HasTakenName old.state path → new.failures ≡ old.failures
-      → IsUnwritten old new path least
+      → IsUnwritten old new path
   not_regular : IsUnchanged old.state new.state → IsOfKind (content_at old.state path) NotRegular
-      → new.failures ≡ old.failures → IsUnwritten old new path least
-  unsynced : Replaces old.state new.state path least → new.failures ≡ one_failure_more old.failures
-      → IsUnwritten old new path least
+      → new.failures ≡ old.failures → IsUnwritten old new path
+
+-- The file at a path was replaced by one of these bytes, and its folder couldn't be synced after it.
+pub record IsUnsynced (old new : Disk) (path least : List ℕ) : Type 0 where
+  pub replaced : Replaces old.state new.state path least
+  pub failures : new.failures ≡ one_failure_more old.failures
 
 -- What a run does with one file, whatever its other files are: the disk after it, its line of standard output, its lines of
 -- standard error and its outcome.
@@ -46,8 +49,13 @@ pub data Step (s : Settings) (old new : Disk) (path line : List ℕ) (reports : 
       → s.options.write ≡ true → Replaces old.state new.state path least → new.failures ≡ old.failures
       → line ≡ difference_line path bytes least
       → reports ≡ notice_lines path notices → outcome ≡ Minimal → Step s old new path line reports outcome
-  -- the file couldn't be replaced, or not for good
+  -- the file couldn't be replaced, and has no line
   unwritten : (bytes least : List ℕ) (notices : Notices) → IsNotMinimal s old.state path bytes least notices
-      → s.options.write ≡ true → IsUnwritten old new path least → line ≡ difference_line path bytes least
+      → s.options.write ≡ true → IsUnwritten old new path → line ≡ []
+      → reports ≡ notice_lines path notices ++ write_line path ∷ [] → outcome ≡ Failed
+      → Step s old new path line reports outcome
+  -- the file is replaced by its minimal file, and its folder couldn't be synced
+  unsynced : (bytes least : List ℕ) (notices : Notices) → IsNotMinimal s old.state path bytes least notices
+      → s.options.write ≡ true → IsUnsynced old new path least → line ≡ difference_line path bytes least
       → reports ≡ notice_lines path notices ++ write_line path ∷ [] → outcome ≡ Failed
       → Step s old new path line reports outcome

@@ -1,11 +1,11 @@
 //! The lines of standard output: how a file differs from its minimal file.
 ghost use Rattle.std.specs.Prelude.{◌≡◌, ◌++◌, codes, OnOk};
 ghost use Rattle.std.specs.Fmt.{decimal};
-ghost use Rattle.kmin_tidy.specs.Reports.{difference, difference_line};
+ghost use Rattle.kmin_tidy.specs.Reports.{counted, difference, difference_line};
 
 use itoa::Buffer;
 use kc_value::Seed;
-use kmin_lines::{LineCounts, count_lines};
+use kmin_lines::{LineCounts, count_lines, have_same_lines};
 use std::alloc::{AllocError, Global};
 
 /// Appends to `text` the line of standard output for a file of these bytes, which aren't those of its minimal file `least`.
@@ -19,24 +19,34 @@ pub(crate) fn push_difference_line(
 ) -> Result<(), AllocError>
     ensures { OnOk result (text.new.items ≡ text.old.items ++ difference_line path.now bytes.now least.now) }
 {
-    let counts = count_lines(alloc, seed, bytes, least)?;
-    push_line(path, counts, text)
-}
-
-/// Appends to `text` the line of standard output for a file with these counts of lines.
-fn push_line(path: &str, counts: LineCounts, text: &mut Vec<u8>) -> Result<(), AllocError>
-    ensures { OnOk result (text.new.items ≡ text.old.items ++ (path.now ++ (codes ": " ++ (difference counts.out counts.in_ ++ codes "\n")))) }
-{
     text.extend_from_slice(path.as_bytes())?;
     text.extend_from_slice(b": ")?;
-    push_difference(counts, text)?;
+    push_difference(alloc, seed, bytes, least, text)?;
     text.extend_from_slice(b"\n")?;
     Ok(())
 }
 
+/// Appends how a file of these bytes differs from its minimal file `least`: `line ends`, or how its lines do.
+fn push_difference(
+    alloc: Global,
+    seed: Seed,
+    bytes: &[u8],
+    least: &[u8],
+    text: &mut Vec<u8>,
+) -> Result<(), AllocError>
+    ensures { OnOk result (text.new.items ≡ text.old.items ++ difference bytes.now least.now) }
+{
+    if have_same_lines(bytes, least) {
+        text.extend_from_slice(b"line ends")?;
+        return Ok(());
+    }
+    let counts = count_lines(alloc, seed, bytes, least)?;
+    push_counts(counts, text)
+}
+
 /// Appends `K out, L in`, or `order` where no lines differ.
-fn push_difference(counts: LineCounts, text: &mut Vec<u8>) -> Result<(), AllocError>
-    ensures { OnOk result (text.new.items ≡ text.old.items ++ difference counts.out counts.in_) }
+fn push_counts(counts: LineCounts, text: &mut Vec<u8>) -> Result<(), AllocError>
+    ensures { OnOk result (text.new.items ≡ text.old.items ++ counted counts.out counts.in_) }
 {
     if counts.out == 0 && counts.in_ == 0 {
         text.extend_from_slice(b"order")?;

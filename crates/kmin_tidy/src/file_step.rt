@@ -1,5 +1,5 @@
 //! One file of a run: it is read, compared with its minimal file, and replaced under the option `--write`.
-ghost use Rattle.std.specs.Prelude.{◌≡◌, ◌≢◌, ◌++◌, [], ℕ, List, map, true, false, Some, None, IfOk, IfErr};
+ghost use Rattle.std.specs.Prelude.{◌≡◌, ◌≢◌, ◌++◌, [], ℕ, List, map, take, true, false, Some, None, IfOk, IfErr, if◌then◌else◌};
 ghost use Rattle.kc_dotconfig_model.specs.between.Formats.{file_format};
 ghost use Rattle.kc_dotconfig.specs.ConfigStates.{tree_in};
 ghost use Rattle.kc_dotconfig.specs.Fragments.{FitsTree, notice_pair};
@@ -25,8 +25,8 @@ use kc_minimal::minimal_text;
 use kmin_disk::{FileKind, ReadDisk, ReplaceFault, WriteDisk, replace};
 use std::alloc::{AllocError, Global};
 
-/// Tidies one file and returns its report. If it isn't minimal, its line of standard output is appended to `text`, and it is
-/// replaced if `options.write` is set. The files before it have no influence.
+/// Tidies one file and returns its report. If it isn't minimal, it is replaced if `options.write` is set, and its line of standard
+/// output is appended to `text` unless that fails. The files before it have no influence.
 pub(crate) fn tidy_file<D: WriteDisk>(
     alloc: Global,
     config: &mut Config<'_>,
@@ -180,11 +180,12 @@ fn report_of_notices(fragment: Fragment) -> FileReport
     }
 }
 
-/// The outcome of a file whose minimal file is known, and its problem if it couldn't be replaced.
+/// The outcome of a file whose minimal file is known, its problem if it couldn't be replaced, and whether it was replaced.
 #[derive(Clone, Copy)]
 pub(crate) struct FileEnd {
     problem: Option<Problem>,
     outcome: FileOutcome,
+    is_replaced: bool,
 }
 
 /// The report of a file whose minimal file is known.
@@ -194,7 +195,11 @@ fn report_of_end(fragment: Fragment, end: FileEnd) -> FileReport
     ensures outcome { result.outcome ≡ end.outcome }
 {
     let Fragment { notices, .. } = fragment;
-    let FileEnd { problem, outcome } = end;
+    let FileEnd {
+        problem,
+        outcome,
+        ..
+    } = end;
     FileReport {
         notices,
         problem,
@@ -219,8 +224,8 @@ fn minimal_of(
     minimal_text(alloc, config, format)
 }
 
-/// Compares a file with its minimal file. Where they differ, appends the file's line to `text`, and replaces the file if
-/// `options.write` is set.
+/// Compares a file with its minimal file. Where they differ, replaces the file if `options.write` is set, and appends the file's line
+/// to `text` unless that fails.
 fn rewrite<D: WriteDisk>(
     alloc: Global,
     options: TidyOptions,
@@ -238,17 +243,40 @@ fn rewrite<D: WriteDisk>(
         return Ok(FileEnd {
             problem: None,
             outcome: FileOutcome::Minimal,
+            is_replaced: false,
         });
     }
+    let start = text.len();
     push_difference_line(alloc, disk.seed(), path, bytes, least, text)?;
     if options.write {
-        write_file(alloc, path, least, disk)
+        write_listed(alloc, path, least, disk, text, start)
     } else {
         Ok(FileEnd {
             problem: None,
             outcome: FileOutcome::NotMinimal,
+            is_replaced: false,
         })
     }
+}
+
+/// Replaces a file by its minimal file. Unless it is replaced, its line, which `text` has from the byte `start` on, is taken back.
+fn write_listed<D: WriteDisk>(
+    alloc: Global,
+    path: &str,
+    least: &[u8],
+    disk: &mut D,
+    text: &mut Vec<u8>,
+    start: usize,
+) -> Result<FileEnd, Stop>
+    ensures written { IfOk result (IsWritten (D.disk disk.old) (D.disk disk.new) path.now least.now) }
+    ensures listed { IfOk result (λ end. text.new.items ≡ (if end.is_replaced then text.old.items else take start text.old.items)) }
+    ensures stopped { IfErr result (StopsWrite (D.disk disk.old) (D.disk disk.new) path.now) }
+{
+    let end = write_file(alloc, path, least, disk)?;
+    if !end.is_replaced {
+        text.truncate(start);
+    }
+    Ok(end)
 }
 
 /// Replaces a file by its minimal file.
@@ -265,6 +293,7 @@ fn write_file<D: WriteDisk>(
         Ok(()) => Ok(FileEnd {
             problem: None,
             outcome: FileOutcome::Minimal,
+            is_replaced: true,
         }),
         Err(fault) => end_of_fault(fault),
     }
@@ -278,20 +307,22 @@ fn end_of_fault(fault: ReplaceFault) -> Result<FileEnd, Stop>
     match fault {
         ReplaceFault::OutOfMemory => Err(Stop::Memory),
         ReplaceFault::Left(new_path) => Err(Stop::Left(new_path)),
-        ReplaceFault::NotRegular => Ok(not_written()),
-        ReplaceFault::Unchanged => Ok(not_written()),
-        ReplaceFault::NamesTaken => Ok(not_written()),
-        ReplaceFault::FolderNotSynced => Ok(not_written()),
+        ReplaceFault::NotRegular => Ok(not_written(false)),
+        ReplaceFault::Unchanged => Ok(not_written(false)),
+        ReplaceFault::NamesTaken => Ok(not_written(false)),
+        ReplaceFault::FolderNotSynced => Ok(not_written(true)),
     }
 }
 
 /// The outcome of a file that couldn't be replaced, or not for good.
-fn not_written() -> FileEnd
+fn not_written(is_replaced: bool) -> FileEnd
     ensures problem { result.problem ≡ Some Problem.Write }
     ensures outcome { result.outcome ≡ FileOutcome.Failed }
+    ensures replaced { result.is_replaced ≡ is_replaced }
 {
     FileEnd {
         problem: Some(Problem::Write),
         outcome: FileOutcome::Failed,
+        is_replaced,
     }
 }

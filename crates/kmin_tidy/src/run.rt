@@ -26,10 +26,11 @@ use std::alloc::Global;
 /// the disk changes. A file that can't be read or isn't accepted is left as it is, and so is one with notices under
 /// `strict`, and with `write` unless `drop` is given. The other files have no influence on what becomes of a file.
 ///
-/// Standard output `out` has a line for each file that isn't minimal, `FILE: K out, L in` or `FILE: order`, in the order
-/// of `paths`. It is written once, at the end, and not at all where the run ends early. Standard error `err` has the
-/// notices of files, `FILE:LINE: KIND` for what isn't accepted, `FILE: Write` for what isn't replaced, `NEWFILE: Left`
-/// for a new file that couldn't be removed, `output: Write` and `out of memory`.
+/// Standard output `out` has a line for each file that isn't minimal, with `write` for each that was replaced, in the order
+/// of `paths`: `FILE: K out, L in`, `FILE: line ends` or `FILE: order`. It is written once, at the end, and not at all
+/// where the run ends early. Standard error `err` has the notices of files, `FILE:LINE: KIND` for what isn't accepted,
+/// `FILE: Write` for what isn't replaced, `NEWFILE: Left` for a new file that couldn't be removed, `output: Write` and
+/// `out of memory`.
 ///
 /// The status is 6 where memory ran out and 5 where a new file is left, which both end the run, and 5 where the output
 /// can't be written. Else the first file that is refused or fails decides it: 4 where the file is refused for its bytes, 5

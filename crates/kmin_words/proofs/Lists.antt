@@ -1,6 +1,6 @@
 -- Tests and filters of lists under a map.
-use Rattle.std.proofs.Common.{◌≡◌, ℕ, ◌+◌, ◌<◌, Bool, List, [], ◌∷◌, ◌++◌, length, map, get_or, take, Option, Some, None, sym, refl, ap, ◌∙◌}
-use Rattle.std.specs.List.{filter_map, list_all, cons_option}
+use Rattle.std.proofs.Common.{◌≡◌, ℕ, ◌+◌, ◌<◌, Bool, ◌||◌, List, [], ◌∷◌, ◌++◌, length, map, get_or, take, Option, Some, None, sym, refl, ap, ◌∙◌}
+use Rattle.std.specs.List.{filter_map, list_all, list_any, cons_option}
 use Rattle.std.proofs.lemmas.List.{append-nil, take_more, map-append}
 use Rattle.std.proofs.lemmas.List.Elements.{filter_map-append}
 use Rattle.std.proofs.lemmas.List.Folds.{list_all-map}
@@ -30,3 +30,7 @@ pub filter_map_none : {X Z : Type 0} (h : X → Option Z) (xs : List X) (i : ℕ
     → i < length xs → x ≡ get_or xs i x → None ≡ h x → zs ≡ filter_map h (take i xs) → zs ≡ filter_map h (take (i + 1) xs)
 filter_map_none h xs i x zs l e n m =
     m ∙ sym (append-nil (filter_map h (take i xs))) ∙ ap (λ o. filter_map h (take i xs) ++ cons_option o []) (n ∙ ap h e) ∙ sym (filter_map_more h xs i x l)
+
+pub any_map : {X Y : Type 0} (p : Y → Bool) (f : X → Y) (xs : List X) → list_any p (map f xs) ≡ list_any (λ x. p (f x)) xs
+any_map p f [] = refl
+any_map p f (x ∷ xs) = ap (λ b. p (f x) || b) (any_map p f xs)

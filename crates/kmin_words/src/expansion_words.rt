@@ -181,11 +181,45 @@ fn is_input_named_twice(answers: &[&str], paths: &[&str]) -> bool
     }
 }
 
-/// Refuses standard input that is named twice among the answer files and these configuration files, since the second
-/// reading would find no bytes. Paths are compared as texts.
+/// The message with which `-` is refused as a file that is read.
+const UNREAD_DASH: &str = "error: '-' isn't read as a file
+
+  tip: /dev/stdin is standard input, ./- a file of that name
+";
+
+/// Whether a path isn't `-`.
+fn names_file(path: &str) -> bool
+    ensures { result ≡ parsed.names_file path.now }
+{
+    path != "-"
+}
+
+/// Whether no path is `-`.
+fn are_files(paths: &[&str]) -> bool
+    ensures { result ≡ list_all (λ (path : Bor (List ℕ)). parsed.names_file path.now) paths.now }
+{
+    paths.iter().all(|path| names_file(path))
+}
+
+/// Whether neither a value of `--answers` nor one of these configuration files is `-`.
+#[tactic(auto, using(crate::proofs::Lists::all_map))]
+fn name_files(matches: &ArgMatches<'_>, paths: &[&str]) -> bool
+    ensures { result ≡ parsed.name_files (parsed.values_of (found_of matches.now) (codes "answers")) (map (λ (path : Bor (List ℕ)). path.now) paths.now) }
+{
+    match matches.get_strs("answers") {
+        Some(answers) => are_files(answers) && are_files(paths),
+        None => are_files(paths),
+    }
+}
+
+/// Refuses `-` among the answer files and these configuration files; and standard input that is named twice among them, since
+/// the second reading would find no bytes. Paths are compared as texts.
 pub(crate) fn check_inputs(matches: &ArgMatches<'_>, paths: &[&str]) -> Result<(), Refusal>
     ensures { Agrees (λ _. map (λ (path : Bor (List ℕ)). path.now) paths.now) (parsed.paths_beside (parsed.values_of (found_of matches.now) (codes "answers")) (map (λ (path : Bor (List ℕ)). path.now) paths.now)) result }
 {
+    if !name_files(matches, paths) {
+        return Err(Refusal::Words(UNREAD_DASH));
+    }
     if is_input_found_twice(matches, paths) {
         return Err(Refusal::Words("stdin: NamedTwice\n"));
     }

@@ -3,7 +3,7 @@ use Rattle.std.specs.Prelude.{◌≡◌, ◌≢◌, ◌⊎◌, ℕ, Bool, true, 
 use Rattle.kmin_disk.specs.Disks.{Disk, IsUnchanged, Replaces}
 use Rattle.kmin_tidy.specs.Options.{Settings}
 use Rattle.kmin_tidy.specs.Reports.{difference_line}
-use Rattle.kmin_tidy.specs.Steps.{IsUnwritten}
+use Rattle.kmin_tidy.specs.Steps.{IsUnwritten, IsUnsynced}
 use Rattle.kmin_tidy.specs.Ends.{IsToBeReplaced, LeavesNewFile}
 use Rattle.kmin_tidy.specs.Runs.{Tidies}
 use Rattle.kmin_tidy.specs.declared.outcome.FileOutcome.TheVariants.{Minimal, NotMinimal, Failed}
@@ -22,14 +22,18 @@ pub data IsRewritten (write : Bool) (old new : Disk) (path bytes least line : Li
   replaced : least ≢ bytes → write ≡ true → Replaces old.state new.state path least → new.failures ≡ old.failures
       → line ≡ difference_line path bytes least → end.problem ≡ None → end.outcome ≡ Minimal
       → IsRewritten write old new path bytes least line end
-  unwritten : least ≢ bytes → write ≡ true → IsUnwritten old new path least → line ≡ difference_line path bytes least
+  unwritten : least ≢ bytes → write ≡ true → IsUnwritten old new path → line ≡ [] → end.problem ≡ Some Write
+      → end.outcome ≡ Failed → IsRewritten write old new path bytes least line end
+  unsynced : least ≢ bytes → write ≡ true → IsUnsynced old new path least → line ≡ difference_line path bytes least
       → end.problem ≡ Some Write → end.outcome ≡ Failed → IsRewritten write old new path bytes least line end
 
--- a file was replaced by its minimal file, or couldn't be: the disk after it, and its outcome and problem
+-- a file was replaced by its minimal file, or couldn't be: the disk after it, its outcome and problem, and whether it was
 pub data IsWritten (old new : Disk) (path least : List ℕ) (end : FileEnd) : Type 0 where
   in_place : Replaces old.state new.state path least → new.failures ≡ old.failures → end.problem ≡ None
-      → end.outcome ≡ Minimal → IsWritten old new path least end
-  not_in_place : IsUnwritten old new path least → end.problem ≡ Some Write → end.outcome ≡ Failed
+      → end.outcome ≡ Minimal → end.is_replaced ≡ true → IsWritten old new path least end
+  not_in_place : IsUnwritten old new path → end.problem ≡ Some Write → end.outcome ≡ Failed → end.is_replaced ≡ false
+      → IsWritten old new path least end
+  not_synced : IsUnsynced old new path least → end.problem ≡ Some Write → end.outcome ≡ Failed → end.is_replaced ≡ true
       → IsWritten old new path least end
 
 -- replacing the file at a path ended the run: memory ran out, and the disk is unchanged; or a new file is left

@@ -1,6 +1,6 @@
 -- The job of accepted words, by the values that their parser found.
 use Rattle.std.specs.Prelude.{◌≡◌, ℕ, ◌+◌, Bool, true, false, not, ◌&&◌, ◌||◌, ◌==◌, nat_lt, nat_le, List, [], ◌∷◌, ◌++◌, length, take, drop, position, count_by, Option, Some, None, Result, Ok, Err, is_some, codes, unwrap_or, option_map, bytes_eq, if◌then◌else◌}
-use Rattle.std.specs.List.{list_all, filter_map}
+use Rattle.std.specs.List.{list_all, list_any, filter_map}
 use Rattle.clap.specs.Words.{matched_of, first_value}
 use Rattle.clap.specs.Matches.{raw_values}
 use Rattle.clap.specs.declared.parser.matches.Found.{Found}
@@ -106,10 +106,28 @@ expanded_tree_of path = if has_newline path then Err (codes "tree: Malformed\n")
 abbrev pub inputs_among : List (List ℕ) → ℕ
 inputs_among paths = count_by (λ path. bytes_eq path (codes "/dev/stdin")) paths
 
--- the paths of configuration files; refused if they and those of answer files name standard input more than once, compared as
--- texts
+-- whether a path isn't `-`, by which many programs name standard input or output
+abbrev pub names_file : List ℕ → Bool
+names_file path = not (bytes_eq path (codes "-"))
+
+-- whether no path is `-`, of the answer files and of the configuration files
+abbrev pub name_files : (answers paths : List (List ℕ)) → Bool
+name_files answers paths = list_all names_file answers && list_all names_file paths
+
+-- the message with which `-` is refused as a file that is read
+abbrev pub unread_dash : List ℕ
+unread_dash = codes "error: '-' isn't read as a file\n\n  tip: /dev/stdin is standard input, ./- a file of that name\n"
+
+-- the message with which `-` is refused as a file that is written
+abbrev pub unwritten_dash : List ℕ
+unwritten_dash = codes "error: '-' isn't written as a file\n\n  tip: without -o standard output is written, ./- is a file of that name\n"
+
+-- the paths of configuration files; refused if one of them or of those of answer files is `-`, or if they name standard input
+-- more than once, compared as texts
 abbrev pub paths_beside : (answers paths : List (List ℕ)) → ValueResult (List (List ℕ))
-paths_beside answers paths = if nat_lt 1 (inputs_among answers + inputs_among paths) then Err (codes "stdin: NamedTwice\n") else Ok paths
+paths_beside answers paths =
+    if not (name_files answers paths) then Err unread_dash
+    else (if nat_lt 1 (inputs_among answers + inputs_among paths) then Err (codes "stdin: NamedTwice\n") else Ok paths)
 
 -- the result of a function on a value, or the refusal of that value
 abbrev pub and_then : {A B : Type 0} → ValueResult A → (A → ValueResult B) → ValueResult B
@@ -160,18 +178,38 @@ settings_of found paths =
 abbrev pub job_of : List ℕ → Found → ValueResult (Settings × Task)
 job_of name found = and_then (settings_of found (paths_of (task_of name found))) (λ settings. Ok (settings, task_of name found))
 
--- the path of an output file, if it is given; refused if it has a newline
-abbrev pub one_line_output : Option (List ℕ) → ValueResult (Option (List ℕ))
-one_line_output None = Ok None
-one_line_output (Some path) = if has_newline path then Err (codes "file: Malformed\n") else Ok (Some path)
+-- the path of an output file, if it is given; refused if it has a newline or is `-`
+abbrev pub output_path : Option (List ℕ) → ValueResult (Option (List ℕ))
+output_path None = Ok None
+output_path (Some path) =
+    if has_newline path then Err (codes "file: Malformed\n") else (if names_file path then Ok (Some path) else Err unwritten_dash)
 
--- the value of `--output`, if it is given; refused if it has a newline
+-- the value of `--output`, if it is given; refused if it has a newline or is `-`
 abbrev pub output_of : Found → ValueResult (Option (List ℕ))
-output_of found = one_line_output (first_value found (codes "output"))
+output_of found = output_path (first_value found (codes "output"))
+
+-- whether a verb is `min`
+abbrev pub is_min : Verb → Bool
+is_min Min = true
+is_min verb = false
+
+-- whether a command is `min` with an output file that is one of the files that it reads; paths are compared as texts
+abbrev pub minimises_in_place : Task → (output : Option (List ℕ)) → Bool
+minimises_in_place (over verb paths) (Some output) = is_min verb && list_any (λ path. bytes_eq path output) paths
+minimises_in_place task output = false
+
+-- the options of a command and the command with its files; a file with a notice is refused as with `--strict` where `min` replaces
+-- a file that it reads, since the line with the notice would be lost, unless `drop`
+abbrev pub kept_in_place : (drop : Bool) → (output : Option (List ℕ)) → Settings × Task → Settings × Task
+kept_in_place drop output job =
+    (record job.0 { strict = job.0.strict || (minimises_in_place job.1 output && not drop) }, job.1)
 
 -- the options of a command, the command with this name and its files, and the path of its output file, if it is given
 abbrev pub job_and_output_of : List ℕ → Found → ValueResult ((Settings × Task) × Option (List ℕ))
-job_and_output_of name found = and_then (output_of found) (λ output. and_then (job_of name found) (λ job. Ok (job, output)))
+job_and_output_of name found =
+    and_then (output_of found) (λ output.
+    and_then (job_of name found) (λ job.
+    Ok (kept_in_place (is_given found (codes "drop")) output job, output)))
 
 -- the folder, first Kconfig file and sources of answers that the words of the command `wants` give, or why they are refused
 abbrev pub questions_of : Found → ValueResult Questions

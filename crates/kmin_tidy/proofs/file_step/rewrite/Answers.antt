@@ -1,8 +1,9 @@
-use Rattle.std.proofs.Common.{◌≢◌, Bool, [], refl, sym, subst, append-nil, inl, inr}
+use Rattle.std.proofs.Common.{◌≢◌, Bool, cond, [], take, refl, sym, ap, ◌∙◌, subst, append-nil, inl, inr}
 use Rattle.kmin_tidy.specs.Reports.{difference_line}
 use Rattle.kmin_tidy.specs.checker.FileResults.{IsRewritten, same, shown}
-use Rattle.kmin_tidy.proofs.FileLemmas.{agree, differ, rewritten_by}
-use Rattle.kmin_report.proofs.Results.{if_ok_map, if_err_map}
+use Rattle.kmin_tidy.proofs.FileLemmas.{agree, differ, rewritten_by, listed_by}
+use Rattle.kmin_tidy.proofs.ReadingLemmas.{both_ok}
+use Rattle.kmin_report.proofs.Results.{if_err_map}
 use Rattle.kmin_tidy.proofs.WholeRuns.{memory_stop}
 use Rattle.kmin_tidy.proofs.file_step.rewrite.Goals as goal
 
@@ -13,24 +14,25 @@ returns-then-eq-clause-rewritten g c =
 pub returns-then-options-clause-rewritten : goal.returns-then-options-clause-rewritten
 returns-then-options-clause-rewritten g c =
     let a = g.D.ReadDisk.disk c.args.disk.now in
-    let b = g.D.ReadDisk.disk c.write_file.new.disk in
+    let b = g.D.ReadDisk.disk c.write_listed.new.disk in
     let path = c.args.path.now in
     let bytes = c.args.bytes.now in
     let least = c.args.least.now in
     let line = difference_line path bytes least in
     let other : least ≢ bytes = differ least bytes c.eq.result c.eq.ensures c.if-eq.false in
-    if_ok_map c.write_file.result _ _ (λ end w. (
-      line,
-      c.in_ok-push_difference_line.ensures,
-      subst (λ (write : Bool). IsRewritten write a b path bytes least line end) (sym c.if-options.true)
-          (rewritten_by a b path bytes least line end other refl w),
+    both_ok c.write_listed.result _ _ _ (λ end w listed. (
+      cond end.is_replaced line [],
+      listed_by c.args.text.now.items line c.write_listed.new.text.items c.len-start.result end.is_replaced (c.len-start.ensures ∙ c.args.text.now.ok.0)
+          (listed ∙ ap (λ text. cond end.is_replaced text (take c.len-start.result text)) c.in_ok-push_difference_line.ensures),
+      subst (λ (write : Bool). IsRewritten write a b path bytes least (cond end.is_replaced line []) end) (sym c.if-options.true)
+          (rewritten_by a b path bytes least end other w),
     ))
-    c.write_file.ensures.written
+    c.write_listed.ensures.written c.write_listed.ensures.listed
 
 pub returns-then-options-clause-stopped : goal.returns-then-options-clause-stopped
 returns-then-options-clause-stopped g c =
     let other : c.args.least.now ≢ c.args.bytes.now = differ c.args.least.now c.args.bytes.now c.eq.result c.eq.ensures c.if-eq.false in
-    if_err_map c.write_file.result _ _ (λ stop h. inr (c.if-options.true, other, h)) c.write_file.ensures.stopped
+    if_err_map c.write_listed.result _ _ (λ stop h. inr (c.if-options.true, other, h)) c.write_listed.ensures.stopped
 
 pub returns-else-options-clause-rewritten : goal.returns-else-options-clause-rewritten
 returns-else-options-clause-rewritten g c =

@@ -5,7 +5,7 @@ use Rattle.kmin_report.proofs.Results.{if_ok_map, if_err_map}
 use Rattle.kmin_tidy.proofs.file_step.write_file.Goals as goal
 
 pub returns-in-Ok-clause-written : goal.returns-in-Ok-clause-written
-returns-in-Ok-clause-written g c = in_place c.in-Ok.ensures.ok c.in-Ok.ensures.failures refl refl
+returns-in-Ok-clause-written g c = in_place c.in-Ok.ensures.ok c.in-Ok.ensures.failures refl refl refl
 
 pub returns-in-Err-clause-written : goal.returns-in-Err-clause-written
 returns-in-Err-clause-written g c =

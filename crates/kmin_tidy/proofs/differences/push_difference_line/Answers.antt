@@ -1,6 +1,6 @@
 use Rattle.std.proofs.Common.{arith}
 use Rattle.std.proofs.lemmas.Grind.{common_steps}
-use Rattle.kmin_tidy.proofs.differences.push_line.Goals as goal
+use Rattle.kmin_tidy.proofs.differences.push_difference_line.Goals as goal
 
 pub returns : goal.returns
 returns c = grind (arith, common_steps)
