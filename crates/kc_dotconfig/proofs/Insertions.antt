@@ -1,34 +1,41 @@
 -- A user value inserted into a sorted list is a change of the assignment.
-use Rattle.std.proofs.Common.{◌≡◌, ◌≢◌, inl, inr, ℕ, zero, suc, ◌+◌, ◌<◌, List, [], ◌∷◌, ◌++◌, length, length-append, map, Option, Some, refl, sym, ◌∙◌, ap, subst, arith}
-use Rattle.std.specs.Prelude.{slice_set}
+use Rattle.std.proofs.Common.{◌≡◌, ◌≢◌, inl, inr, Bool, true, false, cond, ◌==◌, eq-eqb, ℕ, zero, suc, ◌+◌, ◌<◌, List, [], ◌∷◌, ◌++◌, length, length-append, map, Option, Some, None, refl, sym, ◌∙◌, ap, subst, arith}
+use Rattle.std.specs.Global.{Vec}
+use Rattle.std.specs.Prelude.{slice_set, replicate, is_some}
+use Rattle.std.specs.Option.{option_map, option_or}
 use Rattle.std.specs.Cmp.{nat_cmp_is}
 use Rattle.std.specs.Ordering.{nat_cmp, match_ordering}
 use Rattle.std.specs.declared.cmp.Ordering.{Ordering}
 use Rattle.std.specs.declared.cmp.Ordering.TheVariants.{Less, Equal, Greater}
 use Rattle.std.specs.BTreeMap.{insert_entry}
-use Rattle.std.proofs.lemmas.List.{set_comm}
+use Rattle.std.proofs.lemmas.Bool.{cases_eq, ne_eqb}
+use Rattle.std.proofs.lemmas.List.{set_comm, get_or-set_same, get_or-set_other, length-set}
+use Rattle.kc_system.specs.Solutions.{user_of}
 use Rattle.kc_system.specs.Changes.{changed_users}
+use Rattle.kc_rules_model.specs.declared.values.MemberLine.{MemberLine}
 use Rattle.kc_rules_model.specs.declared.values.UserValue.{UserValue}
+use Rattle.kc_rules_model.specs.declared.values.UserValue.TheVariants.{Tri as TriUser, Text as TextUser, Member as MemberUser, Lines as LinesUser}
 use Rattle.kc_dotconfig.specs.Fragments.{changes_of, users_of, notice_pair}
 use Rattle.kc_dotconfig.specs.checker.Accumulation.{IsGathered}
 use Rattle.kc_dotconfig.specs.checker.UserValueOrder.{AreAbove, IsAscending, AreBelow}
+use Rattle.kc_dotconfig.specs.checker.GatheredLines.{value_in, lines_in, lines_more, lines_user, held_in, with_unit, joined, IsPlain}
+use Rattle.kc_dotconfig.proofs.GatheredLines.{lines_over, found_same, found_other, or_none, value_joined, below_of_none, none_above, assigned_at, same_users}
 use Rattle.kc_tree_model.specs.Trees.{Tree}
 use Rattle.kc_dotconfig_model.specs.declared.notice.Notice.{Notice}
 use Rattle.kc_dotconfig_model.specs.declared.notice.NoticeKind.{NoticeKind}
 use Rattle.kc_dotconfig.specs.declared.accumulator.Accumulator.{Accumulator}
 use Rattle.kc_dotconfig_model.specs.ConfigLines.{LineMeaning, assigns, notice, silent}
-use Rattle.kc_dotconfig_model.specs.ConfigFiles.{assigned, assigned_over, empty_assignment, notices_from}
+use Rattle.kc_dotconfig_model.specs.ConfigFiles.{over, assigned, assigned_over, empty_assignment, file_assignment, notices_from}
 use Rattle.std.proofs.lemmas.List.{append-nil}
 use Rattle.kc_dotconfig_model.proofs.Cuts.{split}
 
-above_less : (u w : ℕ) (es : List (ℕ × UserValue)) → u < w → AreAbove w es → AreAbove u es
+pub above_less : (u w : ℕ) (es : List (ℕ × UserValue)) → u < w → AreAbove w es → AreAbove u es
 above_less u w [] h a = tt
 above_less u w (e ∷ es) h a = ((let b = a.0 in omega arith), above_less u w es h a.1)
 
-set_again : (xs : List (Option UserValue)) (u : ℕ) (a b : Option UserValue) → slice_set (slice_set xs u a) u b ≡ slice_set xs u b
-set_again [] u a b = refl
-set_again (x ∷ xs) zero a b = refl
-set_again (x ∷ xs) (suc u) a b = ap (λ l. x ∷ l) (set_again xs u a b)
+pub length_changed : (es : List (ℕ × UserValue)) (users : List (Option UserValue)) → length (changed_users (changes_of es) users) ≡ length users
+length_changed [] users = refl
+length_changed (e ∷ es) users = length_changed es (slice_set users e.0 (Some e.1)) ∙ length-set users e.0 (Some e.1)
 
 -- setting a unit below all units of a list of changes gives the same before and after these changes
 pub later_set : (es : List (ℕ × UserValue)) (u : ℕ) (x : Option UserValue) (base : List (Option UserValue)) → AreAbove u es
@@ -37,25 +44,6 @@ later_set [] u x base a = refl
 later_set (e ∷ es) u x base a =
     let ne : u ≢ e.0 = (let b = a.0 in omega arith) in
     ap (changed_users (changes_of es)) (set_comm base u e.0 x (Some e.1) ne) ∙ later_set es u x (slice_set base e.0 (Some e.1)) a.1
-
-pub insert_set : (es : List (ℕ × UserValue)) (u : ℕ) (x : UserValue) (base : List (Option UserValue)) → IsAscending es
-    → changed_users (changes_of (insert_entry nat_cmp es u x)) base ≡ slice_set (changed_users (changes_of es) base) u (Some x)
-insert_set [] u x base r = refl
-insert_set (e ∷ es) u x base r = elim (split u e.0) [
-  | inl less ↦ (let is : nat_cmp u e.0 ≡ Less = sym (nat_cmp_is u e.0 Less less) in
-      ap (λ o. changed_users (changes_of (match_ordering o ((u, x) ∷ e ∷ es) ((e.0, x) ∷ es) (e ∷ insert_entry nat_cmp es u x))) base) is
-      ∙ later_set (e ∷ es) u (Some x) base (less, above_less u e.0 es less r.0))
-  | inr more ↦ elim (split e.0 u) [
-    | inl less ↦ (let is : nat_cmp u e.0 ≡ Greater = sym (nat_cmp_is u e.0 Greater less) in
-        ap (λ o. changed_users (changes_of (match_ordering o ((u, x) ∷ e ∷ es) ((e.0, x) ∷ es) (e ∷ insert_entry nat_cmp es u x))) base) is
-        ∙ insert_set es u x (slice_set base e.0 (Some e.1)) r.1)
-    | inr same ↦ (let eq : u ≡ e.0 = omega arith in let is : nat_cmp u e.0 ≡ Equal = sym (nat_cmp_is u e.0 Equal eq) in
-        ap (λ o. changed_users (changes_of (match_ordering o ((u, x) ∷ e ∷ es) ((e.0, x) ∷ es) (e ∷ insert_entry nat_cmp es u x))) base) is
-        ∙ ap (changed_users (changes_of es)) (sym (set_again base e.0 (Some e.1) (Some x)))
-        ∙ later_set es e.0 (Some x) (slice_set base e.0 (Some e.1)) r.0
-        ∙ ap (λ k. slice_set (changed_users (changes_of es) (slice_set base e.0 (Some e.1))) k (Some x)) (sym eq))
-  ]
-]
 
 above_insert : (k : ℕ) (es : List (ℕ × UserValue)) (u : ℕ) (x : UserValue) → k < u → AreAbove k es → AreAbove k (insert_entry nat_cmp es u x)
 above_insert k [] u x h a = (h, tt)
@@ -110,27 +98,138 @@ notices_more n (notice kind ∷ a) b =
 notices_more n (silent ∷ a) b =
     notices_more (n + 1) a b ∙ ap (λ m. notices_from (n + 1) a ++ notices_from m b) (let e : (n + 1) + length a ≡ n + suc (length a) = omega arith in e)
 
--- a line that assigns a user value is added to an accumulator by inserting the value and counting the line
-pub gathers_user : (tree : Tree) (meanings : List LineMeaning) (g h : Accumulator) (u : ℕ) (x : UserValue) → u < length tree.units → IsGathered tree meanings g
-    → h.assigns ≡ insert_entry nat_cmp g.assigns u x → h.notices.items ≡ g.notices.items → h.lines ≡ g.lines + 1
-    → IsGathered tree (meanings ++ assigns u x ∷ []) h
-gathers_user tree meanings g h u x within is entries notices lines = record {
-  users = ap (users_of tree) entries ∙ insert_set g.assigns u x (empty_assignment tree) is.rises ∙ ap (λ l. slice_set l u (Some x)) is.users
-      ∙ sym (over_more meanings (assigns u x) (empty_assignment tree));
-  noted = ap (map notice_pair) notices ∙ is.noted ∙ sym (notices_more 1 meanings (assigns u x ∷ []) ∙ append-nil (notices_from 1 meanings));
-  counted = (let e = is.counted in let n = length-append meanings (assigns u x ∷ []) in omega arith);
-  rises = subst IsAscending (sym entries) (rises_insert g.assigns u x is.rises);
-  below = subst (AreBelow (length tree.units)) (sym entries) (below_insert (length tree.units) g.assigns u x within is.below);
+length_over : (meanings : List LineMeaning) (users : List (Option UserValue)) → length (assigned_over meanings users) ≡ length users
+length_over [] users = refl
+length_over (assigns u x ∷ meanings) users =
+    length_over meanings (slice_set users u (Some (over x (user_of users u)))) ∙ length-set users u (Some (over x (user_of users u)))
+length_over (notice kind ∷ meanings) users = length_over meanings users
+length_over (silent ∷ meanings) users = length_over meanings users
+
+pub none_length : (n : ℕ) → length {A = Option UserValue} (replicate n None) ≡ n
+none_length zero = refl
+none_length (suc n) = let rest = none_length n in omega arith
+
+file_length : (tree : Tree) (meanings : List LineMeaning) → length (file_assignment tree meanings) ≡ length tree.units
+file_length tree meanings = length_over meanings (empty_assignment tree) ∙ none_length (length tree.units)
+
+pub none_of_unit : (n u : ℕ) → user_of {X = UserValue} (replicate n None) u ≡ None
+none_of_unit zero u = refl
+none_of_unit (suc n) zero = refl
+none_of_unit (suc n) (suc u) = none_of_unit n u
+
+plain_over : (x : UserValue) (o : Option UserValue) → IsPlain x → over x o ≡ x
+plain_over (TriUser t) o plain = refl
+plain_over (TextUser text) o plain = refl
+plain_over (MemberUser s) o plain = refl
+plain_over (LinesUser lines) o plain = absurd plain
+
+over_plain : (lines : List MemberLine) (x : UserValue) → IsPlain x → over (LinesUser lines) (Some x) ≡ x
+over_plain lines (TriUser t) plain = refl
+over_plain lines (TextUser text) plain = refl
+over_plain lines (MemberUser s) plain = refl
+over_plain lines (LinesUser earlier) plain = absurd plain
+
+-- the user value of a unit after one more line that assigns one
+module _ (tree : Tree) (meanings : List LineMeaning) (w : ℕ) (x : UserValue) (u : ℕ) where
+  after_same : u ≡ w → u < length tree.units → user_of (file_assignment tree (meanings ++ assigns w x ∷ [])) u ≡ Some (over x (user_of (file_assignment tree meanings) u))
+  after_same same inside =
+      let file = file_assignment tree meanings in
+      let long = file_length tree meanings in
+      ap (λ l. user_of l u) (over_more meanings (assigns w x) (empty_assignment tree))
+      ∙ ap (λ k. user_of (slice_set file k (Some (over x (user_of file k)))) u) (sym same)
+      ∙ get_or-set_same file u (Some (over x (user_of file u))) None (omega arith)
+
+  after_other : u ≢ w → user_of (file_assignment tree (meanings ++ assigns w x ∷ [])) u ≡ user_of (file_assignment tree meanings) u
+  after_other other =
+      let file = file_assignment tree meanings in
+      ap (λ l. user_of l u) (over_more meanings (assigns w x) (empty_assignment tree))
+      ∙ get_or-set_other file w u (Some (over x (user_of file w))) None other
+
+same_held : (g h : Accumulator) (u : ℕ) → h.assigns ≡ g.assigns → h.members.entries ≡ g.members.entries
+    → held_in g.assigns g.members.entries u ≡ held_in h.assigns h.members.entries u
+same_held g h u entries members = sym (ap (λ l. held_in l h.members.entries u) entries ∙ ap (λ m. held_in g.assigns m u) members)
+
+-- a line that assigns a user value other than assignments of members is added to an accumulator by inserting the value and counting
+-- the line
+pub gathers_user : (tree : Tree) (meanings : List LineMeaning) (g h : Accumulator) (w : ℕ) (x : UserValue) → w < length tree.units → IsPlain x
+    → IsGathered tree meanings g → h.assigns ≡ insert_entry nat_cmp g.assigns w x → h.members.entries ≡ g.members.entries
+    → h.notices.items ≡ g.notices.items → h.lines ≡ g.lines + 1
+    → IsGathered tree (meanings ++ assigns w x ∷ []) h
+gathers_user tree meanings g h w x within unlisted is entries members notices lines = record {
+  users = λ u inside. elim (cases_eq u w) [
+    | inl same ↦
+        let found : value_in h.assigns u ≡ Some x = ap (λ l. value_in l u) entries ∙ ap (value_in (insert_entry nat_cmp g.assigns w x)) same
+        ∙ found_same g.assigns w x in
+        after_same tree meanings w x u same inside ∙ ap Some (plain_over x (user_of (file_assignment tree meanings) u) unlisted)
+        ∙ sym (ap (λ o. option_or o (option_map lines_user (lines_in h.members.entries u))) found)
+    | inr other ↦
+        let found : value_in h.assigns u ≡ value_in g.assigns u = ap (λ l. value_in l u) entries ∙ found_other g.assigns u w x other in
+        after_other tree meanings w x u other ∙ is.users u inside
+        ∙ sym (ap (λ o. option_or o (option_map lines_user (lines_in h.members.entries u))) found ∙ ap (λ m. held_in g.assigns m u) members)
+  ];
+  noted = ap (map notice_pair) notices ∙ is.noted ∙ sym (notices_more 1 meanings (assigns w x ∷ []) ∙ append-nil (notices_from 1 meanings));
+  counted = (let e = is.counted in let n = length-append meanings (assigns w x ∷ []) in omega arith);
+  rises = subst IsAscending (sym entries) (rises_insert g.assigns w x is.rises);
+  below = subst (AreBelow (length tree.units)) (sym entries) (below_insert (length tree.units) g.assigns w x within is.below);
+  plain = λ u y at. elim (cases_eq u w) [
+    | inl same ↦
+        let found : value_in h.assigns u ≡ Some x = ap (λ l. value_in l u) entries ∙ ap (value_in (insert_entry nat_cmp g.assigns w x)) same
+        ∙ found_same g.assigns w x in
+        let value : x ≡ y = cc in
+        subst IsPlain value unlisted
+    | inr other ↦ is.plain u y (sym (ap (λ l. value_in l u) entries ∙ found_other g.assigns u w x other) ∙ at)
+  ];
+  members_below = λ u past. ap (λ m. lines_in m u) members ∙ is.members_below u past;
 }
 
+-- one more assignment of a member over what is held of its unit
+one_more : (held : Option UserValue) (lines : Option (List MemberLine)) (l : MemberLine) → ((x : UserValue) → held ≡ Some x → IsPlain x)
+    → Some (over (LinesUser (l ∷ [])) (option_or held (option_map lines_user lines))) ≡ option_or held (option_map lines_user (lines_more lines l))
+one_more (Some x) lines l plain = ap Some (over_plain (l ∷ []) x (plain x refl))
+one_more None None l plain = refl
+one_more None (Some lines) l plain = ap Some (sym (lines_over lines l))
+
+-- a line that assigns `y` or `n` to a member of a choice is added to an accumulator by adding it to those of the choice's unit and
+-- counting the line
+pub gathers_line : (tree : Tree) (meanings : List LineMeaning) (g h : Accumulator) (w : ℕ) (l : MemberLine) → w < length tree.units
+    → IsGathered tree meanings g → h.assigns ≡ g.assigns
+    → ((u : ℕ) → lines_in h.members.entries u ≡ cond (u == w) (lines_more (lines_in g.members.entries u) l) (lines_in g.members.entries u))
+    → h.notices.items ≡ g.notices.items → h.lines ≡ g.lines + 1
+    → IsGathered tree (meanings ++ assigns w (LinesUser (l ∷ [])) ∷ []) h
+gathers_line tree meanings g h w l within is entries members notices lines = record {
+  users = λ u inside. elim (cases_eq u w) [
+    | inl same ↦
+        let more : lines_in h.members.entries u ≡ lines_more (lines_in g.members.entries u) l = members u
+        ∙ ap (λ b. cond b (lines_more (lines_in g.members.entries u) l) (lines_in g.members.entries u)) (eq-eqb u w same) in
+        after_same tree meanings w (LinesUser (l ∷ [])) u same inside
+        ∙ ap (λ o. Some (over (LinesUser (l ∷ [])) o)) (is.users u inside)
+        ∙ one_more (value_in g.assigns u) (lines_in g.members.entries u) l (is.plain u)
+        ∙ sym (ap (λ es. held_in es h.members.entries u) entries ∙ ap (λ o. option_or (value_in g.assigns u) (option_map lines_user o)) more)
+    | inr other ↦
+        after_other tree meanings w (LinesUser (l ∷ [])) u other ∙ is.users u inside
+        ∙ sym (ap (λ es. held_in es h.members.entries u) entries ∙ ap (λ o. option_or (value_in g.assigns u) (option_map lines_user o)) (kept u other))
+  ];
+  noted = ap (map notice_pair) notices ∙ is.noted ∙ sym (notices_more 1 meanings (assigns w (LinesUser (l ∷ [])) ∷ []) ∙ append-nil (notices_from 1 meanings));
+  counted = (let e = is.counted in let n = length-append meanings (assigns w (LinesUser (l ∷ [])) ∷ []) in omega arith);
+  rises = subst IsAscending (sym entries) is.rises;
+  below = subst (AreBelow (length tree.units)) (sym entries) is.below;
+  plain = λ u y at. is.plain u y (sym (ap (λ es. value_in es u) entries) ∙ at);
+  members_below = λ u past. kept u (λ same. omega (arith, same, within, past)) ∙ is.members_below u past;
+} where
+  kept : (u : ℕ) → u ≢ w → lines_in h.members.entries u ≡ lines_in g.members.entries u
+  kept u other = members u ∙ ap (λ b. cond b (lines_more (lines_in g.members.entries u) l) (lines_in g.members.entries u)) (ne_eqb u w other)
+
 pub gathers_nothing : (tree : Tree) (meanings : List LineMeaning) (g h : Accumulator) → IsGathered tree meanings g → h.assigns ≡ g.assigns
-    → h.notices.items ≡ g.notices.items → h.lines ≡ g.lines + 1 → IsGathered tree (meanings ++ silent ∷ []) h
-gathers_nothing tree meanings g h is entries notices lines = record {
-  users = ap (users_of tree) entries ∙ is.users ∙ sym (over_more meanings silent (empty_assignment tree));
+    → h.members.entries ≡ g.members.entries → h.notices.items ≡ g.notices.items → h.lines ≡ g.lines + 1
+    → IsGathered tree (meanings ++ silent ∷ []) h
+gathers_nothing tree meanings g h is entries members notices lines = record {
+  users = λ u inside. ap (λ l. user_of l u) (over_more meanings silent (empty_assignment tree)) ∙ is.users u inside ∙ same_held g h u entries members;
   noted = ap (map notice_pair) notices ∙ is.noted ∙ sym (notices_more 1 meanings (silent ∷ []) ∙ append-nil (notices_from 1 meanings));
   counted = (let e = is.counted in let n = length-append meanings (silent ∷ []) in omega arith);
   rises = subst IsAscending (sym entries) is.rises;
   below = subst (AreBelow (length tree.units)) (sym entries) is.below;
+  plain = λ u y at. is.plain u y (sym (ap (λ es. value_in es u) entries) ∙ at);
+  members_below = λ u past. ap (λ m. lines_in m u) members ∙ is.members_below u past;
 }
 
 pairs_more : (a : List Notice) (b : Notice) → map notice_pair (a ++ b ∷ []) ≡ map notice_pair a ++ notice_pair b ∷ []
@@ -138,10 +237,10 @@ pairs_more [] b = refl
 pairs_more (x ∷ a) b = ap (λ l. notice_pair x ∷ l) (pairs_more a b)
 
 pub gathers_notice : (tree : Tree) (meanings : List LineMeaning) (g h : Accumulator) (kind : NoticeKind) → IsGathered tree meanings g → h.assigns ≡ g.assigns
-    → h.notices.items ≡ g.notices.items ++ record { line = g.lines + 1; kind = kind } ∷ [] → h.lines ≡ g.lines + 1
+    → h.members.entries ≡ g.members.entries → h.notices.items ≡ g.notices.items ++ record { line = g.lines + 1; kind = kind } ∷ [] → h.lines ≡ g.lines + 1
     → IsGathered tree (meanings ++ notice kind ∷ []) h
-gathers_notice tree meanings g h kind is entries notices lines = record {
-  users = ap (users_of tree) entries ∙ is.users ∙ sym (over_more meanings (notice kind) (empty_assignment tree));
+gathers_notice tree meanings g h kind is entries members notices lines = record {
+  users = λ u inside. ap (λ l. user_of l u) (over_more meanings (notice kind) (empty_assignment tree)) ∙ is.users u inside ∙ same_held g h u entries members;
   noted =
       let number : g.lines + 1 ≡ 1 + length meanings = (let e = is.counted in omega arith) in
       ap (map notice_pair) notices ∙ pairs_more g.notices.items (record { line = g.lines + 1; kind = kind }) ∙ ap (λ l. l ++ (g.lines + 1, kind) ∷ []) is.noted
@@ -149,4 +248,48 @@ gathers_notice tree meanings g h kind is entries notices lines = record {
   counted = (let e = is.counted in let n = length-append meanings (notice kind ∷ []) in omega arith);
   rises = subst IsAscending (sym entries) is.rises;
   below = subst (AreBelow (length tree.units)) (sym entries) is.below;
+  plain = λ u y at. is.plain u y (sym (ap (λ es. value_in es u) entries) ∙ at);
+  members_below = λ u past. ap (λ m. lines_in m u) members ∙ is.members_below u past;
 }
+
+-- an accumulator without assignments, notices and lines has gathered no lines
+pub gathers_none : (tree : Tree) (g : Accumulator) → g.assigns ≡ [] → g.members.entries ≡ [] → g.notices.items ≡ [] → g.lines ≡ 0 → IsGathered tree [] g
+gathers_none tree g entries members notices lines = record {
+  users = λ u inside. none_of_unit (length tree.units) u ∙ sym (ap (λ es. held_in es g.members.entries u) entries ∙ ap (λ m. held_in [] m u) members);
+  noted = ap (map notice_pair) notices;
+  counted = lines;
+  rises = subst IsAscending (sym entries) tt;
+  below = subst (AreBelow (length tree.units)) (sym entries) tt;
+  plain = λ u y at. (let none : value_in g.assigns u ≡ None = ap (λ es. value_in es u) entries in cc);
+  members_below = λ u past. ap (λ m. lines_in m u) members;
+}
+
+-- gathered assignments of members are joined in ascending order of units
+joined_rises : (es : List (ℕ × UserValue)) (gathered : List (ℕ × Vec MemberLine)) → IsAscending es → IsAscending (joined es gathered)
+joined_rises es [] r = r
+joined_rises es (g ∷ gathered) r = joined_rises (with_unit es g.0 g.1.items) gathered (go (is_some (value_in es g.0))) where
+  go : (b : Bool) → IsAscending (cond b es (insert_entry nat_cmp es g.0 (lines_user g.1.items)))
+  go true = r
+  go false = rises_insert es g.0 (lines_user g.1.items) r
+
+-- the list of an accumulator's user values ascends, has units of the tree, and is the assignment of the gathered lines
+module _ (tree : Tree) (meanings : List LineMeaning) (g : Accumulator) (is : IsGathered tree meanings g) where
+  pub whole_rises : IsAscending (joined g.assigns g.members.entries)
+  whole_rises = joined_rises g.assigns g.members.entries is.rises
+
+  pub whole_below : AreBelow (length tree.units) (joined g.assigns g.members.entries)
+  whole_below =
+      below_of_none (length tree.units) (joined g.assigns g.members.entries)
+      (λ u past. value_joined g.assigns g.members.entries u
+      ∙ ap (λ o. option_or o (option_map lines_user (lines_in g.members.entries u))) (none_above (length tree.units) g.assigns u is.below past)
+      ∙ ap (option_map lines_user) (is.members_below u past))
+
+  pub whole_users : users_of tree (joined g.assigns g.members.entries) ≡ file_assignment tree meanings
+  whole_users =
+      let all = joined g.assigns g.members.entries in
+      let long = none_length (length tree.units) in
+      let changed = length_changed all (empty_assignment tree) in
+      same_users (users_of tree all) (file_assignment tree meanings) (changed ∙ long ∙ sym (file_length tree meanings))
+      (λ u inside. assigned_at all (empty_assignment tree) u whole_rises (omega arith)
+      ∙ ap (option_or (value_in all u)) (none_of_unit (length tree.units) u) ∙ or_none (value_in all u)
+      ∙ value_joined g.assigns g.members.entries u ∙ sym (is.users u (omega arith)))

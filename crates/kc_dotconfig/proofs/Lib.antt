@@ -9,3 +9,6 @@ pub mod UserValueUnits
 pub mod FragmentFits
 pub mod ConfigSolutions
 pub mod AscendingUnits
+pub mod GatheredLines
+pub mod MissedMembers
+pub mod MergedValues

@@ -14,11 +14,14 @@ use Rattle.kc_tree_model.proofs.Lookups.{found_by_name}
 use Rattle.kc_rules_model.specs.Kinds.{is_y}
 use Rattle.kc_dotconfig.specs.declared.meanings.Meaning.{Meaning}
 use Rattle.kc_dotconfig.specs.checker.MeaningViews.{meaning_view, IsWithin}
-use Rattle.kc_rules_model.specs.declared.values.UserValue.TheVariants.{Text as TextUser, Member as MemberUser}
+use Rattle.kc_rules_model.specs.declared.values.UserValue.TheVariants.{Text as TextUser, Lines as LinesUser}
+use Rattle.kc_rules_model.specs.Rule.{member_user}
+use Rattle.kc_tokens.specs.declared.language.Language.{Language}
+use Rattle.kc_tokens.specs.Languages.{is_linux_6_12}
 use Rattle.kc_dotconfig_model.specs.declared.format.Strings.{Strings}
 use Rattle.kc_dotconfig_model.specs.Formats.{FileFormat, IsStringSpelling}
 use Rattle.kc_dotconfig_model.specs.declared.notice.NoticeKind.TheVariants.{NotOfType}
-use Rattle.kc_dotconfig_model.specs.ConfigLines.{LineMeaning, assigns, notice, silent, tri_of_text, unset_meaning}
+use Rattle.kc_dotconfig_model.specs.ConfigLines.{LineMeaning, assigns, notice, silent, tri_of_text, unchosen_meaning, unset_meaning}
 use Rattle.kc_dotconfig_model.specs.between.LineMeanings.{tri_meaning, string_meaning, number_meaning, without_number, meaning_of_kind, value_meaning, string_text, value_parts, unset_name, of_symbol_at, of_named, is_hash, of_other, of_unset, of_value, line_meaning}
 use Rattle.kc_dotconfig_model.proofs.ValueLaws.{string_is, string_read}
 
@@ -42,13 +45,19 @@ no_string_noticed strings unit text none = go (string_text strings text) refl wh
   go (Some means) e = absurd (none means (string_is strings text means e))
 
 -- what is assigned is assigned to the unit
-tri_within : (n u s : ℕ) (choice : Option ℕ) (o : Option Tri) → u < n → IsWithin n (tri_meaning u s choice o)
-tri_within n u s choice None h = tt
-tri_within n u s None (Some t) h = h
-tri_within n u s (Some c) (Some t) h = go (is_y t) where
-  go : (b : Bool) → IsWithin n (cond b (assigns u (MemberUser s)) silent)
+unchosen_within : (language : Language) (n u s : ℕ) → u < n → IsWithin n (unchosen_meaning language u s)
+unchosen_within language n u s h = go (is_linux_6_12 language) where
+  go : (b : Bool) → IsWithin n (cond b (assigns u (LinesUser (record { member = s; is_y = false } ∷ []))) silent)
   go true = h
   go false = tt
+
+tri_within : (language : Language) (n u s : ℕ) (choice : Option ℕ) (o : Option Tri) → u < n → IsWithin n (tri_meaning language u s choice o)
+tri_within language n u s choice None h = tt
+tri_within language n u s None (Some t) h = h
+tri_within language n u s (Some c) (Some t) h = go (is_y t) where
+  go : (b : Bool) → IsWithin n (cond b (assigns u (member_user language s)) (unchosen_meaning language u s))
+  go true = h
+  go false = unchosen_within language n u s h
 
 string_within : (n u : ℕ) (o : Option (List ℕ)) → u < n → IsWithin n (string_meaning u o)
 string_within n u None h = tt
@@ -61,18 +70,20 @@ number_within n u kind text h = go (is_some (number_of_text kind text)) text whe
   go false [] = tt
   go false (c ∷ rest) = tt
 
-kind_within : (strings : Strings) (n : ℕ) (kind : Kind) (u s : ℕ) (choice : Option ℕ) (text : List ℕ) → u < n
-    → IsWithin n (meaning_of_kind strings kind u s choice text)
-kind_within strings n Boolean u s choice text h = tri_within n u s choice (tri_of_text Boolean text) h
-kind_within strings n Tristate u s choice text h = tri_within n u s choice (tri_of_text Tristate text) h
-kind_within strings n Text u s choice text h = string_within n u (string_text strings text) h
-kind_within strings n Int u s choice text h = number_within n u Int text h
-kind_within strings n Hex u s choice text h = number_within n u Hex text h
+kind_within : (language : Language) (strings : Strings) (n : ℕ) (kind : Kind) (u s : ℕ) (choice : Option ℕ) (text : List ℕ) → u < n
+    → IsWithin n (meaning_of_kind language strings kind u s choice text)
+kind_within language strings n Boolean u s choice text h = tri_within language n u s choice (tri_of_text Boolean text) h
+kind_within language strings n Tristate u s choice text h = tri_within language n u s choice (tri_of_text Tristate text) h
+kind_within language strings n Text u s choice text h = string_within n u (string_text strings text) h
+kind_within language strings n Int u s choice text h = number_within n u Int text h
+kind_within language strings n Hex u s choice text h = number_within n u Hex text h
 
-pub meaning_within : {E : Type 0} (r : Result Meaning E) (strings : Strings) (n : ℕ) (kind : Kind) (u s : ℕ) (choice : Option ℕ) (text : List ℕ) → u < n
-    → IfOk r (λ meaning. meaning_view meaning ≡ meaning_of_kind strings kind u s choice text) → IfOk r (λ meaning. IsWithin n (meaning_view meaning))
-meaning_within (Ok meaning) strings n kind u s choice text h is = subst (IsWithin n) (sym is) (kind_within strings n kind u s choice text h)
-meaning_within (Err e) strings n kind u s choice text h is = tt
+pub meaning_within : {E : Type 0} (r : Result Meaning E) (language : Language) (strings : Strings) (n : ℕ) (kind : Kind) (u s : ℕ) (choice : Option ℕ)
+    (text : List ℕ) → u < n
+    → IfOk r (λ meaning. meaning_view meaning ≡ meaning_of_kind language strings kind u s choice text) → IfOk r (λ meaning. IsWithin n (meaning_view meaning))
+meaning_within (Ok meaning) language strings n kind u s choice text h is =
+    subst (IsWithin n) (sym is) (kind_within language strings n kind u s choice text h)
+meaning_within (Err e) language strings n kind u s choice text h is = tt
 
 slice_there : {X : Type 0} (xs : List X) (k : ℕ) → k < length xs → (x : X) × (slice_get xs k ≡ Some x)
 slice_there [] k h = absurd (omega (arith, h))

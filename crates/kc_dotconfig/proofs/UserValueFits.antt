@@ -1,6 +1,6 @@
 -- The user values accumulated from an accepted file fit the tree.
-use Rattle.std.proofs.Common.{◌≡◌, ℕ, zero, suc, ◌+◌, ◌<◌, true, IsTrue, IfSome, List, [], ◌∷◌, length, Option, Some, None, refl, sym, ◌∙◌, ap, subst, arith}
-use Rattle.std.specs.Prelude.{slice_get, slice_set, slice_index, replicate}
+use Rattle.std.proofs.Common.{◌≡◌, ℕ, zero, suc, ◌+◌, ◌<◌, true, IsTrue, IfSome, List, [], ◌∷◌, length, Option, Some, None, sym, ◌∙◌, ap, subst, arith}
+use Rattle.std.specs.Prelude.{slice_get, slice_set, slice_index}
 use Rattle.std.specs.List.Sorted.{IsStrictlyIncreasing}
 use Rattle.std.proofs.lemmas.List.{get_or-set_same, length-set}
 use Rattle.kc_tree_model.specs.Trees.{Tree}
@@ -19,14 +19,10 @@ use Rattle.kc_dotconfig_model.proofs.FittingFiles.{file_fits}
 use Rattle.kc_dotconfig.specs.Fragments.{FitsTree, changes_of, users_of}
 use Rattle.kc_dotconfig.specs.checker.UserValueOrder.{IsAscending, AreBelow}
 use Rattle.kc_dotconfig.specs.checker.Configs.{units_of}
-use Rattle.kc_dotconfig.proofs.Insertions.{later_set}
+use Rattle.kc_dotconfig.proofs.Insertions.{length_changed, later_set, none_length}
 
 same_pair : (p q : ℕ × UserValue) → Some p ≡ Some q → p ≡ q
 same_pair p q e = cc
-
-pub length_changed : (es : List (ℕ × UserValue)) (users : List (Option UserValue)) → length (changed_users (changes_of es) users) ≡ length users
-length_changed [] users = refl
-length_changed (e ∷ es) users = length_changed es (slice_set users e.0 (Some e.1)) ∙ length-set users e.0 (Some e.1)
 
 -- in a rising list each user value is the one that its unit has in the end
 held_at : (es : List (ℕ × UserValue)) (users : List (Option UserValue)) (k u : ℕ) (x : UserValue) → IsAscending es → u < length users
@@ -62,10 +58,6 @@ rises_all es r k h =
     let n : k + 1 ≡ suc k = omega arith in
     subst (λ m. slice_index (units_of es) k < slice_index (units_of es) m) (sym n) (rising es r k (omega (arith, h, n)))
 
-no_length : (n : ℕ) → length {A = Option UserValue} (replicate n None) ≡ n
-no_length zero = refl
-no_length (suc n) = let rest = no_length n in omega (arith, rest)
-
 pub fragment_fits : (format : FileFormat) (tree : Tree) (known : List ℕ) (meanings : List LineMeaning) (es : List (ℕ × UserValue))
     → is_prefix format.prefix ≡ true
     → IsConsistent tree
@@ -77,7 +69,7 @@ fragment_fits format tree known meanings es valid sound accepted has_meaning use
       ascending = rises_all es r;
       each = λ k u x at.
           let within = below_at (length tree.units) es k u x b at in
-          let n = no_length (length tree.units) in
+          let n = none_length (length tree.units) in
           let is : user_of (file_assignment tree meanings) u ≡ Some x = ap (λ l. user_of l u) (sym users)
           ∙ held_at es (empty_assignment tree) k u x r (omega (arith, within, n)) at in
           (within, subst (λ o. IfSome o (λ y. IsTrue (user_fits tree u y))) is (fits.1 u within));

@@ -11,7 +11,9 @@ use Rattle.kc_system.proofs.UserChanges.{changed_fits}
 use Rattle.kc_rules_model.specs.declared.values.UserValue.{UserValue}
 use Rattle.kc_rules_model.specs.Shapes.{user_fits}
 use Rattle.kc_dotconfig_model.specs.ConfigFiles.{empty_assignment, overlay}
+use Rattle.kc_dotconfig_model.proofs.Overlays.{over_none}
 use Rattle.kc_dotconfig.specs.Fragments.{FitsTree, changes_of, users_of}
+use Rattle.kc_dotconfig.proofs.Insertions.{length_changed, none_length}
 use Rattle.kc_dotconfig.specs.checker.Configs.{clears_of, units_of}
 
 pub changed_both : (a b : List (ℕ × Option UserValue)) (users : List (Option UserValue)) → changed_users (a ++ b) users
@@ -83,41 +85,16 @@ cleared (w ∷ units) users covers = cleared units (slice_set users w None) rest
     | inr other ↦ contained_in_tail u other (covers u x (sym (get_or-set_other users w u None None other) ∙ e))
   ]
 
--- changes of user values lie over what was held
-none_over : (users : List (Option UserValue)) → overlay (replicate (length users) None) users ≡ users
-none_over [] = refl
-none_over (x ∷ users) = ap (λ l. x ∷ l) (none_over users)
-
-set_over : (over users : List (Option UserValue)) (u : ℕ) (x : UserValue) → length over ≡ length users
-    → slice_set (overlay over users) u (Some x) ≡ overlay (slice_set over u (Some x)) users
-set_over [] [] u x e = refl
-set_over [] (y ∷ users) u x e = absurd (omega (arith, e))
-set_over (o ∷ over) [] u x e = absurd (omega (arith, e))
-set_over (None ∷ over) (y ∷ users) zero x e = refl
-set_over (None ∷ over) (y ∷ users) (suc u) x e = ap (λ l. y ∷ l) (set_over over users u x (omega (arith, e)))
-set_over (Some o ∷ over) (y ∷ users) zero x e = refl
-set_over (Some o ∷ over) (y ∷ users) (suc u) x e = ap (λ l. Some o ∷ l) (set_over over users u x (omega (arith, e)))
-
-changes_over : (es : List (ℕ × UserValue)) (over users : List (Option UserValue)) → length over ≡ length users
-    → changed_users (changes_of es) (overlay over users) ≡ overlay (changed_users (changes_of es) over) users
-changes_over [] over users e = refl
-changes_over (a ∷ es) over users e =
-    ap (changed_users (changes_of es)) (set_over over users a.0 a.1 e)
-    ∙ changes_over es (slice_set over a.0 (Some a.1)) users (length-set over a.0 (Some a.1) ∙ e)
-
-none_length : (n : ℕ) → length {A = Option UserValue} (replicate n None) ≡ n
-none_length zero = refl
-none_length (suc n) = let rest = none_length n in omega (arith, rest)
-
-pub lies_over : (tree : Tree) (es : List (ℕ × UserValue)) (users : List (Option UserValue)) → length users ≡ length tree.units
-    → changed_users (changes_of es) users ≡ overlay (users_of tree es) users
-lies_over tree es users same =
-    ap (changed_users (changes_of es)) (sym (none_over users) ∙ ap (λ n. overlay (replicate n None) users) same)
-    ∙ changes_over es (empty_assignment tree) users (none_length (length tree.units) ∙ sym same)
-
 -- the assignment of a list's user values alone is its own overlay over the empty assignment
+over_empty : (users : List (Option UserValue)) → overlay users (replicate (length users) None) ≡ users
+over_empty [] = refl
+over_empty (None ∷ users) = ap (λ l. None ∷ l) (over_empty users)
+over_empty (Some x ∷ users) = ap (λ y. Some y ∷ overlay users (replicate (length users) None)) (over_none x) ∙ ap (λ l. Some x ∷ l) (over_empty users)
+
 pub lies_alone : (tree : Tree) (es : List (ℕ × UserValue)) → users_of tree es ≡ overlay (users_of tree es) (empty_assignment tree)
-lies_alone tree es = lies_over tree es (empty_assignment tree) (none_length (length tree.units))
+lies_alone tree es =
+    sym (over_empty (users_of tree es))
+    ∙ ap (λ n. overlay (users_of tree es) (replicate n None)) (length_changed es (empty_assignment tree) ∙ none_length (length tree.units))
 
 -- fitting user values are fitting changes
 same_pair : (p q : ℕ × Option UserValue) → Some p ≡ Some q → p ≡ q

@@ -18,6 +18,8 @@ use Rattle.kc_dotconfig_model.specs.PrefixGrammar.{is_prefix}
 use Rattle.kc_dotconfig.specs.Fragments.{FitsTree, users_of, notice_pair}
 use Rattle.kc_dotconfig.proofs.UserValueFits.{fragment_fits}
 use Rattle.kc_dotconfig.specs.ReadResults.{IsReadAs, IsRefused, IsCutShort, ReportsFault}
+use Rattle.kc_dotconfig.specs.checker.GatheredLines.{joined}
+use Rattle.kc_dotconfig.proofs.Insertions.{whole_users, whole_rises, whole_below}
 use Rattle.kc_dotconfig.specs.checker.Accumulation.{fault_line, Holds, AcceptsBytes, EndsWell, EndsBadly, IsGathered, IsFragmentOf}
 use Rattle.kc_dotconfig.specs.checker.UserValueOrder.{IsAscending, AreBelow}
 use Rattle.kc_dotconfig_model.proofs.FirstFaults.{failed_reads}
@@ -202,17 +204,17 @@ fault_of format tree line g kind k lines n same is fault = elim fault [
 ]
 
 pub ends_whole : (format : FileFormat) (tree : Tree) (line : List ℕ) (g h : Accumulator) (f : Fragment) → EndsWell format tree line g h
-    → (f.assigns.items ≡ h.assigns) × (f.notices.items ≡ h.notices.items) → IsFragmentOf format tree line g f
+    → (f.assigns.items ≡ joined h.assigns h.members.entries) × (f.notices.items ≡ h.notices.items) → IsFragmentOf format tree line g f
 ends_whole format tree line g h f ends same known holds =
     let e = ends known holds in (
       e.0,
       e.1,
       e.2,
-      ap (users_of tree) same.0 ∙ e.3.users,
+      ap (users_of tree) same.0 ∙ whole_users tree e.0 h e.3,
       ap (map notice_pair) same.1
           ∙ e.3.noted,
-      subst IsAscending (sym same.0) e.3.rises,
-      subst (AreBelow (length tree.units)) (sym same.0) e.3.below,
+      subst IsAscending (sym same.0) (whole_rises tree e.0 h e.3),
+      subst (AreBelow (length tree.units)) (sym same.0) (whole_below tree e.0 h e.3),
     )
 
 pub block_fault : (format : FileFormat) (tree : Tree) (line : List ℕ) (g : Accumulator) (block : List ℕ) (size : ℕ) (kind k : LoadKind) (lines n : ℕ) → k ≡ kind

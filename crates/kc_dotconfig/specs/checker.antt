@@ -2,3 +2,5 @@ pub mod MeaningViews
 pub mod Accumulation
 pub mod Configs
 pub mod UserValueOrder
+pub mod GatheredLines
+pub mod MissedMembers

@@ -1,5 +1,5 @@
 //! Accumulates the meanings of the lines of a configuration file.
-ghost use Rattle.std.specs.Prelude.{◌≡◌, ◌⊎◌, ◌+◌, ◌<◌, List, [], ◌∷◌, ◌++◌, length, IfOk, IfErr, OnOk, OnErr};
+ghost use Rattle.std.specs.Prelude.{◌≡◌, ◌⊎◌, ℕ, ◌+◌, ◌<◌, ◌==◌, List, [], ◌∷◌, ◌++◌, length, IfOk, IfErr, OnOk, OnErr, if◌then◌else◌};
 ghost use Rattle.std.specs.Str.{IsUtf8};
 ghost use Rattle.kc_value.specs.declared.limits.TheConstants.{MAX_CONFIG_LINES};
 ghost use Rattle.kc_tree_model.specs.Trees.{Tree};
@@ -11,15 +11,18 @@ ghost use Rattle.std.specs.BTreeMap.{insert_entry};
 ghost use Rattle.std.specs.Ordering.{nat_cmp};
 ghost use Rattle.kc_dotconfig.specs.checker.MeaningViews.{meaning_view, IsWithin};
 ghost use Rattle.kc_dotconfig.specs.checker.Accumulation.{IsGathered};
+ghost use Rattle.kc_dotconfig.specs.checker.GatheredLines.{lines_in, lines_more, joined};
 
 use super::accumulator::Accumulator;
 use super::assigned_values::AssignedValues;
 use super::fragment::Fragment;
+use super::gathered_lines::{add_line, with_lines};
 use super::meanings::{Meaning, read_line};
 use kc_dotconfig_model::{Format, LoadKind, Notice, NoticeKind};
 use kc_rules::Settled;
-use kc_rules_model::UserValue;
+use kc_rules_model::{MemberLine, UserValue};
 use std::alloc::{AllocError, Global};
+use std::collections::BTreeMap;
 
 /// The accumulator before the first line of a configuration file.
 pub(crate) fn empty_accumulator(alloc: Global) -> Accumulator
@@ -27,6 +30,7 @@ pub(crate) fn empty_accumulator(alloc: Global) -> Accumulator
 {
     Accumulator {
         assigns: AssignedValues::new(alloc),
+        members: BTreeMap::new(alloc),
         notices: Vec::new(alloc),
         lines: 0,
         next: 0,
@@ -37,6 +41,7 @@ pub(crate) fn empty_accumulator(alloc: Global) -> Accumulator
 fn take_assignment(gathered: &mut Accumulator, unit: u32, user: UserValue) -> Result<(), AllocError>
     requires few { gathered.old.lines < MAX_CONFIG_LINES }
     ensures entries { OnOk result (gathered.new.assigns ≡ insert_entry nat_cmp gathered.old.assigns unit user) }
+    ensures members { OnOk result (gathered.new.members.entries ≡ gathered.old.members.entries) }
     ensures notices { OnOk result (gathered.new.notices.items ≡ gathered.old.notices.items) }
     ensures lines { OnOk result (gathered.new.lines ≡ gathered.old.lines + 1) }
     ensures err { OnErr result (gathered.new.lines ≡ gathered.old.lines) }
@@ -47,10 +52,31 @@ fn take_assignment(gathered: &mut Accumulator, unit: u32, user: UserValue) -> Re
     Ok(())
 }
 
+/// Adds a line that assigns `y` or `n` to a member of a choice, whose unit is `unit`. An `Err` means out of memory.
+fn take_member(
+    alloc: Global,
+    gathered: &mut Accumulator,
+    unit: u32,
+    line: MemberLine,
+) -> Result<(), AllocError>
+    requires few { gathered.old.lines < MAX_CONFIG_LINES }
+    ensures entries { OnOk result (gathered.new.assigns ≡ gathered.old.assigns) }
+    ensures members { OnOk result ((u : ℕ) → lines_in gathered.new.members.entries u ≡ (if u == unit then lines_more (lines_in gathered.old.members.entries u) line else lines_in gathered.old.members.entries u)) }
+    ensures notices { OnOk result (gathered.new.notices.items ≡ gathered.old.notices.items) }
+    ensures lines { OnOk result (gathered.new.lines ≡ gathered.old.lines + 1) }
+    ensures err { OnErr result (gathered.new.lines ≡ gathered.old.lines) }
+{
+    add_line(alloc, &mut gathered.members, unit, line)?;
+    gathered.lines += 1;
+    gathered.next = unit.saturating_add(1);
+    Ok(())
+}
+
 /// Adds a line with a notice. An `Err` means out of memory.
 fn take_notice(gathered: &mut Accumulator, kind: NoticeKind) -> Result<(), AllocError>
     requires few { gathered.old.lines < MAX_CONFIG_LINES }
     ensures entries { OnOk result (gathered.new.assigns ≡ gathered.old.assigns) }
+    ensures members { OnOk result (gathered.new.members.entries ≡ gathered.old.members.entries) }
     ensures notices { OnOk result (gathered.new.notices.items ≡ gathered.old.notices.items ++ record { line = gathered.old.lines + 1; kind = kind } ∷ []) }
     ensures lines { OnOk result (gathered.new.lines ≡ gathered.old.lines + 1) }
     ensures err { OnErr result (gathered.new.lines ≡ gathered.old.lines) }
@@ -62,14 +88,17 @@ fn take_notice(gathered: &mut Accumulator, kind: NoticeKind) -> Result<(), Alloc
 }
 
 /// Adds the meaning of the next line to the accumulator. An `Err` means out of memory.
-fn take(gathered: &mut Accumulator, meaning: Meaning) -> Result<(), AllocError>
+fn take(alloc: Global, gathered: &mut Accumulator, meaning: Meaning) -> Result<(), AllocError>
     requires few { gathered.old.lines < MAX_CONFIG_LINES }
     ensures ok { OnOk result ((tree : Tree) (meanings : List LineMeaning) → IsWithin (length tree.units) (meaning_view meaning) → IsGathered tree meanings gathered.old → IsGathered tree (meanings ++ meaning_view meaning ∷ []) gathered.new) }
     ensures lines { OnOk result (gathered.new.lines ≡ gathered.old.lines + 1) }
     ensures err { OnErr result (gathered.new.lines ≡ gathered.old.lines) }
 {
     match meaning {
-        Meaning::Assigns(unit, user) => take_assignment(gathered, unit, user),
+        Meaning::Tri(unit, tri) => take_assignment(gathered, unit, UserValue::Tri(tri)),
+        Meaning::Text(unit, text) => take_assignment(gathered, unit, UserValue::Text(text)),
+        Meaning::Member(unit, s) => take_assignment(gathered, unit, UserValue::Member(s)),
+        Meaning::Line(unit, line) => take_member(alloc, gathered, unit, line),
         Meaning::Noted(kind) => take_notice(gathered, kind),
         Meaning::Nothing => {
             gathered.lines += 1;
@@ -99,7 +128,7 @@ pub(crate) fn take_line(
         return Err(LoadKind::NotUtf8);
     };
     match read_line(alloc, settled, format, gathered.next, text) {
-        Ok(Some(meaning)) => match take(gathered, meaning) {
+        Ok(Some(meaning)) => match take(alloc, gathered, meaning) {
             Ok(()) => Ok(()),
             Err(_) => Err(LoadKind::OutOfMemory),
         },
@@ -109,15 +138,16 @@ pub(crate) fn take_line(
 }
 
 /// The assignment and the notices of the accumulated lines. An `Err` means out of memory.
-pub(crate) fn fragment_of(gathered: Accumulator) -> Result<Fragment, AllocError>
-    ensures { IfOk result (λ f. (f.assigns.items ≡ gathered.assigns) × (f.notices.items ≡ gathered.notices.items)) }
+pub(crate) fn fragment_of(alloc: Global, gathered: Accumulator) -> Result<Fragment, AllocError>
+    ensures { IfOk result (λ f. (f.assigns.items ≡ joined gathered.assigns gathered.members.entries) × (f.notices.items ≡ gathered.notices.items)) }
 {
     let Accumulator {
         assigns,
+        members,
         notices,
         lines: _,
         next: _,
     } = gathered;
-    let assigns = assigns.into_list()?;
+    let assigns = with_lines(alloc, assigns, members)?;
     Ok(Fragment { assigns, notices })
 }

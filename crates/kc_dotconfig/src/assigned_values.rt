@@ -61,7 +61,11 @@ fn map_of(
 }
 
 /// Sets the user value of a unit in a map, and replaces an earlier one.
-fn put(map: &mut BTreeMap<u32, UserValue>, unit: u32, user: UserValue) -> Result<(), AllocError>
+pub(crate) fn put(
+    map: &mut BTreeMap<u32, UserValue>,
+    unit: u32,
+    user: UserValue,
+) -> Result<(), AllocError>
     ensures { OnOk result (map.new.entries ≡ insert_entry nat_cmp map.old.entries unit user) }
 {
     match map.insert(unit, user) {
@@ -100,6 +104,22 @@ impl AssignedValues {
         let listed = mem::replace(&mut self.listed, Vec::new(self.alloc));
         self.mapped = map_of(self.alloc, listed)?;
         put(&mut self.mapped, unit, user)
+    }
+
+    /// The user values by unit. An `Err` means out of memory.
+    pub(crate) fn into_map(self) -> Result<BTreeMap<u32, UserValue>, AllocError>
+        ensures { IfOk result (λ map. map.entries ≡ self) }
+    {
+        let AssignedValues {
+            alloc,
+            listed,
+            mapped,
+        } = self;
+        if mapped.is_empty() {
+            map_of(alloc, listed)
+        } else {
+            Ok(mapped)
+        }
     }
 
     /// The user values with their units, in ascending order of units. An `Err` means out of memory.

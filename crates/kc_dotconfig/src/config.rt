@@ -14,6 +14,7 @@ ghost use Rattle.kc_dotconfig.specs.ConfigStates.{tree_in, IsSolved};
 use super::changes::{merge_units, push_cleared, push_users, units_assigned, users_assigned};
 use super::fragment::Fragment;
 use super::missed_assignments::missed_symbols;
+use super::overlaid::push_overs;
 use kc_rules::{Settled, Steps};
 use kc_rules_model::{UnitValue, UserValue};
 use kc_system::{Graph, Report, Session};
@@ -119,8 +120,9 @@ impl<'a> Config<'a> {
     }
 
     /// Adds the user values of a fragment, which replace earlier ones of the same units, and reports which units' values differ
-    /// from those before and how many units were evaluated. After running out of memory the configuration is as before. The
-    /// caller must pass a fragment that fits the tree.
+    /// from those before and how many units were evaluated. What the fragment assigns to members of a choice replaces, under the
+    /// rules of Linux 6.12, only what was assigned to these members. After running out of memory the configuration is as before.
+    /// The caller must pass a fragment that fits the tree.
     pub fn merge(&mut self, fragment: &Fragment) -> Result<Report, AllocError>
         requires fits { FitsTree (tree_in self.old) fragment.now.assigns.items }
         ensures settled { self.new.system ≡ self.old.system }
@@ -131,7 +133,8 @@ impl<'a> Config<'a> {
         ensures err { OnErr result (self.new ≡ self.old) }
     {
         let mut changes = Vec::with_capacity(self.alloc, fragment.assigns.len())?;
-        push_users(self.alloc, &mut changes, &fragment.assigns)?;
+        let users = self.session.users();
+        push_overs(self.alloc, &mut changes, users, &fragment.assigns)?;
         let count = self.valued.len();
         match merge_units(&mut self.valued, self.session.users(), &fragment.assigns) {
             Ok(()) => {}
@@ -197,7 +200,8 @@ impl<'a> Config<'a> {
     }
 
     /// The symbols outside choices whose user value isn't their value, and for each choice the member that its user value names,
-    /// if that isn't selected, in order of first definition. An `Err` means out of memory.
+    /// if that isn't selected, in order of first definition. Under the rules of Linux 6.12 that member is the last with `y`, and
+    /// the selected member counts too if it has `n`. An `Err` means out of memory.
     pub fn missed(&self) -> Result<Vec<Sym>, AllocError>
         ensures { IfOk result (λ found. found.items ≡ missed (tree_in self.now) self.now.users self.now.values) }
     {

@@ -162,7 +162,7 @@ fn finish(
         return Err(fault_on_next_line(gathered.lines, kind));
     }
     let lines = gathered.lines;
-    match fragment_of(gathered) {
+    match fragment_of(alloc, gathered) {
         Ok(fragment) => Ok(fragment),
         Err(AllocError) => Err(fault_on_next_line(lines, LoadKind::OutOfMemory)),
     }

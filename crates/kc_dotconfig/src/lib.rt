@@ -8,10 +8,12 @@ mod changes;
 mod config;
 mod fragment;
 mod fragment_reader;
+mod gathered_lines;
 mod line_buffer;
 mod line_parts;
 mod meanings;
 mod missed_assignments;
+mod overlaid;
 
 pub use config::Config;
 pub use fragment::Fragment;

@@ -4,7 +4,8 @@ ghost use Rattle.kc_tree_model.specs.Trees.{Symbol};
 ghost use Rattle.kc_tree_model.specs.TreeLookup.{symbol_named};
 ghost use Rattle.kc_value.specs.Number.{number_of_text};
 ghost use Rattle.kc_rules.specs.between.SettledViews.{tree_of_settled};
-ghost use Rattle.kc_dotconfig_model.specs.ConfigLines.{tri_of_text, unset_meaning};
+ghost use Rattle.kc_dotconfig_model.specs.ConfigLines.{assigns, tri_of_text, unchosen_meaning, unset_meaning};
+ghost use Rattle.kc_rules_model.specs.Rule.{member_user};
 ghost use Rattle.kc_tree_model.specs.LogicalLines.{without_white_end};
 ghost use Rattle.kc_dotconfig_model.specs.declared.format.Strings.TheVariants.{Escaped, Raw};
 ghost use Rattle.kc_dotconfig_model.specs.between.Formats.{file_format};
@@ -14,7 +15,8 @@ ghost use Rattle.kc_dotconfig.specs.checker.MeaningViews.{meaning_view, IsWithin
 use super::line_parts::{between_quotes, is_comment, trimmed, unset_name, value_parts};
 use kc_dotconfig_model::{Format, NoticeKind, Strings};
 use kc_rules::Settled;
-use kc_rules_model::UserValue;
+use kc_rules_model::MemberLine;
+use kc_tokens::Language;
 use kc_tree::{Sym, Tree, Unit};
 use kc_value::{Kind, Text, Tri, hex_of, int_of, read_quoted};
 use std::alloc::{AllocError, Global};
@@ -22,8 +24,14 @@ use std::alloc::{AllocError, Global};
 /// The meaning of a line of a configuration file.
 #[derive(Drop)]
 pub(crate) enum Meaning {
-    /// The line assigns a user value to the unit of this number.
-    Assigns(u32, UserValue),
+    /// The line assigns a tristate to the unit of this number.
+    Tri(u32, Tri),
+    /// The line assigns a text to the unit of this number.
+    Text(u32, Text),
+    /// The line selects a member for the choice that is the unit of this number.
+    Member(u32, Sym),
+    /// The line assigns `y` or `n` to a member of the choice that is the unit of this number.
+    Line(u32, MemberLine),
     /// The line assigns nothing, and a notice of this kind is due.
     Noted(NoticeKind),
     /// The line assigns nothing, and no notice is due.
@@ -42,15 +50,49 @@ fn tri_of_text(kind: Kind, text: &str) -> Option<Tri>
     }
 }
 
+/// Interprets `y` for a member of a choice.
+fn chosen(language: Language, unit: u32, s: Sym) -> Meaning
+    ensures { meaning_view result ≡ assigns unit (member_user language s) }
+{
+    if language.is_linux_6_12() {
+        Meaning::Line(
+            unit,
+            MemberLine {
+                member: s,
+                is_y: true,
+            },
+        )
+    } else {
+        Meaning::Member(unit, s)
+    }
+}
+
+/// Interprets another value than `y` for a member of a choice.
+fn unchosen(language: Language, unit: u32, s: Sym) -> Meaning
+    ensures { meaning_view result ≡ unchosen_meaning language unit s }
+{
+    if language.is_linux_6_12() {
+        Meaning::Line(
+            unit,
+            MemberLine {
+                member: s,
+                is_y: false,
+            },
+        )
+    } else {
+        Meaning::Nothing
+    }
+}
+
 /// Interprets the value of a bool or tristate.
-fn read_tri(unit: u32, s: Sym, choice: Option<u32>, tri: Option<Tri>) -> Meaning
-    ensures { meaning_view result ≡ tri_meaning unit s choice tri }
+fn read_tri(language: Language, unit: u32, s: Sym, choice: Option<u32>, tri: Option<Tri>) -> Meaning
+    ensures { meaning_view result ≡ tri_meaning language unit s choice tri }
 {
     match (choice, tri) {
         (_, None) => Meaning::Noted(NoticeKind::NotOfType),
-        (None, Some(tri)) => Meaning::Assigns(unit, UserValue::Tri(tri)),
-        (Some(_), Some(Tri::Y)) => Meaning::Assigns(unit, UserValue::Member(s)),
-        (Some(_), Some(_)) => Meaning::Nothing,
+        (None, Some(tri)) => Meaning::Tri(unit, tri),
+        (Some(_), Some(Tri::Y)) => chosen(language, unit, s),
+        (Some(_), Some(_)) => unchosen(language, unit, s),
     }
 }
 
@@ -59,7 +101,7 @@ fn read_escaped(alloc: Global, unit: u32, text: &str) -> Result<Meaning, AllocEr
     ensures { IfOk result (λ meaning. meaning_view meaning ≡ string_meaning unit (string_text Escaped text.now)) }
 {
     match read_quoted(alloc, text)? {
-        Some(text) => Ok(Meaning::Assigns(unit, UserValue::Text(Text::from_string(text)))),
+        Some(text) => Ok(Meaning::Text(unit, Text::from_string(text))),
         None => Ok(Meaning::Noted(NoticeKind::NotOfType)),
     }
 }
@@ -71,7 +113,7 @@ fn read_raw(alloc: Global, unit: u32, text: &str) -> Result<Meaning, AllocError>
     match between_quotes(text) {
         Some(text) => {
             let text = Text::copied(alloc, text)?;
-            Ok(Meaning::Assigns(unit, UserValue::Text(text)))
+            Ok(Meaning::Text(unit, text))
         }
         None => Ok(Meaning::Noted(NoticeKind::NotOfType)),
     }
@@ -109,7 +151,7 @@ fn read_number(alloc: Global, unit: u32, kind: Kind, text: &str) -> Result<Meani
 {
     if is_number(kind, text) {
         let text = Text::copied(alloc, text)?;
-        Ok(Meaning::Assigns(unit, UserValue::Text(text)))
+        Ok(Meaning::Text(unit, text))
     } else if text.is_empty() {
         Ok(Meaning::Nothing)
     } else {
@@ -120,6 +162,7 @@ fn read_number(alloc: Global, unit: u32, kind: Kind, text: &str) -> Result<Meani
 /// Interprets the text after `=` for a unit of a type.
 fn read_text(
     alloc: Global,
+    language: Language,
     strings: Strings,
     kind: Kind,
     unit: u32,
@@ -127,14 +170,14 @@ fn read_text(
     choice: Option<u32>,
     text: &str,
 ) -> Result<Meaning, AllocError>
-    ensures { IfOk result (λ meaning. meaning_view meaning ≡ meaning_of_kind strings kind unit s choice text.now) }
+    ensures { IfOk result (λ meaning. meaning_view meaning ≡ meaning_of_kind language strings kind unit s choice text.now) }
 {
     match kind {
         Kind::Text => read_string(alloc, strings, unit, text),
         Kind::Int => read_number(alloc, unit, kind, text),
         Kind::Hex => read_number(alloc, unit, kind, text),
-        Kind::Bool => Ok(read_tri(unit, s, choice, tri_of_text(kind, text))),
-        Kind::Tristate => Ok(read_tri(unit, s, choice, tri_of_text(kind, text))),
+        Kind::Bool => Ok(read_tri(language, unit, s, choice, tri_of_text(kind, text))),
+        Kind::Tristate => Ok(read_tri(language, unit, s, choice, tri_of_text(kind, text))),
     }
 }
 
@@ -153,6 +196,7 @@ fn read_value(
     let symbol = tree.symbol(s);
     read_text(
         alloc,
+        tree.language(),
         strings,
         symbol.kind,
         symbol.unit,
@@ -170,9 +214,10 @@ fn read_unset(tree: &Tree, s: Sym) -> Meaning
 {
     let symbol = tree.symbol(s);
     match (symbol.choice, symbol.kind) {
-        (None, Kind::Bool) => Meaning::Assigns(symbol.unit, UserValue::Tri(Tri::N)),
-        (None, Kind::Tristate) => Meaning::Assigns(symbol.unit, UserValue::Tri(Tri::N)),
-        _ => Meaning::Nothing,
+        (Some(_), _) => unchosen(tree.language(), symbol.unit, s),
+        (None, Kind::Bool) => Meaning::Tri(symbol.unit, Tri::N),
+        (None, Kind::Tristate) => Meaning::Tri(symbol.unit, Tri::N),
+        (None, _) => Meaning::Nothing,
     }
 }
 

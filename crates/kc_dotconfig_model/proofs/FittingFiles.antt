@@ -190,6 +190,49 @@ module _ (tree : Tree) (sound : IsConsistent tree) (s : ℕ) (symbol : Symbol) (
       subst (λ b. SayingFits tree (cond b (assigns (unit_of tree s) (TriUser N)) silent)) (sym small) (outside_fits (TriUser N) e (n_fits symbol.kind small))
   unset_fits None e false small = subst (λ b. SayingFits tree (cond b (assigns (unit_of tree s) (TriUser N)) silent)) (sym small) tt
 
+module _ (tree : Tree) where
+  -- assignments of members that are laid over others fit where both do
+  all_kept : (q p : MemberLine → Bool) (lines : List MemberLine) → list_all q lines ≡ true → list_all q (filter p lines) ≡ true
+  all_kept q p [] all = refl
+  all_kept q p (l ∷ lines) all = go (p l) (all_kept q p lines (and_parts (q l) (list_all q lines) all).1) where
+    go : (b : Bool) → list_all q (filter p lines) ≡ true → list_all q (cond b (l ∷ filter p lines) (filter p lines)) ≡ true
+    go true rest = and_from (q l) (list_all q (filter p lines)) (and_parts (q l) (list_all q lines) all).0 rest
+    go false rest = rest
+
+  laid_over_fits : (o : Option TreeUnit) (later earlier : List MemberLine) → unit_user_fits tree o (LinesUser later) ≡ true
+      → unit_user_fits tree o (LinesUser earlier) ≡ true → unit_user_fits tree o (LinesUser (laid_over later earlier)) ≡ true
+  laid_over_fits None later earlier a b = absurd (false≢true a)
+  laid_over_fits (Some (of_symbol s)) later earlier a b = go (slice_get tree.symbols s) a where
+    go : (o : Option Symbol) → symbol_user_fits o (LinesUser later) ≡ true → symbol_user_fits o (LinesUser (laid_over later earlier)) ≡ true
+    go None a = absurd (false≢true a)
+    go (Some symbol) a = absurd (false≢true a)
+  laid_over_fits (Some (of_choice c)) later earlier a b =
+      let q : MemberLine → Bool = λ l. is_member (slice_get tree.choices c) l.member in
+      let p : MemberLine → Bool = λ l. not (is_listed later l.member) in
+      let first = and_parts (is_linux_6_12 tree.language) (list_all q later) a in
+      let second = and_parts (is_linux_6_12 tree.language) (list_all q earlier) b in
+      and_from (is_linux_6_12 tree.language) (list_all q (filter p earlier ++ later)) first.0
+      (list_all-append q (filter p earlier) later ∙ and_from (list_all q (filter p earlier)) (list_all q later) (all_kept q p earlier second.1) first.1)
+
+  -- a user value over an earlier one fits where both do
+  pub over_user_fits : (u : ℕ) (x : UserValue) (o : Option UserValue) → user_fits tree u x ≡ true → IfSome o (λ y. IsTrue (user_fits tree u y)) → user_fits tree u (over x o) ≡ true
+  unfolding user_fits
+  over_user_fits u (TriUser t) o fits held = fits
+  over_user_fits u (TextUser t) o fits held = fits
+  over_user_fits u (MemberUser s) o fits held = fits
+  over_user_fits u (LinesUser l) None fits held = fits
+  over_user_fits u (LinesUser l) (Some (TriUser t)) fits held = held
+  over_user_fits u (LinesUser l) (Some (TextUser t)) fits held = held
+  over_user_fits u (LinesUser l) (Some (MemberUser s)) fits held = held
+  over_user_fits u (LinesUser l) (Some (LinesUser k)) fits held = laid_over_fits (slice_get tree.units u) l k fits held
+
+  pub held_fits : (users : List (Option UserValue)) (u : ℕ) → FitsUsers (length tree.units) (λ w y. IsTrue (user_fits tree w y)) users
+      → IfSome (user_of users u) (λ y. IsTrue (user_fits tree u y))
+  held_fits users u fitting = elim (cases_lt u (length tree.units)) [
+    | inl inside ↦ fitting.1 u inside
+    | inr past ↦ subst (λ o. IfSome o (λ y. IsTrue (user_fits tree u y))) (sym (get_or_past users u None (let len = fitting.0 in omega arith))) tt
+  ]
+
 module _ (format : FileFormat) (tree : Tree) (sound : IsConsistent tree) where
   line_fits : (line : List ℕ) (meaning : LineMeaning) → has_no_byte 10 line ≡ true → IsUtf8 line → Means format tree line meaning → SayingFits tree meaning
   line_fits line meaning one utf8 (value _ name text s symbol _ is named at has_meaning) =
@@ -251,51 +294,10 @@ module _ (format : FileFormat) (tree : Tree) (sound : IsConsistent tree) where
     ],
   )
 
-  -- assignments of members that are laid over others fit where both do
-  all_kept : (q p : MemberLine → Bool) (lines : List MemberLine) → list_all q lines ≡ true → list_all q (filter p lines) ≡ true
-  all_kept q p [] all = refl
-  all_kept q p (l ∷ lines) all = go (p l) (all_kept q p lines (and_parts (q l) (list_all q lines) all).1) where
-    go : (b : Bool) → list_all q (filter p lines) ≡ true → list_all q (cond b (l ∷ filter p lines) (filter p lines)) ≡ true
-    go true rest = and_from (q l) (list_all q (filter p lines)) (and_parts (q l) (list_all q lines) all).0 rest
-    go false rest = rest
-
-  laid_over_fits : (o : Option TreeUnit) (later earlier : List MemberLine) → unit_user_fits tree o (LinesUser later) ≡ true
-      → unit_user_fits tree o (LinesUser earlier) ≡ true → unit_user_fits tree o (LinesUser (laid_over later earlier)) ≡ true
-  laid_over_fits None later earlier a b = absurd (false≢true a)
-  laid_over_fits (Some (of_symbol s)) later earlier a b = go (slice_get tree.symbols s) a where
-    go : (o : Option Symbol) → symbol_user_fits o (LinesUser later) ≡ true → symbol_user_fits o (LinesUser (laid_over later earlier)) ≡ true
-    go None a = absurd (false≢true a)
-    go (Some symbol) a = absurd (false≢true a)
-  laid_over_fits (Some (of_choice c)) later earlier a b =
-      let q : MemberLine → Bool = λ l. is_member (slice_get tree.choices c) l.member in
-      let p : MemberLine → Bool = λ l. not (is_listed later l.member) in
-      let first = and_parts (is_linux_6_12 tree.language) (list_all q later) a in
-      let second = and_parts (is_linux_6_12 tree.language) (list_all q earlier) b in
-      and_from (is_linux_6_12 tree.language) (list_all q (filter p earlier ++ later)) first.0
-      (list_all-append q (filter p earlier) later ∙ and_from (list_all q (filter p earlier)) (list_all q later) (all_kept q p earlier second.1) first.1)
-
-  over_user_fits : (u : ℕ) (x : UserValue) (o : Option UserValue) → user_fits tree u x ≡ true → IfSome o (λ y. IsTrue (user_fits tree u y)) → user_fits tree u (over x o) ≡ true
-  unfolding user_fits
-  over_user_fits u (TriUser t) o fits held = fits
-  over_user_fits u (TextUser t) o fits held = fits
-  over_user_fits u (MemberUser s) o fits held = fits
-  over_user_fits u (LinesUser l) None fits held = fits
-  over_user_fits u (LinesUser l) (Some (TriUser t)) fits held = held
-  over_user_fits u (LinesUser l) (Some (TextUser t)) fits held = held
-  over_user_fits u (LinesUser l) (Some (MemberUser s)) fits held = held
-  over_user_fits u (LinesUser l) (Some (LinesUser k)) fits held = laid_over_fits (slice_get tree.units u) l k fits held
-
-  held_fits : (users : List (Option UserValue)) (u : ℕ) → FitsUsers (length tree.units) (λ w y. IsTrue (user_fits tree w y)) users
-      → IfSome (user_of users u) (λ y. IsTrue (user_fits tree u y))
-  held_fits users u fitting = elim (cases_lt u (length tree.units)) [
-    | inl inside ↦ fitting.1 u inside
-    | inr past ↦ subst (λ o. IfSome o (λ y. IsTrue (user_fits tree u y))) (sym (get_or_past users u None (let len = fitting.0 in omega arith))) tt
-  ]
-
   over_fits : (meanings : List LineMeaning) (users : List (Option UserValue)) → FitsUsers (length tree.units) (λ w y. IsTrue (user_fits tree w y)) users
       → AllByRecursion (SayingFits tree) meanings → FitsUsers (length tree.units) (λ w y. IsTrue (user_fits tree w y)) (assigned_over meanings users)
   over_fits [] users fitting all = fitting
-  over_fits (assigns u x ∷ meanings) users fitting all = over_fits meanings (slice_set users u (Some (over x (user_of users u)))) (set_fits users u (over x (user_of users u)) fitting (over_user_fits u x (user_of users u) all.0 (held_fits users u fitting))) all.1
+  over_fits (assigns u x ∷ meanings) users fitting all = over_fits meanings (slice_set users u (Some (over x (user_of users u)))) (set_fits users u (over x (user_of users u)) fitting (over_user_fits tree u x (user_of users u) all.0 (held_fits tree users u fitting))) all.1
   over_fits (notice kind ∷ meanings) users fitting all = over_fits meanings users fitting all.1
   over_fits (silent ∷ meanings) users fitting all = over_fits meanings users fitting all.1
 

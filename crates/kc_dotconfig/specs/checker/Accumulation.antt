@@ -1,5 +1,7 @@
 -- The state accumulated while a configuration file is read.
-use Rattle.std.specs.Prelude.{◌≡◌, ℕ, ◌+◌, ◌≤◌, List, ◌++◌, length, map}
+use Rattle.std.specs.Prelude.{◌≡◌, ℕ, ◌+◌, ◌<◌, ◌≤◌, List, ◌++◌, Some, None, length, map}
+use Rattle.kc_system.specs.Solutions.{user_of}
+use Rattle.kc_rules_model.specs.declared.values.UserValue.{UserValue}
 use Rattle.kc_tree_model.specs.Trees.{Tree}
 use Rattle.kc_dotconfig_model.specs.Formats.{FileFormat}
 use Rattle.kc_dotconfig_model.specs.declared.fault.LoadKind.{LoadKind}
@@ -13,14 +15,17 @@ use Rattle.kc_dotconfig.specs.declared.accumulator.Accumulator.{Accumulator}
 use Rattle.kc_dotconfig.specs.declared.fragment.Fragment.{Fragment}
 use Rattle.kc_dotconfig.specs.Fragments.{users_of, notice_pair}
 use Rattle.kc_dotconfig.specs.checker.UserValueOrder.{IsAscending, AreBelow}
+use Rattle.kc_dotconfig.specs.checker.GatheredLines.{value_in, lines_in, held_in, IsPlain}
 
 -- the accumulator has the assignment, the notices and the number of the lines with these meanings
 pub record IsGathered (tree : Tree) (meanings : List LineMeaning) (g : Accumulator) : Type 0 where
-  pub users : users_of tree g.assigns ≡ file_assignment tree meanings
+  pub users : (u : ℕ) → u < length tree.units → user_of (file_assignment tree meanings) u ≡ held_in g.assigns g.members.entries u
   pub noted : map notice_pair g.notices.items ≡ notices_from 1 meanings
   pub counted : g.lines ≡ length meanings
   pub rises : IsAscending g.assigns
   pub below : AreBelow (length tree.units) g.assigns
+  pub plain : (u : ℕ) (x : UserValue) → value_in g.assigns u ≡ Some x → IsPlain x
+  pub members_below : (u : ℕ) → length tree.units ≤ u → lines_in g.members.entries u ≡ None
 
 -- the line number of a fault of a kind after this number of complete lines: the next line's, but 0 for out of memory
 abbrev pub fault_line : LoadKind → ℕ → ℕ

@@ -1,0 +1,96 @@
+//! What the lines of a configuration file assign to members of choices.
+ghost use Rattle.std.specs.Prelude.{◌≡◌, ◌==◌, ◌∷◌, [], ℕ, IfOk, OnOk, if◌then◌else◌};
+ghost use Rattle.kc_dotconfig.specs.checker.GatheredLines.{kept_last, lines_in, lines_more, with_unit, joined};
+
+use super::assigned_values::{AssignedValues, put};
+use kc_rules_model::{MemberLine, MemberLines, UserValue};
+use std::alloc::{AllocError, Global};
+use std::collections::{BTreeMap, BTreeSet};
+
+/// One assignment of a member.
+fn one_line(alloc: Global, line: MemberLine) -> Result<Vec<MemberLine>, AllocError>
+    ensures { IfOk result (λ lines. lines.items ≡ line ∷ []) }
+{
+    let mut lines = Vec::with_capacity(alloc, 1)?;
+    lines.push(line)?;
+    Ok(lines)
+}
+
+/// Adds an assignment of a member to those gathered for its choice's unit. An `Err` means out of memory.
+pub(crate) fn add_line(
+    alloc: Global,
+    gathered: &mut BTreeMap<u32, Vec<MemberLine>>,
+    unit: u32,
+    line: MemberLine,
+) -> Result<(), AllocError>
+    ensures { OnOk result ((u : ℕ) → lines_in gathered.new.entries u ≡ (if u == unit then lines_more (lines_in gathered.old.entries u) line else lines_in gathered.old.entries u)) }
+{
+    if let Some(lines) = gathered.get_mut(&unit) {
+        lines.push(line)?;
+        return Ok(());
+    }
+    let lines = one_line(alloc, line)?;
+    match gathered.insert(unit, lines) {
+        Ok(before) => {
+            drop(before);
+            Ok(())
+        }
+        Err(_) => Err(AllocError),
+    }
+}
+
+/// Each member's last assignment, in order. An `Err` means out of memory.
+fn last_lines(alloc: Global, lines: &[MemberLine]) -> Result<Vec<MemberLine>, AllocError>
+    ensures { IfOk result (λ kept. kept.items ≡ kept_last lines.now) }
+{
+    let mut seen = BTreeSet::new(alloc);
+    let mut kept = Vec::new(alloc);
+    for i in (0..lines.len()).rev() {
+        let line = lines[i];
+        match seen.insert(line.member.number()) {
+            Ok(true) => kept.push(line)?,
+            Ok(false) => {}
+            Err(_) => return Err(AllocError),
+        }
+    }
+    kept.reverse();
+    Ok(kept)
+}
+
+/// Puts the assignments of members that are gathered for a unit into a map of user values, unless it has one of the unit. An `Err`
+/// means out of memory.
+fn put_lines(
+    alloc: Global,
+    map: &mut BTreeMap<u32, UserValue>,
+    unit: u32,
+    lines: &[MemberLine],
+) -> Result<(), AllocError>
+    ensures { OnOk result (map.new.entries ≡ with_unit map.old.entries unit lines.now) }
+{
+    if map.contains_key(&unit) {
+        return Ok(());
+    }
+    let kept = last_lines(alloc, lines)?;
+    put(map, unit, UserValue::Lines(MemberLines::from_vec(kept)))
+}
+
+/// User values in ascending order of units, with those of gathered assignments of members for the units that have no other. An
+/// `Err` means out of memory.
+#[tactic(auto, using(crate::proofs::GatheredLines::joined_push))]
+pub(crate) fn with_lines(
+    alloc: Global,
+    assigned: AssignedValues,
+    gathered: BTreeMap<u32, Vec<MemberLine>>,
+) -> Result<Vec<(u32, UserValue)>, AllocError>
+    ensures { IfOk result (λ list. list.items ≡ joined assigned gathered.entries) }
+{
+    if gathered.is_empty() {
+        return assigned.into_list();
+    }
+    let mut map = assigned.into_map()?;
+    let groups: Vec<(u32, Vec<MemberLine>)> = gathered.into_iter().collect(alloc)?;
+    for (unit, lines) in groups {
+        put_lines(alloc, &mut map, unit, &lines)?;
+    }
+    map.into_iter().collect(alloc)
+}
