@@ -36,7 +36,7 @@ _kmin_value() {
     case $1 in
         --root) echo "folder" ;;
         --tree) echo "tree" ;;
-        --language) echo "one of strict linux" ;;
+        --language) echo "one of strict linux linux-6.1 linux-6.12" ;;
         --prefix|--define) echo "text" ;;
         --strings) echo "one of escaped raw" ;;
         --imply) echo "one of present classic" ;;

@@ -49,7 +49,7 @@ _kmin_specs() {
     esac
     case $1 in
         min|full|missed|check|compare|tidy) specs+=(
-            '--language=[Forms that the tree may have]:LANGUAGE:(strict linux)'
+            '--language=[Tree language]:LANGUAGE:(strict linux linux-6.1 linux-6.12)'
             '--prefix=[Text before each name in a file]:TEXT:'
             '--strings=[Form of strings]:FORM:(escaped raw)'
             '--imply=[Rule of imply]:PROFILE:(present classic)'

@@ -197,7 +197,7 @@ classic  there in full, unless that dependency is n; and under an implied y
 
 pub(crate) const STRICT: &str = "Refuses a file with a line that the tree can't read";
 
-pub(crate) const LANGUAGE: &str = "Forms that the tree may have, and its rules";
+pub(crate) const LANGUAGE: &str = "Tree language";
 
 pub(crate) const LANGUAGE_LONG: &str = "\
 Forms that the tree may have, and its rules; strict by default, linux where the tree is
