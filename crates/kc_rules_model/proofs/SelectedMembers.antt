@@ -175,7 +175,7 @@ agree_without_n tree choice values shown =
       none = none_listed seen choice.members default ∙ sym (ap (λ b. cond b default None) shown);
       last = λ lines s all visible.
           ap (λ o. option_or o (selected_without_y seen choice.members default (lines ++ record { member = s; is_y = true } ∷ [])))
-              (last_behind seen lines (record { member = s; is_y = true } ∷ []) ∙ ap (λ b. option_or (cond b (Some s) None) (last_y seen lines)) visible)
+          (last_behind seen lines (record { member = s; is_y = true } ∷ []) ∙ ap (λ b. option_or (cond b (Some s) None) (last_y seen lines)) visible)
           ∙ sym (ap (λ b. cond b (option_or (cond (seen s) (Some s) None) default) None) shown ∙ ap (λ b. option_or (cond b (Some s) None) default) visible);
     }
 

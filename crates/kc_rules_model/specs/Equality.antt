@@ -33,7 +33,7 @@ same_line a b = (a.member == b.member) && beq a.is_y b.is_y
 -- whether two lists of assignments of members are equal: the same ones in the same order
 abbrev pub same_lines : List MemberLine → List MemberLine → Bool
 same_lines [] [] = true
-same_lines (a ∷ as_) (b ∷ bs) = same_line a b && same_lines as_ bs
+same_lines (a ∷ xs) (b ∷ ys) = same_line a b && same_lines xs ys
 same_lines _ _ = false
 
 -- whether two user values are equal: the same tristate, the same text byte for byte, the same member, or the same assignments of

@@ -1,6 +1,5 @@
 //! Values of units.
-ghost use Rattle.std.specs.Prelude.{◌≡◌, ◌∷◌, [], List, IfOk};
-ghost use Rattle.kc_rules_model.specs.declared.values.MemberLine.{MemberLine};
+ghost use Rattle.std.specs.Prelude.{◌≡◌, IfOk};
 
 use kc_tree_model::Sym;
 use kc_value::{Text, Tri};
@@ -41,15 +40,6 @@ impl Model for MemberLines {
 }
 
 impl MemberLines {
-    /// One assignment. An `Err` means out of memory.
-    pub fn one(alloc: Global, line: MemberLine) -> Result<MemberLines, AllocError>
-        ensures { IfOk result (λ l. l ≡ line ∷ []) }
-    {
-        let mut lines = Vec::with_capacity(alloc, 1)?;
-        lines.push(line)?;
-        Ok(MemberLines { lines })
-    }
-
     /// The assignments in a vector, without a copy.
     pub fn from_vec(lines: Vec<MemberLine>) -> MemberLines
         ensures { result ≡ lines.items }
