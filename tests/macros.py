@@ -3,6 +3,7 @@
 `expand(tree, root, answers)` goes over a tree's files in reading order and returns what the program's expansion makes of
 them. A text is `bytes`; a value is a text, or `None` where it depends on a question without an answer."""
 import os
+import re
 
 MAX_TEXT, MAX_OPEN, MAX_PIECES, MAX_WORK = 65_536, 64, 16, 67_108_864
 MAX_FILES, MAX_BYTES, MAX_OPEN_FILES, MAX_NAMES = 4_096, 67_108_864, 32, 1_048_576
@@ -20,6 +21,7 @@ KEYWORDS = set(
 PROMPT_WORDS = b"bool tristate string hex int prompt menu comment mainmenu".split()
 SOURCE_WORDS = b"source rsource osource orsource".split()
 HELP_WORDS = (b"help", b"---help---")
+ENVIRONMENT_LINE = re.compile(rb"""[\t\v\f\r ]*option[\t\v\f\r ]+env[\t\v\f\r ]*=[\t\v\f\r ]*(["'])([A-Za-z_][A-Za-z0-9_]*)\1[\t\v\f\r ]*(#.*)?""", re.DOTALL)
 
 
 class Fault(Exception):
@@ -343,6 +345,9 @@ class Expansion:
         """What a logical line becomes, and whether a help text follows."""
         if len(text) > MAX_TEXT or not is_utf8(text):
             return text, begins_help(text)
+        environment = ENVIRONMENT_LINE.fullmatch(text)
+        if environment:
+            text = b'option env "$(' + environment[2] + b')"'
         assignment, tokens = self.content(at, text)
         if assignment:
             if continued:

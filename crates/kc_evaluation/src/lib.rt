@@ -16,5 +16,7 @@ pub use kc_dependencies::{Links, links_of, modules_of};
 pub use rules::Rules;
 pub use symbol_values::{has_no_member, is_n};
 pub use text_rules::{active_default, number_of};
-pub use tristate_rules::{default_value, is_visible, largest, reverse_limit, y_for_m};
+pub use tristate_rules::{
+    default_value, is_from_environment, is_visible, largest, reverse_limit, y_for_m,
+};
 pub use valuation::Valuation;

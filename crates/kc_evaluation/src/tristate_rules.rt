@@ -1,11 +1,12 @@
 //! The rule of bools and tristates.
 ghost use Rattle.std.specs.Prelude.{◌≡◌, ◌<◌, length, map, if◌then◌else◌};
-ghost use Rattle.kc_expr.specs.between.Arena.{node_expr};
+ghost use Rattle.std.specs.List.{list_any};
+ghost use Rattle.kc_expr.specs.between.Arena.{Exprs, node_expr};
 ghost use Rattle.kc_tree.specs.between.Views.{symbol_view, reverse_dependency_view as kept_force, default_view, SymbolFits};
 ghost use Rattle.kc_dependencies.specs.checker.StoredRules.{AreNodes, AreReverseDependencies, AreDefaults};
 ghost use Rattle.kc_rules_model.specs.Kinds.{is_n, largest};
 ghost use Rattle.kc_value.specs.Tri.{y_for_m};
-ghost use Rattle.kc_rules_model.specs.Rule.{conditions, reverse_dependency_value, reverse_dependency_limit, promoted, visibility, is_visible, default_tri, implied_effect, unassigned_value, base, leaves_no_m};
+ghost use Rattle.kc_rules_model.specs.Rule.{conditions, reverse_dependency_value, reverse_dependency_limit, promoted, is_from_environment, counted_prompts, visibility, is_visible, default_tri, implied_effect, unassigned_value, base, leaves_no_m};
 ghost use Rattle.kc_evaluation.specs.checker.RuleParts.{active_default_of, tri_rule_of};
 ghost use Rattle.kc_evaluation.specs.checker.ValuationView.{valuation_tree, valuation_exprs, valuation_values};
 
@@ -86,13 +87,38 @@ pub(crate) fn promoted(under: &Valuation<'_>, kind: Kind, value: Tri) -> Tri
     }
 }
 
+/// Whether one of some defaults is an `option env`.
+fn has_environment_default(defaults: &[Default]) -> bool
+    ensures { result ≡ list_any (λ d. d.from_environment) defaults.now }
+{
+    defaults.iter().any(|default| default.from_environment)
+}
+
+/// Whether a symbol has an `option env`, so that it is never visible.
+pub fn is_from_environment(symbol: &Symbol<'_>) -> bool
+    ensures { (exprs : Exprs) → result ≡ is_from_environment (symbol_view exprs symbol.now) }
+{
+    has_environment_default(symbol.defaults)
+}
+
+/// The largest value of the conditions of a symbol's prompts that count; `n` of a symbol with an `option env`.
+fn prompted(under: &Valuation<'_>, symbol: &Symbol<'_>) -> Tri
+    requires fits { SymbolFits (valuation_exprs under.now) (length (valuation_tree under.now).symbols) symbol.now }
+    ensures value { result ≡ largest (conditions (valuation_tree under.now) (valuation_values under.now) (counted_prompts (symbol_view (valuation_exprs under.now) symbol.now))) }
+{
+    if is_from_environment(symbol) {
+        return Tri::N;
+    }
+    largest(under, symbol.prompts)
+}
+
 /// The visibility of a symbol: the largest value of its prompts' conditions, with `y` in place of `m` where the symbol can't be
 /// `m`.
 pub(crate) fn visibility(under: &Valuation<'_>, symbol: &Symbol<'_>) -> Tri
     requires fits { SymbolFits (valuation_exprs under.now) (length (valuation_tree under.now).symbols) symbol.now }
     ensures value { result ≡ visibility (valuation_tree under.now) (valuation_values under.now) (symbol_view (valuation_exprs under.now) symbol.now) }
 {
-    promoted(under, symbol.kind, largest(under, symbol.prompts))
+    promoted(under, symbol.kind, prompted(under, symbol))
 }
 
 /// Whether a symbol is visible: the condition of some prompt isn't `n`.
@@ -100,7 +126,7 @@ pub fn is_visible(under: &Valuation<'_>, symbol: &Symbol<'_>) -> bool
     requires fits { SymbolFits (valuation_exprs under.now) (length (valuation_tree under.now).symbols) symbol.now }
     ensures value { result ≡ is_visible (valuation_tree under.now) (valuation_values under.now) (symbol_view (valuation_exprs under.now) symbol.now) }
 {
-    !is_n(largest(under, symbol.prompts))
+    !is_n(prompted(under, symbol))
 }
 
 /// The value of a bool's or tristate's first default whose condition isn't `n`, limited to the condition; `n` without one.

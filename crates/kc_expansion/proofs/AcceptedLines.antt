@@ -1,6 +1,6 @@
 -- Lines that the reader accepts are lines on which the expansion doesn't act.
-use Rattle.std.proofs.Common.{◌≡◌, ℕ, Bool, true, false, ◌&&◌, ◌||◌, cond, List, [], ◌∷◌, ◌++◌, length, map, Option, Some, None, Result, Ok, Err, refl, sym, ap, ◌∙◌, subst, arith}
-use Rattle.std.specs.Prelude.{◌==◌, not, nat_lt, bytes_eq, codes, is_some}
+use Rattle.std.proofs.Common.{◌≡◌, ◌⊎◌, inl, inr, ℕ, Bool, true, false, ◌&&◌, ◌||◌, cond, List, [], ◌∷◌, ◌++◌, length, map, Option, Some, None, Result, Ok, Err, refl, sym, ap, ◌∙◌, subst, arith}
+use Rattle.std.specs.Prelude.{◌==◌, not, nat_lt, bytes_eq, codes, is_some, is_none}
 use Rattle.std.specs.List.{list_all, list_any}
 use Rattle.std.specs.Str.{is_utf8}
 use Rattle.std.specs.Cmp.{first_so, second_so}
@@ -21,10 +21,10 @@ use Rattle.kc_tree_model.specs.declared.keyword.Keyword.{Keyword}
 use Rattle.kc_tree_model.specs.declared.keyword.Keyword.TheVariants as words
 use Rattle.kc_tree_model.specs.Keywords.{keywords, keyword_in_table, is_word_kind, is_quoted_kind, is_the_word, is_name, keyword_of}
 use Rattle.kc_tree_model.specs.LogicalLines.{LogicalLine, is_help_word, is_help, is_help_or_fault, begins_help}
-use Rattle.kc_tree_model.specs.Statements.{Head, config, choice, menu, condition, comment, source, mainmenu, ends, path_of_head, DefaultAttribute, TargetAttribute, Attribute, typed_prompt, typed_default, prompt, default, depends, select, imply, range, visible, help, modules, optional, Statement, head, attribute}
-use Rattle.kc_tree_model.specs.Forms.{leading_expr, ◌>>=◌, statement_of, config_line, titled_line, source_line, path_of, is_glob, prompt_line, type_line, default_line, target_line, range_of_operands, range_line, condition_line, option_line, no_more, last_condition, optional_if}
+use Rattle.kc_tree_model.specs.Statements.{Head, config, choice, menu, condition, comment, source, mainmenu, ends, path_of_head, DefaultAttribute, environment_default, TargetAttribute, Attribute, typed_prompt, typed_default, prompt, default, depends, select, imply, range, visible, help, modules, optional, Statement, head, attribute}
+use Rattle.kc_tree_model.specs.Forms.{leading_expr, ◌>>=◌, statement_of, config_line, titled_line, source_line, path_of, is_glob, prompt_line, type_line, default_line, target_line, range_of_operands, range_line, condition_line, environment_of_operand, environment_line, option_line, no_more, last_condition, optional_if}
 use Rattle.kc_tree_model.specs.Blocks.{Group}
-use Rattle.kc_tree_model.specs.Placement.{is_allowed, is_left_out, is_stray_end, is_glob_path}
+use Rattle.kc_tree_model.specs.Placement.{first_is, is_strict, is_allowed, is_left_out_option, is_left_out, is_stray_end, is_glob_path}
 use Rattle.kc_tree_model.specs.Limits.{is_in_list, is_too_deep, is_too_many}
 use Rattle.kc_tree_model.specs.TreeReading.{statement_by_keyword, statement_by_word, statement_of_tokens, statement_or_fault, statement_on_line, path_to_read}
 use Rattle.kc_tree_model.proofs.HelpLines.{help_alike}
@@ -33,6 +33,7 @@ use Rattle.kc_macros_model.specs.LineTokens.{LineToken, line_tokens}
 use Rattle.kc_macros_model.specs.declared.token_sort.TokenSort.TheVariants as sorts
 use Rattle.kc_macros_model.specs.WrittenTokens.{is_keyword, inner_keywords, WrittenToken, written_as}
 use Rattle.kc_macros_model.specs.Assignments.{AssignedText}
+use Rattle.kc_macros_model.specs.EnvironmentLines.{solid_tokens, asked_after_env, asked_after_option, asked_by, environment_asked}
 use Rattle.kc_macros_model.specs.LineForms.{LineForm, plain, bare_prompt, prompt_words, source_words, help_words, is_word, is_path, is_bare_prompt, form_of_pair, form_of, without_gaps, is_help_line}
 use Rattle.kc_macros_model.specs.PathPatterns.{is_pattern}
 use Rattle.kc_macros_model.specs.PlainLines.{is_kept_token, token_as_it_is, is_assignment, tokens_as_they_are, is_plain_form, plain_path, is_one_of, is_copied}
@@ -360,8 +361,8 @@ none_type k (p ∷ ts) = none_prompt (typed_prompt k) (p ∷ ts)
 
 none_default : (f : DefaultAttribute → Attribute) (ts : List Lexeme) → NoSource (default_line f ts)
 none_default f ts =
-    none_bind (leading_expr ts) (λ e. optional_if e.rest >>= λ c. Ok (attribute (f (record { value = e.expr; single = e.single; condition = c }))))
-    (λ e. none_bind (optional_if e.rest) (λ c. Ok (attribute (f (record { value = e.expr; single = e.single; condition = c })))) (λ c. refl))
+    none_bind (leading_expr ts) (λ e. optional_if e.rest >>= λ c. Ok (attribute (f (record { value = e.expr; single = e.single; condition = c; from_environment = false }))))
+    (λ e. none_bind (optional_if e.rest) (λ c. Ok (attribute (f (record { value = e.expr; single = e.single; condition = c; from_environment = false })))) (λ c. refl))
 
 none_aimed : (f : TargetAttribute → Attribute) (ts : List Lexeme) → NoSource (target_line f ts)
 none_aimed f [] = tt
@@ -384,9 +385,21 @@ none_worded w f [] = tt
 none_worded w f (p ∷ ts) = none_if (is_the_word w p) (last_condition ts >>= λ e. Ok (attribute (f e))) Malformed
     (none_bind (last_condition ts) (λ e. Ok (attribute (f e))) (λ e. refl))
 
+none_environment : (ts : List Lexeme) → NoSource (environment_line ts)
+none_environment [] = tt
+none_environment (p ∷ ts) = none_if (is_quoted_kind p.kind) (environment_of_operand (operand_of_lexeme p) ts) Malformed (by_operand (operand_of_lexeme p))
+  where
+    by_operand : (o : Option Operand) → NoSource (environment_of_operand o ts)
+    by_operand None = tt
+    by_operand (Some text) = none_last (attribute (default (environment_default text))) ts refl
+
 none_option : (ts : List Lexeme) → NoSource (option_line ts)
 none_option [] = tt
-none_option (p ∷ ts) = none_if (is_the_word _ p) (no_more (attribute modules) ts) Malformed (none_last (attribute modules) ts refl)
+none_option (p ∷ ts) = by_tests (is_the_word (codes "modules") p)
+  where
+    by_tests : (b : Bool) → NoSource (cond b (no_more (attribute modules) ts) (cond (is_the_word (codes "env") p) (environment_line ts) (Err Malformed)))
+    by_tests true = none_last (attribute modules) ts refl
+    by_tests false = none_if (is_the_word (codes "env") p) (environment_line ts) Malformed (none_environment ts)
 
 no_source : (k : Keyword) (ts : List Lexeme) → is_source_keyword k ≡ false → NoSource (statement_of k ts)
 no_source words.Config ts e = none_config ts
@@ -538,33 +551,42 @@ module _ (language : Language) (read : List Group) (p : Lexeme) (k : Keyword) (i
           let left : is_word_kind q.kind ≡ false = ap (λ j. is_left_out language read j (q ∷ qs)) here ∙ kept in
           sym (ap is_word_kind w.0) ∙ left
 
-  -- an option is `modules`
-  option_bytes : (q : Lexeme) (qs : List Lexeme) (u : WrittenToken) (us : List WrittenToken) (s : Statement) → AreWritten (q ∷ qs) (u ∷ us)
-      → option_line (q ∷ qs) ≡ Ok s → u.bytes ≡ codes "modules"
-  option_bytes q qs u us s r h = by_written r (test_holds (is_the_word (codes "modules") q) _ s h)
+  -- an option is `modules` or `env`
+  option_word : (q : Lexeme) (qs : List Lexeme) (s : Statement) → option_line (q ∷ qs) ≡ Ok s
+      → (is_the_word (codes "modules") q ≡ true) ⊎ (is_the_word (codes "env") q ≡ true)
+  option_word q qs s h = by_tests (is_the_word (codes "modules") q) (is_the_word (codes "env") q) refl refl h
     where
-      by_written : {u : WrittenToken} {us : List WrittenToken} → AreWritten (q ∷ qs) (u ∷ us) → (is_word_kind q.kind && bytes_eq q.text (codes "modules"))
-          ≡ true → u.bytes ≡ codes "modules"
-      by_written (word_written e r) t = same_text q.text (codes "modules") (second_so (is_word_kind q.kind) (bytes_eq q.text (codes "modules")) t)
-      by_written (quoted_written bytes e r) t =
-          let z : false ≡ true = sym (ap is_word_kind e) ∙ first_so (is_word_kind q.kind) (bytes_eq q.text (codes "modules")) t in let y : ⊥ = cc in absurd y
-      by_written (operator_written c e r) t =
-          let z : false ≡ true = sym (operator_no_word q.kind e) ∙ first_so (is_word_kind q.kind) (bytes_eq q.text (codes "modules")) t in let y : ⊥ = cc in
-          absurd y
-      by_written (long_operator_written c d e r) t =
-          let z : false ≡ true = sym (operator_no_word q.kind e) ∙ first_so (is_word_kind q.kind) (bytes_eq q.text (codes "modules")) t in let y : ⊥ = cc in
-          absurd y
+      by_tests : (b c : Bool) → is_the_word (codes "modules") q ≡ b → is_the_word (codes "env") q ≡ c
+          → cond b (no_more (attribute modules) qs) (cond c (environment_line qs) (Err Malformed)) ≡ Ok s
+          → (is_the_word (codes "modules") q ≡ true) ⊎ (is_the_word (codes "env") q ≡ true)
+      by_tests true c e f h = inl e
+      by_tests false true e f h = inr f
+      by_tests false false e f h = let z : ⊥ = cc in absurd z
+
+  word_bytes : {q : Lexeme} {qs : List Lexeme} {u : WrittenToken} {us : List WrittenToken} (x : List ℕ) → AreWritten (q ∷ qs) (u ∷ us)
+      → (is_word_kind q.kind && bytes_eq q.text x) ≡ true → u.bytes ≡ x
+  word_bytes {q = q} x (word_written e r) t = same_text q.text x (second_so (is_word_kind q.kind) (bytes_eq q.text x) t)
+  word_bytes {q = q} x (quoted_written bytes e r) t =
+      let z : false ≡ true = sym (ap is_word_kind e) ∙ first_so (is_word_kind q.kind) (bytes_eq q.text x) t in let y : ⊥ = cc in absurd y
+  word_bytes {q = q} x (operator_written c e r) t =
+      let z : false ≡ true = sym (operator_no_word q.kind e) ∙ first_so (is_word_kind q.kind) (bytes_eq q.text x) t in let y : ⊥ = cc in absurd y
+  word_bytes {q = q} x (long_operator_written c d e r) t =
+      let z : false ≡ true = sym (operator_no_word q.kind e) ∙ first_so (is_word_kind q.kind) (bytes_eq q.text x) t in let y : ⊥ = cc in absurd y
 
   no_option : (q : Lexeme) (qs : List Lexeme) (u : WrittenToken) (us : List WrittenToken) (s : Statement) (w : List ℕ) → bytes_eq (codes "modules") w ≡ false
-      → AreWritten (q ∷ qs) (u ∷ us) → statement_of k (q ∷ qs) ≡ Ok s
+      → bytes_eq (codes "env") w ≡ false → AreWritten (q ∷ qs) (u ∷ us) → statement_of k (q ∷ qs) ≡ Ok s
       → (bytes_eq p.text (codes "option") && bytes_eq u.bytes w) ≡ false
-  no_option q qs u us s w n r h = by_test (bytes_eq p.text (codes "option")) refl
+  no_option q qs u us s w n m r h = by_test (bytes_eq p.text (codes "option")) refl
     where
+      by_word : (is_the_word (codes "modules") q ≡ true) ⊎ (is_the_word (codes "env") q ≡ true) → bytes_eq u.bytes w ≡ false
+      by_word (inl e) = ap (λ b. bytes_eq b w) (word_bytes (codes "modules") r e) ∙ n
+      by_word (inr e) = ap (λ b. bytes_eq b w) (word_bytes (codes "env") r e) ∙ m
+
       by_test : (a : Bool) → bytes_eq p.text (codes "option") ≡ a → (a && bytes_eq u.bytes w) ≡ false
       by_test false e = refl
       by_test true e =
           let here : words.Option ≡ k = (let x : keyword_in_table keywords (codes "option") ≡ Some k = entry_of (codes "option") e in cc) in
-          ap (λ b. bytes_eq b w) (option_bytes q qs u us s r (ap (λ j. statement_of j (q ∷ qs)) here ∙ h)) ∙ n
+          by_word (option_word q qs s (ap (λ j. statement_of j (q ∷ qs)) here ∙ h))
 
   pair_plain : (q : Lexeme) (qs : List Lexeme) (u : WrittenToken) (us : List WrittenToken) (s : Statement) → AreWritten (q ∷ qs) (u ∷ us)
       → is_left_out language read k (q ∷ qs) ≡ false → statement_of k (q ∷ qs) ≡ Ok s
@@ -573,8 +595,8 @@ module _ (language : Language) (read : List Group) (p : Lexeme) (k : Keyword) (i
       four_tests (is_in_list p.text source_words && is_path u) (bytes_eq p.text (codes "choice") && is_word u)
       (bytes_eq p.text (codes "option") && bytes_eq u.bytes (codes "defconfig_list"))
       (bytes_eq p.text (codes "option") && bytes_eq u.bytes (codes "allnoconfig_y"))
-      _ _ _ _ (no_source_pair q qs u s kept h none) (no_choice q qs u us r kept) (no_option q qs u us s (codes "defconfig_list") refl r h)
-      (no_option q qs u us s (codes "allnoconfig_y") refl r h)
+      _ _ _ _ (no_source_pair q qs u s kept h none) (no_choice q qs u us r kept) (no_option q qs u us s (codes "defconfig_list") refl refl r h)
+      (no_option q qs u us s (codes "allnoconfig_y") refl refl r h)
 
   rest_plain : (qs : List Lexeme) (us : List WrittenToken) (s : Statement) → AreWritten qs us → is_left_out language read k qs ≡ false
       → statement_of k qs ≡ Ok s → path_to_read (Some s) ≡ None
@@ -692,11 +714,90 @@ keyword_first language read (p ∷ ps) None h = absurd h
 keyword_first language read (p ∷ ps) (Some s) h =
     let key = keyword_is p h.keyword h.first in ap (λ j. is_word_kind j && is_keyword p.text) key.word ∙ keyword_known p.text h.keyword key.entry
 
--- a line that the reader accepts outside help texts: nothing in it is expanded or assigned, and it sources this path, or is in no
--- form that the expansion writes anew
+-- an `option env` that is accepted has its text after `env`, and asks nothing
+quoted_no_operator : (k : TokenKind) → is_operand_kind k ≡ false → is_quoted_kind k ≡ true → ⊥
+quoted_no_operator Quoted e h = let z : true ≡ false = e in cc
+quoted_no_operator k e h = let z : false ≡ true = h in cc
+
+after_env : {ps : List Lexeme} {ts : List LineToken} → AreRead ps ts → first_is (λ q. is_quoted_kind q.kind) ps ≡ true → asked_after_env (solid_tokens ts) ≡ None
+after_env none_read h = refl
+after_env (gap_read r) h = after_env r h
+after_env (word_read e n r) h = refl
+after_env (quoted_read quote s e k m r) h = refl
+after_env (operator_read {p = p} c e r) h = absurd (quoted_no_operator p.kind e h)
+after_env (long_operator_read {p = p} c d e r) h = absurd (quoted_no_operator p.kind e h)
+
+quoted_next : (env bare other : Bool) → env ≡ true → ((env && bare) || other) ≡ false → bare ≡ false
+quoted_next true true other e h = let z : ⊥ = cc in absurd z
+quoted_next true false other e h = refl
+quoted_next false bare other e h = let z : ⊥ = cc in absurd z
+
+module _ (language : Language) where
+  bare_is_quoted : (b q : Bool) → (b || not q) ≡ false → q ≡ true
+  bare_is_quoted true q h = let z : ⊥ = cc in absurd z
+  bare_is_quoted false true h = refl
+  bare_is_quoted false false h = let z : ⊥ = cc in absurd z
+
+  after_option : {ps : List Lexeme} {ts : List LineToken} → AreRead ps ts → is_left_out_option language ps ≡ false → asked_after_option (solid_tokens ts) ≡ None
+  after_option none_read h = refl
+  after_option (gap_read r) h = after_option r h
+  after_option (word_read {p = q} {ps = qs} {ts = us} e n r) h = by_test (bytes_eq q.text (codes "env")) refl
+    where
+      by_test : (b : Bool) → bytes_eq q.text (codes "env") ≡ b → cond b (asked_after_env (solid_tokens us)) None ≡ None
+      by_test false f = refl
+      by_test true f =
+          let env : is_the_word (codes "env") q ≡ true = ap (λ k. is_word_kind k && bytes_eq q.text (codes "env")) e ∙ f in
+          after_env r (bare_is_quoted (is_strict language) (first_is (λ u. is_quoted_kind u.kind) qs)
+          (quoted_next (is_the_word (codes "env") q) (is_strict language || not (first_is (λ u. is_quoted_kind u.kind) qs)) (is_the_word (codes "defconfig_list") q || is_the_word (codes "allnoconfig_y") q) env (regrouped h)))
+        where
+          regrouped : ((is_the_word (codes "env") q && (is_strict language || not (first_is (λ u. is_quoted_kind u.kind) qs)))
+              || is_the_word (codes "defconfig_list") q || is_the_word (codes "allnoconfig_y") q) ≡ false
+              → ((is_the_word (codes "env") q && (is_strict language || not (first_is (λ u. is_quoted_kind u.kind) qs)))
+              || (is_the_word (codes "defconfig_list") q || is_the_word (codes "allnoconfig_y") q)) ≡ false
+          regrouped h =
+              by_three (is_the_word (codes "env") q && (is_strict language || not (first_is (λ u. is_quoted_kind u.kind) qs)))
+              (is_the_word (codes "defconfig_list") q) (is_the_word (codes "allnoconfig_y") q) h
+            where
+              by_three : (a b c : Bool) → (a || b || c) ≡ false → (a || (b || c)) ≡ false
+              by_three true b c h = let z : ⊥ = cc in absurd z
+              by_three false true c h = let z : ⊥ = cc in absurd z
+              by_three false false c h = h
+  after_option (quoted_read quote s e k m r) h = refl
+  after_option (operator_read c e r) h = refl
+  after_option (long_operator_read c d e r) h = refl
+
+  nothing_asked : {ts : List LineToken} → AreRead [] ts → asked_by (solid_tokens ts) ≡ None
+  nothing_asked none_read = refl
+  nothing_asked (gap_read r) = nothing_asked r
+
+  statement_asks : (read : List Group) {p : Lexeme} {ps : List Lexeme} (s : Statement) → IsStatement language read p ps s → {ts : List LineToken}
+      → AreRead (p ∷ ps) ts → asked_by (solid_tokens ts) ≡ None
+  statement_asks read s is (gap_read r) = statement_asks read s is r
+  statement_asks read s is (word_read {p = p} {ps = ps} {ts = ts} e n r) = by_test (bytes_eq p.text (codes "option")) refl
+    where
+      by_test : (b : Bool) → bytes_eq p.text (codes "option") ≡ b → cond b (asked_after_option (solid_tokens ts)) None ≡ None
+      by_test false f = refl
+      by_test true f =
+          let key = keyword_is p is.keyword is.first in
+          let here : words.Option ≡ is.keyword =
+          (let x : keyword_in_table keywords (codes "option") ≡ Some is.keyword = entry_of language read p is.keyword key (codes "option") f in cc) in
+          after_option r (ap (λ j. is_left_out language read j ps) here ∙ is.kept)
+  statement_asks read s is (quoted_read quote t e k m r) = refl
+  statement_asks read s is (operator_read c e r) = refl
+  statement_asks read s is (long_operator_read c d e r) = refl
+
+  line_asks : (read : List Group) (ps : List Lexeme) {ts : List LineToken} (o : Option Statement) → HasStatement language read ps o → AreRead ps ts
+      → asked_by (solid_tokens ts) ≡ None
+  line_asks read [] o h r = nothing_asked r
+  line_asks read (p ∷ ps) None h r = absurd h
+  line_asks read (p ∷ ps) (Some s) h r = statement_asks read s h r
+
+-- a line that the reader accepts outside help texts: it asks nothing, nothing in it is expanded or assigned, and it sources this
+-- path, or is in no form that the expansion writes anew
 pub record IsAcceptedLine (text : List ℕ) (path : Option (List ℕ)) : Type 0 where
   pub short : nat_lt MAX_TEXT_BYTES (length text) ≡ false
   pub utf8 : is_utf8 text ≡ true
+  pub asks : environment_asked text ≡ None
   pub kept : list_all is_kept_token (line_tokens 0 text) ≡ true
   pub no_name : is_assignment (line_tokens 0 text) ≡ false
   pub form : FormFits path (tokens_as_they_are text)
@@ -715,6 +816,7 @@ line_with_statement language read text o short utf8 is =
     record {
       short = short;
       utf8 = utf8;
+      asks = line_asks language read is.tokens o is.statement read_as;
       kept = tokens_kept read_as;
       no_name = no_assignment read_as (keyword_first language read is.tokens o is.statement);
       form = line_form language read is.tokens (tokens_as_they_are text) o is.statement written;
@@ -753,8 +855,10 @@ accepted_lines_stay language read l o no_help h =
     let real = tokens_as_they_are l.text in
     let form = plain_or_source o (path_to_read o) real refl is.form in
     let copied : is_copied l.text ≡ false = ap (λ b. b || not (is_utf8 l.text)) is.short ∙ ap not is.utf8 in (
-      ap (λ b. b || (list_all is_kept_token (line_tokens 0 l.text) && (not (is_assignment (line_tokens 0 l.text))
-          && (is_plain_form (form_of real) || is_one_of (is_sourced_by o) (plain_path real))))) copied
+      ap (λ b. b || (is_none (environment_asked l.text) && (list_all is_kept_token (line_tokens 0 l.text) && (not (is_assignment (line_tokens 0 l.text))
+          && (is_plain_form (form_of real) || is_one_of (is_sourced_by o) (plain_path real)))))) copied
+          ∙ ap (λ a. is_none a && (list_all is_kept_token (line_tokens 0 l.text) && (not (is_assignment (line_tokens 0 l.text))
+          && (is_plain_form (form_of real) || is_one_of (is_sourced_by o) (plain_path real))))) is.asks
           ∙ ap (λ b. b && (not (is_assignment (line_tokens 0 l.text)) && (is_plain_form (form_of real) || is_one_of (is_sourced_by o)
           (plain_path real)))) is.kept
           ∙ ap (λ b. not b && (is_plain_form (form_of real) || is_one_of (is_sourced_by o) (plain_path real))) is.no_name ∙ form,

@@ -1,6 +1,6 @@
 -- Trees that the reader accepts are given back by the expansion: both read the same files in the same order.
 use Rattle.std.proofs.Common.{◌≡◌, ℕ, zero, suc, ◌+◌, Bool, true, false, ◌&&◌, ◌||◌, cond, List, [], ◌∷◌, ◌++◌, length, take, drop, map, reverse, Option, Some, None, Result, Ok, Err, refl, sym, ap, ◌∙◌, subst, arith}
-use Rattle.std.specs.Prelude.{not, nat_lt, nat_le, bytes_eq, codes, decimal, filter_map, is_some, sum_by}
+use Rattle.std.specs.Prelude.{not, nat_lt, nat_le, bytes_eq, codes, decimal, filter_map, is_some, is_none, sum_by}
 use Rattle.std.specs.Option.{option_or}
 use Rattle.std.specs.List.{All, list_any, cons_option}
 use Rattle.std.specs.Str.{is_utf8}
@@ -27,6 +27,8 @@ use Rattle.kc_tree_model.proofs.NestedTrees.OpenTrees.{EndsMatch, ends_first}
 use Rattle.kc_tree_model.proofs.NestedTrees.LineFits.{Fits, line_fits}
 use Rattle.kc_tree_model.proofs.NestedTrees.OpenBlocks.{popped}
 use Rattle.kc_tree_model.proofs.NestedTrees.ReadingNests.{AllBlocks, Since, Closes, Reads, after_given, file_closes}
+use Rattle.kc_macros_model.specs.EnvironmentLines.{environment_asked, meant_line}
+use Rattle.kc_macros_model.proofs.EnvironmentLines.{meant_same}
 use Rattle.kc_macros_model.specs.declared.fault.MacroKind.{MacroKind}
 use Rattle.kc_macros_model.specs.declared.fault.MacroKind.TheVariants as kinds
 use Rattle.kc_macros_model.specs.Programs.{Place, spend, report, ask, read_file, list_folder, Program, returns, fails, stops, does, ◌>>=◌}
@@ -292,22 +294,23 @@ module _ (w : World) (r : FileSource) (among : AreAmong r.bytes w.bytes) where
       (reads : SourceReader) (both : ReadsBoth start opened sub reads) (file : List ℕ) (number : ℕ) where
     -- a line that the reader accepts
     module _ (at : Place) (continued : Bool) (text : List ℕ) (s : ReadingState) where
-      line_is : nat_lt MAX_TEXT_BYTES (length text) ≡ false → is_utf8 text ≡ true → line_written reads at continued text s
+      line_is : nat_lt MAX_TEXT_BYTES (length text) ≡ false → is_utf8 text ≡ true → environment_asked text ≡ None → line_written reads at continued text s
           ≡ (line_content at s.bindings true (line_tokens 0 text) >>= content_written reads at continued s)
-      line_is short utf8 =
+      line_is short utf8 asks =
           ap (λ b. elim (b || not (is_utf8 text)) as (λ z. Program WrittenLine) [
             | true ↦ returns (written_line text (begins_help text) s)
-            | false ↦ line_content at s.bindings true (line_tokens 0 text) >>= content_written reads at continued s
+            | false ↦ line_content at s.bindings true (line_tokens 0 (meant_line text)) >>= content_written reads at continued s
           ]) short
           ∙ ap (λ b. elim (not b) as (λ z. Program WrittenLine) [
             | true ↦ returns (written_line text (begins_help text) s)
-            | false ↦ line_content at s.bindings true (line_tokens 0 text) >>= content_written reads at continued s
+            | false ↦ line_content at s.bindings true (line_tokens 0 (meant_line text)) >>= content_written reads at continued s
           ]) utf8
+          ∙ ap (λ x. line_content at s.bindings true (line_tokens 0 x) >>= content_written reads at continued s) (meant_same text (ap is_none asks))
 
       plain_line : (read : List Group) → IsAcceptedLine text None → Follows read opened s → Gives w (IsLine text read opened)
           (line_written reads at continued text s)
       plain_line read is f =
-          subst (λ p. Gives w (IsLine text read opened) p) (sym (line_is is.short is.utf8
+          subst (λ p. Gives w (IsLine text read opened) p) (sym (line_is is.short is.utf8 is.asks
           ∙ plain_line_stays reads at continued text s is.kept is.no_name is.form is.short)) (record { text = refl; help = is.help; state = f })
 
       followed : (path : List ℕ) (read : List Group) → IsPlainPath (tokens_as_they_are text) path → Gives w (IsRead path read opened)
@@ -346,7 +349,7 @@ module _ (w : World) (r : FileSource) (among : AreAmong r.bytes w.bytes) where
       path_line path read is g =
           let source : IsSource (tokens_as_they_are text) path = source_of_path (tokens_as_they_are text) path is.form.one in
           let help = is_help_line (tokens_as_they_are text) in
-          subst (λ p. Gives w (IsLine text read opened) p) (sym (line_is is.short is.utf8 ∙ line_by_form reads at continued text s
+          subst (λ p. Gives w (IsLine text read opened) p) (sym (line_is is.short is.utf8 is.asks ∙ line_by_form reads at continued text s
           (sources one_source (Some path)) is.kept is.no_name source.form))
           (gives_both w (IsRead text read opened) (IsLine text read opened) (source_followed reads at (own_tokens text) one_source (Some path) s)
           (short_line at help) (followed path read is.form g)

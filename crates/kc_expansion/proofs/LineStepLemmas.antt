@@ -8,6 +8,7 @@ use Rattle.kc_macros_model.specs.declared.fault.MacroKind.TheVariants.{LineTooLo
 use Rattle.kc_value.specs.declared.limits.TheConstants.{MAX_TEXT_BYTES}
 use Rattle.kc_macros_model.specs.Programs.{Place, Program, returns, fails, stops, ◌>>=◌}
 use Rattle.kc_macros_model.specs.Variables.{Value, with_variable}
+use Rattle.kc_macros_model.specs.EnvironmentLines.{meant_line}
 use Rattle.kc_macros_model.specs.LineTokens.{line_tokens}
 use Rattle.kc_macros_model.specs.WrittenTokens.{WrittenToken}
 use Rattle.kc_macros_model.specs.Assignments.{assigns, assigned, line_content, variable_assigned}
@@ -70,12 +71,12 @@ module _ (sub : SourceReader) (at : Place) (continued : Bool) (text : List ℕ) 
   by_size b = elim b [
     | true ↦ returns (written_line text (begins_help text) s)
     | false ↦ line_content at s.bindings true
-        (line_tokens 0 text) >>= content_written sub at continued s
+        (line_tokens 0 (meant_line text)) >>= content_written sub at continued s
   ]
 
   -- a line that is UTF-8 and not too long is read into its content, which is then written
   pub changing_line : (nat_lt MAX_TEXT_BYTES (length text) || not (is_utf8 text)) ≡ false → line_written sub at continued text s
-      ≡ line_content at s.bindings true (line_tokens 0 text) >>= content_written sub at continued s
+      ≡ line_content at s.bindings true (line_tokens 0 (meant_line text)) >>= content_written sub at continued s
   unfolding by_size
   changing_line h = ap by_size h
 
@@ -91,7 +92,7 @@ usual sub at continued s =
     let text = 9 ∷ codes "help" in
     ap (λ b. elim (nat_lt MAX_TEXT_BYTES (length text) || not b) as (λ x. Program WrittenLine) [
       | true ↦ returns (written_line text (begins_help text) s)
-      | false ↦ line_content at s.bindings true (line_tokens 0 text) >>= content_written sub at continued s
+      | false ↦ line_content at s.bindings true (line_tokens 0 (meant_line text)) >>= content_written sub at continued s
     ]) (narrow_is_utf8 text refl)
 
 pub usual_help : (text : List ℕ) → text ≡ 9 ∷ codes "help" → Stays text true

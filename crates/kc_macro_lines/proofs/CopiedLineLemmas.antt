@@ -1,6 +1,6 @@
 -- Lines without `$`, and lines on which nothing acts.
 use Rattle.std.proofs.Common.{◌≡◌, ℕ, zero, suc, ◌+◌, ◌≤◌, Bool, true, false, ◌&&◌, ◌||◌, cond, List, [], ◌∷◌, ◌++◌, length, take, drop, get_or, Option, Some, None, refl, sym, ap, ◌∙◌, subst, arith}
-use Rattle.std.specs.Prelude.{◌==◌, not, nat_lt, pred, bytes_eq, codes, is_some, option_map}
+use Rattle.std.specs.Prelude.{◌==◌, not, nat_lt, pred, bytes_eq, codes, is_some, is_none, option_map}
 use Rattle.std.specs.List.{list_any, prefix_len}
 use Rattle.std.specs.Str.{is_utf8}
 use Rattle.std.proofs.lemmas.List.{drop_all}
@@ -18,6 +18,8 @@ use Rattle.kc_macros_model.specs.LineTokens.{LineToken, gap, run, quoted, other,
 use Rattle.kc_macros_model.specs.declared.token_sort.TokenSort.TheVariants.{Gap, Word, Other}
 use Rattle.kc_macros_model.specs.WrittenTokens.{WrittenToken, written_as, body_of, joined_bodies, written_items, token_of_body, written_token, run_value, token_of_text}
 use Rattle.kc_macros_model.specs.Assignments.{AssignedText, LineContent, tokens, with_token, is_gap, is_unknown, is_gap_token, is_open_front, assignment_to, assignment_at, assignment_or, line_content, without_front}
+use Rattle.kc_macros_model.specs.EnvironmentLines.{solid_tokens, asked_after_option, asked_by, meant_line}
+use Rattle.kc_macros_model.proofs.EnvironmentLines.{meant_same}
 use Rattle.kc_macros_model.specs.LineForms.{LineForm, plain, bare_prompt, replaced_by, named_choice, sources, sort_of_source, is_path, form_of, form_by_word, form_of_pair, is_word, is_bare_prompt, is_help_line, is_undecided, without_gaps, line_bytes, prompt_words, source_words, help_words}
 use Rattle.kc_macros_model.specs.ReadingStates.{ReadingState, progress, WrittenLine, written_line}
 use Rattle.kc_macros_model.specs.TreeExpansion.{SourceReader, form_written, short_line, tokens_written, content_written, line_written}
@@ -389,6 +391,15 @@ still : {ts : List LineToken} {ws : List WrittenToken} → ArePlain ts ws → Is
 still no_tokens q = record { form = refl; help = refl; decided = refl }
 still (next_plain {t = t} {w = w} {ts = ts} {ws = ws} p r) q = still_first t w ts ws p r (still r) q
 
+-- a quiet line asks nothing
+quiet_asks : (ts : List LineToken) → IsQuiet ts → asked_by (solid_tokens ts) ≡ None
+quiet_asks [] q = refl
+quiet_asks (gap s ∷ ts) q = quiet_asks ts q
+quiet_asks (run s ∷ ts) q = ap (λ b. cond b (asked_after_option (solid_tokens ts)) None) (inert s q.acting).option
+quiet_asks (quoted quote s ∷ ts) q = refl
+quiet_asks (other s ∷ ts) q = refl
+quiet_asks (broken s ∷ ts) q = refl
+
 module _ (text : List ℕ) (short : length text ≤ MAX_TEXT_BYTES) (utf8 : is_utf8 text ≡ true) (plain_text : has_dollar text ≡ false)
     (quiet : IsQuiet (line_tokens 0 text)) (sub : SourceReader) (at : Place) (continued : Bool) (s : ReadingState) where
   abbrev line : PlainLine (line_tokens 0 text)
@@ -423,8 +434,10 @@ module _ (text : List ℕ) (short : length text ≤ MAX_TEXT_BYTES) (utf8 : is_u
   copied_line =
       ap (λ b. elim b as (λ x. Program WrittenLine) [
         | true ↦ returns (written_line text (begins_help text) s)
-        | false ↦ line_content at s.bindings true (line_tokens 0 text) >>= content_written sub at continued s
+        | false ↦ line_content at s.bindings true (line_tokens 0 (meant_line text)) >>= content_written sub at continued s
       ]) readable
+      ∙ ap (λ x. line_content at s.bindings true (line_tokens 0 x) >>= content_written sub at continued s)
+      (meant_same text (ap is_none (quiet_asks (line_tokens 0 text) quiet)))
       ∙ ap (λ p. p >>= content_written sub at continued s) (content_quiet at s.bindings line.are quiet)
       ∙ copied_tokens
 

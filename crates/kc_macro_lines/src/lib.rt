@@ -3,10 +3,12 @@
 
 mod assignment_syntax;
 mod copied_lines;
+mod environment_lines;
 mod line_content;
 mod line_tokens;
 mod quoted_tokens;
 mod token_values;
 
 pub use copied_lines::is_copied;
-pub use line_content::{LineContent, read_line};
+pub use environment_lines::read_line;
+pub use line_content::LineContent;

@@ -160,13 +160,8 @@ fn next_token<'t>(
     }
 }
 
-/// The content of a logical line: an assignment, or its tokens with the values of their references.
-///
-/// # Errors
-///
-/// The first fault of the expansion; `Unanswered` where it isn't known whether the line is an assignment, or to which
-/// name; or memory ran out.
-pub fn read_line(
+/// The content of a logical line by its tokens: an assignment, or the tokens with the values of their references.
+pub(crate) fn read_tokens(
     run: &mut Run<'_>,
     at: Place<'_>,
     bindings: &Bindings,

@@ -18,6 +18,7 @@ use Rattle.kc_macros_model.specs.LineTokens.{line_tokens}
 use Rattle.kc_macros_model.specs.declared.token_sort.TokenSort.TheVariants.{Word}
 use Rattle.kc_macros_model.specs.WrittenTokens.{WrittenToken, in_quotes_of, written_as}
 use Rattle.kc_macros_model.specs.Assignments.{without_front, is_gap, LineContent, line_content, variable_assigned}
+use Rattle.kc_macros_model.specs.EnvironmentLines.{meant_line}
 use Rattle.kc_macros_model.specs.LineForms.{SourceSort, LineForm, plain, bare_prompt, replaced_by, named_choice, sources, form_of_pair, form_by_word, form_of, without_gaps, with_nth_token, with_replacement, line_bytes, quoted_text_token, is_help_line, is_undecided}
 use Rattle.kc_macros_model.specs.PathPatterns.{is_pattern, is_writable_name, matches_name, path_pieces, is_in_order, inserted, sorted, FoundPaths, found, matching_names, paths_in_folder, paths_in_folders, paths_below, readable_paths, files_of_pattern, matches}
 use Rattle.kc_macros_model.specs.ReadingStates.{ExpandedFile, ReadingState, initial_state, Progress, progress, WrittenLine, written_line, bound, with_choice, with_listed, counted, has_key, is_taken, free_key, key_of, stored_file}
@@ -30,6 +31,7 @@ use Rattle.kc_macros_model.specs.TreeLaws.{HasItsLines, of_file, of_list}
 use Rattle.kc_macros_model.proofs.RunInvariants.{Along, along_then}
 use Rattle.kc_macros_model.proofs.CleanTexts.{IsClean, clean, clean_none, clean_cons, clean_first, clean_rest, clean_append, clean_drop, clean_reverse, clean_decimal, IsCleanValue, text_clean, IsCleanVariable, CleanBindings, CleanAnswers, AreClean, no_texts, next_text, unknown_clean}
 use Rattle.kc_macros_model.proofs.CleanLines.{tokens_clean, in_quotes_clean, IsCleanToken, AreCleanWritten, none_written, next_written, IsCleanContent, clean_assignment, clean_tokens, content_clean, variable_clean}
+use Rattle.kc_macros_model.proofs.EnvironmentLines.{meant_clean_line}
 use Rattle.kc_macros_model.proofs.LineCounts.{count_both, AreCleanLines, no_lines, next_line, split_clean, split_bytes, lines_both, taken_clean, written_count, returns_clean, joined_lines_clean, drop_twice}
 use Rattle.kc_macros_model.proofs.LinePlaces.{AreEnded, split_ended, rest_ended, dropped_ended, dropped_clean, nothing_after, sum_of, sum_none, sum_next, AreFrom, from_same, pass_as_read, line_stands}
 
@@ -397,12 +399,12 @@ module _ (w : World) (answers : CleanAnswers w) where
       where
         by_test : (b : Bool) → Gives GoodLine (elim b as (λ z. Program WrittenLine) [
           | true ↦ returns (written_line text (begins_help text) s)
-          | false ↦ line_content at s.bindings true (line_tokens 0 text) >>= content_written sub at continued s
+          | false ↦ line_content at s.bindings true (line_tokens 0 (meant_line text)) >>= content_written sub at continued s
         ])
         by_test true = record { text = h; state = g }
         by_test false =
-            along_then w E IsCleanContent GoodLine (line_content at s.bindings true (line_tokens 0 text)) (content_written sub at continued s)
-            (content_clean w answers at k s.bindings g.bindings true (tokens_clean 0 text h)) (λ x r. content_good at continued s k r g)
+            along_then w E IsCleanContent GoodLine (line_content at s.bindings true (line_tokens 0 (meant_line text))) (content_written sub at continued s)
+            (content_clean w answers at k s.bindings g.bindings true (tokens_clean 0 (meant_line text) (meant_clean_line text h))) (λ x r. content_good at continued s k r g)
 
     -- the lines of a file from the number `n` on keep their numbers and its newlines
     record KeepsLines (file : List ℕ) (n : ℕ) (ls : List PhysicalLine) (p : Progress) : Type 0 where

@@ -15,6 +15,7 @@ use Rattle.kc_macros_model.specs.LineTokens.{line_tokens}
 use Rattle.kc_macros_model.specs.declared.token_sort.TokenSort.TheVariants.{Word}
 use Rattle.kc_macros_model.specs.WrittenTokens.{WrittenToken, written_as, in_quotes_of}
 use Rattle.kc_macros_model.specs.Assignments.{LineContent, is_gap, is_unknown, line_content, variable_assigned}
+use Rattle.kc_macros_model.specs.EnvironmentLines.{meant_line}
 use Rattle.kc_macros_model.specs.LineForms.{SourceSort, LineForm, plain, bare_prompt, replaced_by, named_choice, sources, source_words, help_words, is_word, form_of_pair, form_by_word, form_of, without_gaps, with_nth_token, line_bytes, is_help_line, is_undecided}
 use Rattle.kc_macros_model.specs.PathPatterns.{is_pattern, matches_name, path_pieces, sorted, FoundPaths, found, matching_names, paths_in_folder, paths_in_folders, paths_below, readable_paths, files_of_pattern}
 use Rattle.kc_macros_model.specs.ReadingStates.{ExpandedFile, ReadingState, initial_state, Progress, progress, WrittenLine, written_line, bound, with_choice, with_listed, counted, stored_file}
@@ -234,11 +235,11 @@ module _ (w : World) where
       where
         by_test : (b : Bool) → Gives KnownLine (elim b as (λ z. Program WrittenLine) [
           | true ↦ returns (written_line text (begins_help text) s)
-          | false ↦ line_content at s.bindings true (line_tokens 0 text) >>= content_written sub at continued s
+          | false ↦ line_content at s.bindings true (line_tokens 0 (meant_line text)) >>= content_written sub at continued s
         ])
         by_test true = g
-        by_test false = never_then w IsKnownContent KnownLine (line_content at s.bindings true (line_tokens 0 text)) (content_written sub at continued s)
-            (content_known w at s.bindings g true (line_tokens 0 text)) (λ x r. content_goes_on at continued s r g)
+        by_test false = never_then w IsKnownContent KnownLine (line_content at s.bindings true (line_tokens 0 (meant_line text))) (content_written sub at continued s)
+            (content_known w at s.bindings g true (line_tokens 0 (meant_line text))) (λ x r. content_goes_on at continued s r g)
 
     lines_go_on : (file : List ℕ) (skip n : ℕ) (ls : List PhysicalLine) (s : ReadingState) → KnownState s
         → Gives KnownProgress (lines_read sub file skip n ls s)

@@ -19,6 +19,7 @@ pub mod TreeMatches
 pub mod WantedQuestions
 pub mod CleanTexts
 pub mod CleanLines
+pub mod EnvironmentLines
 pub mod LineCounts
 pub mod LinePlaces
 pub mod KeptLines

@@ -1,6 +1,6 @@
 -- Lines that have nothing to expand, assign or rewrite are written as they are.
 use Rattle.std.proofs.Common.{◌≡◌, ℕ, zero, suc, ◌+◌, Bool, true, false, ◌&&◌, ◌||◌, cond, List, [], ◌∷◌, ◌++◌, length, take, drop, map, Option, Some, None, refl, sym, ap, ◌∙◌}
-use Rattle.std.specs.Prelude.{not, nat_lt, bytes_eq, codes, ◌==◌}
+use Rattle.std.specs.Prelude.{not, nat_lt, bytes_eq, codes, is_none, ◌==◌}
 use Rattle.std.specs.List.{list_all, list_any}
 use Rattle.std.specs.Str.{is_utf8}
 use Rattle.std.specs.Cmp.{first_so, second_so}
@@ -14,11 +14,13 @@ use Rattle.kc_macros_model.specs.LineTokens.{line_tokens}
 use Rattle.kc_macros_model.specs.declared.token_sort.TokenSort.TheVariants.{Word}
 use Rattle.kc_macros_model.specs.WrittenTokens.{WrittenToken, written_as}
 use Rattle.kc_macros_model.specs.Assignments.{LineContent, tokens, is_gap, line_content}
+use Rattle.kc_macros_model.specs.EnvironmentLines.{environment_asked, meant_line}
 use Rattle.kc_macros_model.specs.LineForms.{SourceSort, LineForm, plain, bare_prompt, replaced_by, named_choice, sources, is_word, is_path, form_by_word, form_of, without_gaps, with_nth_token, line_bytes, is_help_line}
 use Rattle.kc_macros_model.specs.PathPatterns.{is_pattern}
 use Rattle.kc_macros_model.specs.ReadingStates.{ReadingState, Progress, progress, WrittenLine, written_line}
 use Rattle.kc_macros_model.specs.TreeExpansion.{place, SourceReader, form_written, short_line, tokens_written, content_written, bytes_of_lines, lines_written, newlines_of, help_after, lines_read}
 use Rattle.kc_macros_model.specs.PlainLines.{is_kept_token, token_as_it_is, is_assignment, tokens_as_they_are, is_plain_form, plain_path, is_one_of, is_copied, is_plain_line, is_before_help, logical_texts, no_paths, PlainLinesStay, PlainFilesStay}
+use Rattle.kc_macros_model.proofs.EnvironmentLines.{meant_same}
 use Rattle.kc_macros_model.proofs.CleanTexts.{neither_first}
 use Rattle.kc_macros_model.proofs.Keys.{same_text}
 use Rattle.kc_macros_model.proofs.KnownTrees.{gaps_gone_known, decided}
@@ -102,6 +104,9 @@ plain_lines_stay sub at continued text s e = by_test (is_copied text) refl e
     real : List WrittenToken
     real = tokens_as_they_are text
 
+    asks : Bool
+    asks = is_none (environment_asked text)
+
     free : Bool
     free = list_all is_kept_token (line_tokens 0 text)
 
@@ -111,16 +116,18 @@ plain_lines_stay sub at continued text s e = by_test (is_copied text) refl e
     form : Bool
     form = is_plain_form (form_of real) || is_one_of no_paths (plain_path real)
 
-    by_test : (b : Bool) → is_copied text ≡ b → (b || (free && (no_name && form))) ≡ true
+    by_test : (b : Bool) → is_copied text ≡ b → (b || (asks && (free && (no_name && form)))) ≡ true
         → (elim b as (λ z. Program WrittenLine) [
           | true ↦ returns (written_line text (begins_help text) s)
-          | false ↦ line_content at s.bindings true (line_tokens 0 text) >>= content_written sub at continued s
+          | false ↦ line_content at s.bindings true (line_tokens 0 (meant_line text)) >>= content_written sub at continued s
         ])
         ≡ returns (written_line text (cond b (begins_help text) (is_help_line real)) s)
     by_test true c e = refl
     by_test false c e =
-        let rest = second_so free (no_name && form) e in
-        plain_line_stays sub at continued text s (first_so free (no_name && form) e) (not_so (is_assignment (line_tokens 0 text)) (first_so no_name form rest))
+        let whole = second_so asks (free && (no_name && form)) e in
+        let rest = second_so free (no_name && form) whole in
+        ap (λ x. line_content at s.bindings true (line_tokens 0 x) >>= content_written sub at continued s) (meant_same text (first_so asks (free && (no_name && form)) e))
+        ∙ plain_line_stays sub at continued text s (first_so free (no_name && form) whole) (not_so (is_assignment (line_tokens 0 text)) (first_so no_name form rest))
         (no_other (is_plain_form (form_of real)) (is_one_of no_paths (plain_path real)) (none_of_none (plain_path real)) (second_so no_name form rest))
         (neither_first (nat_lt MAX_TEXT_BYTES (length text)) (not (is_utf8 text)) c)
 

@@ -1,6 +1,6 @@
 -- Trees of lines that have nothing to expand, assign or rewrite keep their bytes.
 use Rattle.std.proofs.Common.{◌≡◌, ℕ, zero, suc, ◌+◌, ◌<◌, ◌≤◌, Bool, true, false, ◌&&◌, ◌||◌, cond, List, [], ◌∷◌, ◌++◌, length, take, drop, map, Option, Some, None, refl, sym, ap, ◌∙◌, subst, arith}
-use Rattle.std.specs.Prelude.{not, nat_lt, nat_le, bytes_eq, codes, decimal, ◌==◌}
+use Rattle.std.specs.Prelude.{not, nat_lt, nat_le, bytes_eq, codes, decimal, is_none, ◌==◌}
 use Rattle.std.specs.List.{All, list_all, list_any}
 use Rattle.std.specs.Str.{is_utf8}
 use Rattle.std.specs.Cmp.{first_so, second_so}
@@ -18,12 +18,14 @@ use Rattle.kc_macros_model.specs.LineTokens.{line_tokens}
 use Rattle.kc_macros_model.specs.declared.token_sort.TokenSort.TheVariants.{Word}
 use Rattle.kc_macros_model.specs.WrittenTokens.{WrittenToken, written_as}
 use Rattle.kc_macros_model.specs.Assignments.{line_content}
+use Rattle.kc_macros_model.specs.EnvironmentLines.{environment_asked, meant_line}
 use Rattle.kc_macros_model.specs.LineForms.{sources, form_of, with_nth_token, line_bytes, quoted_text_token, is_help_line}
 use Rattle.kc_macros_model.specs.PathPatterns.{is_pattern, files_of_pattern}
 use Rattle.kc_macros_model.specs.ReadingStates.{ExpandedFile, ReadingState, initial_state, Progress, progress, WrittenLine, written_line, counted, has_key, is_taken, free_key, key_of, stored_file}
 use Rattle.kc_macros_model.specs.TreeExpansion.{place, one_file, SourceReader, source_line, pattern_read, path_read, source_followed, short_line, content_written, line_written, bytes_of_lines, lines_written, help_after, lines_read, source_fault, contents_read, sourced_read, source_read, root_read, tree_read}
 use Rattle.kc_macros_model.specs.Worlds.{World, returned, failed, Outcome, after_event, outcome, expansion}
 use Rattle.kc_macros_model.specs.PlainLines.{is_kept_token, is_assignment, tokens_as_they_are, is_plain_form, plain_path, is_one_of, is_copied, is_plain_line, is_before_help, logical_texts, IsPlainTree, is_fault_of_sources, IsOwnFile, PlainTreesStay}
+use Rattle.kc_macros_model.proofs.EnvironmentLines.{meant_same}
 use Rattle.kc_macros_model.proofs.CleanTexts.{neither_first}
 use Rattle.kc_macros_model.proofs.Keys.{same_text}
 use Rattle.kc_macros_model.proofs.LineCounts.{split_bytes}
@@ -244,6 +246,9 @@ module _ (w : World) where
           → OnlyReads w (IsOwnLine text) (line_written sub at continued text s)
       line_own at continued text s e g = by_test (is_copied text) refl e
         where
+          asks : Bool
+          asks = is_none (environment_asked text)
+
           free : Bool
           free = list_all is_kept_token (line_tokens 0 text)
 
@@ -256,17 +261,20 @@ module _ (w : World) where
           help_is : (b : Bool) → is_copied text ≡ b → is_before_help text ≡ cond b (begins_help text) (is_help_line (tokens_as_they_are text))
           help_is b c = ap (λ x. cond x (begins_help text) (is_help_line (tokens_as_they_are text))) c
 
-          by_test : (b : Bool) → is_copied text ≡ b → (b || (free && (no_name && form))) ≡ true
+          by_test : (b : Bool) → is_copied text ≡ b → (b || (asks && (free && (no_name && form)))) ≡ true
               → OnlyReads w (IsOwnLine text) (elim b as (λ z. Program WrittenLine) [
                 | true ↦ returns (written_line text (begins_help text) s)
-                | false ↦ line_content at s.bindings true (line_tokens 0 text) >>= content_written sub at continued s
+                | false ↦ line_content at s.bindings true (line_tokens 0 (meant_line text)) >>= content_written sub at continued s
               ])
           by_test true c e = record { text = refl; help = sym (help_is true c); state = g }
           by_test false c e =
-              let rest = second_so free (no_name && form) e in
-              plain_line_own at continued text s (first_so free (no_name && form) e) (not_so (is_assignment (line_tokens 0 text)) (first_so no_name form rest))
+              let whole = second_so asks (free && (no_name && form)) e in
+              let rest = second_so free (no_name && form) whole in
+              subst (λ x. OnlyReads w (IsOwnLine text) (line_content at s.bindings true (line_tokens 0 x) >>= content_written sub at continued s))
+              (sym (meant_same text (first_so asks (free && (no_name && form)) e)))
+              (plain_line_own at continued text s (first_so free (no_name && form) whole) (not_so (is_assignment (line_tokens 0 text)) (first_so no_name form rest))
               (second_so no_name form rest)
-              (neither_first (nat_lt MAX_TEXT_BYTES (length text)) (not (is_utf8 text)) c) (help_is false c) g
+              (neither_first (nat_lt MAX_TEXT_BYTES (length text)) (not (is_utf8 text)) c) (help_is false c) g)
 
       lines_own : (file : List ℕ) (skip n : ℕ) (ls : List PhysicalLine) (s : ReadingState) → list_all (is_plain_line paths) (logical_texts skip ls) ≡ true
           → IsOwnState s → OnlyReads w (IsOwnText (bytes_of_lines (drop skip ls))) (lines_read sub file skip n ls s)

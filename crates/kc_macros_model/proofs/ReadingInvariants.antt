@@ -16,6 +16,7 @@ use Rattle.kc_macros_model.specs.LineTokens.{line_tokens}
 use Rattle.kc_macros_model.specs.declared.token_sort.TokenSort.TheVariants.{Word}
 use Rattle.kc_macros_model.specs.WrittenTokens.{WrittenToken, written_as, in_quotes_of}
 use Rattle.kc_macros_model.specs.Assignments.{LineContent, assigns, tokens, line_content, variable_assigned}
+use Rattle.kc_macros_model.specs.EnvironmentLines.{meant_line}
 use Rattle.kc_macros_model.specs.LineForms.{SourceSort, LineForm, plain, bare_prompt, replaced_by, named_choice, sources, form_of, without_gaps, with_nth_token, line_bytes, is_help_line, is_undecided}
 use Rattle.kc_macros_model.specs.PathPatterns.{is_pattern, matches_name, path_pieces, sorted, FoundPaths, found, matching_names, paths_in_folder, paths_in_folders, paths_below, readable_paths, files_of_pattern}
 use Rattle.kc_macros_model.specs.ReadingStates.{ReadingState, Progress, progress, WrittenLine, written_line, bound, with_choice, with_listed, counted, stored_file}
@@ -199,12 +200,12 @@ module _ (w : World) (root : List ℕ) (I : ℕ → ReadingState → Type 0) (ke
       where
         by_test : (b : Bool) → Along w AnyEvent (AfterLine k) (elim b as (λ z. Program WrittenLine) [
           | true ↦ returns (written_line text (begins_help text) s)
-          | false ↦ line_content at s.bindings true (line_tokens 0 text) >>= content_written sub at continued s
+          | false ↦ line_content at s.bindings true (line_tokens 0 (meant_line text)) >>= content_written sub at continued s
         ])
         by_test true = g
         by_test false =
-            along_then w AnyEvent (λ x. Unit {0}) (AfterLine k) (line_content at s.bindings true (line_tokens 0 text)) (content_written sub at continued s)
-            (anything w (line_content at s.bindings true (line_tokens 0 text))) (λ x r. content_keeps at continued x s g)
+            along_then w AnyEvent (λ x. Unit {0}) (AfterLine k) (line_content at s.bindings true (line_tokens 0 (meant_line text))) (content_written sub at continued s)
+            (anything w (line_content at s.bindings true (line_tokens 0 (meant_line text)))) (λ x r. content_keeps at continued x s g)
 
     pub lines_keep : (file : List ℕ) (skip n : ℕ) (ls : List PhysicalLine) (s : ReadingState) → I k s
         → Along w AnyEvent (After k) (lines_read sub file skip n ls s)

@@ -1,5 +1,5 @@
 -- Worked rows, computed.
-use Rattle.std.proofs.Common.{◌≡◌, ℕ, List, [], ◌∷◌, Some, Result, Ok, Err, refl, true, map, drop, length}
+use Rattle.std.proofs.Common.{◌≡◌, ℕ, List, [], ◌∷◌, Some, None, Result, Ok, Err, refl, true, map, drop, length}
 use Rattle.std.specs.Prelude.{codes, filter, ◌==◌, not, take_while, bytes_eq}
 use Rattle.std.specs.Fmt.{digits}
 use Rattle.std.specs.Str.{is_utf8, chars}
@@ -78,6 +78,13 @@ older_forms : expanded_texts (one_file (codes "menu Title\nchoice C\noption alln
     ≡ one_text (codes "menu \"Title\"\nchoice \n\n\tdepends on n\n")
 unfolding tree_read text_value expansion next_token is_utf8 chars digits lib.Utf8.encode
 older_forms = refl
+
+-- an `option env` of a name asks it, and of anything else stays
+environment_options : expanded_texts (one_file (codes "option env=\"A\" # c\n\toption env = 'B'\n\toption env=A\n\toption env=\"$(A)\"\n\toption env \"A\"\n\toption env=\"A\" B\n")
+    ((codes "A", Some (codes "x\"y")) ∷ (codes "B", None) ∷ []))
+    ≡ one_text (codes "option env \"x\\\"y\"\noption env \"\"\n\toption env=A\n\toption env=\"x\\\"y\"\n\toption env \"A\"\n\toption env=\"A\" B\n")
+unfolding tree_read text_value expansion next_token is_utf8 chars digits lib.Utf8.encode
+environment_options = refl
 
 -- work: the four bytes of the token and one, the byte of the name and one, and the one and the three bytes that they become
 enough_work : texts_by_key (outcome true (one_file (codes "if $(A)\n") ((codes "A", Some (codes "abc")) ∷ [])) 11 (tree_read (codes "Kconfig"))).ending

@@ -1,7 +1,7 @@
 -- The written tokens of a line have nothing left to expand.
 use Rattle.std.proofs.Common.{◌≡◌, ℕ, suc, ◌<◌, Bool, true, false, ◌&&◌, ◌||◌, cond, List, [], ◌∷◌, ◌++◌, length, take, Option, Some, None, refl, sym, ap, ◌∙◌, subst, append_assoc, arith, length-append}
 use Rattle.std.proofs.Math.Seq.{take-append_seam}
-use Rattle.std.specs.Prelude.{◌==◌, pred, not, nat_lt}
+use Rattle.std.specs.Prelude.{◌==◌, pred, not, nat_lt, is_none}
 use Rattle.std.specs.List.{list_all, list_any}
 use Rattle.std.specs.Cmp.{first_so, second_so}
 use Rattle.std.proofs.lemmas.Bool.{eqb-true, lt-ltb}
@@ -15,6 +15,7 @@ use Rattle.kc_macros_model.specs.LineTokens.{LineToken, gap, run, quoted, other,
 use Rattle.kc_macros_model.specs.declared.token_sort.TokenSort.TheVariants.{Gap, Word, Quoted, Other}
 use Rattle.kc_macros_model.specs.WrittenTokens.{is_bare_byte, is_keyword, escaped_text, in_quotes_of, WrittenToken, written_as, token_of_text, token_of_value, written_items, token_of_body, run_value, written_token}
 use Rattle.kc_macros_model.specs.Assignments.{AssignedText, assignment_at, LineContent, assigns, tokens, with_token, is_gap, is_unknown, is_open_front, assignment_or, line_content}
+use Rattle.kc_macros_model.specs.EnvironmentLines.{environment_asked}
 use Rattle.kc_macros_model.specs.LineForms.{form_of, line_bytes}
 use Rattle.kc_macros_model.specs.Worlds.{World, returned}
 use Rattle.kc_macros_model.specs.ExpansionRules.{ending_in}
@@ -330,12 +331,13 @@ or_true true b e = refl
 or_true false b e = e
 
 pub written_lines_stay : WrittenLinesStay
-written_lines_stay w at b text ts e known left name form sub again continued s =
+written_lines_stay w at b text ts e known left asks name form sub again continued s =
     let new = line_bytes ts in
     let free = list_all is_kept_token (line_tokens 0 new) in
     let plain = is_plain_form (form_of (tokens_as_they_are new)) in
     let one = is_one_of no_paths (plain_path (tokens_as_they_are new)) in
     plain_lines_stay sub again continued new s
-    (or_true (is_copied new) (free && (not (is_assignment (line_tokens 0 new)) && (plain || one)))
-    (ap (λ x. x && (not (is_assignment (line_tokens 0 new)) && (plain || one))) (nothing_is_left w at b text ts e known left)
+    (or_true (is_copied new) (is_none (environment_asked new) && (free && (not (is_assignment (line_tokens 0 new)) && (plain || one))))
+    (ap (λ o. is_none o && (free && (not (is_assignment (line_tokens 0 new)) && (plain || one)))) asks
+    ∙ ap (λ x. x && (not (is_assignment (line_tokens 0 new)) && (plain || one))) (nothing_is_left w at b text ts e known left)
     ∙ ap (λ x. not x && (plain || one)) name ∙ ap (λ x. x || one) form))

@@ -15,6 +15,7 @@ use Rattle.kc_macros_model.specs.LineTokens.{line_tokens}
 use Rattle.kc_macros_model.specs.declared.token_sort.TokenSort.TheVariants.{Word}
 use Rattle.kc_macros_model.specs.WrittenTokens.{WrittenToken, in_quotes_of, written_as}
 use Rattle.kc_macros_model.specs.Assignments.{AssignedText, LineContent, assigns, line_content, variable_assigned}
+use Rattle.kc_macros_model.specs.EnvironmentLines.{meant_line}
 use Rattle.kc_macros_model.specs.LineForms.{SourceSort, LineForm, plain, bare_prompt, replaced_by, named_choice, sources, form_of, without_gaps, with_nth_token, line_bytes, is_help_line, is_undecided, with_replacement}
 use Rattle.kc_macros_model.specs.PathPatterns.{is_pattern, matches_name, path_pieces, sorted, FoundPaths, found, matching_names, paths_in_folder, paths_in_folders, paths_below, readable_paths, files_of_pattern}
 use Rattle.kc_macros_model.specs.ReadingStates.{ExpandedFile, ReadingState, initial_state, Progress, progress, WrittenLine, written_line, bound, with_choice, with_listed, counted, stored_file}
@@ -288,15 +289,15 @@ module _ (w more : World) (ext : Extends w more) (question : List ℕ) (unanswer
         way reader u c = elim c [
           | true ↦ returns (written_line text (begins_help text) u)
           | false ↦ line_content at u.bindings true
-              (line_tokens 0 text) >>= content_written reader at continued u
+              (line_tokens 0 (meant_line text)) >>= content_written reader at continued u
         ]
 
         by_test : (c : Bool) → M WrittenNoLess (way sub s c) (way sup t c)
         by_test true = match_return w more ext question unanswered WrittenNoLess (written_line text (begins_help text) s)
             (written_line text (begins_help text) t) (record { help = refl; state = r })
-        by_test false = match_then w more ext question unanswered ContentNoLess WrittenNoLess (line_content at s.bindings true (line_tokens 0 text))
-            (line_content at t.bindings true (line_tokens 0 text)) (content_written sub at continued s) (content_written sup at continued t)
-            (content_matches w more ext question unanswered at s.bindings t.bindings r (line_tokens 0 text))
+        by_test false = match_then w more ext question unanswered ContentNoLess WrittenNoLess (line_content at s.bindings true (line_tokens 0 (meant_line text)))
+            (line_content at t.bindings true (line_tokens 0 (meant_line text))) (content_written sub at continued s) (content_written sup at continued t)
+            (content_matches w more ext question unanswered at s.bindings t.bindings r (line_tokens 0 (meant_line text)))
             (λ x y n. content_written_matches at continued s t r n)
 
     lines_match : (file : List ℕ) (skip n : ℕ) (ls : List PhysicalLine) (s t : ReadingState) → StateNoLess s t

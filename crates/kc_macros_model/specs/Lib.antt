@@ -6,6 +6,7 @@ pub mod Expansion
 pub mod LineTokens
 pub mod WrittenTokens
 pub mod Assignments
+pub mod EnvironmentLines
 pub mod LineForms
 pub mod PathPatterns
 pub mod ReadingStates

@@ -1,5 +1,5 @@
 -- Lines on which the expansion doesn't act, and trees of such lines.
-use Rattle.std.specs.Prelude.{◌≡◌, ℕ, zero, suc, ◌+◌, Bool, true, false, not, ◌&&◌, ◌||◌, ◌==◌, nat_lt, List, [], ◌∷◌, ◌++◌, length, drop, map, is_some, Option, Some, None, bytes_eq, codes, if◌then◌else◌}
+use Rattle.std.specs.Prelude.{◌≡◌, ℕ, zero, suc, ◌+◌, Bool, true, false, not, ◌&&◌, ◌||◌, ◌==◌, nat_lt, List, [], ◌∷◌, ◌++◌, length, drop, map, is_some, is_none, Option, Some, None, bytes_eq, codes, if◌then◌else◌}
 use Rattle.std.specs.List.{All, list_all, list_any}
 use Rattle.std.specs.Str.{is_utf8}
 use Rattle.kc_tree_model.specs.LogicalLines.{PhysicalLine, split_at_newlines, without_return, joined_bytes, continuation_count, begins_help}
@@ -12,6 +12,7 @@ use Rattle.kc_macros_model.specs.LineTokens.{LineToken, gap, run, quoted, other,
 use Rattle.kc_macros_model.specs.declared.token_sort.TokenSort.TheVariants.{Gap, Word, Quoted, Other}
 use Rattle.kc_macros_model.specs.WrittenTokens.{WrittenToken, written_as}
 use Rattle.kc_macros_model.specs.Assignments.{assignment_to}
+use Rattle.kc_macros_model.specs.EnvironmentLines.{environment_asked}
 use Rattle.kc_macros_model.specs.LineForms.{LineForm, plain, bare_prompt, replaced_by, named_choice, sources, form_of, without_gaps, is_word, is_path, is_help_line}
 use Rattle.kc_macros_model.specs.PathPatterns.{is_pattern}
 use Rattle.kc_macros_model.specs.ReadingStates.{ExpandedFile, ReadingState, progress, written_line}
@@ -89,12 +90,12 @@ is_one_of paths (Some path) = not (is_pattern path) && (not (list_any (λ c. c =
 abbrev pub is_copied : List ℕ → Bool
 is_copied text = nat_lt MAX_TEXT_BYTES (length text) || not (is_utf8 text)
 
--- whether a logical line is plain: it is copied since the reader refuses it, or it has nothing to expand, assigns nothing, and
--- isn't rewritten, unless it is a `source` of a file in the set `paths`
+-- whether a logical line is plain: it is copied since the reader refuses it, or it asks no variable as `option env="X"` does, has
+-- nothing to expand, assigns nothing, and isn't rewritten, unless it is a `source` of a file in the set `paths`
 abbrev pub is_plain_line : (paths : List ℕ → Bool) → List ℕ → Bool
 is_plain_line paths text =
-    is_copied text || (list_all is_kept_token (line_tokens 0 text) && (not (is_assignment (line_tokens 0 text))
-    && (is_plain_form (form_of (tokens_as_they_are text)) || is_one_of paths (plain_path (tokens_as_they_are text)))))
+    is_copied text || (is_none (environment_asked text) && (list_all is_kept_token (line_tokens 0 text) && (not (is_assignment (line_tokens 0 text))
+    && (is_plain_form (form_of (tokens_as_they_are text)) || is_one_of paths (plain_path (tokens_as_they_are text))))))
 
 -- whether a help text follows a plain line
 abbrev pub is_before_help : List ℕ → Bool

@@ -14,6 +14,7 @@ use Rattle.kc_macros_model.specs.LineTokens.{line_tokens}
 use Rattle.kc_macros_model.specs.declared.token_sort.TokenSort.TheVariants.{Word}
 use Rattle.kc_macros_model.specs.WrittenTokens.{WrittenToken, written_as, in_quotes_of}
 use Rattle.kc_macros_model.specs.Assignments.{without_front, LineContent, assigns, tokens, line_content, variable_assigned}
+use Rattle.kc_macros_model.specs.EnvironmentLines.{meant_line}
 use Rattle.kc_macros_model.specs.LineForms.{SourceSort, LineForm, plain, bare_prompt, replaced_by, named_choice, sources, form_of, without_gaps, with_nth_token, with_replacement, line_bytes, quoted_text_token, is_help_line, is_undecided}
 use Rattle.kc_macros_model.specs.PathPatterns.{is_pattern, FoundPaths, files_of_pattern, readable_paths}
 use Rattle.kc_macros_model.specs.ReadingStates.{ExpandedFile, ReadingState, initial_state, Progress, progress, WrittenLine, written_line, bound, with_choice, with_listed, counted, stored_file}
@@ -110,10 +111,11 @@ content_written sub at continued s (tokens ts) = tokens_written sub at s ts (wit
 content_written sub at true s (assigns name a) = fault at JoinedAssignment []
 content_written sub at false s (assigns name a) = variable_assigned at s.bindings a.operator a.text (s.bindings name) >>= λ v. returns (written_line [] false (bound name v s))
 
--- the expanded line of a logical line; a line that is too long or isn't UTF-8 stays, for the reader to refuse
+-- the expanded line of a logical line; a line that is too long or isn't UTF-8 stays, for the reader to refuse, and `option env="X"`
+-- is read as `option env "$(X)"`
 abbrev pub line_written : SourceReader → Place → (continued : Bool) → List ℕ → ReadingState → Program WrittenLine
 line_written sub at continued text s =
-    elim (nat_lt MAX_TEXT_BYTES (length text) || not (is_utf8 text)) [ true ↦ returns (written_line text (begins_help text) s) | false ↦ line_content at s.bindings true (line_tokens 0 text) >>= content_written sub at continued s ]
+    elim (nat_lt MAX_TEXT_BYTES (length text) || not (is_utf8 text)) [ true ↦ returns (written_line text (begins_help text) s) | false ↦ line_content at s.bindings true (line_tokens 0 (meant_line text)) >>= content_written sub at continued s ]
 
 -- the bytes of physical lines, one after the other, with their newlines
 abbrev pub bytes_of_lines : List PhysicalLine → List ℕ

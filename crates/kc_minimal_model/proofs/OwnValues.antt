@@ -25,7 +25,7 @@ use Rattle.kc_rules_model.specs.SymbolValues.{condition}
 use Rattle.kc_rules_model.specs.Kinds.{is_n, largest}
 use Rattle.kc_value.specs.Tri.{y_for_m}
 use Rattle.kc_value.specs.Kinds.{is_bool, is_tristate, is_number}
-use Rattle.kc_rules_model.specs.Rule.{rule, rule_of_unit, rule_of_symbol, rule_of_choice, symbol_rule, tri_rule, string_rule, number_rule, choice_rule, as_user, is_visible, visibility, conditions, modules_value, unassigned_value, selected, leaves_no_m, default_text, number_default, user_number, clamped, is_upside_down, text_without_number, active_default, default_member, shown_choice_rule, is_within, active_range, is_shown, is_visible_member, assigned_text}
+use Rattle.kc_rules_model.specs.Rule.{rule, rule_of_unit, rule_of_symbol, rule_of_choice, symbol_rule, tri_rule, string_rule, number_rule, choice_rule, as_user, counted_prompts, is_visible, visibility, conditions, modules_value, unassigned_value, selected, leaves_no_m, default_text, number_default, user_number, clamped, is_upside_down, text_without_number, active_default, default_member, shown_choice_rule, is_within, active_range, is_shown, is_visible_member, assigned_text}
 use Rattle.kc_rules_model.specs.Reports.{IsLifted}
 use Rattle.kc_rules_model.specs.checker.RestoreLaw.{rules_restore, promoted_if, clamped_again, no_number, none_listed, one_listed, default_is_seen, older, newer}
 use Rattle.kc_rules_model.specs.checker.PrintableBounds.{zero_printable}
@@ -134,7 +134,7 @@ module _ (profile : Profile) (tree : Tree) (values : List UnitValue) where
       let b = is_bool symbol.kind || (is_tristate symbol.kind && is_n (modules_value tree values)) in
       let yes_bool : b ≡ true = ap (λ k. is_bool k || (is_tristate k && is_n (modules_value tree values))) e in
       let l = leaves_no_m profile tree values symbol in
-      let t = largest (conditions tree values symbol.prompts) in
+      let t = largest (conditions tree values (counted_prompts symbol)) in
       let un = unassigned_value profile tree values symbol in
       let s = selected tree values symbol in
       let mine : Some (TriUser (promoted_if l (promoted_if b (tri_or un s)))) ≡ Some y = h in

@@ -11,8 +11,8 @@ ghost use Rattle.kc_evaluation.specs.checker.ValuationView.{valuation_tree, valu
 
 use super::rules::Settled;
 use kc_evaluation::{
-    Valuation, active_default, default_value, has_no_member, is_n, is_visible, largest,
-    reverse_limit, y_for_m,
+    Valuation, active_default, default_value, has_no_member, is_from_environment, is_n, is_visible,
+    largest, reverse_limit, y_for_m,
 };
 use kc_rules_model::UnitValue;
 use kc_tokens::Language;
@@ -65,7 +65,7 @@ fn is_symbol_written(under: &Valuation<'_>, symbol: &Symbol<'_>) -> bool
     if is_visible(under, symbol) && !is_unselected(under, symbol.choice) {
         return true;
     }
-    if symbol.choice.is_some() {
+    if symbol.choice.is_some() || is_from_environment(symbol) {
         return false;
     }
     has_default(under, symbol)

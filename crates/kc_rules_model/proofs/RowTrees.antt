@@ -49,7 +49,10 @@ abbrev pub name : List ℕ → Expr
 name x = alone (named x)
 
 abbrev pub otherwise : Expr → Default
-otherwise e = record { value = e; condition = always }
+otherwise e = record { value = e; condition = always; from_environment = false }
+
+abbrev pub from_environment : Expr → Default
+from_environment e = record { value = e; condition = always; from_environment = true }
 
 -- a symbol outside choices with these prompts and defaults, and no range, select, imply or dependency
 abbrev pub plain : List ℕ → Kind → List Expr → List Default → Symbol
@@ -115,6 +118,11 @@ tree_int =
 -- the tree of: config S / string "s" / default "x"
 abbrev pub tree_string : Tree
 tree_string = one_symbol (plain (codes "S") Text (always ∷ []) (otherwise (alone (quoted (codes "x"))) ∷ []))
+
+-- the tree of: config S / string "s" / option env "e" / default "x"
+abbrev pub tree_from_environment : Tree
+tree_from_environment =
+    one_symbol (plain (codes "S") Text (always ∷ []) (from_environment (alone (quoted (codes "e"))) ∷ otherwise (alone (quoted (codes "x"))) ∷ []))
 
 -- a bool of this name that is a member of the first choice, which is always shown, with this condition of its prompt
 abbrev pub member : List ℕ → Expr → Symbol

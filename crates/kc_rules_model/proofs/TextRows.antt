@@ -1,11 +1,12 @@
--- Ints: a range, and the text of a value.
-use Rattle.std.proofs.Common.{◌≡◌, [], ◌∷◌, refl}
+-- Ints: a range, and the text of a value. An `option env`: its text is the value, and no file has it.
+use Rattle.std.proofs.Common.{◌≡◌, false, [], ◌∷◌, refl}
 use Rattle.std.specs.Prelude.{codes}
 use Rattle.std.specs.Fmt.{digits}
 use Rattle.kc_value.specs.Number.{int_text}
 use Rattle.kc_rules_model.specs.declared.profile.Profile.TheVariants.{Present}
 use Rattle.kc_rules_model.specs.Rule.{rule}
-use Rattle.kc_rules_model.proofs.RowTrees.{by_rules, text, writes, tree_int}
+use Rattle.kc_rules_model.specs.Reports.{is_written}
+use Rattle.kc_rules_model.proofs.RowTrees.{by_rules, text, writes, tree_int, tree_from_environment}
 
 user_value_above_its_range : by_rules Present tree_int (writes (codes "25") ∷ []) (text (codes "10") ∷ []) ≡ text (codes "10") ∷ []
 unfolding rule int_text digits
@@ -15,3 +16,10 @@ user_value_above_its_range = refl
 leading_zeros_stay : by_rules Present tree_int (writes (codes "010") ∷ []) (text (codes "010") ∷ []) ≡ text (codes "010") ∷ []
 unfolding rule int_text digits
 leading_zeros_stay = refl
+
+user_value_beside_the_environment : by_rules Present tree_from_environment (writes (codes "u") ∷ []) (text (codes "e") ∷ []) ≡ text (codes "e") ∷ []
+unfolding rule int_text digits
+user_value_beside_the_environment = refl
+
+not_in_a_full_file : is_written tree_from_environment (text (codes "e") ∷ []) 0 ≡ false
+not_in_a_full_file = refl

@@ -15,7 +15,7 @@ use Rattle.kc_value.specs.Kinds.{is_bool, is_tri_kind, is_tristate}
 use Rattle.kc_tokens.specs.Languages.{is_linux_6_12}
 use Rattle.kc_tree_model.specs.TreeLookup.{index_of_unit}
 use Rattle.kc_rules_model.specs.SymbolValues.{member_of}
-use Rattle.kc_rules_model.specs.Rule.{rule, as_user, is_visible, selected, implied, direct_dependency, active_default, default_tri}
+use Rattle.kc_rules_model.specs.Rule.{rule, as_user, is_from_environment, is_visible, selected, implied, direct_dependency, active_default, default_tri}
 
 -- whether a tree is in a language of Linux
 abbrev pub is_linux : Language → Bool
@@ -44,12 +44,12 @@ is_unselected tree values None = false
 is_unselected tree values (Some c) = is_optional_choice tree c && is_none (member_of (slice_get values (index_of_unit tree (of_choice c))))
 
 -- whether a full file (Kconfiglib's `write_config`) has a symbol: it is visible, and no member of an optional choice without a
--- selected member; or it is outside choices and has a default, is selected, or is implied while its direct dependency isn't `n`
--- (under the rules of Linux 6.12 also while it is)
+-- selected member; or it is outside choices, without an `option env`, and has a default, is selected, or is implied while its
+-- direct dependency isn't `n` (under the rules of Linux 6.12 also while it is)
 abbrev pub is_written_symbol : Tree → List UnitValue → Symbol → Bool
 is_written_symbol tree values symbol =
     (is_visible tree values symbol && not (is_unselected tree values symbol.choice))
-    || (is_none symbol.choice
+    || (is_none symbol.choice && not (is_from_environment symbol)
     && (has_default tree values symbol
     || not (is_n (selected tree values symbol))
     || (not (is_n (implied tree values symbol)) && (is_linux_6_12 tree.language || not (is_n (direct_dependency tree values symbol))))))

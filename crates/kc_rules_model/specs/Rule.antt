@@ -2,6 +2,7 @@
 -- kconfig-language.rst, "Menu attributes" and "Menu entries".
 use Rattle.std.specs.Prelude.{ℕ, Bool, true, false, not, ◌&&◌, ◌||◌, List, [], ◌∷◌, Option, Some, None, is_some, is_none, ℤ, pos, int_lt, slice_get, unwrap_or, find, if◌then◌else◌}
 use Rattle.std.specs.Option.{option_map, option_and_then, option_or}
+use Rattle.std.specs.List.{list_any}
 use Rattle.kc_value.specs.declared.tri.Tri.{Tri}
 use Rattle.kc_value.specs.declared.tri.Tri.TheVariants.{N}
 use Rattle.kc_value.specs.declared.value.Kind.{Kind}
@@ -42,10 +43,18 @@ abbrev pub conditions : Tree → List UnitValue → List Expr → List Tri
 conditions tree values [] = []
 conditions tree values (e ∷ es) = condition tree values e ∷ conditions tree values es
 
+-- whether a symbol has an `option env`
+abbrev pub is_from_environment : Symbol → Bool
+is_from_environment symbol = list_any (λ (d : Default). d.from_environment) symbol.defaults
+
+-- the prompts of a symbol that count: none of a symbol with an `option env`, which is never visible
+abbrev pub counted_prompts : Symbol → List Expr
+counted_prompts symbol = if is_from_environment symbol then [] else symbol.prompts
+
 -- the visibility of a symbol: the largest of the conditions of its prompts, where `m` becomes `y` if the symbol can't be `m`
 -- ("input prompt")
 abbrev pub visibility : Tree → List UnitValue → Symbol → Tri
-visibility tree values symbol = promoted tree values symbol.kind (largest (conditions tree values symbol.prompts))
+visibility tree values symbol = promoted tree values symbol.kind (largest (conditions tree values (counted_prompts symbol)))
 
 -- whether a symbol is visible: its visibility isn't `n`
 abbrev pub is_visible : Tree → List UnitValue → Symbol → Bool

@@ -17,7 +17,7 @@ type_is k (t ∷ ts) l = refl
 
 -- defaults: the expression, and then its `if`
 default_then : (DefaultAttribute → Attribute) → List Lexeme → ParsedExpr → Result Statement TreeKind
-default_then f ts t = optional_if t.rest >>= λ c. Ok (attribute (f (record { value = t.expr; single = t.single; condition = c })))
+default_then f ts t = optional_if t.rest >>= λ c. Ok (attribute (f (record { value = t.expr; single = t.single; condition = c; from_environment = false })))
 
 default_by : (DefaultAttribute → Attribute) → List Lexeme → Result Expr (ExprKind × List Lexeme) → Result Statement TreeKind
 default_by f ts (Ok e) = default_then f ts (record { expr = e; single = length (extent ts) == 1; rest = drop (length (extent ts)) ts })
@@ -31,7 +31,7 @@ default_reading f ts (Ok e) = refl
 default_reading f ts (Err x) = refl
 
 pub default_is : (f : DefaultAttribute → Attribute) (ts : List Lexeme) (e : Expr) → read_expr (extent ts) ≡ Ok e
-    → default_line f ts ≡ stepped (λ c. attribute (f (record { value = e; single = length (extent ts) == 1; condition = c })))
+    → default_line f ts ≡ stepped (λ c. attribute (f (record { value = e; single = length (extent ts) == 1; condition = c; from_environment = false })))
     (optional_if (drop (length (extent ts)) ts))
 unfolding default_by default_then
 default_is f ts e r = default_reading f ts (read_expr (extent ts)) ∙ ap (default_by f ts) r

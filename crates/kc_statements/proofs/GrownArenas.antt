@@ -53,9 +53,9 @@ operand_held old new id g h = record {
 -- a `default` attribute means the same over the grown arena
 pub valued_same : (old new : Exprs) (d : CodeDefaultAttribute) → Grows old new → DefaultNodesExist old d → default_in new d ≡ default_in old d
 valued_same old new d g h =
-    ap (λ (v : Expr). let r : DefaultAttribute = record { value = v; single = d.single; condition = if_in new d.condition } in r)
+    ap (λ (v : Expr). let r : DefaultAttribute = record { value = v; single = d.single; condition = if_in new d.condition; from_environment = d.from_environment } in r)
     (node_same old new d.value g h.0)
-    ∙ ap (λ (c : Option Expr). let r : DefaultAttribute = record { value = node_expr old d.value; single = d.single; condition = c } in r)
+    ∙ ap (λ (c : Option Expr). let r : DefaultAttribute = record { value = node_expr old d.value; single = d.single; condition = c; from_environment = d.from_environment } in r)
     (if_same old new d.condition g h.1)
 
 pub valued_held : (old new : Exprs) (d : CodeDefaultAttribute) → Grows old new → DefaultNodesExist old d → DefaultNodesExist new d

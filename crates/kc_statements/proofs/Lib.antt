@@ -8,3 +8,4 @@ pub mod ValueLemmas
 pub mod GlobLemmas
 pub mod ArenaGrowth
 pub mod LineLemmas
+pub mod OptionLemmas

@@ -8,10 +8,10 @@ use Rattle.kc_tokens.specs.Token.{Lexeme, lexeme_of, lexemes_of}
 use Rattle.kc_tokens.specs.declared.token.Token.{Token as CodeToken}
 use Rattle.kc_tree_model.specs.declared.fault.TreeKind.{TreeKind}
 use Rattle.kc_tree_model.specs.declared.fault.TreeKind.TheVariants.{Malformed}
-use Rattle.kc_tree_model.specs.Forms.{condition_line, prompt_line, target_line, option_line, config_line, source_line, last_condition, optional_if, no_more, path_of}
+use Rattle.kc_tree_model.specs.Forms.{condition_line, prompt_line, target_line, config_line, source_line, last_condition, optional_if, no_more, path_of}
 use Rattle.kc_tree_model.specs.Keywords.{is_the_word, is_name, is_quoted_kind}
 use Rattle.kc_tree_model.specs.Placement.{first_is}
-use Rattle.kc_tree_model.specs.Statements.{Attribute, TargetAttribute, Statement, attribute, head, config, source, modules}
+use Rattle.kc_tree_model.specs.Statements.{Attribute, TargetAttribute, Statement, attribute, head, config, source}
 use Rattle.kc_statements.specs.between.StatementViews.{if_in, target_in, IfNodeExists}
 use Rattle.kc_statements.proofs.FormLemmas.{first_of, none_there, stepped}
 use Rattle.kc_statements.proofs.GrownArenas.{if_same}
@@ -67,25 +67,9 @@ pub target_refused : (f : TargetAttribute → Attribute) (ts : List CodeToken) (
 target_refused f ts k l n o = target_is f ts l n ∙ ap (stepped (target_as f (first_of ts).text.now)) o
 
 -- one token
-either_way : (b : Bool) (x : Result Statement TreeKind) → (if b then x else x) ≡ x
+pub either_way : (b : Bool) (x : Result Statement TreeKind) → (if b then x else x) ≡ x
 either_way true x = refl
 either_way false x = refl
-
-pub option_long : (ts : List CodeToken) → (length ts ≡ 1 → ⊥) → option_line (lexemes_of ts) ≡ Err Malformed
-option_long [] n = refl
-option_long (t ∷ []) n = absurd (n refl)
-option_long (t ∷ u ∷ ts) n = either_way (is_the_word (codes "modules") (lexeme_of t)) (Err Malformed)
-
-pub option_other : (ts : List CodeToken) → length ts ≡ 1 → is_the_word (codes "modules") (lexeme_of (first_of ts)) ≡ false
-    → option_line (lexemes_of ts) ≡ Err Malformed
-option_other [] l h = refl
-option_other (t ∷ ts) l h = rw h refl
-
-pub option_is : (ts : List CodeToken) → length ts ≡ 1 → is_the_word (codes "modules") (lexeme_of (first_of ts)) ≡ true
-    → option_line (lexemes_of ts) ≡ Ok (attribute modules)
-option_is [] l h = absurd (omega (arith, l))
-option_is (t ∷ []) l h = rw h refl
-option_is (t ∷ u ∷ ts) l h = absurd (omega (arith, l))
 
 pub config_long : (ts : List CodeToken) → (length ts ≡ 1 → ⊥) → config_line (lexemes_of ts) ≡ Err Malformed
 config_long [] n = refl

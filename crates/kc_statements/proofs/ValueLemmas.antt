@@ -1,5 +1,5 @@
 -- Values of defaults, and operands.
-use Rattle.std.proofs.Common.{◌≡◌, ℕ, ◌+◌, true, ◌==◌, List, [], ◌∷◌, length, drop, refl, ap, sym, ◌∙◌, arith, Option, Some, Result, Ok, Err}
+use Rattle.std.proofs.Common.{◌≡◌, ℕ, ◌+◌, true, false, ◌==◌, List, [], ◌∷◌, length, drop, refl, ap, sym, ◌∙◌, arith, Option, Some, Result, Ok, Err}
 use Rattle.std.proofs.lemmas.Bool.{false≢true}
 use Rattle.kc_expr.specs.between.Arena.{Exprs, Represents, node_expr, Grows}
 use Rattle.kc_expr.specs.Expr.{Expr, Operand, alone, named, quoted}
@@ -46,16 +46,16 @@ operand_reported e id p x h r s =
 
 -- a default by its parts
 valued_by : (DefaultAttribute → Attribute) → Expr → ℕ → Option Expr → Result Statement TreeKind
-valued_by f v n c = Ok (attribute (f (record { value = v; single = n == 1; condition = c })))
+valued_by f v n c = Ok (attribute (f (record { value = v; single = n == 1; condition = c; from_environment = false })))
 
 pub valued_reported : (mid new : Exprs) (f : DefaultAttribute → Attribute) (ps : List Lexeme) (id next : ℕ) (c : Option ℕ) (x : Expr) → Grows mid new
     → read_expr (extent ps) ≡ Ok x → Represents mid id x
     → next ≡ 0 + length (extent ps) → optional_if (drop next ps) ≡ Ok (if_in new c)
-    → default_line f ps ≡ Ok (attribute (f (default_in new (record { value = id; single = next == 1; condition = c }))))
+    → default_line f ps ≡ Ok (attribute (f (default_in new (record { value = id; single = next == 1; condition = c; from_environment = false }))))
 unfolding valued_by
 valued_reported mid new f ps id next c x g reads s end given =
     let n : next ≡ length (extent ps) = omega (arith, end) in
-    let k : Option Expr → Statement = λ d. attribute (f (record { value = x; single = length (extent ps) == 1; condition = d })) in
+    let k : Option Expr → Statement = λ d. attribute (f (record { value = x; single = length (extent ps) == 1; condition = d; from_environment = false })) in
     default_is f ps x reads
     ∙ ap (stepped k) (ap (λ m. optional_if (drop m ps)) (sym n) ∙ given)
     ∙ ap (λ m. valued_by f x m (if_in new c)) (sym n)
@@ -66,5 +66,5 @@ pub valued_refused : (f : DefaultAttribute → Attribute) (ps : List Lexeme) (ne
     → default_line f ps ≡ Err k
 valued_refused f ps next x k reads end given =
     let n : next ≡ length (extent ps) = omega (arith, end) in
-    let t : Option Expr → Statement = λ d. attribute (f (record { value = x; single = length (extent ps) == 1; condition = d })) in
+    let t : Option Expr → Statement = λ d. attribute (f (record { value = x; single = length (extent ps) == 1; condition = d; from_environment = false })) in
     default_is f ps x reads ∙ ap (stepped t) (ap (λ m. optional_if (drop m ps)) (sym n) ∙ given)

@@ -3,7 +3,7 @@ ghost use Rattle.std.specs.Prelude.{Option, IfOk, codes};
 ghost use Rattle.kc_expr.specs.between.Arena.{Exprs, Grows, node_expr};
 ghost use Rattle.kc_expr.specs.Expr.{Expr};
 ghost use Rattle.kc_tokens.specs.Token.{lexemes_of};
-ghost use Rattle.kc_tree_model.specs.Forms.{type_line, prompt_line, default_line, target_line, condition_line, option_line, no_more};
+ghost use Rattle.kc_tree_model.specs.Forms.{type_line, prompt_line, default_line, target_line, condition_line, no_more};
 ghost use Rattle.kc_tree_model.specs.Statements.{Attribute as DefinedAttribute, DefaultAttribute as DefinedValued, TargetAttribute as DefinedAimed, attribute, prompt, default, typed_default, depends, visible, select, imply, help, modules, optional};
 ghost use Rattle.kc_statements.specs.between.StatementViews.{ReturnsOrFails, StatementNodesExist, NodeExists, IfNodeExists, DefaultNodesExist, TargetNodesExist, statement_in, if_in, default_in, target_in};
 
@@ -81,6 +81,7 @@ fn default_attribute(arena: &mut Arena, tokens: &[Token<'_>]) -> Result<DefaultA
             value,
             single: next == 1,
             condition,
+            from_environment: false,
         }),
         Err(kind) => Err(kind),
     }
@@ -256,18 +257,4 @@ pub(crate) fn optional_line<'a>(tokens: &[Token<'_>]) -> Result<Statement<'a>, T
     } else {
         Err(TreeKind::Malformed)
     }
-}
-
-/// Reads an `option` attribute from the tokens after `option`: the word `modules` alone.
-pub(crate) fn option_line<'a>(tokens: &[Token<'_>]) -> Result<Statement<'a>, TreeKind>
-    ensures gives { (e : Exprs) → ReturnsOrFails (statement_in e) result (option_line (lexemes_of tokens.now)) }
-    ensures held { (e : Exprs) → IfOk result (StatementNodesExist e) }
-{
-    if tokens.len() != 1 {
-        return Err(TreeKind::Malformed);
-    }
-    if !is_the_word("modules", &tokens[0]) {
-        return Err(TreeKind::Malformed);
-    }
-    Ok(Statement::Attribute(Attribute::Modules))
 }

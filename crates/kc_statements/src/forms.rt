@@ -6,13 +6,14 @@ ghost use Rattle.kc_tree_model.specs.Forms.{statement_of as defined_statement};
 ghost use Rattle.kc_statements.specs.between.StatementViews.{ReturnsOrFails, StatementNodesExist, statement_in};
 
 use super::attributes::{
-    default_line, depends_line, help_line, imply_line, modules_line, option_line, optional_line,
-    prompt_line, select_line, type_line, typed_default_line, visible_line,
+    default_line, depends_line, help_line, imply_line, modules_line, optional_line, prompt_line,
+    select_line, type_line, typed_default_line, visible_line,
 };
 use super::heads::{
     choice_line, comment_line, config_line, end_line, if_line, mainmenu_line, menu_line,
     source_line,
 };
+use super::options::option_line;
 use super::range::range_line;
 use super::statement::Statement;
 use kc_expr::Arena;
@@ -55,7 +56,7 @@ pub fn statement_of<'a>(
         Keyword::Visible => visible_line(arena, tokens),
         Keyword::Help => help_line(tokens),
         Keyword::Modules => modules_line(tokens),
-        Keyword::Option => option_line(tokens),
+        Keyword::Option => option_line(arena, tokens),
         Keyword::Optional => optional_line(tokens),
         Keyword::LeftOut => Err(TreeKind::Malformed),
     }

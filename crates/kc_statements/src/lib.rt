@@ -7,6 +7,7 @@ mod fault;
 mod forms;
 mod heads;
 mod keyword;
+mod options;
 mod placement;
 mod range;
 mod statement;

@@ -1,12 +1,13 @@
 //! The checks of a line before its form: forms that are left out of the language, and the attributes of each entry.
-ghost use Rattle.std.specs.Prelude.{◌≡◌, ◌&&◌, ◌||◌, ◌==◌, not, List};
+ghost use Rattle.std.specs.Prelude.{◌≡◌, ◌&&◌, ◌||◌, ◌==◌, not, List, drop, codes};
 ghost use Rattle.std.specs.List.{list_any};
 ghost use Rattle.kc_value.specs.Kinds.{is_tri_kind};
 ghost use Rattle.kc_tokens.specs.Token.{lexemes_of, lexeme_of};
 ghost use Rattle.kc_tree_model.specs.Blocks.{Group};
-ghost use Rattle.kc_tree_model.specs.Placement.{is_strict, is_left_out, is_choice_open, open_entry, is_glob_path, allows_attribute};
+ghost use Rattle.kc_tree_model.specs.Keywords.{is_quoted_kind, is_the_word};
+ghost use Rattle.kc_tree_model.specs.Placement.{first_is, is_strict, is_left_out_option, is_left_out, is_choice_open, open_entry, is_glob_path, allows_attribute};
 
-use super::token::{is_left_out_option, is_operand, is_word};
+use super::token::{is_operand, is_quoted, is_the_word, is_word};
 use kc_tokens::{Language, Token};
 use kc_tree_model::{Keyword, OpenEntry};
 use kc_value::Kind;
@@ -100,12 +101,39 @@ fn is_default_type_left_out(language: Language, kind: Kind) -> bool
     }
 }
 
+/// Whether the second token is a quoted text.
+fn has_quoted_second(tokens: &[Token<'_>]) -> bool
+    ensures { result ≡ first_is (λ t. is_quoted_kind t.kind) (drop 1 (lexemes_of tokens.now)) }
+{
+    tokens.len() > 1 && is_quoted(&tokens[1])
+}
+
+/// Whether a token is the word of an option of other tools: `defconfig_list` or `allnoconfig_y`.
+fn is_option_of_other_tools(token: &Token<'_>) -> bool
+    ensures { result ≡ (is_the_word (codes "defconfig_list") (lexeme_of token.now) || is_the_word (codes "allnoconfig_y") (lexeme_of token.now)) }
+{
+    is_the_word("defconfig_list", token) || is_the_word("allnoconfig_y", token)
+}
+
+/// Whether the tokens after `option` are an option that this language leaves out: `defconfig_list`, `allnoconfig_y` or `env`, but
+/// in the languages of Linux not `env` before a quoted text.
+fn is_left_out_option(language: Language, tokens: &[Token<'_>]) -> bool
+    ensures { result ≡ is_left_out_option language (lexemes_of tokens.now) }
+{
+    if tokens.is_empty() {
+        return false;
+    }
+    if is_the_word("env", &tokens[0]) {
+        return is_strict(language) || !has_quoted_second(tokens);
+    }
+    is_option_of_other_tools(&tokens[0])
+}
+
 /// Whether a line has a form that this language leaves out, by the keyword of its first token, the tokens after that, and whether
 /// the open entry is a choice.
 ///
-/// Left out are words such as `rsource`, the options `env`, `defconfig_list` and `allnoconfig_y`, named choices, tristate
-/// choices, paths that are patterns, and in the strict language also `def_int`, `def_hex` and `def_string`, and `optional`
-/// choices ("Kconfig syntax").
+/// Left out are words such as `rsource`, options of other tools, named choices, tristate choices, paths that are patterns, and in
+/// the strict language also `def_int`, `def_hex` and `def_string`, and `optional` choices ("Kconfig syntax").
 pub fn is_left_out(
     language: Language,
     keyword: Keyword,
@@ -117,7 +145,7 @@ pub fn is_left_out(
 {
     match keyword {
         Keyword::LeftOut => true,
-        Keyword::Option => !tokens.is_empty() && is_left_out_option(&tokens[0]),
+        Keyword::Option => is_left_out_option(language, tokens),
         Keyword::Choice => !tokens.is_empty() && is_word(&tokens[0]),
         Keyword::Source => !tokens.is_empty() && is_glob_path(&tokens[0]),
         Keyword::Type(Kind::Tristate) => choice_is_open,

@@ -15,7 +15,7 @@ use kc_tokens::Token;
 use kc_tree_model::TreeKind;
 
 /// Adds a bare word or a quoted text to the arena, as an expression of one operand.
-fn operand(arena: &mut Arena, token: &Token<'_>) -> Result<ExprId, TreeKind>
+pub(crate) fn operand(arena: &mut Arena, token: &Token<'_>) -> Result<ExprId, TreeKind>
     requires kind { is_operand_kind token.now.kind ≡ true }
     ensures grows { Grows arena.old arena.new }
     ensures operand { IfOk result (λ id. operand_of_lexeme (lexeme_of token.now) ≡ Some (operand_or_n arena.new id)) }

@@ -20,12 +20,14 @@ pub enum Head<'a> {
     Ends(Block),
 }
 
-/// A `default` attribute: the value, whether it is one operand (in parentheses it isn't), and the condition after `if`.
+/// A `default` attribute: the value, whether it is one operand (in parentheses it isn't), the condition after `if`, and whether it
+/// is an `option env`.
 #[derive(Clone, Copy)]
 pub struct DefaultAttribute {
     pub value: ExprId,
     pub single: bool,
     pub condition: Option<ExprId>,
+    pub from_environment: bool,
 }
 
 /// A `select` or `imply` attribute: the name of the symbol that it selects or implies, and the condition after `if`.

@@ -3,7 +3,6 @@ ghost use Rattle.std.specs.Prelude.{◌≡◌, ◌||◌, ◌&&◌, codes, bytes_
 ghost use Rattle.std.specs.List.{list_all};
 ghost use Rattle.kc_expr.specs.Grammar.{is_operand_kind};
 ghost use Rattle.kc_tokens.specs.Token.{lexeme_of};
-ghost use Rattle.kc_tree_model.specs.Forms.{is_left_out_option};
 ghost use Rattle.kc_tree_model.specs.Keywords.{is_word_kind, is_quoted_kind, is_the_word, is_name};
 ghost use Rattle.kc_tree_model.specs.TreeLookup.{is_name_byte};
 
@@ -63,15 +62,6 @@ fn is_constant(word: &str) -> bool
     ensures { result ≡ (bytes_eq word.now (codes "n") || bytes_eq word.now (codes "m") || bytes_eq word.now (codes "y")) }
 {
     word == "n" || word == "m" || word == "y"
-}
-
-/// Whether a token is the word of an option that is left out of the language: `env`, `defconfig_list` or `allnoconfig_y`.
-pub(crate) fn is_left_out_option(token: &Token<'_>) -> bool
-    ensures { result ≡ is_left_out_option (lexeme_of token.now) }
-{
-    is_the_word("env", token)
-        || is_the_word("defconfig_list", token)
-        || is_the_word("allnoconfig_y", token)
 }
 
 /// Whether a token can be an operand: a bare word or a quoted text.

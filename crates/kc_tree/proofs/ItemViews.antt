@@ -96,15 +96,15 @@ module _ (language : Language) (e : Exprs) (p : GroupInContext) where
   -- defaults
   default_by : (a : CodeAttribute) (number i : ℕ) → node_expr e i ≡ condition_at language p (record { number = number; attribute = attribute_in e a })
       → option_map (views.default_view e) (gathered_default (record { number = number; attribute = a }) i) ≡ option_map
-      (λ (d : DefaultAttribute). let x : tree.Default = record { value = d.value; condition = attribute_condition (context_of language p) p.group d.condition } in x)
+      (λ (d : DefaultAttribute). let x : tree.Default = record { value = d.value; condition = attribute_condition (context_of language p) p.group d.condition; from_environment = d.from_environment } in x)
       (default_of (attribute_in e a))
-  default_by (attributes.TypedDefault k d) n i s = ap (λ x. let y : tree.Default = record { value = node_expr e d.value; condition = x } in Some y) s
-  default_by (attributes.Default d) n i s = ap (λ x. let y : tree.Default = record { value = node_expr e d.value; condition = x } in Some y) s
+  default_by (attributes.TypedDefault k d) n i s = ap (λ x. let y : tree.Default = record { value = node_expr e d.value; condition = x; from_environment = d.from_environment } in Some y) s
+  default_by (attributes.Default d) n i s = ap (λ x. let y : tree.Default = record { value = node_expr e d.value; condition = x; from_environment = d.from_environment } in Some y) s
   default_by a n i s = refl
 
   pub default_item : (l : CodeLine) (i : ℕ) → LineNodesExist e l → node_expr e i ≡ condition_at language p (line_in e l)
       → option_map (views.default_view e) (gathered_default l i) ≡ own_item_of default_of
-      (λ q (d : DefaultAttribute). let x : tree.Default = record { value = d.value; condition = attribute_condition (context_of language q) q.group d.condition } in x)
+      (λ q (d : DefaultAttribute). let x : tree.Default = record { value = d.value; condition = attribute_condition (context_of language q) q.group d.condition; from_environment = d.from_environment } in x)
       p (line_in e l)
   default_item l i w s = default_by l.attribute l.number i s
 

@@ -44,7 +44,7 @@ abbrev pub prompt_meant : Language → GroupInContext → Option Expr → Expr
 prompt_meant language p = prompt_condition (context_of language p) p.group
 
 abbrev pub default_meant : Language → GroupInContext → DefaultAttribute → tree.Default
-default_meant language p d = record { value = d.value; condition = attribute_condition (context_of language p) p.group d.condition }
+default_meant language p d = record { value = d.value; condition = attribute_condition (context_of language p) p.group d.condition; from_environment = d.from_environment }
 
 abbrev pub range_meant : Language → GroupInContext → RangeAttribute → tree.Range
 range_meant language p r = record { low = r.low; high = r.high; condition = attribute_condition (context_of language p) p.group r.condition }

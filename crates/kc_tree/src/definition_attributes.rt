@@ -37,10 +37,12 @@ fn default_of(line: &Line, condition: ExprId) -> Option<Default>
         Attribute::Default(valued) => Some(Default {
             value: valued.value,
             condition,
+            from_environment: valued.from_environment,
         }),
         Attribute::TypedDefault(_, valued) => Some(Default {
             value: valued.value,
             condition,
+            from_environment: valued.from_environment,
         }),
         _ => None,
     }

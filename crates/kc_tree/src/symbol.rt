@@ -3,11 +3,12 @@ use kc_expr::{ExprId, NameId};
 use kc_tree_model::Sym;
 use kc_value::Kind;
 
-/// A default of a symbol: its value and its joined condition.
+/// A default of a symbol: its value, its joined condition, and whether it is an `option env`.
 #[derive(Clone, Copy)]
 pub struct Default {
     pub value: ExprId,
     pub condition: ExprId,
+    pub from_environment: bool,
 }
 
 /// A range of a symbol: its bounds, each an operand, and its joined condition.

@@ -1,6 +1,6 @@
 -- What the strict language reads without a fault, the language of Linux reads the same.
 use Rattle.std.proofs.Common.{◌≡◌, ℕ, zero, suc, Bool, true, false, not, ◌&&◌, ◌||◌, cond, List, [], ◌∷◌, ◌++◌, length, Option, Some, None, Result, Ok, Err, refl, ap, sym, ◌∙◌}
-use Rattle.std.specs.Prelude.{nat_lt, slice_get, flat_map, is_some, is_none, bytes_eq}
+use Rattle.std.specs.Prelude.{nat_lt, slice_get, flat_map, is_some, is_none, bytes_eq, codes}
 use Rattle.std.specs.Option.{option_or}
 use Rattle.std.specs.Str.{is_utf8}
 use Rattle.kc_tokens.specs.Token.{Lexeme, lexemes_from}
@@ -24,11 +24,11 @@ use Rattle.std.specs.Map.{lookup}
 use Rattle.kc_tree_model.specs.Trees.{in_language}
 use Rattle.kc_tree_model.specs.TreeFiles.{Files, file_at, index_of_file}
 use Rattle.kc_tree_model.specs.LogicalLines.{LogicalLine, lines_of}
-use Rattle.kc_tree_model.specs.Keywords.{keyword_of}
+use Rattle.kc_tree_model.specs.Keywords.{keyword_of, is_quoted_kind, is_the_word}
 use Rattle.kc_tree_model.specs.Statements.{config, choice, menu, condition, comment, source, mainmenu, ends, Statement}
 use Rattle.kc_tree_model.specs.Forms.{statement_of, ◌>>=◌}
 use Rattle.kc_tree_model.specs.Blocks.{Group, GroupHead, Position, of_head, file_end}
-use Rattle.kc_tree_model.specs.Placement.{is_allowed, is_left_out, is_stray_end}
+use Rattle.kc_tree_model.specs.Placement.{first_is, is_allowed, is_left_out, is_stray_end}
 use Rattle.kc_tree_model.specs.Limits.{FileSource, is_too_deep, is_too_many, source_fault}
 use Rattle.kc_tree_model.specs.TreeReading.{Outcome, fault_if, statement_by_keyword, statement_by_word, statement_of_tokens, statement_or_fault, statement_on_line, with_statement, with_group, path_to_read, continue_after_file, continue_after_source, continue_after_statement, continue_after_line, read_lines, read_file, read_root, reading}
 use Rattle.kc_tree_model.specs.Conditions.{GroupInContext}
@@ -44,6 +44,10 @@ unfolding tree_of_groups
 same_tree Unknown read h = refl
 same_tree V6_1 read h = refl
 same_tree V6_12 read h = cc
+
+kept_option : (env bare list none : Bool) → ((env && (true || bare)) || list || none) ≡ false → ((env && (false || bare)) || list || none) ≡ false
+kept_option true bare list none h = cc
+kept_option false bare list none h = h
 
 -- in any version of the language of Linux
 module _ (version : LinuxVersion) where
@@ -72,7 +76,9 @@ module _ (version : LinuxVersion) where
   kept read words.Visible ts h = h
   kept read words.Help ts h = h
   kept read words.Modules ts h = h
-  kept read words.Option ts h = h
+  kept read words.Option [] h = refl
+  kept read words.Option (t ∷ ts) h =
+      kept_option (is_the_word (codes "env") t) (not (first_is (λ u. is_quoted_kind u.kind) ts)) (is_the_word (codes "defconfig_list") t) (is_the_word (codes "allnoconfig_y") t) h
   kept read words.Optional ts h = refl
   kept read words.LeftOut ts h = h
 

@@ -76,7 +76,7 @@ kind_in_tree None given = unwrap_or given Boolean
 
 -- the defaults of a definition, in order, with their whole conditions ("Menu attributes", default value)
 abbrev pub defaults_at : Language → GroupInContext → List Default
-defaults_at language p = map (λ (d : DefaultAttribute). record { value = d.value; condition = attribute_condition (context_of language p) p.group d.condition }) (attribute_values default_of p.group)
+defaults_at language p = map (λ (d : DefaultAttribute). record { value = d.value; condition = attribute_condition (context_of language p) p.group d.condition; from_environment = d.from_environment }) (attribute_values default_of p.group)
 
 -- the ranges of a definition, in order, with their whole conditions ("Menu attributes", numerical ranges)
 abbrev pub ranges_at : Language → GroupInContext → List Range

@@ -1,5 +1,5 @@
 -- The grammar of the forms of lines, by the tokens after the first word ("Kconfig syntax", "Menu attributes").
-use Rattle.std.specs.Prelude.{◌≡◌, ℕ, true, ◌==◌, List, [], ◌∷◌, ◌++◌, length, Option, Some, None, codes}
+use Rattle.std.specs.Prelude.{◌≡◌, ℕ, true, false, ◌==◌, List, [], ◌∷◌, ◌++◌, length, Option, Some, None, codes}
 use Rattle.kc_value.specs.declared.value.Kind.{Kind}
 use Rattle.kc_value.specs.declared.limits.TheConstants.{MAX_EXPR_DEPTH}
 use Rattle.kc_tokens.specs.Token.{Lexeme}
@@ -7,7 +7,7 @@ use Rattle.kc_expr.specs.Expr.{Expr, Operand, conditional}
 use Rattle.kc_tokens.specs.declared.fault.ExprKind.TheVariants.{TooDeep}
 use Rattle.kc_expr.specs.ExprFaults.{IsFirstExprFault}
 use Rattle.kc_expr.specs.Grammar.{IsExpr, ors, extent, quoted_text, operand_of_lexeme}
-use Rattle.kc_tree_model.specs.Statements.{config, choice, menu, condition, comment, source, mainmenu, ends, DefaultAttribute, typed, typed_prompt, typed_default, prompt, default, depends, select, imply, range, visible, help, modules, optional, Statement, head, attribute}
+use Rattle.kc_tree_model.specs.Statements.{config, choice, menu, condition, comment, source, mainmenu, ends, DefaultAttribute, environment_default, typed, typed_prompt, typed_default, prompt, default, depends, select, imply, range, visible, help, modules, optional, Statement, head, attribute}
 use Rattle.kc_tree_model.specs.Keywords.{is_quoted_kind, is_the_word, is_name}
 use Rattle.kc_tree_model.specs.declared.keyword.Block.{Block}
 use Rattle.kc_tree_model.specs.declared.keyword.Keyword.{Keyword}
@@ -23,7 +23,7 @@ pub data IsOptionalIf : List Lexeme → Option Expr → Type 0 where
   no_if : IsOptionalIf [] None
   with_if : {t : Lexeme} {ts : List Lexeme} {c : Expr} → is_the_word (codes "if") t ≡ true → IsCondition ts c → IsOptionalIf (t ∷ ts) (Some c)
 
--- these tokens are `E [if E]`: the value of the default `d`, in which `m` stays `m`, and its condition
+-- these tokens are `E [if E]`: the value of the default `d`, in which `m` stays `m`, and its condition; it is no `option env`
 pub record IsDefault (ts : List Lexeme) (d : DefaultAttribute) : Type 0 where
   pub front : List Lexeme
   pub rest : List Lexeme
@@ -31,6 +31,7 @@ pub record IsDefault (ts : List Lexeme) (d : DefaultAttribute) : Type 0 where
   pub value : IsExpr ors MAX_EXPR_DEPTH front d.value
   pub single : d.single ≡ (length front == 1)
   pub optional : IsOptionalIf rest d.condition
+  pub own : d.from_environment ≡ false
 
 -- a line with this keyword and these tokens after it is this statement
 pub data IsForm : Keyword → List Lexeme → Statement → Type 0 where
@@ -56,6 +57,8 @@ pub data IsForm : Keyword → List Lexeme → Statement → Type 0 where
   help_form : IsForm words.Help [] (attribute help)
   modules_form : IsForm words.Modules [] (attribute modules)
   option_form : {t : Lexeme} → is_the_word (codes "modules") t ≡ true → IsForm words.Option (t ∷ []) (attribute modules)
+  environment_form : {t u : Lexeme} {text : Operand} → is_the_word (codes "env") t ≡ true → is_quoted_kind u.kind ≡ true → operand_of_lexeme u ≡ Some text
+      → IsForm words.Option (t ∷ u ∷ []) (attribute (default (environment_default text)))
   optional_form : IsForm words.Optional [] (attribute optional)
 
 -- these tokens may come between this keyword and an `if E` on its line

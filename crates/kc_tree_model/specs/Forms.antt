@@ -1,6 +1,6 @@
 -- Reads the form of each line from the tokens after its first word ("Kconfig syntax", "Menu attributes"). It computes what
 -- `FormGrammar` describes, by the law `forms_are_of_the_grammar`.
-use Rattle.std.specs.Prelude.{ℕ, Bool, ◌||◌, ◌==◌, List, [], ◌∷◌, length, drop, Option, Some, None, codes, Result, Ok, Err, if◌then◌else◌}
+use Rattle.std.specs.Prelude.{ℕ, Bool, true, false, ◌||◌, ◌==◌, List, [], ◌∷◌, length, drop, Option, Some, None, codes, Result, Ok, Err, if◌then◌else◌}
 use Rattle.std.specs.List.{list_any}
 use Rattle.kc_value.specs.declared.value.Kind.{Kind}
 use Rattle.kc_tokens.specs.Token.{Lexeme}
@@ -10,7 +10,7 @@ use Rattle.kc_expr.specs.Expr.{Expr, Operand, conditional}
 use Rattle.kc_expr.specs.Grammar.{read_expr, extent, quoted_text, operand_of_lexeme}
 use Rattle.kc_tree_model.specs.declared.fault.TreeKind.{TreeKind}
 use Rattle.kc_tree_model.specs.declared.fault.TreeKind.TheVariants.{BadToken, UnclosedQuote, Malformed, TooDeep, LeftOut, OutOfMemory}
-use Rattle.kc_tree_model.specs.Statements.{Head, config, choice, menu, condition, comment, source, mainmenu, ends, DefaultAttribute, TargetAttribute, Attribute, typed, typed_prompt, typed_default, prompt, default, depends, select, imply, range, visible, help, modules, optional, Statement, head, attribute}
+use Rattle.kc_tree_model.specs.Statements.{Head, config, choice, menu, condition, comment, source, mainmenu, ends, DefaultAttribute, environment_default, TargetAttribute, Attribute, typed, typed_prompt, typed_default, prompt, default, depends, select, imply, range, visible, help, modules, optional, Statement, head, attribute}
 use Rattle.kc_tree_model.specs.Keywords.{is_word_kind, is_quoted_kind, is_the_word, is_name}
 use Rattle.kc_tree_model.specs.declared.keyword.Keyword.{Keyword}
 use Rattle.kc_tree_model.specs.declared.keyword.Keyword.TheVariants as words
@@ -96,7 +96,7 @@ abbrev pub default_line : (DefaultAttribute → Attribute) → List Lexeme → R
 default_line f ts = do
   e ← leading_expr ts
   c ← optional_if e.rest
-  Ok (attribute (f (record { value = e.expr; single = e.single; condition = c })))
+  Ok (attribute (f (record { value = e.expr; single = e.single; condition = c; from_environment = false })))
 
 -- the attribute of a `select` or `imply` line by the tokens after that word, which are `NAME [if E]`, or a fault
 abbrev pub target_line : (TargetAttribute → Attribute) → List Lexeme → Result Statement TreeKind
@@ -118,14 +118,23 @@ abbrev pub condition_line : List ℕ → (Expr → Attribute) → List Lexeme �
 condition_line word f [] = Err Malformed
 condition_line word f (t ∷ ts) = if is_the_word word t then (last_condition ts >>= λ e. Ok (attribute (f e))) else Err Malformed
 
--- whether a token is an option of other tools that is left out: `env`, `defconfig_list` or `allnoconfig_y`
-abbrev pub is_left_out_option : Lexeme → Bool
-is_left_out_option t = is_the_word (codes "env") t || is_the_word (codes "defconfig_list") t || is_the_word (codes "allnoconfig_y") t
+-- the attribute of an `option env` line by the operand that its text is and the tokens after that, of which there are none
+abbrev pub environment_of_operand : Option Operand → List Lexeme → Result Statement TreeKind
+environment_of_operand (Some text) ts = no_more (attribute (default (environment_default text))) ts
+environment_of_operand None ts = Err Malformed
 
--- the attribute of an `option` line by the tokens after that word, which are `modules`, or a fault
+-- the attribute of an `option env` line by the tokens after `env`, which are one quoted text, or a fault
+abbrev pub environment_line : List Lexeme → Result Statement TreeKind
+environment_line [] = Err Malformed
+environment_line (t ∷ ts) = if is_quoted_kind t.kind then environment_of_operand (operand_of_lexeme t) ts else Err Malformed
+
+-- the attribute of an `option` line by the tokens after that word, which are `modules`, or `env` and a text, or a fault
 abbrev pub option_line : List Lexeme → Result Statement TreeKind
 option_line [] = Err Malformed
-option_line (t ∷ ts) = if is_the_word (codes "modules") t then no_more (attribute modules) ts else Err Malformed
+option_line (t ∷ ts) =
+    if is_the_word (codes "modules") t then no_more (attribute modules) ts
+    else if is_the_word (codes "env") t then environment_line ts
+    else Err Malformed
 
 -- the statement of a line with this keyword and these tokens after it, or a fault; `is_left_out` tests for left-out forms before
 abbrev pub statement_of : Keyword → List Lexeme → Result Statement TreeKind

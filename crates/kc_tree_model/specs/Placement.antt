@@ -1,5 +1,5 @@
 -- Where statements and attributes are allowed, and which forms are left out ("Kconfig syntax").
-use Rattle.std.specs.Prelude.{Bool, true, false, not, ◌&&◌, List, [], ◌∷◌, Option, Some, None, is_some}
+use Rattle.std.specs.Prelude.{Bool, true, false, not, ◌&&◌, ◌||◌, List, [], ◌∷◌, Option, Some, None, is_some, codes}
 use Rattle.std.specs.List.{list_all}
 use Rattle.kc_value.specs.declared.value.Kind.TheVariants.{Bool as Boolean, Tristate}
 use Rattle.kc_value.specs.Kinds.{is_tri_kind}
@@ -9,10 +9,10 @@ use Rattle.kc_tokens.specs.declared.language.Language.TheVariants.{Strict, Linux
 use Rattle.kc_tree_model.specs.declared.keyword.OpenEntry.{OpenEntry}
 use Rattle.kc_tree_model.specs.declared.keyword.OpenEntry.TheVariants as entries
 use Rattle.kc_tree_model.specs.Statements.{Head, config, choice, menu, comment}
-use Rattle.kc_tree_model.specs.Keywords.{is_word_kind}
+use Rattle.kc_tree_model.specs.Keywords.{is_word_kind, is_quoted_kind, is_the_word}
 use Rattle.kc_tree_model.specs.declared.keyword.Keyword.{Keyword}
 use Rattle.kc_tree_model.specs.declared.keyword.Keyword.TheVariants as words
-use Rattle.kc_tree_model.specs.Forms.{path_of, is_glob, is_left_out_option}
+use Rattle.kc_tree_model.specs.Forms.{path_of, is_glob}
 use Rattle.kc_tree_model.specs.Blocks.{Group, open_blocks, from_head, opened_block, in_choice, is_stray}
 
 -- the entry that a statement opens, if it is a `config`, a `choice`, a `menu` or a `comment`
@@ -88,12 +88,20 @@ abbrev pub is_strict : Language → Bool
 is_strict Strict = true
 is_strict (Linux version) = false
 
+-- whether the tokens after `option` are an option that a language leaves out: `env`, but in the languages of Linux not before a
+-- quoted text, `defconfig_list` or `allnoconfig_y`
+abbrev pub is_left_out_option : Language → List Lexeme → Bool
+is_left_out_option language [] = false
+is_left_out_option language (t ∷ ts) =
+    (is_the_word (codes "env") t && (is_strict language || not (first_is (λ u. is_quoted_kind u.kind) ts)))
+    || is_the_word (codes "defconfig_list") t || is_the_word (codes "allnoconfig_y") t
+
 -- whether a line after these groups, with this keyword and these tokens after it, has a form that the language leaves out: some
 -- first words, some options, named and tristate choices, paths that are patterns; in the strict language also `def_int`,
 -- `def_hex`, `def_string` and `optional`
 abbrev pub is_left_out : Language → List Group → Keyword → List Lexeme → Bool
 is_left_out language read words.LeftOut ts = true
-is_left_out language read words.Option ts = first_is is_left_out_option ts
+is_left_out language read words.Option ts = is_left_out_option language ts
 is_left_out language read words.Choice ts = first_is (λ t. is_word_kind t.kind) ts
 is_left_out language read words.Source ts = first_is is_glob_path ts
 is_left_out language read (words.Type Tristate) ts = is_choice_open (open_entry read)

@@ -1,7 +1,7 @@
 -- Statements and attributes: the meaning of a tree's logical lines.
 use Rattle.std.specs.Prelude.{ℕ, Bool, true, false, List, Option, Some, None}
 use Rattle.kc_value.specs.declared.value.Kind.{Kind}
-use Rattle.kc_expr.specs.Expr.{Expr, Operand}
+use Rattle.kc_expr.specs.Expr.{Expr, Operand, alone}
 use Rattle.kc_tree_model.specs.declared.keyword.Block.{Block}
 use Rattle.kc_tree_model.specs.declared.keyword.Block.TheVariants as blocks
 
@@ -16,11 +16,17 @@ pub data Head : Type 0 where
   mainmenu : Head
   ends : Block → Head
 
--- a default: its value, whether that is one operand (in parentheses it isn't), and the condition of its `if`
+-- a default: its value, whether that is one operand (in parentheses it isn't), the condition of its `if`, and whether it is an
+-- `option env`, whose value is one of the environment
 pub record DefaultAttribute : Type 0 where
   pub value : Expr
   pub single : Bool
   pub condition : Option Expr
+  pub from_environment : Bool
+
+-- the default that an `option env` with this text is, without a condition
+abbrev pub environment_default : Operand → DefaultAttribute
+environment_default text = record { value = alone text; single = true; condition = None; from_environment = true }
 
 -- a `select` or an `imply`: the name of the symbol that it selects or implies, and the condition of its `if`
 pub record TargetAttribute : Type 0 where

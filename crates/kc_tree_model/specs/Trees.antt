@@ -5,10 +5,11 @@ use Rattle.kc_tokens.specs.declared.language.Language.{Language}
 use Rattle.kc_expr.specs.Expr.{Expr, Operand}
 use Rattle.kc_tree_model.specs.declared.ids.Unit.{Unit as TreeUnit}
 
--- a default of a symbol: its value, and its condition joined with the enclosing ones
+-- a default of a symbol: its value, its condition joined with the enclosing ones, and whether it is an `option env`
 pub record Default : Type 0 where
   pub value : Expr
   pub condition : Expr
+  pub from_environment : Bool
 
 -- a range of a symbol: its bounds, and its condition joined with the enclosing ones
 pub record Range : Type 0 where

@@ -29,7 +29,7 @@ use Rattle.kc_value.specs.Tri.{y_for_m}
 use Rattle.kc_value.specs.Kinds.{is_bool, is_tristate, is_tri_kind}
 use Rattle.kc_value.specs.Number.{number_of_text, number_spelling}
 use Rattle.kc_rules_model.specs.SymbolValues.{condition, environment, value_of_symbol, value_in_unit, tri_symbol_value, tri_if_selected, member_of, tri_of, text_of}
-use Rattle.kc_rules_model.specs.Rule.{conditions, reverse_dependency_limit, is_visible, expression_text, default_tri, is_within, clamped, promoted, modules_value, visibility, unassigned_value, base, selected, implied, implied_effect, leaves_no_m, direct_dependency, active_default, active_range, assigned_tri, assigned_text, assigned_member, tri_rule, string_rule, number_rule, number_default, default_text, visible_text, symbol_rule, choice_rule, shown_choice_rule, default_member, assigned_lines, user_number, bound_text, bound, is_upside_down, text_without_number, is_shown, is_visible_member, rule, rule_of_unit, rule_of_symbol, rule_of_choice}
+use Rattle.kc_rules_model.specs.Rule.{conditions, is_from_environment, counted_prompts, reverse_dependency_limit, is_visible, expression_text, default_tri, is_within, clamped, promoted, modules_value, visibility, unassigned_value, base, selected, implied, implied_effect, leaves_no_m, direct_dependency, active_default, active_range, assigned_tri, assigned_text, assigned_member, tri_rule, string_rule, number_rule, number_default, default_text, visible_text, symbol_rule, choice_rule, shown_choice_rule, default_member, assigned_lines, user_number, bound_text, bound, is_upside_down, text_without_number, is_shown, is_visible_member, rule, rule_of_unit, rule_of_symbol, rule_of_choice}
 use Rattle.kc_rules_model.specs.Dependencies.{units_named, units_of_reverse_dependencies, needed_by_symbol, needed_by_choice, needed_by, needed_by_symbol_at, needed_by_choice_at, dependencies, names_in_member_prompts, names_in_prompts, names_in_prompt, names_in_shown}
 use Rattle.kc_expr.specs.ExpressionNames.{names_in, operand_names}
 use Rattle.kc_rules_model.specs.Shapes.{user_fits, unit_user_fits, choice_user_fits}
@@ -128,9 +128,16 @@ module _ (tree : Tree) (v w : List UnitValue) where
       let p = parts _ (names_in e) (flat_map names_in es) all in
       ap (λ t. t ∷ conditions tree v es) (value_agrees (environment tree v) (environment tree w) e p.0) ∙ ap (λ ts. condition tree w e ∷ ts) (conditions_agree es p.1)
 
+  counted_agree : (b : Bool) (prompts : List Expr) → Agrees (environment tree v) (environment tree w) (flat_map names_in prompts)
+      → conditions tree v (cond b [] prompts) ≡ conditions tree w (cond b [] prompts)
+  counted_agree true prompts all = refl
+  counted_agree false prompts all = conditions_agree prompts all
+
   visible_agrees : (symbol : Symbol) → Agrees (environment tree v) (environment tree w) (flat_map names_in symbol.prompts) → is_visible tree v symbol ≡ is_visible tree w symbol
   visible_agrees symbol all =
-      visible_by_prompts _ (largest (conditions tree v symbol.prompts)) ∙ ap (λ ts. not (is_n (largest ts))) (conditions_agree symbol.prompts all) ∙ sym (visible_by_prompts _ (largest (conditions tree w symbol.prompts)))
+      let counted = counted_prompts symbol in
+      visible_by_prompts _ (largest (conditions tree v counted)) ∙ ap (λ ts. not (is_n (largest ts))) (counted_agree (is_from_environment symbol) symbol.prompts all)
+      ∙ sym (visible_by_prompts _ (largest (conditions tree w counted)))
 
   forces_agree : (fs : List ReverseDependency) → AllByRecursion (λ d. slice_get v d ≡ slice_get w d) (map (λ (f : ReverseDependency). unit_of tree f.by) fs) → Agrees (environment tree v) (environment tree w) (flat_map (λ (f : ReverseDependency). names_in f.condition) fs)
       → reverse_dependency_limit tree v fs ≡ reverse_dependency_limit tree w fs
@@ -279,7 +286,8 @@ module _ (tree : Tree) (v w : List UnitValue) where
 
   visibility_agrees : (symbol : Symbol) → SymbolAgrees symbol → visibility tree v symbol ≡ visibility tree w symbol
   visibility_agrees symbol a =
-      ap (λ ts. promoted tree v symbol.kind (largest ts)) (conditions_agree symbol.prompts a.prompts) ∙ promoted_agrees symbol a (largest (conditions tree w symbol.prompts))
+      ap (λ ts. promoted tree v symbol.kind (largest ts)) (counted_agree (is_from_environment symbol) symbol.prompts a.prompts)
+      ∙ promoted_agrees symbol a (largest (conditions tree w (counted_prompts symbol)))
 
   effect_agrees : (symbol : Symbol) → SymbolAgrees symbol → implied_effect tree v symbol ≡ implied_effect tree w symbol
   effect_agrees symbol a =

@@ -38,7 +38,7 @@ operand_or_n e id = operand_of_expr (node_expr e id)
 
 -- a `default` attribute that the code has read, with expressions in place of the numbers of their nodes in the arena
 abbrev pub default_in : Exprs → CodeDefaultAttribute → DefaultAttribute
-default_in e d = record { value = node_expr e d.value; single = d.single; condition = if_in e d.condition }
+default_in e d = record { value = node_expr e d.value; single = d.single; condition = if_in e d.condition; from_environment = d.from_environment }
 
 -- a `select` or `imply` attribute that the code has read, with the name and the condition in place of their numbers in the arena
 abbrev pub target_in : Exprs → CodeTargetAttribute → TargetAttribute

@@ -22,7 +22,7 @@ operand_or_empty e = elim (operand_alone e) [ None ↦ quoted [] | Some a ↦ a 
 
 -- the model's form of a stored default: the expressions of value and condition in place of their numbers
 abbrev pub default_view : Exprs → Default → tree.Default
-default_view exprs d = record { value = node_expr exprs d.value; condition = node_expr exprs d.condition }
+default_view exprs d = record { value = node_expr exprs d.value; condition = node_expr exprs d.condition; from_environment = d.from_environment }
 
 -- the model's form of a stored range: operands as bounds, and the condition's expression in place of its number
 abbrev pub range_view : Exprs → Range → tree.Range

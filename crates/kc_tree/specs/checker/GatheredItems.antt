@@ -20,8 +20,8 @@ gathered_prompt l c = if is_prompt l.attribute then Some c else None
 
 -- the default that an attribute is, with the given condition in place of its `if`; `None` if it is no default
 abbrev pub default_by : CodeAttribute → ℕ → Option Default
-default_by (attributes.Default d) c = Some (record { value = d.value; condition = c })
-default_by (attributes.TypedDefault k d) c = Some (record { value = d.value; condition = c })
+default_by (attributes.Default d) c = Some (record { value = d.value; condition = c; from_environment = d.from_environment })
+default_by (attributes.TypedDefault k d) c = Some (record { value = d.value; condition = c; from_environment = d.from_environment })
 default_by a c = None
 
 -- the default that an attribute line gives, with the given condition in place of its `if`; `None` if it gives no default

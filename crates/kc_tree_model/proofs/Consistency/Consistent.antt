@@ -181,7 +181,7 @@ module _ (language : Language) (c : Contents) (s : IsSound c) (none : (p : Group
 -- the own texts of defaults are one line of UTF-8
 default_is_plain : (language : Language) (c : Contents) (s : IsSound c) (p : GroupInContext) (d : Default) → Has p c.places → Has d (defaults_at language p) → IsPlainText (own_text d.value)
 default_is_plain language c s p d h k =
-    let a = has_mapped (λ (v : DefaultAttribute). record { value = v.value; condition = attribute_condition (context_of language p) p.group v.condition })
+    let a = has_mapped (λ (v : DefaultAttribute). record { value = v.value; condition = attribute_condition (context_of language p) p.group v.condition; from_environment = v.from_environment })
     (attribute_values default_of p.group) d k in
     let b = has-filter_map (λ (l : Line). default_of l.attribute) p.group.attributes a.0 a.1 in
     subst (λ (y : Default). IsPlainText (own_text y.value)) a.2 (value_of_group p.group.attributes b.0 a.0 (s.values p h) b.1 b.2)

@@ -34,6 +34,10 @@ lexemes_front : (P : List ℕ → Type 0) (ts us : List Lexeme) → AllTexts P (
 lexemes_front P [] us h = tt
 lexemes_front P (t ∷ ts) us h = (h.0, lexemes_front P ts us h.1)
 
+lexemes_back : (P : List ℕ → Type 0) (ts us : List Lexeme) → AllTexts P (ts ++ us) → AllTexts P us
+lexemes_back P [] us h = h
+lexemes_back P (t ∷ ts) us h = lexemes_back P ts us h.1
+
 extent_by : (P : List ℕ → Type 0) (b : Bool) (t : Lexeme) (us : List Lexeme) → P t.text → AllTexts P us → AllTexts P (cond b (t ∷ []) (t ∷ us))
 extent_by P true t us h k = (h, tt)
 extent_by P false t us h k = (h, k)
@@ -79,6 +83,6 @@ module _ (P : List ℕ → Type 0) (nothing : P []) (unquoted : (text : List ℕ
   pub own_text_of_value : (tokens : Result (List Lexeme) ExprFault) (value : Expr) → ((ts : List Lexeme) → tokens ≡ Ok ts → AllTexts P ts)
       → IsValueOf tokens value → P (own_text value)
   own_text_of_value tokens value all v =
-      let pieces : AllTexts P v.rest = (all (v.first ∷ v.rest) v.tokens_are).1 in
+      let pieces : AllTexts P v.rest = lexemes_back P v.before v.rest (all (v.before ++ v.rest) v.tokens_are) in
       let reads : read_expr (extent v.rest) ≡ Ok v.taken.expr = taken_by v.rest (read_expr (extent v.rest)) v.taken refl v.read_as in
       subst (λ e. P (own_text e)) v.is (of_expr (expr_sound (extent v.rest) v.taken.expr reads) (of_extent P v.rest pieces))

@@ -1,35 +1,37 @@
 -- A line's statement fits the groups read before: an end matches the innermost block, and an attribute has an open entry.
-use Rattle.std.proofs.Common.{ap, ◌∙◌, ◌≡◌, ℕ, Bool, true, false, not, cond, List, [], ◌∷◌, Option, Some, None, Result, Ok, Err, IsUtf8, refl, sym, subst, length}
-use Rattle.std.specs.Prelude.{nat_lt}
+use Rattle.std.proofs.Common.{ap, ◌∙◌, ◌≡◌, ℕ, Bool, true, false, not, cond, List, [], ◌∷◌, ◌++◌, Option, Some, None, Result, Ok, Err, IsUtf8, refl, sym, subst, length}
+use Rattle.std.specs.Prelude.{nat_lt, codes}
 use Rattle.std.specs.Str.{is_utf8}
 use Rattle.std.proofs.lemmas.Str.{IsUtf8-from_is_utf8}
 use Rattle.kc_tokens.specs.declared.language.Language.{Language}
 use Rattle.kc_value.specs.declared.value.Kind.{Kind}
-use Rattle.kc_expr.specs.Expr.{Expr, Operand}
+use Rattle.kc_expr.specs.Expr.{Expr, Operand, alone}
 use Rattle.kc_tokens.specs.Token.{Lexeme, lexemes_from}
-use Rattle.kc_expr.specs.Grammar.{operand_of_lexeme, quoted_text}
+use Rattle.kc_expr.specs.Grammar.{operand_of_lexeme, quoted_text, one_and, one_factor, operand}
 use Rattle.kc_tokens.specs.declared.fault.ExprFault.{ExprFault}
 use Rattle.kc_tree_model.specs.declared.fault.TreeKind.{TreeKind}
 use Rattle.kc_tree_model.specs.declared.fault.TreeKind.TheVariants.{Malformed, LeftOut, Misplaced, StrayEnd, TooDeep, TooMany, LineTooLong, NotUtf8}
 use Rattle.kc_tree_model.specs.LogicalLines.{LogicalLine}
-use Rattle.kc_tree_model.specs.Statements.{Head, config, choice, menu, condition, comment, source, mainmenu, ends, DefaultAttribute, TargetAttribute, Attribute, typed_prompt, typed_default, prompt, default, depends, select, imply, range, visible, help, modules, optional, default_of, Statement, head, attribute}
+use Rattle.kc_tree_model.specs.Statements.{Head, config, choice, menu, condition, comment, source, mainmenu, ends, DefaultAttribute, environment_default, TargetAttribute, Attribute, typed_prompt, typed_default, prompt, default, depends, select, imply, range, visible, help, modules, optional, default_of, Statement, head, attribute}
 use Rattle.kc_tree_model.specs.declared.keyword.Block.{Block}
 use Rattle.kc_tree_model.specs.Keywords.{keyword_of, is_name, is_quoted_kind, is_the_word}
 use Rattle.kc_tree_model.specs.declared.keyword.Keyword.{Keyword}
 use Rattle.kc_tree_model.specs.declared.keyword.Keyword.TheVariants as words
-use Rattle.kc_tree_model.specs.Forms.{ParsedExpr, leading_expr, ◌>>=◌, statement_of, config_line, choice_line, titled_line, source_line, path_of, prompt_line, type_line, default_line, target_line, range_of_operands, range_line, condition_line, option_line, no_more, last_condition, optional_if}
+use Rattle.kc_tree_model.specs.Forms.{ParsedExpr, leading_expr, ◌>>=◌, statement_of, config_line, choice_line, titled_line, source_line, path_of, prompt_line, type_line, default_line, target_line, range_of_operands, range_line, condition_line, environment_of_operand, environment_line, option_line, no_more, last_condition, optional_if}
 use Rattle.kc_tree_model.specs.Blocks.{Group, is_stray}
 use Rattle.kc_tree_model.specs.Placement.{open_entry, allows_attribute, open_entry_allows, is_allowed, is_left_out, is_stray_end}
 use Rattle.kc_tree_model.specs.declared.keyword.OpenEntry.{OpenEntry}
 use Rattle.kc_tree_model.specs.Limits.{is_too_deep, is_too_many}
+use Rattle.kc_tree_model.proofs.ReadingLaws.FormLaws.{front_read}
 use Rattle.kc_value.specs.declared.limits.TheConstants.{MAX_LINE_BYTES}
 use Rattle.kc_tree_model.specs.TreeReading.{fault_if, statement_by_keyword, statement_of_tokens, statement_by_word, statement_or_fault, statement_on_line}
 
--- the sort of a statement: a `config`, a default, the end of a block, another attribute, or any other statement
+-- the sort of a statement: a `config`, a default, the end of a block, an option, another attribute, or any other statement
 pub data Sort : Type 0 where
   config_sort : Sort
   default_sort : Sort
   end_sort : Block → Sort
+  option_sort : Sort
   attribute_sort : Sort
   other_sort : Sort
 
@@ -39,8 +41,9 @@ sort_of_head (ends b) = end_sort b
 sort_of_head h = other_sort
 
 abbrev sort_of_attribute : Attribute → Sort
-sort_of_attribute (default d) = default_sort
+sort_of_attribute (default d) = cond d.from_environment option_sort default_sort
 sort_of_attribute (typed_default k d) = default_sort
+sort_of_attribute modules = option_sort
 sort_of_attribute a = attribute_sort
 
 abbrev sort_of : Statement → Sort
@@ -58,6 +61,8 @@ sort_of_word words.Mainmenu = other_sort
 sort_of_word (words.End b) = end_sort b
 sort_of_word words.Default = default_sort
 sort_of_word (words.DefaultType k) = default_sort
+sort_of_word words.Modules = option_sort
+sort_of_word words.Option = option_sort
 sort_of_word k = attribute_sort
 
 -- a line's statement is of this sort, unless it is refused
@@ -109,12 +114,14 @@ gives_type : (k : Kind) (ts : List Lexeme) → Gives attribute_sort (type_line k
 gives_type k [] = refl
 gives_type k (p ∷ ts) = gives_prompt (typed_prompt k) (λ c. refl) (p ∷ ts)
 
-gives_default : (f : DefaultAttribute → Attribute) → ((d : DefaultAttribute) → sort_of_attribute (f d) ≡ default_sort) → (ts : List Lexeme)
+gives_default : (f : DefaultAttribute → Attribute)
+    → ((v : Expr) (s : Bool) (c : Option Expr) → sort_of_attribute (f (record { value = v; single = s; condition = c; from_environment = false })) ≡ default_sort)
+    → (ts : List Lexeme)
     → Gives default_sort (default_line f ts)
 gives_default f h ts =
-    gives_bind (leading_expr ts) (λ e. optional_if e.rest >>= λ c. Ok (attribute (f (record { value = e.expr; single = e.single; condition = c }))))
-    default_sort (λ e. gives_bind (optional_if e.rest) (λ c. Ok (attribute (f (record { value = e.expr; single = e.single; condition = c })))) default_sort
-    (λ c. h (record { value = e.expr; single = e.single; condition = c })))
+    gives_bind (leading_expr ts) (λ e. optional_if e.rest >>= λ c. Ok (attribute (f (record { value = e.expr; single = e.single; condition = c; from_environment = false }))))
+    default_sort (λ e. gives_bind (optional_if e.rest) (λ c. Ok (attribute (f (record { value = e.expr; single = e.single; condition = c; from_environment = false })))) default_sort
+    (h e.expr e.single))
 
 gives_aimed : (f : TargetAttribute → Attribute) → ((a : TargetAttribute) → sort_of_attribute (f a) ≡ attribute_sort) → (ts : List Lexeme)
     → Gives attribute_sort (target_line f ts)
@@ -142,10 +149,23 @@ gives_worded w f h (p ∷ ts) =
     gives_if (is_the_word w p) attribute_sort (last_condition ts >>= λ e. Ok (attribute (f e))) Malformed
     (gives_bind (last_condition ts) (λ e. Ok (attribute (f e))) attribute_sort h)
 
-gives_option : (ts : List Lexeme) → Gives attribute_sort (option_line ts)
+gives_environment_by : (o : Option Operand) (ts : List Lexeme) → Gives option_sort (environment_of_operand o ts)
+gives_environment_by None ts = tt
+gives_environment_by (Some text) ts = gives_last (attribute (default (environment_default text))) ts option_sort refl
+
+gives_environment : (ts : List Lexeme) → Gives option_sort (environment_line ts)
+gives_environment [] = tt
+gives_environment (p ∷ ts) =
+    gives_if (is_quoted_kind p.kind) option_sort (environment_of_operand (operand_of_lexeme p) ts) Malformed (gives_environment_by (operand_of_lexeme p) ts)
+
+gives_option_by : (p : Lexeme) (ts : List Lexeme) (b : Bool)
+    → Gives option_sort (cond b (no_more (attribute modules) ts) (cond (is_the_word (codes "env") p) (environment_line ts) (Err Malformed)))
+gives_option_by p ts true = gives_last (attribute modules) ts option_sort refl
+gives_option_by p ts false = gives_if (is_the_word (codes "env") p) option_sort (environment_line ts) Malformed (gives_environment ts)
+
+gives_option : (ts : List Lexeme) → Gives option_sort (option_line ts)
 gives_option [] = tt
-gives_option (p ∷ ts) =
-    gives_if (is_the_word _ p) attribute_sort (no_more (attribute modules) ts) Malformed (gives_last (attribute modules) ts attribute_sort refl)
+gives_option (p ∷ ts) = gives_option_by p ts (is_the_word (codes "modules") p)
 
 gives_statement : (k : Keyword) (ts : List Lexeme) → Gives (sort_of_word k) (statement_of k ts)
 gives_statement words.Config ts = gives_config ts
@@ -157,16 +177,16 @@ gives_statement words.Source ts = gives_source ts
 gives_statement words.Mainmenu ts = gives_title (λ _. mainmenu) (λ _. refl) ts
 gives_statement (words.End b) ts = gives_last (head (ends b)) ts (end_sort b) refl
 gives_statement (words.Type k) ts = gives_type k ts
-gives_statement (words.DefaultType k) ts = gives_default (typed_default k) (λ d. refl) ts
+gives_statement (words.DefaultType k) ts = gives_default (typed_default k) (λ v s c. refl) ts
 gives_statement words.Prompt ts = gives_prompt prompt (λ c. refl) ts
-gives_statement words.Default ts = gives_default default (λ d. refl) ts
+gives_statement words.Default ts = gives_default default (λ v s c. refl) ts
 gives_statement words.Depends ts = gives_worded _ depends (λ e. refl) ts
 gives_statement words.Select ts = gives_aimed select (λ a. refl) ts
 gives_statement words.Imply ts = gives_aimed imply (λ a. refl) ts
 gives_statement words.Range ts = gives_range ts
 gives_statement words.Visible ts = gives_worded _ visible (λ e. refl) ts
 gives_statement words.Help ts = gives_last (attribute help) ts attribute_sort refl
-gives_statement words.Modules ts = gives_last (attribute modules) ts attribute_sort refl
+gives_statement words.Modules ts = gives_last (attribute modules) ts option_sort refl
 gives_statement words.Option ts = gives_option ts
 gives_statement words.Optional ts = gives_last (attribute optional) ts attribute_sort refl
 gives_statement words.LeftOut ts = tt
@@ -189,10 +209,15 @@ entry_of_taken (Some e) k h = (e, refl)
 abbrev is_attribute_sort : Sort → Bool
 is_attribute_sort default_sort = true
 is_attribute_sort attribute_sort = true
+is_attribute_sort option_sort = true
 is_attribute_sort t = false
 
+default_sorted : (b : Bool) → is_attribute_sort (cond b option_sort default_sort) ≡ true
+default_sorted true = refl
+default_sorted false = refl
+
 attribute_sorted : (a : Attribute) → is_attribute_sort (sort_of_attribute a) ≡ true
-attribute_sorted (default d) = refl
+attribute_sorted (default d) = default_sorted d.from_environment
 attribute_sorted (typed_default k d) = refl
 attribute_sorted a = refl
 
@@ -325,11 +350,11 @@ pub line_names : (language : Language) (read : List Group) (l : LogicalLine) (na
     ≡ Ok (Some (head (config name))) → (t : Lexeme) × (t.text ≡ name) × (is_name t ≡ true)
 line_names language read l name h = let s = line_given language read l (Some (head (config name))) h in config_given s.keyword s.rest name s.sort s.form
 
--- this value is the expression that is read at the front of a line's tokens after the first
+-- this value is the expression that is read at the front of the last of a line's tokens
 pub record IsValueOf (tokens : Result (List Lexeme) ExprFault) (value : Expr) : Type 0 where
-  pub first : Lexeme
+  pub before : List Lexeme
   pub rest : List Lexeme
-  pub tokens_are : tokens ≡ Ok (first ∷ rest)
+  pub tokens_are : tokens ≡ Ok (before ++ rest)
   pub taken : ParsedExpr
   pub read_as : leading_expr rest ≡ Ok taken
   pub is : taken.expr ≡ value
@@ -346,21 +371,87 @@ default_value : (f : DefaultAttribute → Attribute) (g : Attribute → Option D
 default_value f g same ts a d e h =
     let x = bind_ok (leading_expr ts) _ (attribute a) h in
     let c = bind_ok (optional_if x.0.rest) _ (attribute a) x.2 in
-    let made : f (record { value = x.0.expr; single = x.0.single; condition = c.0 }) ≡ a = attribute_same
-    (f (record { value = x.0.expr; single = x.0.single; condition = c.0 })) a
-    (Ok (attribute (f (record { value = x.0.expr; single = x.0.single; condition = c.0 })))) refl c.2 in
-    let told : Some (record { value = x.0.expr; single = x.0.single; condition = c.0 }) ≡ Some d = sym
-    (same (record { value = x.0.expr; single = x.0.single; condition = c.0 })) ∙ ap g made ∙ e in
-    (x.0, x.1, valued_same (record { value = x.0.expr; single = x.0.single; condition = c.0 }) d told)
+    let made : f (record { value = x.0.expr; single = x.0.single; condition = c.0; from_environment = false }) ≡ a = attribute_same
+    (f (record { value = x.0.expr; single = x.0.single; condition = c.0; from_environment = false })) a
+    (Ok (attribute (f (record { value = x.0.expr; single = x.0.single; condition = c.0; from_environment = false })))) refl c.2 in
+    let told : Some (record { value = x.0.expr; single = x.0.single; condition = c.0; from_environment = false }) ≡ Some d = sym
+    (same (record { value = x.0.expr; single = x.0.single; condition = c.0; from_environment = false })) ∙ ap g made ∙ e in
+    (x.0, x.1, valued_same (record { value = x.0.expr; single = x.0.single; condition = c.0; from_environment = false }) d told)
 
-default_value_read : (k : Keyword) (ts : List Lexeme) (a : Attribute) (d : DefaultAttribute) → default_sort ≡ sort_of_word k → default_of a ≡ Some d
-    → statement_of k ts ≡ Ok (attribute a) → (x : ParsedExpr) × (leading_expr ts ≡ Ok x) × (x.expr ≡ d.value)
-default_value_read words.Default ts a d e m h = default_value default default_of (λ d. refl) ts a d m h
-default_value_read (words.DefaultType k) ts a d e m h = default_value (typed_default k) default_of (λ d. refl) ts a d m h
+-- this value is the expression that is read at the front of the last of these tokens
+record IsValueIn (ts : List Lexeme) (value : Expr) : Type 0 where
+  before : List Lexeme
+  rest : List Lexeme
+  parts : ts ≡ before ++ rest
+  taken : ParsedExpr
+  read_as : leading_expr rest ≡ Ok taken
+  is : taken.expr ≡ value
+
+first_value : (ts : List Lexeme) (value : Expr) → (x : ParsedExpr) × (leading_expr ts ≡ Ok x) × (x.expr ≡ value) → IsValueIn ts value
+first_value ts value x = record { before = []; rest = ts; parts = refl; taken = x.0; read_as = x.1; is = x.2 }
+
+-- the text of an `option env`
+made_of : (text : Operand) (a : Attribute) (d : DefaultAttribute) → default_of a ≡ Some d → default (environment_default text) ≡ a → alone text ≡ d.value
+made_of text a d m e = valued_same (environment_default text) d (ap default_of e ∙ m)
+
+environment_value_by : (t u : Lexeme) (o : Option Operand) (ts : List Lexeme) (a : Attribute) (d : DefaultAttribute) → default_of a ≡ Some d
+    → operand_of_lexeme u ≡ o → environment_of_operand o ts ≡ Ok (attribute a) → IsValueIn (t ∷ u ∷ ts) d.value
+environment_value_by t u None ts a d m e h = cc
+environment_value_by t u (Some text) (v ∷ ts) a d m e h = cc
+environment_value_by t u (Some text) [] a d m e h =
+    let made : default (environment_default text) ≡ a = attribute_same (default (environment_default text)) a (Ok (attribute (default (environment_default text)))) refl h in
+    record {
+      before = t ∷ [];
+      rest = u ∷ [];
+      parts = refl;
+      taken = record { expr = alone text; single = true; rest = [] };
+      read_as = front_read (u ∷ []) [] (alone text) (one_and (one_factor (operand u e refl))) tt;
+      is = made_of text a d m made;
+    }
+
+environment_value_if : (t u : Lexeme) (b : Bool) (ts : List Lexeme) (a : Attribute) (d : DefaultAttribute) → default_of a ≡ Some d
+    → cond b (environment_of_operand (operand_of_lexeme u) ts) (Err Malformed) ≡ Ok (attribute a) → IsValueIn (t ∷ u ∷ ts) d.value
+environment_value_if t u true ts a d m h = environment_value_by t u (operand_of_lexeme u) ts a d m refl h
+environment_value_if t u false ts a d m h = cc
+
+environment_value : (t : Lexeme) (ts : List Lexeme) (a : Attribute) (d : DefaultAttribute) → default_of a ≡ Some d
+    → environment_line ts ≡ Ok (attribute a) → IsValueIn (t ∷ ts) d.value
+environment_value t [] a d m h = cc
+environment_value t (u ∷ ts) a d m h = environment_value_if t u (is_quoted_kind u.kind) ts a d m h
+
+no_default : (ts : List Lexeme) (a : Attribute) (d : DefaultAttribute) → default_of a ≡ Some d → no_more (attribute modules) ts ≡ Ok (attribute a) → ⊥
+no_default (t ∷ ts) a d m h = cc
+no_default [] a d m h = let made : modules ≡ a = attribute_same modules a (Ok (attribute modules)) refl h in let none : default_of modules ≡ Some d = ap default_of made ∙ m in cc
+
+option_value_by : (t : Lexeme) (b c : Bool) (ts : List Lexeme) (a : Attribute) (d : DefaultAttribute) → default_of a ≡ Some d
+    → cond b (no_more (attribute modules) ts) (cond c (environment_line ts) (Err Malformed)) ≡ Ok (attribute a) → IsValueIn (t ∷ ts) d.value
+option_value_by t true c ts a d m h = absurd (no_default ts a d m h)
+option_value_by t false true ts a d m h = environment_value t ts a d m h
+option_value_by t false false ts a d m h = cc
+
+option_value : (ts : List Lexeme) (a : Attribute) (d : DefaultAttribute) → default_of a ≡ Some d → option_line ts ≡ Ok (attribute a) → IsValueIn ts d.value
+option_value [] a d m h = cc
+option_value (t ∷ ts) a d m h = option_value_by t (is_the_word (codes "modules") t) (is_the_word (codes "env") t) ts a d m h
+
+abbrev is_default_sort : Sort → Bool
+is_default_sort default_sort = true
+is_default_sort option_sort = true
+is_default_sort t = false
+
+default_value_read : (k : Keyword) (ts : List Lexeme) (a : Attribute) (d : DefaultAttribute) → is_default_sort (sort_of_word k) ≡ true → default_of a ≡ Some d
+    → statement_of k ts ≡ Ok (attribute a) → IsValueIn ts d.value
+default_value_read words.Default ts a d e m h = first_value ts d.value (default_value default default_of (λ d. refl) ts a d m h)
+default_value_read (words.DefaultType k) ts a d e m h = first_value ts d.value (default_value (typed_default k) default_of (λ d. refl) ts a d m h)
+default_value_read words.Option ts a d e m h = option_value ts a d m h
+default_value_read words.Modules ts a d e m h = absurd (no_default ts a d m h)
 default_value_read k ts a d e m h = cc
 
-sorted_default : (a : Attribute) (d : DefaultAttribute) → default_of a ≡ Some d → sort_of_attribute a ≡ default_sort
-sorted_default (default x) d h = refl
+default_by_source : (b : Bool) → is_default_sort (cond b option_sort default_sort) ≡ true
+default_by_source true = refl
+default_by_source false = refl
+
+sorted_default : (a : Attribute) (d : DefaultAttribute) → default_of a ≡ Some d → is_default_sort (sort_of_attribute a) ≡ true
+sorted_default (default x) d h = default_by_source x.from_environment
 sorted_default (typed_default k x) d h = refl
 sorted_default a d h = cc
 
@@ -368,8 +459,15 @@ pub line_values : (language : Language) (read : List Group) (l : LogicalLine) (a
     → statement_on_line language read l ≡ Ok (Some (attribute a)) → IsValueOf (lexemes_from language 0 0 l.text) d.value
 line_values language read l a d m h =
     let s = line_given language read l (Some (attribute a)) h in
-    let x = default_value_read s.keyword s.rest a d (sym (sorted_default a d m) ∙ s.sort) m s.form in
-    record { first = s.first; rest = s.rest; tokens_are = s.tokens_are; taken = x.0; read_as = x.1; is = x.2 }
+    let x = default_value_read s.keyword s.rest a d (ap is_default_sort (sym s.sort) ∙ sorted_default a d m) m s.form in
+    record {
+      before = s.first ∷ x.before;
+      rest = x.rest;
+      tokens_are = s.tokens_are ∙ ap (λ us. Ok (s.first ∷ us)) x.parts;
+      taken = x.taken;
+      read_as = x.read_as;
+      is = x.is;
+    }
 
 -- a line that is accepted is UTF-8
 test_passed : (b : Bool) (e : TreeKind) (r : Result (Option Statement) TreeKind) (o : Option Statement) → cond b (Err e) r ≡ Ok o → b ≡ false

@@ -12,11 +12,11 @@ use Rattle.kc_expr.specs.Grammar.{IsExpr, ors, read_expr, extent, operand_of_lex
 use Rattle.kc_expr.proofs.FirstFaults.{first_fault, fault_read}
 use Rattle.kc_tree_model.specs.declared.fault.TreeKind.{TreeKind}
 use Rattle.kc_tree_model.specs.declared.fault.TreeKind.TheVariants.{Malformed, TooDeep}
-use Rattle.kc_tree_model.specs.Statements.{Head, menu, condition, comment, source, mainmenu, DefaultAttribute, TargetAttribute, Attribute, typed_prompt, typed_default, prompt, default, depends, select, imply, range, visible, Statement, head, attribute}
+use Rattle.kc_tree_model.specs.Statements.{Head, menu, condition, comment, source, mainmenu, DefaultAttribute, TargetAttribute, Attribute, typed_prompt, typed_default, prompt, default, depends, select, imply, range, visible, modules, Statement, head, attribute}
 use Rattle.kc_tree_model.specs.Keywords.{is_name, is_quoted_kind, is_the_word}
 use Rattle.kc_tree_model.specs.declared.keyword.Keyword.{Keyword}
 use Rattle.kc_tree_model.specs.declared.keyword.Keyword.TheVariants as words
-use Rattle.kc_tree_model.specs.Forms.{◌>>=◌, kind_of_fault, ParsedExpr, leading_expr, no_more, last_condition, optional_if, config_line, titled_line, path_of, source_line, prompt_line, type_line, default_line, target_line, range_of_operands, range_line, condition_line, option_line, statement_of}
+use Rattle.kc_tree_model.specs.Forms.{◌>>=◌, kind_of_fault, ParsedExpr, leading_expr, no_more, last_condition, optional_if, config_line, titled_line, path_of, source_line, prompt_line, type_line, default_line, target_line, range_of_operands, range_line, condition_line, environment_of_operand, environment_line, option_line, statement_of}
 use Rattle.kc_tree_model.specs.FormGrammar.{IsBeforeIf, of_type, of_prompt, of_type_default, of_default, of_select, of_imply, of_range, ComesToExpr, at_if, at_type_default, at_default, at_depends, at_visible, after_if, HasDeepExpr}
 use Rattle.kc_tree_model.proofs.ReadingLaws.TightTokens.{extent_front}
 use Rattle.kc_tree_model.proofs.ReadingLaws.FormLaws.{OfOk, IsParsed, leading, ends_by, front_read}
@@ -124,8 +124,8 @@ module _ (k : Keyword) where
       let parsed = of_parsed ts r e in
       let parts : extent ts ++ r.rest ≡ ts = ap (λ us. extent ts ++ us) parsed.2 ∙ sym (extent_front ts) in
       subst (λ us. OfDeep (HasDeepExpr k us)
-      (optional_if r.rest >>= λ c. Ok (attribute (f (record { value = r.expr; single = r.single; condition = c }))))) parts
-      (deep_line (extent ts) r.rest (λ c. attribute (f (record { value = r.expr; single = r.single; condition = c }))) (before (extent ts) r.expr parsed.0)))
+      (optional_if r.rest >>= λ c. Ok (attribute (f (record { value = r.expr; single = r.single; condition = c; from_environment = false }))))) parts
+      (deep_line (extent ts) r.rest (λ c. attribute (f (record { value = r.expr; single = r.single; condition = c; from_environment = false }))) (before (extent ts) r.expr parsed.0)))
 
 deep_range_by : (t u : Lexeme) (ts : List Lexeme) (a b : Option Operand) → operand_of_lexeme t ≡ a → operand_of_lexeme u ≡ b
     → OfDeep (HasDeepExpr words.Range (t ∷ u ∷ ts)) (range_of_operands a b ts)
@@ -160,9 +160,22 @@ deep_source : (P : Type 0) (ts : List Lexeme) → OfDeep P (source_line ts)
 deep_source P [] = tt
 deep_source P (t ∷ ts) = deep_source_by P (path_of t) ts
 
+deep_environment_by : (P : Type 0) (o : Option Operand) (ts : List Lexeme) → OfDeep P (environment_of_operand o ts)
+deep_environment_by P None ts = tt
+deep_environment_by P (Some text) ts = deep_last P _ ts
+
+deep_environment : (P : Type 0) (ts : List Lexeme) → OfDeep P (environment_line ts)
+deep_environment P [] = tt
+deep_environment P (t ∷ ts) = deep_when P (is_quoted_kind t.kind) _ (λ e. deep_environment_by P (operand_of_lexeme t) ts)
+
+deep_option_by : (P : Type 0) (t : Lexeme) (ts : List Lexeme) (b : Bool)
+    → OfDeep P (cond b (no_more (attribute modules) ts) (cond (is_the_word (codes "env") t) (environment_line ts) (Err Malformed)))
+deep_option_by P t ts true = deep_last P _ ts
+deep_option_by P t ts false = deep_when P (is_the_word (codes "env") t) _ (λ e. deep_environment P ts)
+
 deep_option : (P : Type 0) (ts : List Lexeme) → OfDeep P (option_line ts)
 deep_option P [] = tt
-deep_option P (t ∷ ts) = deep_when P (is_the_word (codes "modules") t) _ (λ e. deep_last P _ ts)
+deep_option P (t ∷ ts) = deep_option_by P t ts (is_the_word (codes "modules") t)
 
 deep_form : (k : Keyword) (ts : List Lexeme) → OfDeep (HasDeepExpr k ts) (statement_of k ts)
 deep_form words.Config ts = deep_config _ ts
@@ -214,9 +227,9 @@ module _ (t : Lexeme) (ts : List Lexeme) (word : is_the_word (codes "if") t ≡ 
   default_deep : (f : DefaultAttribute → Attribute) (front : List Lexeme) (e : Expr) → IsExpr ors MAX_EXPR_DEPTH front e
       → default_line f (front ++ t ∷ ts) ≡ Err TooDeep
   default_deep f front e h =
-      ap (λ r. r >>= λ x. optional_if x.rest >>= λ c. Ok (attribute (f (record { value = x.expr; single = x.single; condition = c }))))
+      ap (λ r. r >>= λ x. optional_if x.rest >>= λ c. Ok (attribute (f (record { value = x.expr; single = x.single; condition = c; from_environment = false }))))
       (front_read front (t ∷ ts) e h (ends_by t (codes "if") word))
-      ∙ optional_deep (λ c. attribute (f (record { value = e; single = length front == 1; condition = c })))
+      ∙ optional_deep (λ c. attribute (f (record { value = e; single = length front == 1; condition = c; from_environment = false })))
 
   deep_after : {k : Keyword} {front : List Lexeme} → IsBeforeIf k front → statement_of k (front ++ t ∷ ts) ≡ Err TooDeep
   deep_after (of_type {k = k} e) = when_deep _ _ e (optional_deep (λ c. attribute (typed_prompt k c)))
@@ -232,10 +245,10 @@ module _ (t : Lexeme) (ts : List Lexeme) (word : is_the_word (codes "if") t ≡ 
 deep_at : {k : Keyword} {ts us : List Lexeme} → ComesToExpr k ts us → IsDeep us → statement_of k ts ≡ Err TooDeep
 deep_at (at_if {ts = ts}) h = ap (λ r. r >>= λ c. Ok (head (condition c))) (condition_deep ts h)
 deep_at (at_type_default {k = k} {ts = ts}) h = ap
-    (λ r. r >>= λ x. optional_if x.rest >>= λ c. Ok (attribute (typed_default k (record { value = x.expr; single = x.single; condition = c }))))
+    (λ r. r >>= λ x. optional_if x.rest >>= λ c. Ok (attribute (typed_default k (record { value = x.expr; single = x.single; condition = c; from_environment = false }))))
     (leading_deep ts h)
 deep_at (at_default {ts = ts}) h = ap
-    (λ r. r >>= λ x. optional_if x.rest >>= λ c. Ok (attribute (default (record { value = x.expr; single = x.single; condition = c })))) (leading_deep ts h)
+    (λ r. r >>= λ x. optional_if x.rest >>= λ c. Ok (attribute (default (record { value = x.expr; single = x.single; condition = c; from_environment = false })))) (leading_deep ts h)
 deep_at (at_depends {ts = ts} e) h = when_deep _ _ e (ap (λ r. r >>= λ c. Ok (attribute (depends c))) (condition_deep ts h))
 deep_at (at_visible {ts = ts} e) h = when_deep _ _ e (ap (λ r. r >>= λ c. Ok (attribute (visible c))) (condition_deep ts h))
 deep_at (after_if {ts = ts} t before e) h = deep_after t ts e h before

@@ -11,11 +11,11 @@ use Rattle.kc_expr.specs.Expr.{Expr, Operand, alone, related, negated, both, eit
 use Rattle.kc_expr.specs.Grammar.{Read, on_read, past_depth_limit, right_operand, after_operand, is_and, is_or, is_close, chain, read_ands, read_ors, closed, factor_of, read_factor, read_to_end, read_expr, extent, constant_or, quoted_text, operand_of_lexeme}
 use Rattle.kc_tree_model.specs.declared.fault.TreeKind.{TreeKind}
 use Rattle.kc_tree_model.specs.declared.fault.TreeKind.TheVariants.{Malformed, TooDeep}
-use Rattle.kc_tree_model.specs.Statements.{Head, menu, comment, source, mainmenu, DefaultAttribute, TargetAttribute, Attribute, typed_prompt, typed_default, prompt, default, depends, select, imply, visible, Statement, head}
+use Rattle.kc_tree_model.specs.Statements.{Head, menu, comment, source, mainmenu, DefaultAttribute, TargetAttribute, Attribute, typed_prompt, typed_default, prompt, default, depends, select, imply, visible, modules, Statement, head, attribute}
 use Rattle.kc_tree_model.specs.Keywords.{is_name, is_quoted_kind, is_the_word}
 use Rattle.kc_tree_model.specs.declared.keyword.Keyword.{Keyword}
 use Rattle.kc_tree_model.specs.declared.keyword.Keyword.TheVariants as words
-use Rattle.kc_tree_model.specs.Forms.{◌>>=◌, kind_of_fault, ParsedExpr, leading_expr, no_more, last_condition, optional_if, config_line, titled_line, path_of, source_line, prompt_line, type_line, default_line, target_line, range_of_operands, range_line, condition_line, option_line, statement_of}
+use Rattle.kc_tree_model.specs.Forms.{◌>>=◌, kind_of_fault, ParsedExpr, leading_expr, no_more, last_condition, optional_if, config_line, titled_line, path_of, source_line, prompt_line, type_line, default_line, target_line, range_of_operands, range_line, condition_line, environment_of_operand, environment_line, option_line, statement_of}
 use Rattle.std.specs.Prelude.{codes, drop, ◌==◌}
 
 -- the kinds of faults of expressions
@@ -242,9 +242,22 @@ known_worded : (word : List ℕ) (f : Expr → Attribute) (ts : List Lexeme) →
 known_worded word f [] = refl
 known_worded word f (t ∷ ts) = known_when (is_the_word word t) _ (known_bind (last_condition ts) _ (known_condition ts) (λ e. tt))
 
+known_environment_by : (o : Option Operand) (ts : List Lexeme) → IsKnownForm (environment_of_operand o ts)
+known_environment_by None ts = refl
+known_environment_by (Some text) ts = known_last _ ts
+
+known_environment : (ts : List Lexeme) → IsKnownForm (environment_line ts)
+known_environment [] = refl
+known_environment (t ∷ ts) = known_when (is_quoted_kind t.kind) _ (known_environment_by (operand_of_lexeme t) ts)
+
+known_option_by : (t : Lexeme) (ts : List Lexeme) (b : Bool)
+    → IsKnownForm (cond b (no_more (attribute modules) ts) (cond (is_the_word (codes "env") t) (environment_line ts) (Err Malformed)))
+known_option_by t ts true = known_last _ ts
+known_option_by t ts false = known_when (is_the_word (codes "env") t) _ (known_environment ts)
+
 known_option : (ts : List Lexeme) → IsKnownForm (option_line ts)
 known_option [] = refl
-known_option (t ∷ ts) = known_when (is_the_word (codes "modules") t) _ (known_last _ ts)
+known_option (t ∷ ts) = known_option_by t ts (is_the_word (codes "modules") t)
 
 pub known_form : (k : Keyword) (ts : List Lexeme) → IsKnownForm (statement_of k ts)
 known_form words.Config ts = known_config ts

@@ -1,8 +1,9 @@
 -- A line has the form that is read of it.
 use Rattle.std.proofs.Common.{◌≡◌, ℕ, Bool, true, false, cond, List, [], ◌∷◌, ◌++◌, length, drop, Option, Some, None, Result, Ok, Err, refl, ap, sym, ◌∙◌, subst}
 use Rattle.std.proofs.lemmas.Bool.{and_parts}
+use Rattle.std.proofs.lemmas.Slice.Eq.{bytes_eq-Decides}
 use Rattle.std.proofs.lemmas.List.{append-nil}
-use Rattle.std.specs.Prelude.{◌↔◌, ◌==◌, codes, bytes_eq}
+use Rattle.std.specs.Prelude.{◌↔◌, ◌==◌, ◌&&◌, codes, bytes_eq}
 use Rattle.kc_value.specs.declared.value.Kind.{Kind}
 use Rattle.kc_value.specs.declared.limits.TheConstants.{MAX_EXPR_DEPTH}
 use Rattle.kc_tokens.specs.declared.fault.ExprKind.{ExprKind}
@@ -14,12 +15,12 @@ use Rattle.kc_expr.proofs.GrammarLaws.{expr_sound}
 use Rattle.kc_expr.proofs.GrammarComplete.{expr_complete}
 use Rattle.kc_tree_model.specs.declared.fault.TreeKind.{TreeKind}
 use Rattle.kc_tree_model.specs.declared.fault.TreeKind.TheVariants.{Malformed}
-use Rattle.kc_tree_model.specs.Statements.{Head, config, choice, menu, condition, comment, source, mainmenu, ends, DefaultAttribute, TargetAttribute, Attribute, typed_prompt, typed_default, prompt, default, depends, select, imply, range, visible, help, modules, optional, Statement, head, attribute}
+use Rattle.kc_tree_model.specs.Statements.{Head, config, choice, menu, condition, comment, source, mainmenu, ends, DefaultAttribute, environment_default, TargetAttribute, Attribute, typed_prompt, typed_default, prompt, default, depends, select, imply, range, visible, help, modules, optional, Statement, head, attribute}
 use Rattle.kc_tree_model.specs.Keywords.{is_word_kind, is_name, is_quoted_kind, is_the_word}
 use Rattle.kc_tree_model.specs.declared.keyword.Keyword.{Keyword}
 use Rattle.kc_tree_model.specs.declared.keyword.Keyword.TheVariants as words
-use Rattle.kc_tree_model.specs.Forms.{◌>>=◌, kind_of_fault, ParsedExpr, leading_expr, no_more, last_condition, optional_if, config_line, titled_line, path_of, source_line, prompt_line, type_line, default_line, target_line, range_of_operands, range_line, condition_line, option_line, statement_of}
-use Rattle.kc_tree_model.specs.FormGrammar.{IsCondition, IsOptionalIf, no_if, with_if, IsDefault, IsForm, config_form, choice_form, menu_form, if_form, comment_form, source_form, mainmenu_form, end_form, type_form, type_prompt_form, type_default_form, prompt_form, default_form, depends_form, select_form, imply_form, range_form, visible_form, help_form, modules_form, option_form, optional_form}
+use Rattle.kc_tree_model.specs.Forms.{◌>>=◌, kind_of_fault, ParsedExpr, leading_expr, no_more, last_condition, optional_if, config_line, titled_line, path_of, source_line, prompt_line, type_line, default_line, target_line, range_of_operands, range_line, condition_line, environment_of_operand, environment_line, option_line, statement_of}
+use Rattle.kc_tree_model.specs.FormGrammar.{IsCondition, IsOptionalIf, no_if, with_if, IsDefault, IsForm, config_form, choice_form, menu_form, if_form, comment_form, source_form, mainmenu_form, end_form, type_form, type_prompt_form, type_default_form, prompt_form, default_form, depends_form, select_form, imply_form, range_form, visible_form, help_form, modules_form, option_form, environment_form, optional_form}
 use Rattle.kc_tree_model.proofs.ReadingLaws.TightTokens.{EndsExpr, expr_tight, extent_tight, extent_front, drop_front}
 
 -- if a result has no fault, its value has the property `P`
@@ -115,13 +116,14 @@ is_default : (k : Keyword) (f : DefaultAttribute → Attribute) → ((ts : List 
 is_default k f form ts =
     ok_bind (IsParsed ts) (IsForm k ts) (leading_expr ts) _ (leading ts)
     (λ r h. ok_bind (IsOptionalIf r.rest) (IsForm k ts) (optional_if r.rest) _ (is_optional_if r.rest) (λ c j.
-    form ts (record { value = r.expr; single = r.single; condition = c }) (record {
+    form ts (record { value = r.expr; single = r.single; condition = c; from_environment = false }) (record {
       front = extent ts;
       rest = r.rest;
       parts = extent_front ts ∙ ap (λ us. extent ts ++ us) (sym h.2);
       value = h.0;
       single = h.1;
       optional = j;
+      own = refl;
     })))
 
 is_target : (k : Keyword) (f : TargetAttribute → Attribute)
@@ -153,11 +155,28 @@ is_worded k word f form (t ∷ ts) =
     ok_when (IsForm k (t ∷ ts)) (is_the_word word t) _
     (λ e. ok_bind (IsCondition ts) (IsForm k (t ∷ ts)) (last_condition ts) _ (is_condition ts) (λ c h. form t ts c e h))
 
+is_environment_by : (t u : Lexeme) (o : Option Operand) (ts : List Lexeme) → is_the_word (codes "env") t ≡ true → is_quoted_kind u.kind ≡ true
+    → operand_of_lexeme u ≡ o → OfOk (IsForm words.Option (t ∷ u ∷ ts)) (environment_of_operand o ts)
+is_environment_by t u None ts e q h = tt
+is_environment_by t u (Some text) ts e q h =
+    ok_last (IsForm words.Option (t ∷ u ∷ ts)) (attribute (default (environment_default text))) ts
+    (λ none. subst (λ us. IsForm words.Option (t ∷ u ∷ us) (attribute (default (environment_default text)))) (sym none) (environment_form e q h))
+
+is_environment : (t : Lexeme) (ts : List Lexeme) → is_the_word (codes "env") t ≡ true → OfOk (IsForm words.Option (t ∷ ts)) (environment_line ts)
+is_environment t [] e = tt
+is_environment t (u ∷ ts) e =
+    ok_when (IsForm words.Option (t ∷ u ∷ ts)) (is_quoted_kind u.kind) _ (λ q. is_environment_by t u (operand_of_lexeme u) ts e q refl)
+
+is_option_by : (t : Lexeme) (ts : List Lexeme) (b : Bool) → is_the_word (codes "modules") t ≡ b
+    → OfOk (IsForm words.Option (t ∷ ts)) (cond b (no_more (attribute modules) ts) (cond (is_the_word (codes "env") t) (environment_line ts) (Err Malformed)))
+is_option_by t ts true e =
+    ok_last (IsForm words.Option (t ∷ ts)) (attribute modules) ts
+    (λ none. subst (λ us. IsForm words.Option (t ∷ us) (attribute modules)) (sym none) (option_form e))
+is_option_by t ts false e = ok_when (IsForm words.Option (t ∷ ts)) (is_the_word (codes "env") t) _ (is_environment t ts)
+
 is_option : (ts : List Lexeme) → OfOk (IsForm words.Option ts) (option_line ts)
 is_option [] = tt
-is_option (t ∷ ts) =
-    ok_when (IsForm words.Option (t ∷ ts)) (is_the_word (codes "modules") t) _ (λ e. ok_last (IsForm words.Option (t ∷ ts)) (attribute modules) ts (λ none.
-    subst (λ us. IsForm words.Option (t ∷ us) (attribute modules)) (sym none) (option_form e)))
+is_option (t ∷ ts) = is_option_by t ts (is_the_word (codes "modules") t) refl
 
 pub form_is : (k : Keyword) (ts : List Lexeme) → OfOk (IsForm k ts) (statement_of k ts)
 form_is words.Config ts = is_config ts
@@ -232,16 +251,24 @@ when_read b r x e h = ap (λ y. cond y r (Err Malformed)) e ∙ h
 default_read : (f : DefaultAttribute → Attribute) (ts : List Lexeme) (d : DefaultAttribute) → IsDefault ts d → default_line f ts ≡ Ok (attribute (f d))
 default_read f ts d h =
     ap (λ us. default_line f us) h.parts
-    ∙ ap (λ r. r >>= λ e. optional_if e.rest >>= λ c. Ok (attribute (f (record { value = e.expr; single = e.single; condition = c }))))
+    ∙ ap (λ r. r >>= λ e. optional_if e.rest >>= λ c. Ok (attribute (f (record { value = e.expr; single = e.single; condition = c; from_environment = false }))))
     (front_read h.front h.rest d.value h.value (ends_expr h.optional))
-    ∙ ap (λ r. r >>= λ c. Ok (attribute (f (record { value = d.value; single = length h.front == 1; condition = c })))) (optional_read h.optional)
-    ∙ ap (λ b. Ok (attribute (f (record { value = d.value; single = b; condition = d.condition })))) (sym h.single)
+    ∙ ap (λ r. r >>= λ c. Ok (attribute (f (record { value = d.value; single = length h.front == 1; condition = c; from_environment = false })))) (optional_read h.optional)
+    ∙ ap (λ b. Ok (attribute (f (record { value = d.value; single = b; condition = d.condition; from_environment = false })))) (sym h.single)
+    ∙ ap (λ b. Ok (attribute (f (record { value = d.value; single = d.single; condition = d.condition; from_environment = b })))) (sym h.own)
 
 with_optional : (f : Option Expr → Statement) (ts : List Lexeme) (c : Option Expr) → IsOptionalIf ts c → (optional_if ts >>= λ x. Ok (f x)) ≡ Ok (f c)
 with_optional f ts c h = ap (λ r. r >>= λ x. Ok (f x)) (optional_read h)
 
 with_condition : (f : Expr → Statement) (ts : List Lexeme) (c : Expr) → IsCondition ts c → (last_condition ts >>= λ x. Ok (f x)) ≡ Ok (f c)
 with_condition f ts c h = ap (λ r. r >>= λ x. Ok (f x)) (condition_read ts c h)
+
+-- the word `env` isn't `modules`
+no_modules : (t : Lexeme) → is_the_word (codes "env") t ≡ true → is_the_word (codes "modules") t ≡ false
+no_modules t e =
+    let h = and_parts (is_word_kind t.kind) (bytes_eq t.text (codes "env")) e in
+    let same : t.text ≡ codes "env" = (bytes_eq-Decides t.text (codes "env")).0 h.1 in
+    ap (λ b. b && bytes_eq t.text (codes "modules")) h.0 ∙ ap (λ x. bytes_eq x (codes "modules")) same
 
 pub form_read : {k : Keyword} {ts : List Lexeme} {s : Statement} → IsForm k ts s → statement_of k ts ≡ Ok s
 form_read (config_form e) = when_read _ _ _ e refl
@@ -268,7 +295,11 @@ form_read (range_form {u = u} {ts = ts} {a = a} {b = b} {c = c} e f h) =
 form_read (visible_form {ts = ts} {c = c} e h) = when_read _ _ _ e (with_condition (λ x. attribute (visible x)) ts c h)
 form_read help_form = refl
 form_read modules_form = refl
-form_read (option_form e) = when_read _ _ _ e refl
+form_read (option_form {t = t} e) = ap (λ b. cond b (Ok (attribute modules)) (cond (is_the_word (codes "env") t) (Err Malformed) (Err Malformed))) e
+form_read (environment_form {t = t} {u = u} {text = text} e q h) =
+    ap (λ b. cond b (Err Malformed) (cond (is_the_word (codes "env") t) (environment_line (u ∷ [])) (Err Malformed))) (no_modules t e)
+    ∙ ap (λ b. cond b (environment_line (u ∷ [])) (Err Malformed)) e ∙ ap (λ b. cond b (environment_of_operand (operand_of_lexeme u) []) (Err Malformed)) q
+    ∙ ap (λ o. environment_of_operand o []) h
 form_read optional_form = refl
 
 of_ok : {A : Type 0} (P : A → Type 0) (r : Result A TreeKind) (x : A) → r ≡ Ok x → OfOk P r → P x

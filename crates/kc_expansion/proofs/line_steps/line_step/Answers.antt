@@ -1,6 +1,7 @@
 use Rattle.std.proofs.Common.{◌∙◌, [], true, false, List, ℕ, sym, ap, subst}
 use Rattle.kc_macros_model.specs.Assignments.{assigns, assigned, tokens, line_content}
 use Rattle.kc_macros_model.specs.LineForms.{without_gaps}
+use Rattle.kc_macros_model.specs.EnvironmentLines.{meant_line}
 use Rattle.kc_macros_model.specs.LineTokens.{line_tokens}
 use Rattle.kc_macros_model.specs.Programs.{returns as returns_value, ◌>>=◌}
 use Rattle.kc_macros_model.specs.ReadingStates.{ReadingState, written_line}
@@ -25,7 +26,7 @@ returns-in_err-assignment c = record {
       let at = place_of c.args.at in
       let u = with_lines c.args.state.now s in
       let p = line_written sub at c.args.joined c.args.text.now u in
-      let m = line_content at u.bindings true (line_tokens 0 c.args.text.now) in
+      let m = line_content at u.bindings true (line_tokens 0 (meant_line c.args.text.now)) in
       let k = content_written sub at c.args.joined u in
       steps_stopped a a b p (m >>= k) _ c.in_err-assignment.field-0.0 _
       (leads_same a p (m >>= k) (changing_line sub at c.args.joined c.args.text.now u c.requires.may_change)) c.from_residual.ensures.1
@@ -41,7 +42,7 @@ returns-in-Tokens c = record {
       let at = place_of c.args.at in
       let u = with_lines c.args.state.now s in
       let p = line_written sub at c.args.joined c.args.text.now u in
-      let m = line_content at u.bindings true (line_tokens 0 c.args.text.now) in
+      let m = line_content at u.bindings true (line_tokens 0 (meant_line c.args.text.now)) in
       let k = content_written sub at c.args.joined u in
       let ts = tokens_of c.in-Tokens.tokens.items in
       steps_on a b _ p (tokens_written sub at u ts (without_gaps ts)) _ c.tokens_step.result
@@ -60,7 +61,7 @@ returns-in_err-assign_line-in-Assigns c = record {
       let at = place_of c.args.at in
       let u = with_lines c.args.state.now s in
       let p = line_written sub at c.args.joined c.args.text.now u in
-      let m = line_content at u.bindings true (line_tokens 0 c.args.text.now) in
+      let m = line_content at u.bindings true (line_tokens 0 (meant_line c.args.text.now)) in
       let k = content_written sub at c.args.joined u in
       let asg = c.in-Assigns.assignment in
       let x = assigns asg.name (assigned asg.operator asg.text) in
@@ -85,7 +86,7 @@ returns-in_ok-assign_line-in-Assigns c = record {
       let at = place_of c.args.at in
       let u = with_lines c.args.state.now s in
       let p = line_written sub at c.args.joined c.args.text.now u in
-      let m = line_content at u.bindings true (line_tokens 0 c.args.text.now) in
+      let m = line_content at u.bindings true (line_tokens 0 (meant_line c.args.text.now)) in
       let k = content_written sub at c.args.joined u in
       let asg = c.in-Assigns.assignment in
       let x = assigns asg.name (assigned asg.operator asg.text) in

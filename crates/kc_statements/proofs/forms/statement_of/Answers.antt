@@ -80,10 +80,10 @@ returns-in-Modules-clause-held c = c.modules_line.ensures.held c.args.arena.now
 
 pub returns-in-Option-clause-gives : goal.returns-in-Option-clause-gives
 returns-in-Option-clause-gives c =
-    by_keyword c.args.arena.now c.option_line.result (lexemes_of c.args.tokens.now) c.in-Option.is (c.option_line.ensures.gives c.args.arena.now)
+    by_keyword c.option_line.new.arena c.option_line.result (lexemes_of c.args.tokens.now) c.in-Option.is c.option_line.ensures.gives
 
 pub returns-in-Option-clause-held : goal.returns-in-Option-clause-held
-returns-in-Option-clause-held c = c.option_line.ensures.held c.args.arena.now
+returns-in-Option-clause-held c = c.option_line.ensures.held
 
 pub returns-in-DefaultType-clause-gives : goal.returns-in-DefaultType-clause-gives
 returns-in-DefaultType-clause-gives c = search rules
@@ -116,7 +116,7 @@ pub returns-in-Modules-clause-grows : goal.returns-in-Modules-clause-grows
 returns-in-Modules-clause-grows c = grows_none c.args.arena.now
 
 pub returns-in-Option-clause-grows : goal.returns-in-Option-clause-grows
-returns-in-Option-clause-grows c = grows_none c.args.arena.now
+returns-in-Option-clause-grows c = c.option_line.ensures.grows
 
 pub returns-in-LeftOut-clause-grows : goal.returns-in-LeftOut-clause-grows
 returns-in-LeftOut-clause-grows c = grows_none c.args.arena.now

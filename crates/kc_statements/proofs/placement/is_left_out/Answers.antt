@@ -1,7 +1,6 @@
 use Rattle.std.proofs.Common.{rules, ap, sym, ◌∙◌, length, arith}
 use Rattle.std.proofs.lemmas.Grind.{common_steps, elements}
 use Rattle.kc_tokens.specs.Token.{lexemes_of}
-use Rattle.kc_tree_model.specs.Forms.{is_left_out_option}
 use Rattle.kc_tree_model.specs.Keywords.{is_word_kind}
 use Rattle.kc_tree_model.specs.Placement.{is_left_out, is_glob_path}
 use Rattle.kc_statements.proofs.FormLemmas.{there}
@@ -14,41 +13,21 @@ returns-in-Type-Tristate c = search rules
 pub returns-then-not-is_empty : goal.returns-then-not-is_empty
 returns-then-not-is_empty c =
     let some = there (length c.args.tokens.now) c.is_empty.result c.is_empty.ensures c.if-not-is_empty.true in
-    λ read q. c.is_left_out_option.ensures ∙ first_reported is_left_out_option c.args.tokens.now some
-    ∙ sym (ap (λ k. is_left_out c.args.language read k (lexemes_of c.args.tokens.now)) c.in-Option.is)
-
-pub returns-else-not-is_empty : goal.returns-else-not-is_empty
-returns-else-not-is_empty c =
-    λ read q. first_none is_left_out_option c.args.tokens.now c.is_empty.result c.is_empty.ensures c.if-not-is_empty.false
-    ∙ sym (ap (λ k. is_left_out c.args.language read k (lexemes_of c.args.tokens.now)) c.in-Option.is)
-
-pub returns-then-not-is_empty-2 : goal.returns-then-not-is_empty-2
-returns-then-not-is_empty-2 c =
-    let some = there (length c.args.tokens.now) c.is_empty-in-Choice.result c.is_empty-in-Choice.ensures c.if-not-is_empty-2.true in
     λ read q. c.is_word.ensures ∙ first_reported (λ t. is_word_kind t.kind) c.args.tokens.now some
     ∙ sym (ap (λ k. is_left_out c.args.language read k (lexemes_of c.args.tokens.now)) c.in-Choice.is)
 
-pub returns-else-not-is_empty-2 : goal.returns-else-not-is_empty-2
-returns-else-not-is_empty-2 c =
-    λ read q. first_none (λ t. is_word_kind t.kind) c.args.tokens.now c.is_empty-in-Choice.result c.is_empty-in-Choice.ensures c.if-not-is_empty-2.false
+pub returns-else-not-is_empty : goal.returns-else-not-is_empty
+returns-else-not-is_empty c =
+    λ read q. first_none (λ t. is_word_kind t.kind) c.args.tokens.now c.is_empty.result c.is_empty.ensures c.if-not-is_empty.false
     ∙ sym (ap (λ k. is_left_out c.args.language read k (lexemes_of c.args.tokens.now)) c.in-Choice.is)
 
-pub returns-then-not-is_empty-3 : goal.returns-then-not-is_empty-3
-returns-then-not-is_empty-3 c =
-    let some = there (length c.args.tokens.now) c.is_empty-in-Source.result c.is_empty-in-Source.ensures c.if-not-is_empty-3.true in
+pub returns-then-not-is_empty-2 : goal.returns-then-not-is_empty-2
+returns-then-not-is_empty-2 c =
+    let some = there (length c.args.tokens.now) c.is_empty-in-Source.result c.is_empty-in-Source.ensures c.if-not-is_empty-2.true in
     λ read q. c.is_glob_path.ensures ∙ first_reported is_glob_path c.args.tokens.now some
     ∙ sym (ap (λ k. is_left_out c.args.language read k (lexemes_of c.args.tokens.now)) c.in-Source.is)
 
-pub returns-else-not-is_empty-3 : goal.returns-else-not-is_empty-3
-returns-else-not-is_empty-3 c =
-    λ read q. first_none is_glob_path c.args.tokens.now c.is_empty-in-Source.result c.is_empty-in-Source.ensures c.if-not-is_empty-3.false
+pub returns-else-not-is_empty-2 : goal.returns-else-not-is_empty-2
+returns-else-not-is_empty-2 c =
+    λ read q. first_none is_glob_path c.args.tokens.now c.is_empty-in-Source.result c.is_empty-in-Source.ensures c.if-not-is_empty-2.false
     ∙ sym (ap (λ k. is_left_out c.args.language read k (lexemes_of c.args.tokens.now)) c.in-Source.is)
-
-pub bounds-tokens-0 : goal.bounds-tokens-0
-bounds-tokens-0 c = grind (arith, elements)
-
-pub bounds-tokens-0-then-not-is_empty-3 : goal.bounds-tokens-0-then-not-is_empty-3
-bounds-tokens-0-then-not-is_empty-3 c = grind (arith, common_steps)
-
-pub bounds-tokens-0-then-not-is_empty-2 : goal.bounds-tokens-0-then-not-is_empty-2
-bounds-tokens-0-then-not-is_empty-2 c = grind (arith, common_steps)

@@ -5,7 +5,7 @@ use Rattle.kc_macros.specs.between.Variables.{bindings_of}
 use Rattle.kc_macro_forms.specs.between.WrittenTokens.{tokens_of}
 use Rattle.kc_macros.proofs.NameLemmas.{no_element}
 use Rattle.kc_macro_lines.proofs.LineContentLemmas.{content_begins, content_ends, content_assigned}
-use Rattle.kc_macro_lines.proofs.line_content.read_line.Goals as goal
+use Rattle.kc_macro_lines.proofs.line_content.read_tokens.Goals as goal
 
 pub tokens-init : goal.tokens-init
 tokens-init c = content_begins (place_of c.args.at) (bindings_of c.args.bindings.now) c.args.run.now (tokens_of c.new.result.items)

@@ -5,7 +5,7 @@ use Rattle.kc_macros.specs.Runs.{place_of}
 use Rattle.kc_macros.specs.between.Variables.{bindings_of}
 use Rattle.kc_macros.specs.checker.ProgramSteps.{Leads}
 use Rattle.kc_macro_lines.specs.checker.LineFronts.{front_left}
-use Rattle.kc_macro_lines.proofs.line_content.read_line.Given as goal
+use Rattle.kc_macro_lines.proofs.line_content.read_tokens.Given as goal
 
 -- the content of the whole line is that of its written tokens followed by the tokens of `rest`
 abbrev pub invariant-tokens : goal.invariant-tokens

@@ -1,0 +1,11 @@
+use Rattle.std.proofs.Common.{◌≡◌, length}
+use Rattle.kc_macros_model.specs.LineTokens.{line_tokens}
+use Rattle.kc_macros_model.specs.EnvironmentLines.{solid_tokens}
+use Rattle.kc_macro_lines.proofs.environment_lines.next_solid.Given as goal
+
+-- the tokens of the whole text without gaps are those of `rest`
+abbrev pub invariant-tokens : goal.invariant-tokens
+invariant-tokens l = solid_tokens (line_tokens 0 l.fn.text) ≡ solid_tokens (line_tokens 0 l.rest)
+
+abbrev pub decreases-tokens : goal.decreases-tokens
+decreases-tokens l = length l.rest
