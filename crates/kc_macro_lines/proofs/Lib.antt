@@ -6,3 +6,4 @@ pub mod FrontLemmas
 pub mod LineContentLemmas
 pub mod CopiedLineLemmas
 pub mod QuietLemmas
+pub mod EnvironmentLemmas

@@ -6,7 +6,7 @@ ghost use Rattle.kc_macros_model.specs.EnvironmentLines.{solid_tokens, is_run, i
 ghost use Rattle.kc_macros.specs.Runs.{place_of, Runs, end_of};
 ghost use Rattle.kc_macros.specs.between.Variables.{bindings_of};
 ghost use Rattle.kc_macro_lines.specs.between.LineContents.{content_of};
-ghost use Rattle.kc_macro_lines.specs.checker.LineTexts.{token_view};
+ghost use Rattle.kc_macro_lines.specs.checker.LineTexts.{token_view, has_equals_sign};
 
 use super::line_content::{LineContent, front_token, read_tokens};
 use super::line_tokens::LineToken;
@@ -35,6 +35,17 @@ fn next_solid(text: &[u8]) -> Option<(LineToken<'_>, &[u8])>
         rest = after;
     }
     None
+}
+
+/// Whether a text has a `=`.
+fn has_equals_sign(text: &[u8]) -> bool
+    ensures { result ≡ has_equals_sign text.now }
+{
+    let mut found = false;
+    for byte in text {
+        found |= *byte == b'=';
+    }
+    found
 }
 
 /// Whether a token is this run.
@@ -116,6 +127,9 @@ fn asked_after_option(text: &[u8]) -> Option<&[u8]>
 fn environment_asked(text: &[u8]) -> Option<&[u8]>
     ensures { option_map (λ name. name.now) result ≡ environment_asked text.now }
 {
+    if !has_equals_sign(text) {
+        return None;
+    }
     let Some((token, after)) = next_solid(text) else {
         return None;
     };

@@ -1,5 +1,5 @@
 -- Lines `option env="X"`: each asks the environment variable X as a reference to it does.
-use Rattle.std.specs.Prelude.{ℕ, Bool, false, not, List, [], ◌∷◌, ◌++◌, filter, Option, Some, None, is_some, bytes_eq, codes, if◌then◌else◌}
+use Rattle.std.specs.Prelude.{ℕ, Bool, false, not, List, [], ◌∷◌, ◌++◌, filter, Option, Some, None, bytes_eq, codes, if◌then◌else◌}
 use Rattle.kc_macros_model.specs.Variables.{is_environment_name}
 use Rattle.kc_macros_model.specs.LineTokens.{LineToken, run, quoted, other, line_tokens}
 use Rattle.kc_macros_model.specs.Assignments.{is_gap_token}

@@ -5,6 +5,7 @@ pub mod OrderedTrees
 pub mod SolutionsFit
 pub mod AssignedTexts
 pub mod SelectedMembers
+pub mod HiddenSymbols
 pub mod RowTrees
 mod TristateRows
 mod ImplyRows

@@ -1,7 +1,10 @@
 //! Laws of the rules that give units their values.
-ghost use Rattle.std.specs.Prelude.{◌≡◌, ◌↔◌, IsTrue};
+ghost use Rattle.std.specs.Prelude.{◌≡◌, ◌↔◌, IsTrue, List, true, false};
 ghost use Rattle.kc_rules_model.specs.declared.values.UnitValue.{UnitValue};
 ghost use Rattle.kc_rules_model.specs.declared.values.UserValue.{UserValue};
+ghost use Rattle.kc_tree_model.specs.Trees.{Tree, Symbol};
+ghost use Rattle.kc_rules_model.specs.Rule.{is_from_environment, is_visible};
+ghost use Rattle.kc_rules_model.specs.Reports.{is_written_symbol};
 ghost use Rattle.kc_rules_model.specs.RuleLaws.{DependenciesAreGraph, RulesKeepFrame, RulesRestore, RulesFit, TextsAreAssigned, SolutionsFit};
 ghost use Rattle.kc_rules_model.specs.MemberLineLaws.{ListsAreTwoLists, RulesAgreeWithoutN, FirstUnsetIsSelected};
 ghost use Rattle.kc_rules_model.specs.Equality.{same_value, same_user};
@@ -47,6 +50,12 @@ pub fn members_are_selected_by_lines()
     ensures lists { ListsAreTwoLists }
     ensures agree { RulesAgreeWithoutN }
     ensures first { FirstUnsetIsSelected }
+{}
+
+/// The law that a symbol with an `option env` is never visible, and that no full file has it.
+pub fn environment_symbols_are_hidden()
+    ensures unseen { (tree : Tree) (values : List UnitValue) (symbol : Symbol) → is_from_environment symbol ≡ true → is_visible tree values symbol ≡ false }
+    ensures unwritten { (tree : Tree) (values : List UnitValue) (symbol : Symbol) → is_from_environment symbol ≡ true → is_written_symbol tree values symbol ≡ false }
 {}
 
 /// The law that the tests of equality, of values of units and of user values, hold exactly for equal ones.

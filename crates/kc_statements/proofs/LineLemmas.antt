@@ -1,6 +1,6 @@
 -- The definitions of lines, by their first tokens.
 use Rattle.std.proofs.Common.{◌≡◌, ℕ, ◌<◌, Bool, true, false, ◌==◌, not, List, [], ◌∷◌, length, drop, refl, ap, sym, ◌∙◌, arith, Option, Some, None, Result, Ok, Err}
-use Rattle.std.specs.Prelude.{codes, slice_index_or}
+use Rattle.std.specs.Prelude.{slice_index_or}
 use Rattle.std.specs.Bool.{if◌then◌else◌}
 use Rattle.kc_expr.specs.between.Arena.{Exprs, Grows}
 use Rattle.kc_expr.specs.Expr.{Expr}

@@ -1,6 +1,6 @@
 -- Reads the form of each line from the tokens after its first word ("Kconfig syntax", "Menu attributes"). It computes what
 -- `FormGrammar` describes, by the law `forms_are_of_the_grammar`.
-use Rattle.std.specs.Prelude.{ℕ, Bool, true, false, ◌||◌, ◌==◌, List, [], ◌∷◌, length, drop, Option, Some, None, codes, Result, Ok, Err, if◌then◌else◌}
+use Rattle.std.specs.Prelude.{ℕ, Bool, false, ◌||◌, ◌==◌, List, [], ◌∷◌, length, drop, Option, Some, None, codes, Result, Ok, Err, if◌then◌else◌}
 use Rattle.std.specs.List.{list_any}
 use Rattle.kc_value.specs.declared.value.Kind.{Kind}
 use Rattle.kc_tokens.specs.Token.{Lexeme}

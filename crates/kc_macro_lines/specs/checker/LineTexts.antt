@@ -1,5 +1,6 @@
 -- Items and tokens at the front of a text, as `kc_macros_model` defines them.
 use Rattle.std.specs.Prelude.{ℕ, Bool, false, not, ◌==◌, List, [], ◌∷◌, Option, Some, None, if◌then◌else◌}
+use Rattle.std.specs.List.{list_any}
 use Rattle.kc_tokens.specs.Token.{is_white_byte}
 use Rattle.kc_macros_model.specs.References.{Item, byte, first_item}
 use Rattle.kc_macros_model.specs.LineTokens.{LineToken, gap, run, quoted, other, broken, is_run_byte, first_token}
@@ -28,6 +29,10 @@ token_view (kinds.Broken s) = broken s.now
 abbrev pub ends_extent : Option ℕ → ℕ → Bool
 ends_extent None c = not (is_run_byte c)
 ends_extent (Some quote) c = c == quote
+
+-- whether a text has a `=`
+abbrev pub has_equals_sign : List ℕ → Bool
+has_equals_sign text = list_any (λ c. c == 61) text
 
 -- whether a line has a token that is neither white nor a comment
 abbrev pub has_token : List ℕ → Bool

@@ -1,5 +1,4 @@
-use Rattle.std.proofs.Common.{rules, ap, sym, ◌∙◌, length, arith}
-use Rattle.std.proofs.lemmas.Grind.{common_steps, elements}
+use Rattle.std.proofs.Common.{rules, ap, sym, ◌∙◌, length}
 use Rattle.kc_tokens.specs.Token.{lexemes_of}
 use Rattle.kc_tree_model.specs.Keywords.{is_word_kind}
 use Rattle.kc_tree_model.specs.Placement.{is_left_out, is_glob_path}
