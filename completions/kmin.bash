@@ -15,7 +15,7 @@ _kmin_words() {
         min|full|missed|check|compare|tidy|wants) echo "--root --tree --expand --answers --define --env -h --help" ;;
     esac
     case $1 in
-        min|full|missed|check|compare|tidy) echo "--language --prefix --strings --imply --strict" ;;
+        min|full|missed|check|compare|tidy) echo "--language --prefix --no-prefix --strings --imply --strict" ;;
     esac
     case $1 in
         min|full) echo "-o --output" ;;

@@ -11,7 +11,7 @@ use Rattle.kc_dotconfig_model.specs.Formats.{FileFormat}
 use Rattle.kc_dotconfig_model.specs.declared.notice.NoticeKind.{NoticeKind}
 use Rattle.kc_dotconfig.specs.declared.meanings.Meaning.{Meaning}
 use Rattle.kc_dotconfig.specs.declared.meanings.Meaning.TheVariants.{Line, Noted, Nothing}
-use Rattle.kc_dotconfig_model.specs.PrefixGrammar.{is_prefix}
+use Rattle.kc_dotconfig_model.specs.PrefixGrammar.{is_name_prefix}
 use Rattle.kc_dotconfig_model.specs.ConfigLines.{LineMeaning, assigns, Means, IsMalformed}
 use Rattle.kc_tree_model.specs.LogicalLines.{without_white_end}
 use Rattle.kc_dotconfig_model.specs.between.LineMeanings.{line_meaning}
@@ -61,14 +61,14 @@ takes_nothing g h meaning is entries members notices lines tree meanings within 
     subst (λ s. IsGathered tree (meanings ++ meaning_view s ∷ []) h) (sym is) (gathers_nothing tree meanings g h before entries members notices lines)
 
 pub means_of_view : (format : FileFormat) (tree : Tree) (line text : List ℕ) (o : Option Meaning) (meaning : Meaning)
-    → is_prefix format.prefix ≡ true → text ≡ line
+    → is_name_prefix format.prefix ≡ true → text ≡ line
     → option_map meaning_view o ≡ line_meaning format tree (without_white_end text) → o ≡ Some meaning
     → Means format tree (without_white_end line) (meaning_view meaning)
 means_of_view format tree line text o meaning valid same read is =
     (line_read format tree (without_white_end line) (meaning_view meaning) valid).0
     (ap (λ t. line_meaning format tree (without_white_end t)) (sym same) ∙ sym read ∙ ap (option_map meaning_view) is)
 
-pub malformed_of : (format : FileFormat) (tree : Tree) (line text : List ℕ) (o : Option Meaning) → is_prefix format.prefix ≡ true → text ≡ line
+pub malformed_of : (format : FileFormat) (tree : Tree) (line text : List ℕ) (o : Option Meaning) → is_name_prefix format.prefix ≡ true → text ≡ line
     → option_map meaning_view o ≡ line_meaning format tree (without_white_end text) → o ≡ None → IsMalformed format tree line
 malformed_of format tree line text o valid same read is meaning has_meaning =
     let none : line_meaning format tree (without_white_end line) ≡ None = ap (λ t. line_meaning format tree (without_white_end t)) (sym same) ∙ sym read

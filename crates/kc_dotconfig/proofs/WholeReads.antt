@@ -14,7 +14,7 @@ use Rattle.kc_dotconfig.specs.declared.fragment.Fragment.{Fragment}
 use Rattle.kc_value.specs.declared.limits.TheConstants.{MAX_CONFIG_BLOCK_BYTES, MAX_CONFIG_BYTES, MAX_CONFIG_LINES}
 use Rattle.kc_dotconfig_model.specs.LoadFaults.{complete, IsFirstFault, OccursAt}
 use Rattle.kc_tree_model.specs.TreeLookup.{IsConsistent}
-use Rattle.kc_dotconfig_model.specs.PrefixGrammar.{is_prefix}
+use Rattle.kc_dotconfig_model.specs.PrefixGrammar.{is_name_prefix}
 use Rattle.kc_dotconfig.specs.Fragments.{FitsTree, users_of, notice_pair}
 use Rattle.kc_dotconfig.proofs.UserValueFits.{fragment_fits}
 use Rattle.kc_dotconfig.specs.ReadResults.{IsReadAs, IsRefused, IsCutShort, ReportsFault}
@@ -258,7 +258,7 @@ end_fault (Err e) format tree a b c line g size count block f f_after r none som
     (subst (Consumes b c) (none_taken count block none) bytes.0) (bytes.1 none some) fault)
 
 pub whole_fits : (r : Result Fragment LoadFault) (format : FileFormat) (tree : Tree) (a b : Option (List ℕ)) (line : List ℕ) (g : Accumulator) (size : ℕ)
-    → is_prefix format.prefix ≡ true → IsConsistent tree → HasRead format tree a b line g size
+    → is_name_prefix format.prefix ≡ true → IsConsistent tree → HasRead format tree a b line g size
     → IfOk r (IsFragmentOf format tree line g) → IfOk r (λ f. FitsTree tree f.assigns.items)
 whole_fits (Ok f) format tree a b line g size valid sound read whole =
     let all = whole read.known read.holds in

@@ -19,3 +19,4 @@ pub use config::Config;
 pub use fragment::Fragment;
 pub use fragment_reader::read_config;
 pub use kc_dotconfig_model::{Format, LoadFault, LoadKind, Notice, NoticeKind, Prefix, Strings};
+pub use line_parts::is_unset_text;

@@ -1,6 +1,7 @@
 pub mod ValueLaws
 pub mod LineForms
 pub mod LineLaws
+pub mod UnsetTexts
 pub mod Overlays
 pub mod FittingFiles
 pub mod AcceptedFiles

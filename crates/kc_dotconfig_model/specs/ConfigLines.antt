@@ -1,5 +1,6 @@
--- The meaning of a line of a configuration file. Each file has a format: a prefix, such as `CONFIG_`, and a form of strings.
-use Rattle.std.specs.Prelude.{◌≡◌, ◌≢◌, ℕ, ◌<◌, true, false, not, List, [], ◌∷◌, ◌++◌, Option, Some, None, is_some, length, slice_get, codes, bytes_eq, if◌then◌else◌}
+-- The meaning of a line of a configuration file. Each file has a format: a prefix, such as `CONFIG_` or none, and a form of
+-- strings.
+use Rattle.std.specs.Prelude.{◌≡◌, ◌≢◌, ℕ, ◌-◌, ◌<◌, Bool, true, false, not, ◌&&◌, nat_lt, List, [], ◌∷◌, ◌++◌, Option, Some, None, is_some, length, take, slice_get, codes, bytes_eq, if◌then◌else◌}
 use Rattle.std.specs.List.{find}
 use Rattle.kc_value.specs.declared.tri.Tri.{Tri}
 use Rattle.kc_value.specs.declared.tri.Tri.TheVariants.{N, M, Y}
@@ -78,10 +79,22 @@ abbrev pub IsUnsetLine : List ℕ → List ℕ → List ℕ → Type 0
 IsUnsetLine prefix line name = (0 < length name) × (has_no_byte 32 name ≡ true)
     × (line ≡ codes "# " ++ (prefix ++ (name ++ codes " is not set")))
 
--- the line is `CONFIG_NAME=text`, with this prefix, this name and this text
+-- whether a text is this name, of one byte or more and without a space, and ` is not set` after it
+abbrev pub is_name_not_set : (name text : List ℕ) → Bool
+is_name_not_set name text = nat_lt 0 (length name) && has_no_byte 32 name && bytes_eq text (name ++ codes " is not set")
+
+-- whether `# ` and this text are an unset line where names have no prefix
+abbrev pub is_unset_text : List ℕ → Bool
+is_unset_text text = is_name_not_set (take (length text - length (codes " is not set")) text) text
+
+-- the first byte of the line that isn't white is `#`
+abbrev pub BeginsWithHash : List ℕ → Type 0
+BeginsWithHash line = find (λ b. not (is_white_byte b)) line ≡ Some 35
+
+-- the line is `CONFIG_NAME=text`, with this prefix, this name and this text, and isn't a comment, as without a prefix `# A=y` is
 abbrev pub IsValueLine : List ℕ → List ℕ → List ℕ → List ℕ → Type 0
 IsValueLine prefix line name text = (0 < length name) × (has_no_byte 61 name ≡ true)
-    × (line ≡ prefix ++ (name ++ (61 ∷ text)))
+    × (line ≡ prefix ++ (name ++ (61 ∷ text))) × (BeginsWithHash line → ⊥)
 
 -- The meaning of a line without trailing white space (Kconfiglib's `load_config`). Each line has at most one
 -- meaning, and a line without one is malformed.
@@ -97,7 +110,7 @@ pub data Means (format : FileFormat) (tree : Tree) : List ℕ → LineMeaning �
   unknown_unset : (line name : List ℕ) → IsUnsetLine format.prefix line name → symbol_named tree name ≡ None
       → Means format tree line (notice UnknownSymbol)
   empty : Means format tree [] silent
-  comment : (line : List ℕ) → find (λ b. not (is_white_byte b)) line ≡ Some 35
+  comment : (line : List ℕ) → BeginsWithHash line
       → ((name : List ℕ) → IsUnsetLine format.prefix line name → ⊥) → Means format tree line silent
 
 -- the line, without the white bytes at its end, has no meaning

@@ -1,6 +1,16 @@
 //! Laws of configuration files and their lines.
 ghost use Rattle.kc_dotconfig_model.specs.between.LineMeaningLaws.{LinesAreRead, FilesAreRead};
-ghost use Rattle.kc_dotconfig_model.specs.FileLaws.{LinesHaveOneMeaning, FilesHaveOneMeaning, FilesLieOverAssignments, FilesFit, AcceptedFilesAreRead, OneFaultIsFirst, FaultyFilesAreRefused, FailedReadsAreReported, AcceptedFilesHaveGoodLines, EachFileIsJudged, EachCutFileIsJudged};
+ghost use Rattle.kc_dotconfig_model.specs.FileLaws.{PrefixedLinesHaveValues, UnsetTextsAreRead, LinesHaveOneMeaning, FilesHaveOneMeaning, FilesLieOverAssignments, FilesFit, AcceptedFilesAreRead, OneFaultIsFirst, FaultyFilesAreRefused, FailedReadsAreReported, AcceptedFilesHaveGoodLines, EachFileIsJudged, EachCutFileIsJudged};
+
+/// With a prefix each line of the prefix, a name, `=` and a text gives the name that text; without one a comment doesn't.
+pub fn prefixed_lines_have_values()
+    ensures { PrefixedLinesHaveValues }
+{}
+
+/// Where names have no prefix, a text after `# ` is an unset line exactly if it is an unset text, but for white bytes at its end.
+pub fn unset_texts_are_read()
+    ensures { UnsetTextsAreRead }
+{}
 
 /// A line of a configuration file has at most one meaning, and so has a file.
 pub fn lines_have_one_meaning()

@@ -379,6 +379,7 @@ fn with_options<'a>(alloc: Global, help: &CommandHelp) -> Result<Command<'a>, Al
     let command = with_place(alloc, described(alloc, help))?;
     let command = command.arg(language(alloc))?;
     let command = command.arg(option(alloc, &PREFIX))?;
+    let command = command.arg(flag(alloc, "no-prefix", help_texts::NO_PREFIX))?;
     let command = command.arg(strings(alloc))?;
     let command = command.arg(imply(alloc))?;
     let command = command.arg(flag(alloc, "strict", help_texts::STRICT))?;

@@ -72,7 +72,7 @@ macro_rules! tables {
             }
             "Kinds of a configuration file:" {
                 "Malformed" "  Malformed         neither CONFIG_NAME=value, an unset line, a comment nor empty: correct it, or
-                    give another prefix than CONFIG_ by --prefix"
+                    give another prefix than CONFIG_ by --prefix, or none by --no-prefix"
                 "NotUtf8" "  NotUtf8           the line isn't UTF-8: save the file as UTF-8"
                 "LineTooLong" "  LineTooLong       more than 65,536 bytes in a line: shorten it"
                 "TooManyLines" "  TooManyLines      more than 1,048,576 lines: split the file"

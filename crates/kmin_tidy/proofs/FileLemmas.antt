@@ -12,7 +12,7 @@ use Rattle.kc_rules.specs.between.SettledViews.{tree_of_settled, profile_of}
 use Rattle.kc_dotconfig_model.specs.declared.format.Format.{Format}
 use Rattle.kc_dotconfig_model.specs.declared.fault.LoadFault.{LoadFault}
 use Rattle.kc_dotconfig_model.specs.between.Formats.{file_format}
-use Rattle.kc_dotconfig_model.specs.PrefixGrammar.{is_prefix}
+use Rattle.kc_dotconfig_model.specs.PrefixGrammar.{is_name_prefix}
 use Rattle.kc_dotconfig_model.proofs.AcceptedLines.{accepted_utf8}
 use Rattle.kc_dotconfig.specs.declared.fragment.Fragment.{Fragment}
 use Rattle.kc_dotconfig.specs.Fragments.{notice_pair, users_of}
@@ -123,7 +123,7 @@ stops_rewrite s a b path bytes least notices stop m (inr h) =
 -- the canonical text of the values that a fragment alone gives is the minimal file of the fragment's bytes
 pub has_minimal_file : (settled now : Settled) (format : Format) (options : TidyOptions) (bytes text : List ℕ) (fragment : Fragment)
     (users : List (Option UserValue)) (values : List UnitValue)
-    → is_prefix (file_format format).prefix ≡ true → now ≡ settled → IsFragmentOf (file_format format) (tree_of_settled settled) bytes fragment
+    → is_name_prefix (file_format format).prefix ≡ true → now ≡ settled → IsFragmentOf (file_format format) (tree_of_settled settled) bytes fragment
     → users ≡ users_of (tree_of_settled settled) fragment.assigns.items
     → UniquelySolves (length (tree_of_settled now).units) (rule (profile_of now) (tree_of_settled now)) users values
     → IsCanonicalText (file_format format) (profile_of now) (tree_of_settled now) values text
