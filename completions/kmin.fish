@@ -50,7 +50,7 @@ complete -c kmin -n "__fish_seen_subcommand_from min full missed check compare t
 complete -c kmin -n "__fish_seen_subcommand_from min full missed check compare tidy wants" -s h -l help -d "Print help"
 complete -c kmin -n "__fish_seen_subcommand_from min full missed check compare tidy" -l language -d "Tree language" -x -a "strict linux linux-6.1 linux-6.12"
 complete -c kmin -n "__fish_seen_subcommand_from min full missed check compare tidy" -l prefix -d "Text before each name in a file" -x
-complete -c kmin -n "__fish_seen_subcommand_from min full missed check compare tidy" -l no-prefix -d "Names in files are those of the tree, as Buildroot's; not with --prefix"
+complete -c kmin -n "__fish_seen_subcommand_from min full missed check compare tidy" -l no-prefix -d "Names in files are as in the tree, as Buildroot's; not with --prefix"
 complete -c kmin -n "__fish_seen_subcommand_from min full missed check compare tidy" -l strings -d "Form of strings" -x -a "escaped raw"
 complete -c kmin -n "__fish_seen_subcommand_from min full missed check compare tidy" -l imply -d "Rule of imply" -x -a "present classic"
 complete -c kmin -n "__fish_seen_subcommand_from min full missed check compare tidy" -l strict -d "Refuses a file with a line that the tree can't read"

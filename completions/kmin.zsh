@@ -51,7 +51,7 @@ _kmin_specs() {
         min|full|missed|check|compare|tidy) specs+=(
             '--language=[Tree language]:LANGUAGE:(strict linux linux-6.1 linux-6.12)'
             '(--no-prefix)--prefix=[Text before each name in a file]:TEXT:'
-            '(--prefix)--no-prefix[Names in files are those of the tree, as Buildroot'\''s; not with --prefix]'
+            '(--prefix)--no-prefix[Names in files are as in the tree, as Buildroot'\''s; not with --prefix]'
             '--strings=[Form of strings]:FORM:(escaped raw)'
             '--imply=[Rule of imply]:PROFILE:(present classic)'
             '(--drop)--strict[Refuses a file with a line that the tree can'\''t read]'
