@@ -171,6 +171,7 @@ read_whole format tree a b c line g size f r consumed end whole =
       has_meaning = all.2;
       users = all.3;
       noted = all.4;
+      chosen = all.7;
     }
 
 -- a first fault of a complete file is of a line
@@ -204,17 +205,17 @@ fault_of format tree line g kind k lines n same is fault = elim fault [
 ]
 
 pub ends_whole : (format : FileFormat) (tree : Tree) (line : List ℕ) (g h : Accumulator) (f : Fragment) → EndsWell format tree line g h
-    → (f.assigns.items ≡ joined h.assigns h.members.entries) × (f.notices.items ≡ h.notices.items) → IsFragmentOf format tree line g f
+    → (f.assigns.items ≡ joined h.assigns h.members.entries) × (f.notices.items ≡ h.notices.items) × (f.chosen.items ≡ h.chosen.items) → IsFragmentOf format tree line g f
 ends_whole format tree line g h f ends same known holds =
     let e = ends known holds in (
       e.0,
       e.1,
       e.2,
       ap (users_of tree) same.0 ∙ whole_users tree e.0 h e.3,
-      ap (map notice_pair) same.1
-          ∙ e.3.noted,
+      ap (map notice_pair) same.1 ∙ e.3.noted,
       subst IsAscending (sym same.0) (whole_rises tree e.0 h e.3),
       subst (AreBelow (length tree.units)) (sym same.0) (whole_below tree e.0 h e.3),
+      same.2 ∙ e.3.chosen,
     )
 
 pub block_fault : (format : FileFormat) (tree : Tree) (line : List ℕ) (g : Accumulator) (block : List ℕ) (size : ℕ) (kind k : LoadKind) (lines n : ℕ) → k ≡ kind

@@ -11,6 +11,7 @@ pub mod AssigningLines
 pub mod Cuts
 pub mod FaultsAtCuts
 pub mod JudgedFiles
+pub mod OtherLines
 mod FileRows
 mod FaultRows
 mod MissedRows

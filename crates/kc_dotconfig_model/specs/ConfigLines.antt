@@ -22,9 +22,11 @@ use Rattle.kc_dotconfig_model.specs.declared.notice.NoticeKind.TheVariants.{Unkn
 use Rattle.kc_value.specs.Lines.{has_no_byte}
 use Rattle.kc_tree_model.specs.LogicalLines.{without_white_end}
 
--- what a line of a configuration file means: it assigns a user value to a unit, it gives a notice, or it does neither
+-- what a line of a configuration file means: it assigns a user value to a unit, it gives a member of a choice, whose unit is `unit`,
+-- another value than `y`, which assigns nothing, it gives a notice, or it does none of these
 pub data LineMeaning : Type 0 where
   assigns : (unit : ℕ) (user : UserValue) → LineMeaning
+  unchosen : (unit member : ℕ) → LineMeaning
   notice : NoticeKind → LineMeaning
   silent : LineMeaning
 
@@ -43,7 +45,7 @@ tri_of_text _ text = None
 abbrev pub unchosen_meaning : Language → ℕ → ℕ → LineMeaning
 unchosen_meaning language u s = if is_linux_6_12 language
     then assigns u (LinesUser (record { member = s; is_y = false } ∷ []))
-    else silent
+    else unchosen u s
 
 -- the text after `=` has this meaning, by the type of the symbol and the form of strings; an empty int or hex assigns nothing and
 -- gives no notice

@@ -1,5 +1,6 @@
 //! Laws of configuration files and their lines.
 ghost use Rattle.kc_dotconfig_model.specs.between.LineMeaningLaws.{LinesAreRead, FilesAreRead};
+ghost use Rattle.kc_dotconfig_model.specs.OtherChoiceLaws.{FilesAreLaidOver, OtherChoicesHaveReasons, OtherChoicesHaveLines};
 ghost use Rattle.kc_dotconfig_model.specs.FileLaws.{LinesHaveOneMeaning, FilesHaveOneMeaning, FilesLieOverAssignments, FilesFit, AcceptedFilesAreRead, OneFaultIsFirst, FaultyFilesAreRefused, FailedReadsAreReported, AcceptedFilesHaveGoodLines, EachFileIsJudged, EachCutFileIsJudged};
 
 /// A line of a configuration file has at most one meaning, and so has a file.
@@ -58,4 +59,14 @@ pub fn accepted_files_have_good_lines()
 pub fn each_file_is_judged()
     ensures whole { EachFileIsJudged }
     ensures cut { EachCutFileIsJudged }
+{}
+
+/// Where the rules from Linux 6.10 on select another member of a choice than those before, the last line of the member that those
+/// before select gives it `n`, or the member last assigned `y` isn't visible and a visible one is assigned `y` before it; so the
+/// notice has a line. What the members of a choice are given by lines one after another is what files with these lines give them,
+/// each laid over those before it.
+pub fn other_choices_have_reasons()
+    ensures reasons { OtherChoicesHaveReasons }
+    ensures lines { OtherChoicesHaveLines }
+    ensures files { FilesAreLaidOver }
 {}
