@@ -1,9 +1,10 @@
 //! Parses the words of the command line into a job.
-ghost use Rattle.std.specs.Prelude.{◌≡◌, Ok, IfOk, map, option_map, List, ℕ};
+ghost use Rattle.std.specs.Prelude.{◌≡◌, ◌≢◌, Ok, IfOk, map, option_map, List, ℕ};
 ghost use Rattle.std.specs.Borrow.{Bor};
-ghost use Rattle.clap.specs.Words.{found_of};
+ghost use Rattle.clap.specs.Words.{found_of, kind_of};
 ghost use Rattle.kc_dotconfig_model.specs.between.Prefixes.{prefix_bytes};
 ghost use Rattle.kmin_words.specs.Jobs.{settings_view, questions_view, task_view, paths_of};
+ghost use Rattle.kmin_words.specs.Parses.{AreParsedAs, IsText};
 ghost use Rattle.kmin_words.specs.between.WordValues as parsed;
 ghost use Rattle.kmin_words.specs.checker.Refusals.{Agrees};
 
@@ -41,7 +42,7 @@ pub enum ParsedWords<'a> {
 
 /// Parses the words of the command line after the program's name. An `Err` means out of memory.
 pub fn read_words<'a>(alloc: Global, words: &'a [&'a str]) -> Result<ParsedWords<'a>, AllocError>
-    ensures { IfOk result parsed.HasFoundValues }
+    ensures { IfOk result (AreParsedAs (map (λ (word : Bor (List ℕ)). word.now) words.now)) }
 {
     let help = kind_asked(alloc, message_tables(), words)?;
     if !help.is_empty() {
@@ -62,7 +63,8 @@ fn clap_message<'a>(
     words: &[&str],
     error: &Error,
 ) -> Result<ParsedWords<'a>, AllocError>
-    ensures { IfOk result parsed.HasFoundValues }
+    ensures text { IfOk result IsText }
+    ensures memory { IfOk result (λ parsed. kind_of error.now ≢ ErrorKind.OutOfMemory) }
 {
     if error.kind() == ErrorKind::OutOfMemory {
         return Err(AllocError);

@@ -20,7 +20,7 @@ use Rattle.kmin_words.specs.declared.job.TidyFlags.{TidyFlags}
 use Rattle.kmin_words.specs.declared.job.Verb.{Verb}
 use Rattle.kmin_words.specs.declared.job.Verb.TheVariants.{Min, Full, Missed, Check}
 use Rattle.kmin_words.specs.declared.command_line.ParsedWords.{ParsedWords}
-use Rattle.kmin_words.specs.declared.command_line.ParsedWords.TheVariants.{Job, Save, Questions as TheQuestions, Tidy, Help, Refused}
+use Rattle.kmin_words.specs.declared.command_line.ParsedWords.TheVariants.{Job, Save, Questions as TheQuestions, Tidy, Refused}
 use Rattle.kmin_words.specs.Jobs.{Definition, Expansion, Settings, Questions, PathList, TidyJob, Task, over, compare, paths_of, settings_view, questions_view, tidy_job_view, task_view}
 
 -- the one value that was found for an option or a word of the command line; empty if there is none
@@ -276,12 +276,3 @@ HasValues name found words = elim (bytes_eq name (codes "wants")) [
   | true ↦ AreQuestions (questions_of found) words
   | false ↦ elim (bytes_eq name (codes "tidy")) [ true ↦ IsTidyJob (tidy_job_of found) words | false ↦ AreJob (job_and_output_of name found) words ]
 ]
-
--- a parsed command has the values that were found for a command of some name, none of them refused
-abbrev pub HasFoundValues : ParsedWords → Type 0
-HasFoundValues (Job job) = (found : Found) × (name : List ℕ) × AreJob (job_and_output_of name found) (Job job)
-HasFoundValues (Save output_job) = (found : Found) × (name : List ℕ) × AreJob (job_and_output_of name found) (Save output_job)
-HasFoundValues (TheQuestions questions) = (found : Found) × AreQuestions (questions_of found) (TheQuestions questions)
-HasFoundValues (Tidy tidy_job) = (found : Found) × IsTidyJob (tidy_job_of found) (Tidy tidy_job)
-HasFoundValues (Help text) = Unit {0}
-HasFoundValues (Refused text) = Unit {0}
