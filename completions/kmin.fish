@@ -39,7 +39,7 @@ complete -c kmin -f -n "__fish_is_first_arg" -a tidy -d "Lists, or rewrites, the
 complete -c kmin -f -n "__fish_is_first_arg" -a wants -d "Lists the questions of a tree's macros that have no answer"
 complete -c kmin -f -n "__fish_is_first_arg" -a help -d "Print this message or the help of the given subcommand(s)"
 complete -c kmin -f -n "not __fish_seen_subcommand_from min full missed check compare tidy wants help"
-complete -c kmin -f -n "__fish_seen_subcommand_from help" -a "min full missed check compare tidy wants help NotUtf8 LineTooLong BadToken UnclosedQuote UnknownStatement Malformed Unclosed StrayEnd Misplaced NoType TypeConflict SecondPrompt DefaultShape RangeType SelectType ChoiceMember ChoiceDefault ModulesType MissingFile SourceLoop TooDeep TooMany Cycle LeftOut Unterminated Undefined Recursion Arguments Error Unanswered JoinedAssignment Info Warning TwoAnswers TooManyLines TooLarge Read UnknownSymbol NotOfType NotRegular Write Left NamedTwice"
+complete -c kmin -f -n "__fish_seen_subcommand_from help" -a "min full missed check compare tidy wants help NotUtf8 LineTooLong BadToken UnclosedQuote UnknownStatement Malformed Unclosed StrayEnd Misplaced NoType TypeConflict SecondPrompt DefaultShape RangeType SelectType ChoiceMember ChoiceDefault ModulesType MissingFile SourceLoop TooDeep TooMany Cycle LeftOut Unterminated Undefined Recursion Arguments Error Unanswered JoinedAssignment Info Warning TwoAnswers TooManyLines TooLarge Read UnknownSymbol NotOfType OtherChoice NotRegular Write Left NamedTwice"
 complete -c kmin -f -n "__fish_seen_subcommand_from wants"
 complete -c kmin -n "__fish_seen_subcommand_from min full missed check compare tidy wants" -l root -d "Folder of the tree" -x -a "(__kmin_folders)"
 complete -c kmin -n "__fish_seen_subcommand_from min full missed check compare tidy wants" -l tree -d "First file of the tree, below DIR" -x -a "(__kmin_tree_files)"
@@ -50,6 +50,7 @@ complete -c kmin -n "__fish_seen_subcommand_from min full missed check compare t
 complete -c kmin -n "__fish_seen_subcommand_from min full missed check compare tidy wants" -s h -l help -d "Print help"
 complete -c kmin -n "__fish_seen_subcommand_from min full missed check compare tidy" -l language -d "Tree language" -x -a "strict linux linux-6.1 linux-6.12"
 complete -c kmin -n "__fish_seen_subcommand_from min full missed check compare tidy" -l prefix -d "Text before each name in a file" -x
+complete -c kmin -n "__fish_seen_subcommand_from min full missed check compare tidy" -l no-prefix -d "Names in files are as in the tree, as Buildroot's; not with --prefix"
 complete -c kmin -n "__fish_seen_subcommand_from min full missed check compare tidy" -l strings -d "Form of strings" -x -a "escaped raw"
 complete -c kmin -n "__fish_seen_subcommand_from min full missed check compare tidy" -l imply -d "Rule of imply" -x -a "present classic"
 complete -c kmin -n "__fish_seen_subcommand_from min full missed check compare tidy" -l strict -d "Refuses a file with a line that the tree can't read"

@@ -23,7 +23,7 @@ _kmin_commands() {
 }
 
 _kmin_explained() {
-    local -a kinds=(NotUtf8 LineTooLong BadToken UnclosedQuote UnknownStatement Malformed Unclosed StrayEnd Misplaced NoType TypeConflict SecondPrompt DefaultShape RangeType SelectType ChoiceMember ChoiceDefault ModulesType MissingFile SourceLoop TooDeep TooMany Cycle LeftOut Unterminated Undefined Recursion Arguments Error Unanswered JoinedAssignment Info Warning TwoAnswers TooManyLines TooLarge Read UnknownSymbol NotOfType NotRegular Write Left NamedTwice)
+    local -a kinds=(NotUtf8 LineTooLong BadToken UnclosedQuote UnknownStatement Malformed Unclosed StrayEnd Misplaced NoType TypeConflict SecondPrompt DefaultShape RangeType SelectType ChoiceMember ChoiceDefault ModulesType MissingFile SourceLoop TooDeep TooMany Cycle LeftOut Unterminated Undefined Recursion Arguments Error Unanswered JoinedAssignment Info Warning TwoAnswers TooManyLines TooLarge Read UnknownSymbol NotOfType OtherChoice NotRegular Write Left NamedTwice)
     _kmin_commands
     _describe kind kinds
 }
@@ -50,7 +50,8 @@ _kmin_specs() {
     case $1 in
         min|full|missed|check|compare|tidy) specs+=(
             '--language=[Tree language]:LANGUAGE:(strict linux linux-6.1 linux-6.12)'
-            '--prefix=[Text before each name in a file]:TEXT:'
+            '(--no-prefix)--prefix=[Text before each name in a file]:TEXT:'
+            '(--prefix)--no-prefix[Names in files are as in the tree, as Buildroot'\''s; not with --prefix]'
             '--strings=[Form of strings]:FORM:(escaped raw)'
             '--imply=[Rule of imply]:PROFILE:(present classic)'
             '(--drop)--strict[Refuses a file with a line that the tree can'\''t read]'

@@ -29,7 +29,7 @@ VALUES = {
     "NAME=VALUE": ("text", "", "-x"),
     "TEXT": ("text", "", "-x"),
 }
-APART = {"--strict": "--drop", "--drop": "--strict"}
+APART = {"--strict": "--drop", "--drop": "--strict", "--prefix": "--no-prefix", "--no-prefix": "--prefix"}
 
 
 def read(path):

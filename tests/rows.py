@@ -38,6 +38,7 @@ PROGRAM = f"{TOP}/crates/kmin/out/kmin"
 SECONDS = 120
 COMMANDS = ("full", "min", "missed", "check", "compare")
 OPTIONS = ("--root", "--tree", "--language", "--prefix", "--strings", "--imply")
+FLAGS = ("--no-prefix",)
 EXPANDING = ("--expand", "--answers", "--define", "--env")
 
 
@@ -126,6 +127,11 @@ def content(how, text):
     if how:
         raise ValueError(f"no part has the form {how}")
     return text.encode()
+
+
+def words_of(options):
+    """The words that give options."""
+    return [word for option in options.items() for word in option if word is not None]
 
 
 def environment_of(settings):
@@ -233,8 +239,8 @@ class Row:
         return not self.words and "stdin" not in self.special
 
     def asked(self):
-        """The command that the words give, its options by name, and its configuration files; None where they give none, are
-        refused or ask for a text alone."""
+        """The command that the words give, its options by name (None of a flag), and its configuration files; None where they
+        give none, are refused or ask for a text alone."""
         if not self.words or self.words[0] not in COMMANDS or self.status == 2:
             return None
         options, files, words = {}, [], iter(self.words[1:])
@@ -244,6 +250,8 @@ class Row:
                 files += words
             elif name in OPTIONS:
                 options[name] = value if is_whole else next(words)
+            elif word in FLAGS:
+                options[word] = None
             elif word.startswith("-"):
                 return None
             else:

@@ -18,9 +18,10 @@ use Rattle.kc_rules_model.specs.declared.values.UserValue.{UserValue}
 use Rattle.kc_rules_model.specs.declared.values.UserValue.TheVariants.{Lines as LinesUser}
 use Rattle.kc_rules_model.specs.MemberLines.{is_listed, laid_over}
 use Rattle.kc_dotconfig_model.specs.ConfigFiles.{over}
+use Rattle.kc_dotconfig_model.specs.OtherChoices.{kept_last}
 use Rattle.kc_dotconfig.specs.Fragments.{changes_of}
 use Rattle.kc_dotconfig.specs.checker.UserValueOrder.{AreAbove, IsAscending, AreBelow}
-use Rattle.kc_dotconfig.specs.checker.GatheredLines.{kept_last, lines_user, value_in, lines_in, held_in, with_unit, joined}
+use Rattle.kc_dotconfig.specs.checker.GatheredLines.{lines_user, value_in, lines_in, held_in, with_unit, joined}
 use Rattle.kc_dotconfig_model.proofs.Cuts.{split}
 
 -- a list with one more assignment lists the member of this one too

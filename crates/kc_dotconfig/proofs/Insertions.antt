@@ -24,9 +24,11 @@ use Rattle.kc_tree_model.specs.Trees.{Tree}
 use Rattle.kc_dotconfig_model.specs.declared.notice.Notice.{Notice}
 use Rattle.kc_dotconfig_model.specs.declared.notice.NoticeKind.{NoticeKind}
 use Rattle.kc_dotconfig.specs.declared.accumulator.Accumulator.{Accumulator}
-use Rattle.kc_dotconfig_model.specs.ConfigLines.{LineMeaning, assigns, notice, silent}
+use Rattle.kc_dotconfig_model.specs.ConfigLines.{LineMeaning, assigns, unchosen, notice, silent}
 use Rattle.kc_dotconfig_model.specs.ConfigFiles.{over, assigned, assigned_over, empty_assignment, file_assignment, notices_from}
-use Rattle.std.proofs.lemmas.List.{append-nil}
+use Rattle.kc_dotconfig_model.specs.declared.choice_line.ChoiceLine.{ChoiceLine}
+use Rattle.kc_dotconfig_model.specs.OtherChoices.{choice_line_of, choice_lines_from}
+use Rattle.std.proofs.lemmas.List.{append-nil, append_assoc}
 use Rattle.kc_dotconfig_model.proofs.Cuts.{split}
 
 pub above_less : (u w : ℕ) (es : List (ℕ × UserValue)) → u < w → AreAbove w es → AreAbove u es
@@ -92,16 +94,34 @@ notices_more : (n : ℕ) (a b : List LineMeaning) → notices_from n (a ++ b) �
 notices_more n [] b = ap (λ m. notices_from m b) (let e : n ≡ n + 0 = omega arith in e)
 notices_more n (assigns u x ∷ a) b =
     notices_more (n + 1) a b ∙ ap (λ m. notices_from (n + 1) a ++ notices_from m b) (let e : (n + 1) + length a ≡ n + suc (length a) = omega arith in e)
+notices_more n (unchosen u s ∷ a) b =
+    notices_more (n + 1) a b ∙ ap (λ m. notices_from (n + 1) a ++ notices_from m b) (let e : (n + 1) + length a ≡ n + suc (length a) = omega arith in e)
 notices_more n (notice kind ∷ a) b =
     ap (λ l. (n, kind) ∷ l) (notices_more (n + 1) a b ∙ ap (λ m. notices_from (n + 1) a ++ notices_from m b)
     (let e : (n + 1) + length a ≡ n + suc (length a) = omega arith in e))
 notices_more n (silent ∷ a) b =
     notices_more (n + 1) a b ∙ ap (λ m. notices_from (n + 1) a ++ notices_from m b) (let e : (n + 1) + length a ≡ n + suc (length a) = omega arith in e)
 
+-- the lines of members with one more line
+chosen_more : (n : ℕ) (a : List LineMeaning) (s : LineMeaning) → choice_lines_from n (a ++ s ∷ []) ≡ choice_lines_from n a ++ choice_line_of (n + length a) s
+chosen_more n [] s = append-nil (choice_line_of n s) ∙ ap (λ m. choice_line_of m s) (let e : n ≡ n + 0 = omega arith in e)
+chosen_more n (x ∷ a) s =
+    ap (λ l. choice_line_of n x ++ l)
+    (chosen_more (n + 1) a s ∙ ap (λ m. choice_lines_from (n + 1) a ++ choice_line_of m s) (let e : (n + 1) + length a ≡ n + suc (length a) = omega arith in e))
+    ∙ sym (append_assoc (choice_line_of n x) (choice_lines_from (n + 1) a) (choice_line_of (n + length (x ∷ a)) s))
+
+chosen_after : (meanings : List LineMeaning) (g h : Accumulator) (s : LineMeaning) → g.chosen.items ≡ choice_lines_from 1 meanings → g.lines ≡ length meanings
+    → h.chosen.items ≡ g.chosen.items ++ choice_line_of (g.lines + 1) s → h.chosen.items ≡ choice_lines_from 1 (meanings ++ s ∷ [])
+chosen_after meanings g h s before counted after =
+    let number : g.lines + 1 ≡ 1 + length meanings = omega arith in
+    after ∙ ap (λ l. l ++ choice_line_of (g.lines + 1) s) before ∙ ap (λ n. choice_lines_from 1 meanings ++ choice_line_of n s) number
+    ∙ sym (chosen_more 1 meanings s)
+
 length_over : (meanings : List LineMeaning) (users : List (Option UserValue)) → length (assigned_over meanings users) ≡ length users
 length_over [] users = refl
 length_over (assigns u x ∷ meanings) users =
     length_over meanings (slice_set users u (Some (over x (user_of users u)))) ∙ length-set users u (Some (over x (user_of users u)))
+length_over (unchosen u s ∷ meanings) users = length_over meanings users
 length_over (notice kind ∷ meanings) users = length_over meanings users
 length_over (silent ∷ meanings) users = length_over meanings users
 
@@ -153,9 +173,10 @@ same_held g h u entries members = sym (ap (λ l. held_in l h.members.entries u) 
 -- the line
 pub gathers_user : (tree : Tree) (meanings : List LineMeaning) (g h : Accumulator) (w : ℕ) (x : UserValue) → w < length tree.units → IsPlain x
     → IsGathered tree meanings g → h.assigns ≡ insert_entry nat_cmp g.assigns w x → h.members.entries ≡ g.members.entries
-    → h.notices.items ≡ g.notices.items → h.lines ≡ g.lines + 1
+    → h.notices.items ≡ g.notices.items → h.chosen.items ≡ g.chosen.items ++ choice_line_of (g.lines + 1) (assigns w x) → h.lines ≡ g.lines + 1
     → IsGathered tree (meanings ++ assigns w x ∷ []) h
-gathers_user tree meanings g h w x within unlisted is entries members notices lines = record {
+gathers_user tree meanings g h w x within unlisted is entries members notices chosen lines = record {
+  chosen = chosen_after meanings g h (assigns w x) is.chosen is.counted chosen;
   users = λ u inside. elim (cases_eq u w) [
     | inl same ↦
         let found : value_in h.assigns u ≡ Some x = ap (λ l. value_in l u) entries ∙ ap (value_in (insert_entry nat_cmp g.assigns w x)) same
@@ -194,9 +215,10 @@ one_more None (Some lines) l plain = ap Some (sym (lines_over lines l))
 pub gathers_line : (tree : Tree) (meanings : List LineMeaning) (g h : Accumulator) (w : ℕ) (l : MemberLine) → w < length tree.units
     → IsGathered tree meanings g → h.assigns ≡ g.assigns
     → ((u : ℕ) → lines_in h.members.entries u ≡ cond (u == w) (lines_more (lines_in g.members.entries u) l) (lines_in g.members.entries u))
-    → h.notices.items ≡ g.notices.items → h.lines ≡ g.lines + 1
+    → h.notices.items ≡ g.notices.items → h.chosen.items ≡ g.chosen.items → h.lines ≡ g.lines + 1
     → IsGathered tree (meanings ++ assigns w (LinesUser (l ∷ [])) ∷ []) h
-gathers_line tree meanings g h w l within is entries members notices lines = record {
+gathers_line tree meanings g h w l within is entries members notices chosen lines = record {
+  chosen = chosen_after meanings g h (assigns w (LinesUser (l ∷ []))) is.chosen is.counted (chosen ∙ sym (append-nil g.chosen.items));
   users = λ u inside. elim (cases_eq u w) [
     | inl same ↦
         let more : lines_in h.members.entries u ≡ lines_more (lines_in g.members.entries u) l = members u
@@ -220,12 +242,29 @@ gathers_line tree meanings g h w l within is entries members notices lines = rec
   kept u other = members u ∙ ap (λ b. cond b (lines_more (lines_in g.members.entries u) l) (lines_in g.members.entries u)) (ne_eqb u w other)
 
 pub gathers_nothing : (tree : Tree) (meanings : List LineMeaning) (g h : Accumulator) → IsGathered tree meanings g → h.assigns ≡ g.assigns
-    → h.members.entries ≡ g.members.entries → h.notices.items ≡ g.notices.items → h.lines ≡ g.lines + 1
+    → h.members.entries ≡ g.members.entries → h.notices.items ≡ g.notices.items → h.chosen.items ≡ g.chosen.items → h.lines ≡ g.lines + 1
     → IsGathered tree (meanings ++ silent ∷ []) h
-gathers_nothing tree meanings g h is entries members notices lines = record {
+gathers_nothing tree meanings g h is entries members notices chosen lines = record {
+  chosen = chosen_after meanings g h silent is.chosen is.counted (chosen ∙ sym (append-nil g.chosen.items));
   users = λ u inside. ap (λ l. user_of l u) (over_more meanings silent (empty_assignment tree)) ∙ is.users u inside ∙ same_held g h u entries members;
   noted = ap (map notice_pair) notices ∙ is.noted ∙ sym (notices_more 1 meanings (silent ∷ []) ∙ append-nil (notices_from 1 meanings));
   counted = (let e = is.counted in let n = length-append meanings (silent ∷ []) in omega arith);
+  rises = subst IsAscending (sym entries) is.rises;
+  below = subst (AreBelow (length tree.units)) (sym entries) is.below;
+  plain = λ u y at. is.plain u y (sym (ap (λ es. value_in es u) entries) ∙ at);
+  members_below = λ u past. ap (λ m. lines_in m u) members ∙ is.members_below u past;
+}
+
+-- a line that gives a member of a choice another value than `y` is added by listing and counting it
+pub gathers_unchosen : (tree : Tree) (meanings : List LineMeaning) (g h : Accumulator) (w s : ℕ) → IsGathered tree meanings g → h.assigns ≡ g.assigns
+    → h.members.entries ≡ g.members.entries → h.notices.items ≡ g.notices.items
+    → h.chosen.items ≡ g.chosen.items ++ choice_line_of (g.lines + 1) (unchosen w s) → h.lines ≡ g.lines + 1
+    → IsGathered tree (meanings ++ unchosen w s ∷ []) h
+gathers_unchosen tree meanings g h w s is entries members notices chosen lines = record {
+  chosen = chosen_after meanings g h (unchosen w s) is.chosen is.counted chosen;
+  users = λ u inside. ap (λ l. user_of l u) (over_more meanings (unchosen w s) (empty_assignment tree)) ∙ is.users u inside ∙ same_held g h u entries members;
+  noted = ap (map notice_pair) notices ∙ is.noted ∙ sym (notices_more 1 meanings (unchosen w s ∷ []) ∙ append-nil (notices_from 1 meanings));
+  counted = (let e = is.counted in let n = length-append meanings (unchosen w s ∷ []) in omega arith);
   rises = subst IsAscending (sym entries) is.rises;
   below = subst (AreBelow (length tree.units)) (sym entries) is.below;
   plain = λ u y at. is.plain u y (sym (ap (λ es. value_in es u) entries) ∙ at);
@@ -237,9 +276,11 @@ pairs_more [] b = refl
 pairs_more (x ∷ a) b = ap (λ l. notice_pair x ∷ l) (pairs_more a b)
 
 pub gathers_notice : (tree : Tree) (meanings : List LineMeaning) (g h : Accumulator) (kind : NoticeKind) → IsGathered tree meanings g → h.assigns ≡ g.assigns
-    → h.members.entries ≡ g.members.entries → h.notices.items ≡ g.notices.items ++ record { line = g.lines + 1; kind = kind } ∷ [] → h.lines ≡ g.lines + 1
+    → h.members.entries ≡ g.members.entries → h.notices.items ≡ g.notices.items ++ record { line = g.lines + 1; kind = kind } ∷ []
+    → h.chosen.items ≡ g.chosen.items → h.lines ≡ g.lines + 1
     → IsGathered tree (meanings ++ notice kind ∷ []) h
-gathers_notice tree meanings g h kind is entries members notices lines = record {
+gathers_notice tree meanings g h kind is entries members notices chosen lines = record {
+  chosen = chosen_after meanings g h (notice kind) is.chosen is.counted (chosen ∙ sym (append-nil g.chosen.items));
   users = λ u inside. ap (λ l. user_of l u) (over_more meanings (notice kind) (empty_assignment tree)) ∙ is.users u inside ∙ same_held g h u entries members;
   noted =
       let number : g.lines + 1 ≡ 1 + length meanings = (let e = is.counted in omega arith) in
@@ -253,8 +294,10 @@ gathers_notice tree meanings g h kind is entries members notices lines = record 
 }
 
 -- an accumulator without assignments, notices and lines has gathered no lines
-pub gathers_none : (tree : Tree) (g : Accumulator) → g.assigns ≡ [] → g.members.entries ≡ [] → g.notices.items ≡ [] → g.lines ≡ 0 → IsGathered tree [] g
-gathers_none tree g entries members notices lines = record {
+pub gathers_none : (tree : Tree) (g : Accumulator) → g.assigns ≡ [] → g.members.entries ≡ [] → g.notices.items ≡ [] → g.chosen.items ≡ [] → g.lines ≡ 0
+    → IsGathered tree [] g
+gathers_none tree g entries members notices chosen lines = record {
+  chosen = chosen;
   users = λ u inside. none_of_unit (length tree.units) u ∙ sym (ap (λ es. held_in es g.members.entries u) entries ∙ ap (λ m. held_in [] m u) members);
   noted = ap (map notice_pair) notices;
   counted = lines;

@@ -5,6 +5,7 @@ pub mod WholeReads
 pub mod LineMeanings
 pub mod UserValueFits
 pub mod LineParts
+mod UnsetNames
 pub mod UserValueUnits
 pub mod FragmentFits
 pub mod ConfigSolutions

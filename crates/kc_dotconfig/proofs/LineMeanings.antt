@@ -21,7 +21,7 @@ use Rattle.kc_tokens.specs.Languages.{is_linux_6_12}
 use Rattle.kc_dotconfig_model.specs.declared.format.Strings.{Strings}
 use Rattle.kc_dotconfig_model.specs.Formats.{FileFormat, IsStringSpelling}
 use Rattle.kc_dotconfig_model.specs.declared.notice.NoticeKind.TheVariants.{NotOfType}
-use Rattle.kc_dotconfig_model.specs.ConfigLines.{LineMeaning, assigns, notice, silent, tri_of_text, unchosen_meaning, unset_meaning}
+use Rattle.kc_dotconfig_model.specs.ConfigLines.{LineMeaning, assigns, unchosen, notice, silent, tri_of_text, unchosen_meaning, unset_meaning}
 use Rattle.kc_dotconfig_model.specs.between.LineMeanings.{tri_meaning, string_meaning, number_meaning, without_number, meaning_of_kind, value_meaning, string_text, value_parts, unset_name, of_symbol_at, of_named, is_hash, of_other, of_unset, of_value, line_meaning}
 use Rattle.kc_dotconfig_model.proofs.ValueLaws.{string_is, string_read}
 
@@ -47,7 +47,7 @@ no_string_noticed strings unit text none = go (string_text strings text) refl wh
 -- what is assigned is assigned to the unit
 unchosen_within : (language : Language) (n u s : ℕ) → u < n → IsWithin n (unchosen_meaning language u s)
 unchosen_within language n u s h = go (is_linux_6_12 language) where
-  go : (b : Bool) → IsWithin n (cond b (assigns u (LinesUser (record { member = s; is_y = false } ∷ []))) silent)
+  go : (b : Bool) → IsWithin n (cond b (assigns u (LinesUser (record { member = s; is_y = false } ∷ []))) (unchosen u s))
   go true = h
   go false = tt
 

@@ -10,7 +10,7 @@ use Rattle.kc_system.specs.Solutions.{user_of}
 use Rattle.kc_rules_model.specs.declared.values.UserValue.{UserValue}
 use Rattle.kc_rules_model.specs.Shapes.{user_fits}
 use Rattle.kc_dotconfig_model.specs.Formats.{FileFormat}
-use Rattle.kc_dotconfig_model.specs.PrefixGrammar.{is_prefix}
+use Rattle.kc_dotconfig_model.specs.PrefixGrammar.{is_name_prefix}
 use Rattle.kc_dotconfig_model.specs.ConfigLines.{LineMeaning}
 use Rattle.kc_dotconfig_model.specs.ConfigFiles.{FileMeans, file_assignment, empty_assignment}
 use Rattle.kc_dotconfig_model.specs.LoadFaults.{IsAccepted}
@@ -59,7 +59,7 @@ rises_all es r k h =
     subst (λ m. slice_index (units_of es) k < slice_index (units_of es) m) (sym n) (rising es r k (omega (arith, h, n)))
 
 pub fragment_fits : (format : FileFormat) (tree : Tree) (known : List ℕ) (meanings : List LineMeaning) (es : List (ℕ × UserValue))
-    → is_prefix format.prefix ≡ true
+    → is_name_prefix format.prefix ≡ true
     → IsConsistent tree
     → IsAccepted format tree known → FileMeans format tree known meanings → users_of tree es ≡ file_assignment tree meanings → IsAscending es
     → AreBelow (length tree.units) es → FitsTree tree es

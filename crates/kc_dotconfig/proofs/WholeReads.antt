@@ -14,7 +14,7 @@ use Rattle.kc_dotconfig.specs.declared.fragment.Fragment.{Fragment}
 use Rattle.kc_value.specs.declared.limits.TheConstants.{MAX_CONFIG_BLOCK_BYTES, MAX_CONFIG_BYTES, MAX_CONFIG_LINES}
 use Rattle.kc_dotconfig_model.specs.LoadFaults.{complete, IsFirstFault, OccursAt}
 use Rattle.kc_tree_model.specs.TreeLookup.{IsConsistent}
-use Rattle.kc_dotconfig_model.specs.PrefixGrammar.{is_prefix}
+use Rattle.kc_dotconfig_model.specs.PrefixGrammar.{is_name_prefix}
 use Rattle.kc_dotconfig.specs.Fragments.{FitsTree, users_of, notice_pair}
 use Rattle.kc_dotconfig.proofs.UserValueFits.{fragment_fits}
 use Rattle.kc_dotconfig.specs.ReadResults.{IsReadAs, IsRefused, IsCutShort, ReportsFault}
@@ -171,6 +171,7 @@ read_whole format tree a b c line g size f r consumed end whole =
       has_meaning = all.2;
       users = all.3;
       noted = all.4;
+      chosen = all.7;
     }
 
 -- a first fault of a complete file is of a line
@@ -204,17 +205,17 @@ fault_of format tree line g kind k lines n same is fault = elim fault [
 ]
 
 pub ends_whole : (format : FileFormat) (tree : Tree) (line : List ℕ) (g h : Accumulator) (f : Fragment) → EndsWell format tree line g h
-    → (f.assigns.items ≡ joined h.assigns h.members.entries) × (f.notices.items ≡ h.notices.items) → IsFragmentOf format tree line g f
+    → (f.assigns.items ≡ joined h.assigns h.members.entries) × (f.notices.items ≡ h.notices.items) × (f.chosen.items ≡ h.chosen.items) → IsFragmentOf format tree line g f
 ends_whole format tree line g h f ends same known holds =
     let e = ends known holds in (
       e.0,
       e.1,
       e.2,
       ap (users_of tree) same.0 ∙ whole_users tree e.0 h e.3,
-      ap (map notice_pair) same.1
-          ∙ e.3.noted,
+      ap (map notice_pair) same.1 ∙ e.3.noted,
       subst IsAscending (sym same.0) (whole_rises tree e.0 h e.3),
       subst (AreBelow (length tree.units)) (sym same.0) (whole_below tree e.0 h e.3),
+      same.2 ∙ e.3.chosen,
     )
 
 pub block_fault : (format : FileFormat) (tree : Tree) (line : List ℕ) (g : Accumulator) (block : List ℕ) (size : ℕ) (kind k : LoadKind) (lines n : ℕ) → k ≡ kind
@@ -258,7 +259,7 @@ end_fault (Err e) format tree a b c line g size count block f f_after r none som
     (subst (Consumes b c) (none_taken count block none) bytes.0) (bytes.1 none some) fault)
 
 pub whole_fits : (r : Result Fragment LoadFault) (format : FileFormat) (tree : Tree) (a b : Option (List ℕ)) (line : List ℕ) (g : Accumulator) (size : ℕ)
-    → is_prefix format.prefix ≡ true → IsConsistent tree → HasRead format tree a b line g size
+    → is_name_prefix format.prefix ≡ true → IsConsistent tree → HasRead format tree a b line g size
     → IfOk r (IsFragmentOf format tree line g) → IfOk r (λ f. FitsTree tree f.assigns.items)
 whole_fits (Ok f) format tree a b line g size valid sound read whole =
     let all = whole read.known read.holds in

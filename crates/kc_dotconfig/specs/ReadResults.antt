@@ -8,11 +8,12 @@ use Rattle.kc_dotconfig_model.specs.declared.fault.LoadKind.{LoadKind}
 use Rattle.kc_dotconfig_model.specs.declared.fault.LoadKind.TheVariants.{Read, OutOfMemory}
 use Rattle.kc_dotconfig_model.specs.ConfigLines.{LineMeaning}
 use Rattle.kc_dotconfig_model.specs.ConfigFiles.{FileMeans, file_assignment, notices_from}
+use Rattle.kc_dotconfig_model.specs.OtherChoices.{choice_lines_from}
 use Rattle.kc_dotconfig_model.specs.LoadFaults.{complete, cut_short, OccursAt, IsFirstFault, IsAccepted}
 use Rattle.kc_dotconfig.specs.declared.fragment.Fragment.{Fragment}
 use Rattle.kc_dotconfig.specs.Fragments.{users_of, notice_pair}
 
--- a configuration file was read to its end and has no fault, and `f` has its assignment and its notices
+-- a configuration file was read to its end and has no fault, and `f` has its assignment, its notices and its lines of members
 pub record IsReadAs (format : FileFormat) (tree : Tree) (before after : Option (List ℕ)) (f : Fragment) : Type 0 where
   pub known : List ℕ
   pub consumed : Consumes before after known
@@ -22,6 +23,7 @@ pub record IsReadAs (format : FileFormat) (tree : Tree) (before after : Option (
   pub has_meaning : FileMeans format tree known meanings
   pub users : users_of tree f.assigns.items ≡ file_assignment tree meanings
   pub noted : map notice_pair f.notices.items ≡ notices_from 1 meanings
+  pub chosen : f.chosen.items ≡ choice_lines_from 1 meanings
 
 -- the bytes read have a first fault, of this kind and line: either they are the whole configuration file, or the fault is the
 -- first whatever bytes follow; no fault occurs before the last `MAX_CONFIG_BLOCK_BYTES` of the bytes read

@@ -4,7 +4,9 @@ ghost use Rattle.std.specs.Str.{IsUtf8};
 ghost use Rattle.kc_value.specs.declared.limits.TheConstants.{MAX_CONFIG_LINES};
 ghost use Rattle.kc_tree_model.specs.Trees.{Tree};
 ghost use Rattle.kc_rules.specs.between.SettledViews.{tree_of_settled};
-ghost use Rattle.kc_dotconfig_model.specs.ConfigLines.{LineMeaning, Means, IsMalformed};
+ghost use Rattle.kc_rules_model.specs.declared.values.UserValue.TheVariants.{Member as MemberUser};
+ghost use Rattle.kc_dotconfig_model.specs.ConfigLines.{LineMeaning, assigns, unchosen, Means, IsMalformed};
+ghost use Rattle.kc_dotconfig_model.specs.OtherChoices.{choice_line_of};
 ghost use Rattle.kc_tree_model.specs.LogicalLines.{without_white_end};
 ghost use Rattle.kc_dotconfig_model.specs.between.Formats.{file_format};
 ghost use Rattle.std.specs.BTreeMap.{insert_entry};
@@ -18,9 +20,10 @@ use super::assigned_values::AssignedValues;
 use super::fragment::Fragment;
 use super::gathered_lines::{add_line, with_lines};
 use super::meanings::{Meaning, read_line};
-use kc_dotconfig_model::{Format, LoadKind, Notice, NoticeKind};
+use kc_dotconfig_model::{ChoiceLine, Format, LoadKind, Notice, NoticeKind};
 use kc_rules::Settled;
 use kc_rules_model::{MemberLine, UserValue};
+use kc_tree::Sym;
 use std::alloc::{AllocError, Global};
 use std::collections::BTreeMap;
 
@@ -31,6 +34,7 @@ pub(crate) fn empty_accumulator(alloc: Global) -> Accumulator
     Accumulator {
         assigns: AssignedValues::new(alloc),
         members: BTreeMap::new(alloc),
+        chosen: Vec::new(alloc),
         notices: Vec::new(alloc),
         lines: 0,
         next: 0,
@@ -43,12 +47,63 @@ fn take_assignment(gathered: &mut Accumulator, unit: u32, user: UserValue) -> Re
     ensures entries { OnOk result (gathered.new.assigns ≡ insert_entry nat_cmp gathered.old.assigns unit user) }
     ensures members { OnOk result (gathered.new.members.entries ≡ gathered.old.members.entries) }
     ensures notices { OnOk result (gathered.new.notices.items ≡ gathered.old.notices.items) }
+    ensures chosen { OnOk result (gathered.new.chosen.items ≡ gathered.old.chosen.items) }
     ensures lines { OnOk result (gathered.new.lines ≡ gathered.old.lines + 1) }
     ensures err { OnErr result (gathered.new.lines ≡ gathered.old.lines) }
 {
     gathered.assigns.insert(unit, user)?;
     gathered.lines += 1;
     gathered.next = unit.saturating_add(1);
+    Ok(())
+}
+
+/// Lists what the next line gives to a member of a choice, whose unit is `unit`. An `Err` means out of memory.
+fn list_choice(
+    gathered: &mut Accumulator,
+    unit: u32,
+    member: Sym,
+    is_y: bool,
+) -> Result<(), AllocError>
+    requires few { gathered.old.lines < MAX_CONFIG_LINES }
+    ensures entries { gathered.new.assigns ≡ gathered.old.assigns }
+    ensures members { gathered.new.members.entries ≡ gathered.old.members.entries }
+    ensures notices { gathered.new.notices.items ≡ gathered.old.notices.items }
+    ensures chosen { OnOk result (gathered.new.chosen.items ≡ gathered.old.chosen.items ++ record { unit = unit; given = record { member = member; is_y = is_y }; line = gathered.old.lines + 1 } ∷ []) }
+    ensures lines { gathered.new.lines ≡ gathered.old.lines }
+{
+    let line = gathered.lines + 1;
+    let given = MemberLine { member, is_y };
+    gathered.chosen.push(ChoiceLine { unit, given, line })?;
+    Ok(())
+}
+
+/// Adds a line that selects a member of a choice, whose unit is `unit`. An `Err` means out of memory.
+fn take_chosen(gathered: &mut Accumulator, unit: u32, s: Sym) -> Result<(), AllocError>
+    requires few { gathered.old.lines < MAX_CONFIG_LINES }
+    ensures entries { OnOk result (gathered.new.assigns ≡ insert_entry nat_cmp gathered.old.assigns unit (MemberUser s)) }
+    ensures members { OnOk result (gathered.new.members.entries ≡ gathered.old.members.entries) }
+    ensures notices { OnOk result (gathered.new.notices.items ≡ gathered.old.notices.items) }
+    ensures listed { OnOk result (gathered.new.chosen.items ≡ gathered.old.chosen.items ++ choice_line_of (gathered.old.lines + 1) (assigns unit (MemberUser s))) }
+    ensures lines { OnOk result (gathered.new.lines ≡ gathered.old.lines + 1) }
+    ensures err { OnErr result (gathered.new.lines ≡ gathered.old.lines) }
+{
+    list_choice(gathered, unit, s, true)?;
+    take_assignment(gathered, unit, UserValue::Member(s))
+}
+
+/// Adds a line that gives a member of a choice, whose unit is `unit`, another value than `y`, and assigns nothing. An `Err` means out
+/// of memory.
+fn take_unchosen(gathered: &mut Accumulator, unit: u32, s: Sym) -> Result<(), AllocError>
+    requires few { gathered.old.lines < MAX_CONFIG_LINES }
+    ensures entries { OnOk result (gathered.new.assigns ≡ gathered.old.assigns) }
+    ensures members { OnOk result (gathered.new.members.entries ≡ gathered.old.members.entries) }
+    ensures notices { OnOk result (gathered.new.notices.items ≡ gathered.old.notices.items) }
+    ensures listed { OnOk result (gathered.new.chosen.items ≡ gathered.old.chosen.items ++ choice_line_of (gathered.old.lines + 1) (unchosen unit s)) }
+    ensures lines { OnOk result (gathered.new.lines ≡ gathered.old.lines + 1) }
+    ensures err { OnErr result (gathered.new.lines ≡ gathered.old.lines) }
+{
+    list_choice(gathered, unit, s, false)?;
+    gathered.lines += 1;
     Ok(())
 }
 
@@ -63,6 +118,7 @@ fn take_member(
     ensures entries { OnOk result (gathered.new.assigns ≡ gathered.old.assigns) }
     ensures members { OnOk result ((u : ℕ) → lines_in gathered.new.members.entries u ≡ (if u == unit then lines_more (lines_in gathered.old.members.entries u) line else lines_in gathered.old.members.entries u)) }
     ensures notices { OnOk result (gathered.new.notices.items ≡ gathered.old.notices.items) }
+    ensures chosen { OnOk result (gathered.new.chosen.items ≡ gathered.old.chosen.items) }
     ensures lines { OnOk result (gathered.new.lines ≡ gathered.old.lines + 1) }
     ensures err { OnErr result (gathered.new.lines ≡ gathered.old.lines) }
 {
@@ -78,6 +134,7 @@ fn take_notice(gathered: &mut Accumulator, kind: NoticeKind) -> Result<(), Alloc
     ensures entries { OnOk result (gathered.new.assigns ≡ gathered.old.assigns) }
     ensures members { OnOk result (gathered.new.members.entries ≡ gathered.old.members.entries) }
     ensures notices { OnOk result (gathered.new.notices.items ≡ gathered.old.notices.items ++ record { line = gathered.old.lines + 1; kind = kind } ∷ []) }
+    ensures chosen { OnOk result (gathered.new.chosen.items ≡ gathered.old.chosen.items) }
     ensures lines { OnOk result (gathered.new.lines ≡ gathered.old.lines + 1) }
     ensures err { OnErr result (gathered.new.lines ≡ gathered.old.lines) }
 {
@@ -97,7 +154,8 @@ fn take(alloc: Global, gathered: &mut Accumulator, meaning: Meaning) -> Result<(
     match meaning {
         Meaning::Tri(unit, tri) => take_assignment(gathered, unit, UserValue::Tri(tri)),
         Meaning::Text(unit, text) => take_assignment(gathered, unit, UserValue::Text(text)),
-        Meaning::Member(unit, s) => take_assignment(gathered, unit, UserValue::Member(s)),
+        Meaning::Member(unit, s) => take_chosen(gathered, unit, s),
+        Meaning::Unchosen(unit, s) => take_unchosen(gathered, unit, s),
         Meaning::Line(unit, line) => take_member(alloc, gathered, unit, line),
         Meaning::Noted(kind) => take_notice(gathered, kind),
         Meaning::Nothing => {
@@ -139,15 +197,20 @@ pub(crate) fn take_line(
 
 /// The assignment and the notices of the accumulated lines. An `Err` means out of memory.
 pub(crate) fn fragment_of(alloc: Global, gathered: Accumulator) -> Result<Fragment, AllocError>
-    ensures { IfOk result (λ f. (f.assigns.items ≡ joined gathered.assigns gathered.members.entries) × (f.notices.items ≡ gathered.notices.items)) }
+    ensures { IfOk result (λ f. (f.assigns.items ≡ joined gathered.assigns gathered.members.entries) × (f.notices.items ≡ gathered.notices.items) × (f.chosen.items ≡ gathered.chosen.items)) }
 {
     let Accumulator {
         assigns,
         members,
+        chosen,
         notices,
         lines: _,
         next: _,
     } = gathered;
     let assigns = with_lines(alloc, assigns, members)?;
-    Ok(Fragment { assigns, notices })
+    Ok(Fragment {
+        assigns,
+        notices,
+        chosen,
+    })
 }

@@ -3,15 +3,17 @@ ghost use Rattle.std.specs.Prelude.{◌↔◌, IsTrue};
 ghost use Rattle.kc_rules.specs.between.SettledViews.{tree_of_settled};
 ghost use Rattle.kc_dotconfig.specs.Fragments.{FitsTree};
 
-use kc_dotconfig_model::Notice;
+use kc_dotconfig_model::{ChoiceLine, Notice};
 use kc_rules::Settled;
 use kc_rules_model::UserValue;
 
-/// The assignment of one configuration file, each unit once and in ascending order, and its notices in order of lines.
+/// The assignment of one configuration file, each unit once and in ascending order, its notices in order of lines, and, in a tree with
+/// the rules of Linux before 6.10, the lines that give a member of a choice `y` or `n`, in order.
 #[derive(Drop)]
 pub struct Fragment {
     pub assigns: Vec<(u32, UserValue)>,
     pub notices: Vec<Notice>,
+    pub chosen: Vec<ChoiceLine>,
 }
 
 impl Fragment {

@@ -1,6 +1,7 @@
 //! What the lines of a configuration file assign to members of choices.
 ghost use Rattle.std.specs.Prelude.{◌≡◌, ◌==◌, ◌∷◌, [], ℕ, IfOk, OnOk, if◌then◌else◌};
-ghost use Rattle.kc_dotconfig.specs.checker.GatheredLines.{kept_last, lines_in, lines_more, with_unit, joined};
+ghost use Rattle.kc_dotconfig.specs.checker.GatheredLines.{lines_in, lines_more, with_unit, joined};
+ghost use Rattle.kc_dotconfig_model.specs.OtherChoices.{kept_last};
 
 use super::assigned_values::{AssignedValues, put};
 use kc_rules_model::{MemberLine, MemberLines, UserValue};
@@ -40,7 +41,7 @@ pub(crate) fn add_line(
 }
 
 /// Each member's last assignment, in order. An `Err` means out of memory.
-fn last_lines(alloc: Global, lines: &[MemberLine]) -> Result<Vec<MemberLine>, AllocError>
+pub fn last_lines(alloc: Global, lines: &[MemberLine]) -> Result<Vec<MemberLine>, AllocError>
     ensures { IfOk result (λ kept. kept.items ≡ kept_last lines.now) }
 {
     let mut seen = BTreeSet::new(alloc);

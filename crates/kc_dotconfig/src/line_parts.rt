@@ -3,9 +3,10 @@ ghost use Rattle.std.specs.Prelude.{◌≡◌, ◌≢◌, ◌<◌, ℕ, List, no
 ghost use Rattle.std.specs.List.{find};
 ghost use Rattle.kc_tokens.specs.Token.{is_white_byte};
 ghost use Rattle.kc_tree_model.specs.LogicalLines.{without_white_end};
+ghost use Rattle.kc_dotconfig_model.specs.ConfigLines.{is_unset_text};
 ghost use Rattle.kc_dotconfig_model.specs.Formats.{between_quotes};
 ghost use Rattle.kc_dotconfig_model.specs.between.Prefixes.{prefix_bytes};
-ghost use Rattle.kc_dotconfig_model.specs.between.LineMeanings.{after_front, named_before, value_parts, unset_name, is_hash};
+ghost use Rattle.kc_dotconfig_model.specs.between.LineMeanings.{after_front, named_before, value_parts, unset_name, begins_with_hash};
 
 use kc_dotconfig_model::Prefix;
 
@@ -54,11 +55,14 @@ fn named_before(end: char, text: &str) -> Option<(&str, &str)>
 }
 
 /// The symbol name before the first `=` of a line, without the prefix, and the text after it; `None` if the line has another
-/// form.
+/// form, or is a comment.
 pub(crate) fn value_parts<'a>(prefix: &Prefix, line: &'a str) -> Option<(&'a str, &'a str)>
     ensures some { IfSome result (λ parts. value_parts (prefix_bytes prefix.now) line.now ≡ Some (parts.0.now, parts.1.now)) }
     ensures none { IfNone result (value_parts (prefix_bytes prefix.now) line.now ≡ None) }
 {
+    if is_comment(line.as_bytes()) {
+        return None;
+    }
     let rest = after_front(prefix.as_bytes(), line)?;
     named_before('=', rest)
 }
@@ -78,6 +82,16 @@ pub(crate) fn unset_name<'a>(prefix: &Prefix, line: &'a str) -> Option<&'a str>
     }
 }
 
+/// Whether `# ` and a text are an unset line where names have no prefix. White bytes at the text's end don't count.
+pub fn is_unset_text(text: &str) -> bool
+    ensures { result ≡ is_unset_text (without_white_end text.now) }
+{
+    match trimmed(text).as_bytes().strip_suffix(b" is not set") {
+        Some(name) => !name.is_empty() && !name.contains(&b' '),
+        None => false,
+    }
+}
+
 /// The text between a `"` at the beginning and a `"` at the end of a text; `None` if it hasn't both.
 pub(crate) fn between_quotes(text: &str) -> Option<&str>
     ensures some { IfSome result (λ inner. text.now ≡ between_quotes inner.now) }
@@ -88,7 +102,7 @@ pub(crate) fn between_quotes(text: &str) -> Option<&str>
 
 /// Whether the first byte of a line that isn't white space is `#`.
 pub(crate) fn is_comment(line: &[u8]) -> bool
-    ensures { result ≡ is_hash (find (λ b. not (is_white_byte b)) line.now) }
+    ensures { result ≡ begins_with_hash line.now }
 {
     for byte in line {
         if !is_white(*byte) {

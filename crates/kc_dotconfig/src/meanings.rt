@@ -30,6 +30,8 @@ pub(crate) enum Meaning {
     Text(u32, Text),
     /// The line selects a member for the choice that is the unit of this number.
     Member(u32, Sym),
+    /// The line gives a member of the choice that is the unit of this number another value than `y`, and assigns nothing.
+    Unchosen(u32, Sym),
     /// The line assigns `y` or `n` to a member of the choice that is the unit of this number.
     Line(u32, MemberLine),
     /// The line assigns nothing, and a notice of this kind is due.
@@ -80,7 +82,7 @@ fn unchosen(language: Language, unit: u32, s: Sym) -> Meaning
             },
         )
     } else {
-        Meaning::Nothing
+        Meaning::Unchosen(unit, s)
     }
 }
 

@@ -12,7 +12,7 @@ use Rattle.kc_dotconfig_model.specs.Formats.{FileFormat}
 use Rattle.kc_dotconfig_model.specs.declared.fault.LoadKind.TheVariants.{Malformed, NotUtf8, LineTooLong, TooManyLines, Read, OutOfMemory, TooLarge}
 use Rattle.kc_system.proofs.Lists.{get-some}
 use Rattle.kc_value.specs.Lines.{has_no_byte, newline_count}
-use Rattle.kc_dotconfig_model.specs.PrefixGrammar.{is_prefix}
+use Rattle.kc_dotconfig_model.specs.PrefixGrammar.{is_name_prefix}
 use Rattle.kc_dotconfig_model.specs.ConfigLines.{LineMeaning, Means, IsMalformed}
 use Rattle.kc_tree_model.specs.LogicalLines.{without_white_end}
 use Rattle.kc_dotconfig_model.specs.ConfigFiles.{file_lines, has_utf8_lines}
@@ -122,7 +122,7 @@ accepted_of_lines format tree bytes small few good Read byte number c = absurd c
 accepted_of_lines format tree bytes small few good OutOfMemory byte number c = absurd c
 
 -- a line without a meaning is malformed
-has_some_meaning : (format : FileFormat) (tree : Tree) (line : List ℕ) → is_prefix format.prefix ≡ true → (IsMalformed format tree line → ⊥)
+has_some_meaning : (format : FileFormat) (tree : Tree) (line : List ℕ) → is_name_prefix format.prefix ≡ true → (IsMalformed format tree line → ⊥)
     → (meaning : LineMeaning) × Means format tree (without_white_end line) meaning
 has_some_meaning format tree line valid good = go (line_meaning format tree (without_white_end line)) refl where
   go : (o : Option LineMeaning) → line_meaning format tree (without_white_end line) ≡ o
@@ -131,7 +131,7 @@ has_some_meaning format tree line valid good = go (line_meaning format tree (wit
   go None e = absurd (good (λ meaning has_meaning. let read = (line_read format tree (without_white_end line) meaning valid).1 has_meaning in cc (read, e)))
 
 -- each line of an accepted configuration file is short enough, UTF-8 and not malformed
-pub accepted_line : (format : FileFormat) (tree : Tree) (bytes : List ℕ) → is_prefix format.prefix ≡ true → IsAccepted format tree bytes
+pub accepted_line : (format : FileFormat) (tree : Tree) (bytes : List ℕ) → is_name_prefix format.prefix ≡ true → IsAccepted format tree bytes
     → (i : ℕ) (line : List ℕ)
     → slice_get (file_lines bytes) i ≡ Some line → IsGoodLine format tree line
 accepted_line format tree bytes valid accepted i line at =
@@ -184,7 +184,7 @@ each_passes p [] each = refl
 each_passes p (line ∷ lines) each = and_from (p line) (list_all p lines) (each 0 line refl) (each_passes p lines (λ i l at. each (suc i) l at))
 
 -- each line of an accepted configuration file is UTF-8
-pub accepted_utf8 : (format : FileFormat) (tree : Tree) (bytes : List ℕ) → is_prefix format.prefix ≡ true → IsAccepted format tree bytes
+pub accepted_utf8 : (format : FileFormat) (tree : Tree) (bytes : List ℕ) → is_name_prefix format.prefix ≡ true → IsAccepted format tree bytes
     → has_utf8_lines bytes ≡ true
 accepted_utf8 format tree bytes valid accepted =
     each_passes is_utf8 (file_lines bytes) (λ i line at. is_utf8-from_IsUtf8 line (accepted_line format tree bytes valid accepted i line at).utf8)

@@ -23,7 +23,7 @@ use Rattle.kc_value.specs.Kinds.{is_tri_kind}
 use Rattle.kc_tree_model.proofs.Lookups.{unit_is, index_if_found}
 use Rattle.kc_dotconfig_model.specs.declared.format.Strings.{Strings}
 use Rattle.kc_dotconfig_model.specs.Formats.{FileFormat, IsStringSpelling}
-use Rattle.kc_dotconfig_model.specs.ConfigLines.{LineMeaning, assigns, notice, silent, unchosen_meaning, unset_meaning, ValueMeans, tri, chosen, not_chosen, quoted, number, no_int, no_hex, no_tri, no_text, no_number, Means, value, unset, unknown_value, unknown_unset, empty, comment}
+use Rattle.kc_dotconfig_model.specs.ConfigLines.{LineMeaning, assigns, unchosen, notice, silent, unchosen_meaning, unset_meaning, ValueMeans, tri, chosen, not_chosen, quoted, number, no_int, no_hex, no_tri, no_text, no_number, Means, value, unset, unknown_value, unknown_unset, empty, comment}
 use Rattle.kc_tree_model.specs.LogicalLines.{without_white_end}
 use Rattle.kc_dotconfig_model.specs.ConfigFiles.{over, assigned_over}
 
@@ -61,6 +61,11 @@ pub assigning_line : (format : FileFormat) (tree : Tree) (lines : List (List ℕ
 assigning_line format tree [] [] held u means reads inside has = inl has
 assigning_line format tree [] (meaning ∷ meanings) held u means reads inside has = absurd reads
 assigning_line format tree (line ∷ lines) [] held u means reads inside has = absurd reads
+assigning_line format tree (line ∷ lines) (unchosen w s ∷ meanings) held u means reads inside has =
+    elim (assigning_line format tree lines meanings held u means reads.1 inside has) [
+      | inl before ↦ inl before
+      | inr later ↦ inr (one_further format tree line lines u (TextUser means) later)
+    ]
 assigning_line format tree (line ∷ lines) (notice kind ∷ meanings) held u means reads inside has =
     elim (assigning_line format tree lines meanings held u means reads.1 inside has) [
       | inl before ↦ inl before
@@ -120,7 +125,7 @@ member_no_text language w s u means e = go (is_linux_6_12 language) e where
 
 unchosen_no_text : (language : Language) (w s u : ℕ) (means : List ℕ) → unchosen_meaning language w s ≡ assigns u (TextUser means) → ⊥
 unchosen_no_text language w s u means e = go (is_linux_6_12 language) e where
-  go : (b : Bool) → cond b (assigns w (LinesUser (record { member = s; is_y = false } ∷ []))) silent ≡ assigns u (TextUser means) → ⊥
+  go : (b : Bool) → cond b (assigns w (LinesUser (record { member = s; is_y = false } ∷ []))) (unchosen w s) ≡ assigns u (TextUser means) → ⊥
   go true e = cc
   go false e = cc
 

@@ -73,6 +73,18 @@ names_are_as_written : (line_meaning config tree_a (codes "CONFIG_A =y") ≡ Som
 unfolding line_meaning
 names_are_as_written = (refl, refl, refl, refl, refl)
 
+-- without a prefix a name stands in the file as in the tree, and a line that begins with `#` is a comment or an unset line
+names_without_prefix : (line_meaning (escaped []) tree_a (codes "A=y") ≡ Some (assigns 0 (TriUser Y)))
+    × (line_meaning (escaped []) tree_a (codes "# A is not set") ≡ Some (assigns 0 (TriUser N)))
+    × (line_meaning (escaped []) tree_a (codes "CONFIG_A=y") ≡ Some (notice UnknownSymbol))
+    × (line_meaning (escaped []) tree_a (codes " A=y") ≡ Some (notice UnknownSymbol))
+    × (line_meaning (escaped []) tree_a (codes "# A=y") ≡ Some silent) × (line_meaning (escaped []) tree_a (codes "\t#A=y") ≡ Some silent)
+    × (line_meaning (escaped []) tree_a (codes " # A is not set") ≡ Some silent)
+    × (line_meaning (escaped []) tree_a (codes "# A=y is not set") ≡ Some (notice UnknownSymbol))
+    × (line_meaning (escaped []) tree_a (codes "=y") ≡ None) × (line_meaning (escaped []) tree_a (codes "A") ≡ None)
+unfolding line_meaning
+names_without_prefix = (refl, refl, refl, refl, refl, refl, refl, refl, refl, refl)
+
 -- a later file over an earlier one
 later_files_win : (assigned_over (assigns 0 (TriUser N) ∷ []) (file_assignment tree_a (assigns 0 (TriUser Y) ∷ [])) ≡ sets N ∷ [])
     × (overlay (sets N ∷ []) (sets Y ∷ []) ≡ sets N ∷ []) × (overlay (None ∷ []) (sets Y ∷ []) ≡ sets Y ∷ [])

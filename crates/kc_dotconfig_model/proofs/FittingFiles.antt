@@ -35,7 +35,7 @@ use Rattle.kc_value.specs.Number.{number_of_text}
 use Rattle.kc_rules_model.specs.Shapes.{user_fits, unit_user_fits, symbol_user_fits, choice_user_fits, is_member, tri_fits, user_text_fits}
 use Rattle.kc_tree_model.proofs.Lookups.{unit_is}
 use Rattle.kc_value.specs.Lines.{has_no_byte, has_newline}
-use Rattle.kc_dotconfig_model.specs.ConfigLines.{LineMeaning, assigns, notice, silent, tri_of_text, unchosen_meaning, ValueMeans, tri, chosen, not_chosen, quoted, number, no_int, no_hex, no_tri, no_text, no_number, unset_meaning, Means, value, unset, unknown_value, unknown_unset, empty, comment}
+use Rattle.kc_dotconfig_model.specs.ConfigLines.{LineMeaning, assigns, unchosen, notice, silent, tri_of_text, unchosen_meaning, ValueMeans, tri, chosen, not_chosen, quoted, number, no_int, no_hex, no_tri, no_text, no_number, unset_meaning, Means, value, unset, unknown_value, unknown_unset, empty, comment}
 use Rattle.kc_tree_model.specs.LogicalLines.{without_white_end}
 use Rattle.kc_dotconfig_model.specs.ConfigFiles.{file_lines, over, assigned_over, empty_assignment}
 use Rattle.kc_dotconfig_model.specs.FileLaws.{FilesFit}
@@ -43,6 +43,7 @@ use Rattle.kc_dotconfig_model.specs.FileLaws.{FilesFit}
 -- the assignment of a meaning fits
 abbrev SayingFits : Tree → LineMeaning → Type 0
 SayingFits tree (assigns u x) = user_fits tree u x ≡ true
+SayingFits tree (unchosen u s) = Unit {0}
 SayingFits tree (notice kind) = Unit {0}
 SayingFits tree silent = Unit {0}
 
@@ -157,7 +158,7 @@ module _ (tree : Tree) (sound : IsConsistent tree) (s : ℕ) (symbol : Symbol) (
   unchosen_fits : (c : ℕ) → symbol.choice ≡ Some c → SayingFits tree (unchosen_meaning tree.language (unit_of tree s) s)
   unchosen_fits c within = go (is_linux_6_12 tree.language) refl where
     go : (b : Bool) → is_linux_6_12 tree.language ≡ b
-        → SayingFits tree (cond b (assigns (unit_of tree s) (LinesUser (record { member = s; is_y = false } ∷ []))) silent)
+        → SayingFits tree (cond b (assigns (unit_of tree s) (LinesUser (record { member = s; is_y = false } ∷ []))) (unchosen (unit_of tree s) s))
     go true since = line_of_member_fits c within since false
     go false before = tt
 
@@ -298,6 +299,7 @@ module _ (format : FileFormat) (tree : Tree) (sound : IsConsistent tree) where
       → AllByRecursion (SayingFits tree) meanings → FitsUsers (length tree.units) (λ w y. IsTrue (user_fits tree w y)) (assigned_over meanings users)
   over_fits [] users fitting all = fitting
   over_fits (assigns u x ∷ meanings) users fitting all = over_fits meanings (slice_set users u (Some (over x (user_of users u)))) (set_fits users u (over x (user_of users u)) fitting (over_user_fits tree u x (user_of users u) all.0 (held_fits tree users u fitting))) all.1
+  over_fits (unchosen u s ∷ meanings) users fitting all = over_fits meanings users fitting all.1
   over_fits (notice kind ∷ meanings) users fitting all = over_fits meanings users fitting all.1
   over_fits (silent ∷ meanings) users fitting all = over_fits meanings users fitting all.1
 

@@ -9,7 +9,7 @@ use Rattle.kc_dotconfig_model.specs.Formats.{FileFormat}
 use Rattle.kc_dotconfig_model.specs.declared.fault.LoadKind.{LoadKind}
 use Rattle.kc_dotconfig_model.specs.declared.fault.LoadKind.TheVariants.{Malformed, NotUtf8, LineTooLong, TooManyLines, Read, TooLarge}
 use Rattle.kc_value.specs.Lines.{has_no_byte, newline_count}
-use Rattle.kc_dotconfig_model.specs.PrefixGrammar.{is_prefix}
+use Rattle.kc_dotconfig_model.specs.PrefixGrammar.{is_name_prefix}
 use Rattle.kc_dotconfig_model.specs.ConfigLines.{LineMeaning}
 use Rattle.kc_tree_model.specs.LogicalLines.{without_white_end}
 use Rattle.kc_value.specs.declared.limits.TheConstants.{MAX_CONFIG_BYTES, MAX_CONFIG_LINES, MAX_LINE_BYTES}
@@ -28,7 +28,7 @@ no_length : (line : List ℕ) → length line ≤ 0 → line ≡ []
 no_length [] h = refl
 no_length (b ∷ line) h = absurd (omega arith)
 
-module _ (format : FileFormat) (valid : is_prefix format.prefix ≡ true) (tree : Tree) (known line : List ℕ) (meanings : List LineMeaning)
+module _ (format : FileFormat) (valid : is_name_prefix format.prefix ≡ true) (tree : Tree) (known line : List ℕ) (meanings : List LineMeaning)
     (c : IsCut format tree known line meanings) where
   -- the line so far has a fault at its end, or what follows judges
   at_line_end : (more : List ℕ) → AtEnd format tree known line meanings c more
@@ -100,7 +100,7 @@ module _ (format : FileFormat) (valid : is_prefix format.prefix ≡ true) (tree 
   ]
 
 -- the known bytes, and these after them
-judge : (format : FileFormat) → is_prefix format.prefix ≡ true → (tree : Tree) (more known line : List ℕ) (meanings : List LineMeaning)
+judge : (format : FileFormat) → is_name_prefix format.prefix ≡ true → (tree : Tree) (more known line : List ℕ) (meanings : List LineMeaning)
     → IsCut format tree known line meanings → Judged format tree (known ++ more)
 judge format valid tree [] known line meanings c = at_file_end format valid tree known line meanings c
 judge format valid tree (b ∷ rest) known line meanings c =

@@ -1,6 +1,7 @@
 pub mod ValueLaws
 pub mod LineForms
 pub mod LineLaws
+pub mod UnsetTexts
 pub mod Overlays
 pub mod FittingFiles
 pub mod AcceptedFiles
@@ -11,6 +12,7 @@ pub mod AssigningLines
 pub mod Cuts
 pub mod FaultsAtCuts
 pub mod JudgedFiles
+pub mod OtherLines
 mod FileRows
 mod FaultRows
 mod MissedRows

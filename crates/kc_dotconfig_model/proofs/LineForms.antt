@@ -1,12 +1,18 @@
 -- The two forms of lines that name a symbol, and what is read of them.
-use Rattle.std.proofs.Common.{◌≡◌, ℕ, ◌<◌, Bool, true, false, not, ◌==◌, cond, List, [], ◌∷◌, ◌++◌, Option, Some, None, length, refl, sym, ◌∙◌, ap, subst}
-use Rattle.std.specs.Prelude.{codes, nat_lt, bytes_eq, option_map}
+use Rattle.std.proofs.Common.{◌≡◌, inl, inr, ℕ, ◌<◌, Bool, true, false, not, ◌||◌, ◌==◌, cond, List, [], ◌∷◌, ◌++◌, Option, Some, None, length, find, refl, sym, ◌∙◌, ap, subst, arith}
+use Rattle.std.specs.Prelude.{codes, nat_lt, nat_le, bytes_eq, option_map}
+use Rattle.std.specs.List.{list_all}
 use Rattle.std.specs.Option.{option_and_then}
-use Rattle.std.proofs.lemmas.Bool.{eqb-true, eq-eqb, and_parts, and_from, not-true, ltb-true, lt-ltb}
+use Rattle.std.proofs.lemmas.Bool.{cases_Bool, false≢true, eqb-true, eq-eqb, and_parts, and_from, not-true, ltb-true, lt-ltb}
 use Rattle.std.proofs.lemmas.Slice.Eq.{bytes_eq-Decides}
 use Rattle.kc_value.specs.Lines.{has_no_byte}
-use Rattle.kc_dotconfig_model.specs.ConfigLines.{IsValueLine, IsUnsetLine}
-use Rattle.kc_dotconfig_model.specs.between.LineMeanings.{after_front, split_at_byte, if_named, named_before, value_parts, if_not_set, unset_name}
+use Rattle.kc_value.specs.declared.limits.TheConstants.{MAX_PREFIX_BYTES}
+use Rattle.kc_tokens.specs.Token.{is_white_byte}
+use Rattle.kc_tree_model.specs.TreeLookup.{is_name_byte}
+use Rattle.kc_dotconfig_model.specs.PrefixGrammar.{is_name_prefix}
+use Rattle.kc_dotconfig_model.specs.ConfigLines.{BeginsWithHash, IsValueLine, IsUnsetLine}
+use Rattle.kc_dotconfig_model.specs.FileLaws.{PrefixedLinesHaveValues}
+use Rattle.kc_dotconfig_model.specs.between.LineMeanings.{is_hash, begins_with_hash, after_front, split_at_byte, if_named, named_before, value_parts, if_not_set, unset_name}
 
 after_front_is : (front text rest : List ℕ) → after_front front text ≡ Some rest → text ≡ front ++ rest
 after_front_is [] text rest e = cc
@@ -81,16 +87,66 @@ some_and_then : {X Y : Type 0} (f : X → Option Y) (o : Option X) (y : Y) → o
 some_and_then f None y e = cc
 some_and_then f (Some x) y e = (x, refl, e)
 
+-- what is read of a line `CONFIG_NAME=text`, given whether its first byte that isn't white is `#`
+abbrev parts_unless : Bool → List ℕ → List ℕ → Option Parts
+parts_unless t prefix line = cond t None (option_and_then (named_before 61) (after_front prefix line))
+
 -- a line that `value_parts` splits into a name and a text is a value line of that name and that text
 pub value_line_is : (prefix line : List ℕ) (parts : Parts) → value_parts prefix line ≡ Some parts → IsValueLine prefix line parts.0 parts.1
-value_line_is prefix line parts e =
-    let rest = some_and_then (named_before 61) (after_front prefix line) parts e in
-    let cut = named_is 61 rest.0 parts rest.2 in
-    (cut.some, cut.lacking, after_front_is prefix line rest.0 rest.1 ∙ ap (λ l. prefix ++ l) cut.whole)
+value_line_is prefix line parts e = go (begins_with_hash line) refl e where
+  go : (t : Bool) → begins_with_hash line ≡ t → parts_unless t prefix line ≡ Some parts → IsValueLine prefix line parts.0 parts.1
+  go true hash e = cc
+  go false none e =
+      let rest = some_and_then (named_before 61) (after_front prefix line) parts e in
+      let cut = named_is 61 rest.0 parts rest.2 in (
+        cut.some,
+        cut.lacking,
+        after_front_is prefix line rest.0 rest.1 ∙ ap (λ l. prefix ++ l) cut.whole,
+        λ hash. false≢true (sym none ∙ ap is_hash hash),
+      )
+
+no_hash : (line : List ℕ) → (BeginsWithHash line → ⊥) → begins_with_hash line ≡ false
+no_hash line none = go (find (λ b. not (is_white_byte b)) line) refl where
+  go : (o : Option ℕ) → find (λ b. not (is_white_byte b)) line ≡ o → is_hash o ≡ false
+  go None e = refl
+  go (Some b) e = elim (cases_Bool (b == 35)) [ inl same ↦ absurd (none (e ∙ ap Some (eqb-true b 35 same))) | inr other ↦ other ]
 
 pub value_line_read : (prefix line name text : List ℕ) → IsValueLine prefix line name text → value_parts prefix line ≡ Some (name, text)
 value_line_read prefix line name text is =
-    ap (value_parts prefix) is.2 ∙ ap (option_and_then (named_before 61)) (after_front_append prefix (name ++ (61 ∷ text))) ∙ named_front 61 name text is.0 is.1
+    ap (λ t. parts_unless t prefix line) (no_hash line is.3) ∙ ap (λ l. parts_unless false prefix l) is.2
+    ∙ ap (option_and_then (named_before 61)) (after_front_append prefix (name ++ (61 ∷ text))) ∙ named_front 61 name text is.0 is.1
+
+isn't : (k b : ℕ) → is_name_byte k ≡ false → is_name_byte b ≡ true → (b == k) ≡ false
+isn't k b fails passes =
+    elim (cases_Bool (b == k)) [ inl same ↦ absurd (false≢true (sym fails ∙ ap is_name_byte (sym (eqb-true b k same)) ∙ passes)) | inr other ↦ other ]
+
+none_white : (a b c d e : Bool) → a ≡ false → b ≡ false → c ≡ false → d ≡ false → e ≡ false → not (a || b || c || d || e) ≡ true
+none_white a b c d e p q r s t = rw (p, q, r, s, t) refl
+
+name_not_white : (b : ℕ) → is_name_byte b ≡ true → not (is_white_byte b) ≡ true
+name_not_white b e =
+    none_white (b == 9) (b == 11) (b == 12) (b == 13) (b == 32) (isn't 9 b refl e) (isn't 11 b refl e) (isn't 12 b refl e) (isn't 13 b refl e)
+    (isn't 32 b refl e)
+
+-- a line that begins with letters, digits and `_` is no comment
+pub named_no_hash : (front rest : List ℕ) → 0 < length front → list_all is_name_byte front ≡ true → BeginsWithHash (front ++ rest) → ⊥
+named_no_hash [] rest some all hash = absurd (omega (arith, some))
+named_no_hash (b ∷ front) rest some all hash =
+    let word = (and_parts (is_name_byte b) (list_all is_name_byte front) all).0 in
+    let found : find (λ c. not (is_white_byte c)) (b ∷ (front ++ rest)) ≡ Some b =
+    ap (λ t. cond t (Some b) (find (λ c. not (is_white_byte c)) (front ++ rest))) (name_not_white b word) in
+    let same : b ≡ 35 = cc in
+    false≢true (sym (ap is_name_byte same) ∙ word)
+
+pub prefixed_lines_have_values : PrefixedLinesHaveValues
+prefixed_lines_have_values prefix name text valid some lacking =
+    let parts = and_parts (nat_lt 0 (length prefix)) (is_name_prefix prefix) valid in (
+      some,
+      lacking,
+      refl,
+      named_no_hash prefix (name ++ (61 ∷ text)) (ltb-true 0 (length prefix) parts.0)
+          (and_parts (nat_le (length prefix) MAX_PREFIX_BYTES) (list_all is_name_byte prefix) parts.1).1,
+    )
 
 if_not_set_is : (parts : Parts) (name : List ℕ) → if_not_set parts ≡ Some name → (parts.0 ≡ name) × (parts.1 ≡ codes "is not set")
 if_not_set_is parts name e = go (bytes_eq parts.1 (codes "is not set")) refl e where

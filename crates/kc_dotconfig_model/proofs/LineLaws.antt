@@ -9,8 +9,8 @@ use Rattle.kc_tokens.specs.Token.{is_white_byte}
 use Rattle.kc_tree_model.specs.Trees.{Tree, Symbol}
 use Rattle.kc_tree_model.specs.TreeLookup.{is_name_byte, symbol_named}
 use Rattle.kc_dotconfig_model.specs.Formats.{FileFormat}
-use Rattle.kc_dotconfig_model.specs.PrefixGrammar.{is_prefix}
-use Rattle.kc_dotconfig_model.specs.ConfigLines.{LineMeaning, silent, Means, value, unset, unknown_value, unknown_unset, empty, comment, IsValueLine, IsUnsetLine, unset_meaning}
+use Rattle.kc_dotconfig_model.specs.PrefixGrammar.{is_name_prefix}
+use Rattle.kc_dotconfig_model.specs.ConfigLines.{LineMeaning, BeginsWithHash, silent, Means, value, unset, unknown_value, unknown_unset, empty, comment, IsValueLine, IsUnsetLine, unset_meaning}
 use Rattle.kc_tree_model.specs.LogicalLines.{without_white_end}
 use Rattle.kc_dotconfig_model.specs.ConfigFiles.{file_lines}
 use Rattle.kc_dotconfig_model.specs.between.LineMeanings.{value_meaning, value_parts, unset_name, named_before, after_front, of_symbol_at, of_named, is_hash, of_other, of_unset, of_value, line_meaning, with_rest, meanings_of_lines}
@@ -20,57 +20,13 @@ use Rattle.kc_dotconfig_model.proofs.ValueLaws.{value_means, value_meaning_is}
 use Rattle.kc_dotconfig_model.proofs.LineForms.{value_line_is, value_line_read, unset_line_is, unset_line_read}
 use Rattle.kc_tree_model.proofs.Lookups.{index_if_found}
 
-isn't : (k b : ℕ) → is_name_byte k ≡ false → is_name_byte b ≡ true → (b == k) ≡ false
-isn't k b fails passes =
-    elim (cases_Bool (b == k)) [ inl same ↦ absurd (false≢true (sym fails ∙ ap is_name_byte (sym (eqb-true b k same)) ∙ passes)) | inr other ↦ other ]
+no_value_in_nothing : (prefix : List ℕ) → value_parts prefix [] ≡ None
+no_value_in_nothing [] = refl
+no_value_in_nothing (b ∷ prefix) = refl
 
-none_white : (a b c d e : Bool) → a ≡ false → b ≡ false → c ≡ false → d ≡ false → e ≡ false → not (a || b || c || d || e) ≡ true
-none_white a b c d e p q r s t = rw (p, q, r, s, t) refl
-
-name_not_white : (b : ℕ) → is_name_byte b ≡ true → not (is_white_byte b) ≡ true
-name_not_white b e =
-    none_white (b == 9) (b == 11) (b == 12) (b == 13) (b == 32) (isn't 9 b refl e) (isn't 11 b refl e) (isn't 12 b refl e) (isn't 13 b refl e)
-    (isn't 32 b refl e)
-
--- the first byte of a prefix
-record IsHead (prefix : List ℕ) (b : ℕ) : Type 0 where
-  rest : List ℕ
-  whole : prefix ≡ b ∷ rest
-  word : is_name_byte b ≡ true
-
-head_of : (prefix : List ℕ) → is_prefix prefix ≡ true → (b : ℕ) × IsHead prefix b
-head_of [] e = absurd (false≢true e)
-head_of (b ∷ rest) e = (
-  b,
-  record {
-    rest = rest;
-    whole = refl;
-    word = (and_parts (is_name_byte b) (list_all is_name_byte rest)
-        (and_parts _ (list_all is_name_byte (b ∷ rest)) e).1).0;
-  },
-)
-
--- a line that begins with another byte gives no name a text
-no_value_line : (prefix : List ℕ) → is_prefix prefix ≡ true → (b : ℕ) (line : List ℕ) → is_name_byte b ≡ false → value_parts prefix (b ∷ line) ≡ None
-no_value_line prefix valid b line fails =
-    let head = head_of prefix valid in
-    ap (λ p. value_parts p (b ∷ line)) head.1.whole ∙ ap (λ t. option_and_then (named_before 61) (cond t (after_front head.1.rest line) None))
-    (isn't b head.0 fails head.1.word)
-
-no_value_in_nothing : (prefix : List ℕ) → is_prefix prefix ≡ true → value_parts prefix [] ≡ None
-no_value_in_nothing prefix valid = let head = head_of prefix valid in ap (λ p. value_parts p []) head.1.whole
-
-no_value_in_comment : (prefix : List ℕ) → is_prefix prefix ≡ true → (line : List ℕ) → find (λ b. not (is_white_byte b)) line ≡ Some 35
-    → (o : Option (List ℕ × List ℕ)) → value_parts prefix line ≡ o → o ≡ None
-no_value_in_comment prefix valid line hash None e = refl
-no_value_in_comment prefix valid line hash (Some parts) e =
-    let head = head_of prefix valid in
-    let is = value_line_is prefix line parts e in
-    let found : find (λ b. not (is_white_byte b)) line ≡ Some head.0 =
-    ap (find (λ b. not (is_white_byte b))) (is.2 ∙ ap (λ p. p ++ (parts.0 ++ (61 ∷ parts.1))) head.1.whole)
-    ∙ ap (λ t. cond t (Some head.0) (find (λ b. not (is_white_byte b)) (head.1.rest ++ (parts.0 ++ (61 ∷ parts.1))))) (name_not_white head.0 head.1.word) in
-    let same : head.0 ≡ 35 = cc in
-    absurd (false≢true (sym (ap is_name_byte same) ∙ head.1.word))
+no_value_in_comment : (prefix line : List ℕ) → BeginsWithHash line → value_parts prefix line ≡ None
+no_value_in_comment prefix line hash =
+    ap (λ o. cond {A = Option (List ℕ × List ℕ)} (is_hash o) None (option_and_then (named_before 61) (after_front prefix line))) hash
 
 found_below : (place count s : ℕ) → index_if_found place count ≡ Some s → s < count
 found_below place count s e = go (nat_lt place count) refl e where
@@ -144,43 +100,41 @@ module _ (format : FileFormat) (tree : Tree) where
   other_of [] hash = cc
   other_of (b ∷ line) hash = ap (λ o. cond (is_hash o) (Some silent) None) hash
 
-  module _ (valid : is_prefix format.prefix ≡ true) where
-    of_unset_line : (line name : List ℕ) → IsUnsetLine format.prefix line name
-        → of_value format tree line (value_parts format.prefix line) ≡ Some
-        (of_named tree (λ s symbol. unset_meaning tree s symbol symbol.choice) (symbol_named tree name))
-    of_unset_line line name is =
-        ap (of_value format tree line) (ap (value_parts format.prefix) is.2 ∙ no_value_line format.prefix valid 35
-        (32 ∷ (format.prefix ++ (name ++ codes " is not set"))) refl)
-        ∙ ap (of_unset tree line) (unset_line_read format.prefix line name is)
+  of_unset_line : (line name : List ℕ) → IsUnsetLine format.prefix line name
+      → of_value format tree line (value_parts format.prefix line) ≡ Some
+      (of_named tree (λ s symbol. unset_meaning tree s symbol symbol.choice) (symbol_named tree name))
+  of_unset_line line name is =
+      ap (of_value format tree line) (ap (value_parts format.prefix) is.2)
+      ∙ ap (of_unset tree line) (unset_line_read format.prefix line name is)
 
-    form_complete : (line : List ℕ) (meaning : LineMeaning) → Means format tree line meaning → of_value format tree line (value_parts format.prefix line)
-        ≡ Some meaning
-    form_complete line meaning (value _ name text s symbol _ is named at has_meaning) =
-        ap (of_value format tree line) (value_line_read format.prefix line name text is)
-        ∙ ap (λ o. Some (of_named tree (λ s symbol. value_meaning format.strings tree s symbol text) o)) named
-        ∙ ap (λ o. Some (of_symbol_at (λ s symbol. value_meaning format.strings tree s symbol text) s o)) at
-        ∙ ap Some (value_meaning_is format.strings tree s symbol text meaning has_meaning)
-    form_complete line meaning (unset _ name s symbol is named at) =
-        of_unset_line line name is ∙ ap (λ o. Some (of_named tree (λ s symbol. unset_meaning tree s symbol symbol.choice) o)) named
-        ∙ ap (λ o. Some (of_symbol_at (λ s symbol. unset_meaning tree s symbol symbol.choice) s o)) at
-    form_complete line meaning (unknown_value _ name text is named) =
-        ap (of_value format tree line) (value_line_read format.prefix line name text is)
-        ∙ ap (λ o. Some (of_named tree (λ s symbol. value_meaning format.strings tree s symbol text) o)) named
-    form_complete line meaning (unknown_unset _ name is named) =
-        of_unset_line line name is ∙ ap (λ o. Some (of_named tree (λ s symbol. unset_meaning tree s symbol symbol.choice) o)) named
-    form_complete line meaning empty = ap (of_value format tree []) (no_value_in_nothing format.prefix valid)
-    form_complete line meaning (comment _ hash lacks) =
-        ap (of_value format tree line) (no_value_in_comment format.prefix valid line hash (value_parts format.prefix line) refl)
-        ∙ ap (of_unset tree line) (no_name line lacks (unset_name format.prefix line) refl) ∙ other_of line hash
+  form_complete : (line : List ℕ) (meaning : LineMeaning) → Means format tree line meaning → of_value format tree line (value_parts format.prefix line)
+      ≡ Some meaning
+  form_complete line meaning (value _ name text s symbol _ is named at has_meaning) =
+      ap (of_value format tree line) (value_line_read format.prefix line name text is)
+      ∙ ap (λ o. Some (of_named tree (λ s symbol. value_meaning format.strings tree s symbol text) o)) named
+      ∙ ap (λ o. Some (of_symbol_at (λ s symbol. value_meaning format.strings tree s symbol text) s o)) at
+      ∙ ap Some (value_meaning_is format.strings tree s symbol text meaning has_meaning)
+  form_complete line meaning (unset _ name s symbol is named at) =
+      of_unset_line line name is ∙ ap (λ o. Some (of_named tree (λ s symbol. unset_meaning tree s symbol symbol.choice) o)) named
+      ∙ ap (λ o. Some (of_symbol_at (λ s symbol. unset_meaning tree s symbol symbol.choice) s o)) at
+  form_complete line meaning (unknown_value _ name text is named) =
+      ap (of_value format tree line) (value_line_read format.prefix line name text is)
+      ∙ ap (λ o. Some (of_named tree (λ s symbol. value_meaning format.strings tree s symbol text) o)) named
+  form_complete line meaning (unknown_unset _ name is named) =
+      of_unset_line line name is ∙ ap (λ o. Some (of_named tree (λ s symbol. unset_meaning tree s symbol symbol.choice) o)) named
+  form_complete line meaning empty = ap (of_value format tree []) (no_value_in_nothing format.prefix)
+  form_complete line meaning (comment _ hash lacks) =
+      ap (of_value format tree line) (no_value_in_comment format.prefix line hash)
+      ∙ ap (of_unset tree line) (no_name line lacks (unset_name format.prefix line) refl) ∙ other_of line hash
 
 pub line_read : LinesAreRead
 unfolding line_meaning
 line_read format tree line meaning valid = (
   form_sound format tree line meaning (value_parts format.prefix line) refl,
-  form_complete format tree valid line meaning,
+  form_complete format tree line meaning,
 )
 
-lines_sound : (format : FileFormat) (tree : Tree) → is_prefix format.prefix ≡ true → (lines : List (List ℕ)) (meanings : List LineMeaning)
+lines_sound : (format : FileFormat) (tree : Tree) → is_name_prefix format.prefix ≡ true → (lines : List (List ℕ)) (meanings : List LineMeaning)
     → meanings_of_lines format tree lines ≡ Some meanings → AllZip (λ line meaning. Means format tree (without_white_end line) meaning) lines meanings
 lines_sound format tree valid [] [] e = tt
 lines_sound format tree valid [] (meaning ∷ meanings) e = cc
@@ -198,7 +152,7 @@ lines_sound format tree valid (line ∷ lines) meanings e =
           subst (AllZip (λ line meaning. Means format tree (without_white_end line) meaning) (line ∷ lines)) same
           ((line_read format tree (without_white_end line) meaning valid).0 a, next rest b)
 
-lines_complete : (format : FileFormat) (tree : Tree) → is_prefix format.prefix ≡ true → (lines : List (List ℕ)) (meanings : List LineMeaning)
+lines_complete : (format : FileFormat) (tree : Tree) → is_name_prefix format.prefix ≡ true → (lines : List (List ℕ)) (meanings : List LineMeaning)
     → AllZip (λ line meaning. Means format tree (without_white_end line) meaning) lines meanings → meanings_of_lines format tree lines ≡ Some meanings
 lines_complete format tree valid [] [] all = refl
 lines_complete format tree valid [] (meaning ∷ meanings) all = absurd all

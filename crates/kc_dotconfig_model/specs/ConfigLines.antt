@@ -1,5 +1,6 @@
--- The meaning of a line of a configuration file. Each file has a format: a prefix, such as `CONFIG_`, and a form of strings.
-use Rattle.std.specs.Prelude.{◌≡◌, ◌≢◌, ℕ, ◌<◌, true, false, not, List, [], ◌∷◌, ◌++◌, Option, Some, None, is_some, length, slice_get, codes, bytes_eq, if◌then◌else◌}
+-- The meaning of a line of a configuration file. Each file has a format: a prefix, such as `CONFIG_` or none, and a form of
+-- strings.
+use Rattle.std.specs.Prelude.{◌≡◌, ◌≢◌, ℕ, ◌-◌, ◌<◌, Bool, true, false, not, ◌&&◌, nat_lt, List, [], ◌∷◌, ◌++◌, Option, Some, None, is_some, length, take, slice_get, codes, bytes_eq, if◌then◌else◌}
 use Rattle.std.specs.List.{find}
 use Rattle.kc_value.specs.declared.tri.Tri.{Tri}
 use Rattle.kc_value.specs.declared.tri.Tri.TheVariants.{N, M, Y}
@@ -22,9 +23,11 @@ use Rattle.kc_dotconfig_model.specs.declared.notice.NoticeKind.TheVariants.{Unkn
 use Rattle.kc_value.specs.Lines.{has_no_byte}
 use Rattle.kc_tree_model.specs.LogicalLines.{without_white_end}
 
--- what a line of a configuration file means: it assigns a user value to a unit, it gives a notice, or it does neither
+-- what a line of a configuration file means: it assigns a user value to a unit, it gives a member of a choice, whose unit is `unit`,
+-- another value than `y`, which assigns nothing, it gives a notice, or it does none of these
 pub data LineMeaning : Type 0 where
   assigns : (unit : ℕ) (user : UserValue) → LineMeaning
+  unchosen : (unit member : ℕ) → LineMeaning
   notice : NoticeKind → LineMeaning
   silent : LineMeaning
 
@@ -43,7 +46,7 @@ tri_of_text _ text = None
 abbrev pub unchosen_meaning : Language → ℕ → ℕ → LineMeaning
 unchosen_meaning language u s = if is_linux_6_12 language
     then assigns u (LinesUser (record { member = s; is_y = false } ∷ []))
-    else silent
+    else unchosen u s
 
 -- the text after `=` has this meaning, by the type of the symbol and the form of strings; an empty int or hex assigns nothing and
 -- gives no notice
@@ -78,10 +81,22 @@ abbrev pub IsUnsetLine : List ℕ → List ℕ → List ℕ → Type 0
 IsUnsetLine prefix line name = (0 < length name) × (has_no_byte 32 name ≡ true)
     × (line ≡ codes "# " ++ (prefix ++ (name ++ codes " is not set")))
 
--- the line is `CONFIG_NAME=text`, with this prefix, this name and this text
+-- whether a text is this name, of one byte or more and without a space, and ` is not set` after it
+abbrev pub is_name_not_set : (name text : List ℕ) → Bool
+is_name_not_set name text = nat_lt 0 (length name) && has_no_byte 32 name && bytes_eq text (name ++ codes " is not set")
+
+-- whether `# ` and this text are an unset line where names have no prefix
+abbrev pub is_unset_text : List ℕ → Bool
+is_unset_text text = is_name_not_set (take (length text - length (codes " is not set")) text) text
+
+-- the first byte of the line that isn't white is `#`
+abbrev pub BeginsWithHash : List ℕ → Type 0
+BeginsWithHash line = find (λ b. not (is_white_byte b)) line ≡ Some 35
+
+-- the line is `CONFIG_NAME=text`, with this prefix, this name and this text, and isn't a comment, as without a prefix `# A=y` is
 abbrev pub IsValueLine : List ℕ → List ℕ → List ℕ → List ℕ → Type 0
 IsValueLine prefix line name text = (0 < length name) × (has_no_byte 61 name ≡ true)
-    × (line ≡ prefix ++ (name ++ (61 ∷ text)))
+    × (line ≡ prefix ++ (name ++ (61 ∷ text))) × (BeginsWithHash line → ⊥)
 
 -- The meaning of a line without trailing white space (Kconfiglib's `load_config`). Each line has at most one
 -- meaning, and a line without one is malformed.
@@ -97,7 +112,7 @@ pub data Means (format : FileFormat) (tree : Tree) : List ℕ → LineMeaning �
   unknown_unset : (line name : List ℕ) → IsUnsetLine format.prefix line name → symbol_named tree name ≡ None
       → Means format tree line (notice UnknownSymbol)
   empty : Means format tree [] silent
-  comment : (line : List ℕ) → find (λ b. not (is_white_byte b)) line ≡ Some 35
+  comment : (line : List ℕ) → BeginsWithHash line
       → ((name : List ℕ) → IsUnsetLine format.prefix line name → ⊥) → Means format tree line silent
 
 -- the line, without the white bytes at its end, has no meaning

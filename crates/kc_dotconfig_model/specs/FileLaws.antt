@@ -1,5 +1,5 @@
 -- The laws of configuration files and their lines.
-use Rattle.std.specs.Prelude.{◌≡◌, ◌⊎◌, ◌↔◌, ℕ, ◌+◌, ◌≤◌, true, List, Option, Some, length, slice_get, IsTrue}
+use Rattle.std.specs.Prelude.{◌≡◌, ◌⊎◌, ◌↔◌, ℕ, ◌+◌, ◌<◌, ◌≤◌, true, List, [], ◌∷◌, ◌++◌, codes, Option, Some, length, slice_get, IsTrue}
 use Rattle.std.specs.Str.{IsUtf8}
 use Rattle.kc_tree_model.specs.Trees.{Tree}
 use Rattle.kc_tree_model.specs.TreeLookup.{IsConsistent}
@@ -9,22 +9,33 @@ use Rattle.kc_rules_model.specs.declared.values.UserValue.{UserValue}
 use Rattle.kc_dotconfig_model.specs.Formats.{FileFormat}
 use Rattle.kc_dotconfig_model.specs.declared.fault.LoadKind.{LoadKind}
 use Rattle.kc_dotconfig_model.specs.declared.fault.LoadKind.TheVariants.{Read}
-use Rattle.kc_dotconfig_model.specs.PrefixGrammar.{is_prefix}
-use Rattle.kc_dotconfig_model.specs.ConfigLines.{LineMeaning, Means}
+use Rattle.kc_dotconfig_model.specs.PrefixGrammar.{is_prefix, is_name_prefix}
+use Rattle.kc_dotconfig_model.specs.ConfigLines.{LineMeaning, Means, IsValueLine, IsUnsetLine, is_unset_text}
 use Rattle.kc_tree_model.specs.LogicalLines.{without_white_end}
 use Rattle.kc_dotconfig_model.specs.ConfigFiles.{file_lines, has_utf8_lines, FileMeans, assigned_over, file_assignment, overlay}
 use Rattle.kc_value.specs.declared.limits.TheConstants.{MAX_CONFIG_BYTES, MAX_CONFIG_LINES, MAX_LINE_BYTES}
-use Rattle.kc_value.specs.Lines.{newline_count}
+use Rattle.kc_value.specs.Lines.{has_no_byte, newline_count}
 use Rattle.kc_dotconfig_model.specs.LoadFaults.{InputEnd, complete, cut_short, OccursAt, IsFirstFault, IsAccepted}
+
+-- with a prefix, each line of the prefix, a name, `=` and a text gives the name that text
+abbrev pub PrefixedLinesHaveValues : Type 0
+PrefixedLinesHaveValues = (prefix name text : List ℕ) → is_prefix prefix ≡ true → 0 < length name → has_no_byte 61 name ≡ true
+    → IsValueLine prefix (prefix ++ (name ++ (61 ∷ text))) name text
+
+-- a text after `# `, without the white bytes at its end, is an unset text exactly if the line of the two is an unset line where
+-- names have no prefix
+abbrev pub UnsetTextsAreRead : Type 0
+UnsetTextsAreRead = (text : List ℕ) → (is_unset_text (without_white_end text) ≡ true)
+    ↔ ((name : List ℕ) × IsUnsetLine [] (without_white_end (codes "# " ++ text)) name)
 
 -- each line of a configuration file has at most one meaning
 abbrev pub LinesHaveOneMeaning : Type 0
-LinesHaveOneMeaning = (format : FileFormat) (tree : Tree) (line : List ℕ) (a b : LineMeaning) → is_prefix format.prefix ≡ true
+LinesHaveOneMeaning = (format : FileFormat) (tree : Tree) (line : List ℕ) (a b : LineMeaning) → is_name_prefix format.prefix ≡ true
     → Means format tree line a → Means format tree line b → a ≡ b
 
 -- the lines of each configuration file have at most one list of meanings
 abbrev pub FilesHaveOneMeaning : Type 0
-FilesHaveOneMeaning = (format : FileFormat) (tree : Tree) (bytes : List ℕ) (a b : List LineMeaning) → is_prefix format.prefix ≡ true
+FilesHaveOneMeaning = (format : FileFormat) (tree : Tree) (bytes : List ℕ) (a b : List LineMeaning) → is_name_prefix format.prefix ≡ true
     → FileMeans format tree bytes a → FileMeans format tree bytes b → a ≡ b
 
 -- reading a configuration file over an assignment gives the same as laying the file's own assignment over it
@@ -40,7 +51,7 @@ FilesFit = (format : FileFormat) (tree : Tree) (bytes : List ℕ) (meanings : Li
 
 -- each line of an accepted configuration file is understood: it assigns a user value, gives a notice, or does neither
 abbrev pub AcceptedFilesAreRead : Type 0
-AcceptedFilesAreRead = (format : FileFormat) (tree : Tree) (bytes : List ℕ) → is_prefix format.prefix ≡ true
+AcceptedFilesAreRead = (format : FileFormat) (tree : Tree) (bytes : List ℕ) → is_name_prefix format.prefix ≡ true
     → IsAccepted format tree bytes → (meanings : List LineMeaning) × FileMeans format tree bytes meanings
 
 -- a configuration file has at most one first fault, of one kind and at one line
@@ -76,16 +87,16 @@ pub record IsOfGoodLines (format : FileFormat) (tree : Tree) (bytes : List ℕ) 
 -- a configuration file is accepted exactly if it is within the limits of bytes and lines, and each of its lines is
 -- within its limit, UTF-8 and not malformed
 abbrev pub AcceptedFilesHaveGoodLines : Type 0
-AcceptedFilesHaveGoodLines = (format : FileFormat) (tree : Tree) (bytes : List ℕ) → is_prefix format.prefix ≡ true
+AcceptedFilesHaveGoodLines = (format : FileFormat) (tree : Tree) (bytes : List ℕ) → is_name_prefix format.prefix ≡ true
     → IsAccepted format tree bytes ↔ IsOfGoodLines format tree bytes
 
 -- each configuration file is accepted or has a first fault
 abbrev pub EachFileIsJudged : Type 0
-EachFileIsJudged = (format : FileFormat) (tree : Tree) (bytes : List ℕ) → is_prefix format.prefix ≡ true
+EachFileIsJudged = (format : FileFormat) (tree : Tree) (bytes : List ℕ) → is_name_prefix format.prefix ≡ true
     → IsAccepted format tree bytes
     ⊎ ((kind : LoadKind) × (number : ℕ) × IsFirstFault format tree complete bytes kind number)
 
 -- each configuration file that a failed read cut short has a first fault
 abbrev pub EachCutFileIsJudged : Type 0
-EachCutFileIsJudged = (format : FileFormat) (tree : Tree) (bytes : List ℕ) → is_prefix format.prefix ≡ true
+EachCutFileIsJudged = (format : FileFormat) (tree : Tree) (bytes : List ℕ) → is_name_prefix format.prefix ≡ true
     → (kind : LoadKind) × (number : ℕ) × IsFirstFault format tree cut_short bytes kind number

@@ -5,5 +5,7 @@ pub mod ConfigFiles
 pub mod LoadFaults
 pub mod KindNames
 pub mod MissedAssignments
+pub mod OtherChoices
+pub mod OtherChoiceLaws
 pub mod FileLaws
 pub mod between

@@ -1,6 +1,17 @@
 //! Laws of configuration files and their lines.
 ghost use Rattle.kc_dotconfig_model.specs.between.LineMeaningLaws.{LinesAreRead, FilesAreRead};
-ghost use Rattle.kc_dotconfig_model.specs.FileLaws.{LinesHaveOneMeaning, FilesHaveOneMeaning, FilesLieOverAssignments, FilesFit, AcceptedFilesAreRead, OneFaultIsFirst, FaultyFilesAreRefused, FailedReadsAreReported, AcceptedFilesHaveGoodLines, EachFileIsJudged, EachCutFileIsJudged};
+ghost use Rattle.kc_dotconfig_model.specs.OtherChoiceLaws.{FilesAreLaidOver, OtherChoicesHaveReasons, OtherChoicesHaveLines};
+ghost use Rattle.kc_dotconfig_model.specs.FileLaws.{PrefixedLinesHaveValues, UnsetTextsAreRead, LinesHaveOneMeaning, FilesHaveOneMeaning, FilesLieOverAssignments, FilesFit, AcceptedFilesAreRead, OneFaultIsFirst, FaultyFilesAreRefused, FailedReadsAreReported, AcceptedFilesHaveGoodLines, EachFileIsJudged, EachCutFileIsJudged};
+
+/// With a prefix each line of the prefix, a name, `=` and a text gives the name that text; without one a comment doesn't.
+pub fn prefixed_lines_have_values()
+    ensures { PrefixedLinesHaveValues }
+{}
+
+/// Where names have no prefix, a text after `# ` is an unset line exactly if it is an unset text, but for white bytes at its end.
+pub fn unset_texts_are_read()
+    ensures { UnsetTextsAreRead }
+{}
 
 /// A line of a configuration file has at most one meaning, and so has a file.
 pub fn lines_have_one_meaning()
@@ -58,4 +69,14 @@ pub fn accepted_files_have_good_lines()
 pub fn each_file_is_judged()
     ensures whole { EachFileIsJudged }
     ensures cut { EachCutFileIsJudged }
+{}
+
+/// Where the rules from Linux 6.10 on select another member of a choice than those before, the last line of the member that those
+/// before select gives it `n`, or the member last assigned `y` isn't visible and a visible one is assigned `y` before it; so the
+/// notice has a line. What the members of a choice are given by lines one after another is what files with these lines give them,
+/// each laid over those before it.
+pub fn other_choices_have_reasons()
+    ensures reasons { OtherChoicesHaveReasons }
+    ensures lines { OtherChoicesHaveLines }
+    ensures files { FilesAreLaidOver }
 {}

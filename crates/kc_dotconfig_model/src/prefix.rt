@@ -1,19 +1,20 @@
 //! The prefix of symbol names in a configuration file.
-ghost use Rattle.std.specs.Prelude.{◌≡◌, ◌↔◌, ◌≤◌, codes, take, IsTrue, IsSome, IfSome};
+ghost use Rattle.std.specs.Prelude.{◌≡◌, ◌↔◌, ◌≤◌, [], codes, take, IsTrue, IsSome, IfSome};
 ghost use Rattle.std.specs.List.{list_all};
 ghost use Rattle.kc_tree_model.specs.TreeLookup.{is_name_byte};
 ghost use Rattle.kc_value.specs.declared.limits.TheConstants.{MAX_PREFIX_BYTES};
-ghost use Rattle.kc_dotconfig_model.specs.PrefixGrammar.{is_prefix};
+ghost use Rattle.kc_dotconfig_model.specs.PrefixGrammar.{is_prefix, is_name_prefix};
 
 use kc_value::MAX_PREFIX_BYTES;
 
-/// The prefix of the names in configuration files: 1 to `MAX_PREFIX_BYTES` letters, digits and `_`.
+/// What comes before the names in configuration files: a prefix, of 1 to `MAX_PREFIX_BYTES` letters, digits and `_`, or nothing,
+/// where names stand there as in the tree.
 #[derive(Clone, Copy)]
 pub struct Prefix {
     bytes: [u8; MAX_PREFIX_BYTES],
     len: usize,
     ghost short: { len ≤ MAX_PREFIX_BYTES },
-    ghost valid: { IsTrue (is_prefix (take len bytes)) },
+    ghost valid: { IsTrue (is_name_prefix (take len bytes)) },
 }
 
 /// Whether a byte is allowed in a prefix: a letter, a digit or `_`.
@@ -49,6 +50,16 @@ impl Prefix {
         Prefix { bytes, len: 7 }
     }
 
+    /// No prefix: names stand in configuration files as in the tree.
+    pub fn none() -> Prefix
+        ensures { prefix_bytes result ≡ [] }
+    {
+        Prefix {
+            bytes: [0u8; MAX_PREFIX_BYTES],
+            len: 0,
+        }
+    }
+
     /// The prefix whose bytes are `text`; `None` if it is empty, longer than `MAX_PREFIX_BYTES`, or has another byte than
     /// letters, digits and `_`.
     pub fn of(text: &[u8]) -> Option<Prefix>
@@ -66,7 +77,7 @@ impl Prefix {
         })
     }
 
-    /// The bytes of the prefix.
+    /// The bytes of the prefix; none where there is no prefix.
     pub fn as_bytes(&self) -> &[u8]
         ensures { result.now ≡ prefix_bytes self.now }
     {

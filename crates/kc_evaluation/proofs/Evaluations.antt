@@ -1,9 +1,9 @@
 -- The rules of units, by whether a unit is a symbol or a choice.
 use Rattle.std.proofs.Common.{◌≡◌, inl, inr, ◌==◌, arith, ℕ, ◌<◌, true, false, not, IsTrue, List, [], ◌∷◌, length, Option, Some, None, IfSome, sym, ap, ◌∙◌}
 use Rattle.std.specs.Prelude.{slice_get}
-use Rattle.std.specs.List.{All, list_any, list_all}
+use Rattle.std.specs.List.{All, list_any}
 use Rattle.std.proofs.lemmas.Bool.{cases_lt, false≢true, false_from_ne_true, eqb-true, and_parts}
-use Rattle.std.proofs.lemmas.List.Elements.{All-weaker, All-cons, All-nil}
+use Rattle.std.proofs.lemmas.List.Elements.{All-weaker}
 use Rattle.std.proofs.lemmas.List.Folds.{list_any_none}
 use Rattle.kc_tokens.specs.Languages.{is_linux_6_12}
 use Rattle.kc_tree_model.specs.Trees.{Tree, Symbol, Choice}
@@ -13,10 +13,8 @@ use Rattle.kc_rules_model.specs.declared.values.UnitValue.{UnitValue}
 use Rattle.kc_rules_model.specs.declared.values.UnitValue.TheVariants.{Member as MemberValue}
 use Rattle.kc_rules_model.specs.declared.values.UserValue.{UserValue}
 use Rattle.kc_rules_model.specs.declared.values.UserValue.TheVariants.{Tri as TriUser, Text as TextUser, Member as MemberUser, Lines as LinesUser}
-use Rattle.kc_rules_model.specs.declared.values.MemberLine.{MemberLine}
-use Rattle.kc_rules_model.specs.Rule.{rule, rule_of_unit, rule_of_symbol, rule_of_choice, symbol_rule, choice_rule, assigned_member, assigned_lines}
+use Rattle.kc_rules_model.specs.Rule.{rule, rule_of_unit, rule_of_symbol, rule_of_choice, symbol_rule, choice_rule, assigned_member}
 use Rattle.kc_rules_model.specs.Shapes.{user_fits, unit_user_fits, choice_user_fits}
-use Rattle.kc_evaluation.specs.checker.Choices.{AreLines}
 
 pub rule_symbol : (profile : Profile) (tree : Tree) (u s : ℕ) (symbol : Symbol) (user : Option UserValue) (values : List UnitValue)
     → slice_get tree.units u ≡ Some (of_symbol s) → slice_get tree.symbols s ≡ Some symbol
@@ -54,22 +52,3 @@ member_there tree u c choice (Some (LinesUser lines)) e f all fits = tt
 member_there tree u c choice (Some (MemberUser s)) e f all fits =
     in_all (length tree.symbols) choice.members s all
     (and_parts (not (is_linux_6_12 tree.language)) (list_any (λ m. m == s) choice.members) (fits_members tree u c choice (MemberUser s) e f fits)).1
-
-all_there : (n : ℕ) (members : List ℕ) (lines : List MemberLine) → All (λ m. m < n) members
-    → list_all (λ (l : MemberLine). list_any (λ m. m == l.member) members) lines ≡ true → All (λ (l : MemberLine). l.member < n) lines
-all_there n members [] all e = All-nil (λ (l : MemberLine). l.member < n)
-all_there n members (l ∷ lines) all e =
-    let parts = and_parts (list_any (λ m. m == l.member) members) (list_all (λ (l : MemberLine). list_any (λ m. m == l.member) members) lines) e in
-    All-cons (λ (l : MemberLine). l.member < n) l lines (in_all n members l.member all parts.0) (all_there n members lines all parts.1)
-
-pub lines_there : (tree : Tree) (u c : ℕ) (choice : Choice) (x : Option UserValue) → slice_get tree.units u ≡ Some (of_choice c)
-    → slice_get tree.choices c ≡ Some choice → All (λ s. s < length tree.symbols) choice.members → IfSome x (λ y. IsTrue (user_fits tree u y))
-    → AreLines tree (assigned_lines x)
-lines_there tree u c choice None e f all fits = All-nil (λ (l : MemberLine). l.member < length tree.symbols)
-lines_there tree u c choice (Some (TriUser t)) e f all fits = All-nil (λ (l : MemberLine). l.member < length tree.symbols)
-lines_there tree u c choice (Some (TextUser t)) e f all fits = All-nil (λ (l : MemberLine). l.member < length tree.symbols)
-lines_there tree u c choice (Some (MemberUser s)) e f all fits = All-nil (λ (l : MemberLine). l.member < length tree.symbols)
-lines_there tree u c choice (Some (LinesUser lines)) e f all fits =
-    all_there (length tree.symbols) choice.members lines all
-    (and_parts (is_linux_6_12 tree.language) (list_all (λ (l : MemberLine). list_any (λ m. m == l.member) choice.members) lines)
-    (fits_members tree u c choice (LinesUser lines) e f fits)).1

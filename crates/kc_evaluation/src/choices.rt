@@ -12,7 +12,7 @@ use super::valuation::Valuation;
 use kc_tree::{Choice, MemberDefault, Sym};
 
 /// Whether the condition of a choice's prompt isn't `n`; false without a prompt.
-fn is_shown(under: &Valuation<'_>, choice: &Choice<'_>) -> bool
+pub fn is_shown(under: &Valuation<'_>, choice: &Choice<'_>) -> bool
     requires fits { ChoiceFits (valuation_exprs under.now) (length (valuation_tree under.now).symbols) choice.now }
     ensures value { result ≡ is_shown (valuation_tree under.now) (valuation_values under.now) (choice_view (valuation_exprs under.now) choice.now) }
 {

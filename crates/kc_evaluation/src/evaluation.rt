@@ -4,7 +4,6 @@ ghost use Rattle.std.specs.Option.{option_copied};
 ghost use Rattle.kc_tree.specs.between.Views.{symbol_view, choice_view, SymbolFits, ChoiceFits};
 ghost use Rattle.kc_rules_model.specs.Rule.{rule, symbol_rule, choice_rule, assigned_tri, assigned_text, assigned_member, assigned_lines};
 ghost use Rattle.kc_rules_model.specs.Shapes.{user_fits};
-ghost use Rattle.kc_evaluation.specs.checker.Choices.{AreLines};
 ghost use Rattle.kc_evaluation.specs.checker.ValuationView.{valuation_tree, valuation_exprs, valuation_values};
 
 use super::choices::shown_choice_rule;
@@ -81,7 +80,6 @@ fn choice_rule(
 ) -> Result<Option<Sym>, AllocError>
     requires fits { ChoiceFits (valuation_exprs under.now) (length (valuation_tree under.now).symbols) choice.now }
     requires member { IfSome (assigned_member (option_copied user)) (λ s. s < length (valuation_tree under.now).symbols) }
-    requires lines { AreLines (valuation_tree under.now) (assigned_lines (option_copied user)) }
     ensures ok { IfOk result (λ m. m ≡ choice_rule (valuation_tree under.now) (choice_view (valuation_exprs under.now) choice.now) (option_copied user.entry) (valuation_values under.now)) }
 {
     if under.rules.tree.language().is_linux_6_12() {

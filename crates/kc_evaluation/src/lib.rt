@@ -11,8 +11,10 @@ mod text_rules;
 mod tristate_rules;
 mod valuation;
 
+pub use choices::is_shown;
 pub use evaluation::value_of;
 pub use kc_dependencies::{Links, links_of, modules_of};
+pub use member_lines::selected_by_lines;
 pub use rules::Rules;
 pub use symbol_values::{has_no_member, is_n};
 pub use text_rules::{active_default, number_of};

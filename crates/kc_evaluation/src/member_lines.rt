@@ -6,7 +6,7 @@ ghost use Rattle.kc_tree.specs.between.Views.{choice_view, ChoiceFits};
 ghost use Rattle.kc_dependencies.specs.checker.StoredRules.{AreMembers};
 ghost use Rattle.kc_rules_model.specs.MemberLines.{is_listed, last_y, first_listed, selected_without_y, selected_by_lines};
 ghost use Rattle.kc_rules_model.specs.Rule.{is_visible_member, default_member};
-ghost use Rattle.kc_evaluation.specs.checker.Choices.{AreLines, is_free};
+ghost use Rattle.kc_evaluation.specs.checker.Choices.{is_free};
 ghost use Rattle.kc_evaluation.specs.checker.ValuationView.{valuation_tree, valuation_exprs, valuation_values};
 
 use super::choices::{default_member, is_member_visible};
@@ -15,14 +15,23 @@ use kc_rules_model::MemberLine;
 use kc_tree::{Choice, Sym};
 use std::alloc::{AllocError, Global};
 
+/// Whether a listed member is a symbol of the tree and visible.
+fn is_seen(under: &Valuation<'_>, s: Sym) -> bool
+    ensures { result ≡ is_visible_member (valuation_tree under.now) (valuation_values under.now) s }
+{
+    if s.number() >= under.rules.tree.symbol_count() {
+        return false;
+    }
+    is_member_visible(under, s)
+}
+
 /// The last listed member that has `y` and is visible.
 fn last_y(under: &Valuation<'_>, lines: &[MemberLine]) -> Option<Sym>
-    requires fits { AreLines (valuation_tree under.now) lines.now }
     ensures value { result ≡ last_y (is_visible_member (valuation_tree under.now) (valuation_values under.now)) lines.now }
 {
     for i in (0..lines.len()).rev() {
         let line = lines[i];
-        if line.is_y && is_member_visible(under, line.member) {
+        if line.is_y && is_seen(under, line.member) {
             return Some(line.member);
         }
     }
@@ -43,11 +52,10 @@ fn is_listed(lines: &[MemberLine], s: Sym) -> bool
 
 /// The first listed member that is visible.
 fn first_listed(under: &Valuation<'_>, lines: &[MemberLine]) -> Option<Sym>
-    requires fits { AreLines (valuation_tree under.now) lines.now }
     ensures value { result ≡ first_listed (is_visible_member (valuation_tree under.now) (valuation_values under.now)) lines.now }
 {
     for line in lines {
-        if is_member_visible(under, line.member) {
+        if is_seen(under, line.member) {
             return Some(line.member);
         }
     }
@@ -121,7 +129,6 @@ fn selected_without_y(
     lines: &[MemberLine],
 ) -> Result<Option<Sym>, AllocError>
     requires fits { ChoiceFits (valuation_exprs under.now) (length (valuation_tree under.now).symbols) choice.now }
-    requires lines { AreLines (valuation_tree under.now) lines.now }
     ensures ok { let tree = valuation_tree under.now in let values = valuation_values under.now in IfOk result (λ m. m ≡ selected_without_y (is_visible_member tree values) choice.now.members.now (default_member tree (choice_view (valuation_exprs under.now) choice.now) values) lines.now) }
 {
     match default_member(under, choice) {
@@ -138,16 +145,15 @@ fn selected_without_y(
     }
 }
 
-/// The selection of a choice by the rules of Linux 6.12, from what the user assigned to its members: of the visible ones with `y`
-/// the last in the list, if there is one. An `Err` means out of memory.
-pub(crate) fn selected_by_lines(
+/// The selection of a choice by the rules of Linux 6.12, from what lines give to its members: of the visible ones with `y` the last
+/// in the list, if there is one. An `Err` means out of memory.
+pub fn selected_by_lines(
     alloc: Global,
     under: &Valuation<'_>,
     choice: &Choice<'_>,
     lines: &[MemberLine],
 ) -> Result<Option<Sym>, AllocError>
     requires fits { ChoiceFits (valuation_exprs under.now) (length (valuation_tree under.now).symbols) choice.now }
-    requires lines { AreLines (valuation_tree under.now) lines.now }
     ensures ok { let tree = valuation_tree under.now in let values = valuation_values under.now in IfOk result (λ m. m ≡ selected_by_lines (is_visible_member tree values) choice.now.members.now (default_member tree (choice_view (valuation_exprs under.now) choice.now) values) lines.now) }
 {
     match last_y(under, lines) {

@@ -128,6 +128,7 @@ fn changed_line<'a>(
 }
 
 /// Writes the logical line at a place of a file, unless files have to be read first.
+#[inline(always)]
 pub(crate) fn line_here<'a>(
     state: &mut LineState<'_>,
     file: &'a [u8],

@@ -9,7 +9,7 @@ use Rattle.kc_rules_model.specs.declared.values.UnitValue.{UnitValue}
 use Rattle.kc_rules.specs.declared.rules.Settled.{Settled}
 use Rattle.kc_rules.specs.between.SettledViews.{tree_of_settled, profile_of}
 use Rattle.kc_dotconfig_model.specs.Formats.{FileFormat}
-use Rattle.kc_dotconfig_model.specs.PrefixGrammar.{is_prefix}
+use Rattle.kc_dotconfig_model.specs.PrefixGrammar.{is_name_prefix}
 use Rattle.kc_dotconfig.specs.ConfigStates.{Configured, tree_in, IsSolved}
 use Rattle.kc_minimal_model.specs.MinimalFile.{minimal_file}
 use Rattle.kc_minimal_model.specs.Differences.{Difference, differences}
@@ -24,7 +24,7 @@ no_difference (d ∷ ds) e = cc
 
 pub compared : DifferencesDecideMinimalFiles → (l r : Configured) → IsSolved l → IsSolved r → tree_in l ≡ tree_in r → profile_of l.system ≡ profile_of r.system
     → (found : List DifferenceOfCode) → found ≡ map difference_view (differences (tree_in l) l.values r.values) → (format : FileFormat)
-    → is_prefix format.prefix ≡ true
+    → is_name_prefix format.prefix ≡ true
     → (found ≡ []) ↔ (minimal_file format (profile_of l.system) (tree_in l) l.values ≡ minimal_file format (profile_of l.system) (tree_in l) r.values)
 compared law l r solved other tree profile found is format valid =
     let fits = subst (λ (t : Tree). FitsUsers (length t.units) (λ u x. IsTrue (user_fits t u x)) r.users) (sym tree) other.fits in

@@ -4,7 +4,7 @@ use Rattle.kc_rules_model.specs.declared.values.UnitValue.{UnitValue}
 use Rattle.kc_rules.specs.declared.rules.Settled.{Settled}
 use Rattle.kc_rules.specs.between.SettledViews.{tree_of_settled, profile_of}
 use Rattle.kc_dotconfig_model.specs.Formats.{FileFormat}
-use Rattle.kc_dotconfig_model.specs.PrefixGrammar.{is_prefix}
+use Rattle.kc_dotconfig_model.specs.PrefixGrammar.{is_name_prefix}
 use Rattle.kc_dotconfig_model.specs.ConfigFiles.{file_lines}
 use Rattle.kc_value.specs.declared.limits.TheConstants.{MAX_CONFIG_BYTES, MAX_CONFIG_LINES}
 use Rattle.kc_dotconfig.specs.ConfigStates.{Configured, tree_in, IsSolved}
@@ -15,7 +15,7 @@ use Rattle.kc_minimal_model.specs.FileValues.{ReadsTo, Loads, has_short_lines}
 use Rattle.kc_minimal_model.specs.MinimalFile.{minimal_file}
 use Rattle.kc_minimal_model.specs.CanonicalText.{IsCanonicalText, MinimalTextsAreCanonical}
 
-module _ (format : FileFormat) (valid : is_prefix format.prefix ≡ true) (held : Configured) (solved : IsSolved held) (settled : Settled)
+module _ (format : FileFormat) (valid : is_name_prefix format.prefix ≡ true) (held : Configured) (solved : IsSolved held) (settled : Settled)
     (values : List UnitValue) (same : settled ≡ held.system) (same_values : values ≡ held.values) (text : List ℕ) where
   pub minimal_held : MinimalTextsAreCanonical → text ≡ minimal_file format (profile_of settled) (tree_of_settled settled) values
       → IsCanonicalText format (profile_of held.system) (tree_in held) held.values text

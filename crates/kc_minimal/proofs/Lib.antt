@@ -4,3 +4,4 @@ pub mod DraftSteps
 pub mod MinimisedFiles
 pub mod Comparisons
 pub mod HeldTexts
+pub mod ChoiceGroups

@@ -1,7 +1,7 @@
 //! The comparison of configurations.
 ghost use Rattle.std.specs.Prelude.{◌≡◌, ◌↔◌, [], true, map, IfOk};
 ghost use Rattle.kc_rules.specs.between.SettledViews.{profile_of};
-ghost use Rattle.kc_dotconfig_model.specs.PrefixGrammar.{is_prefix};
+ghost use Rattle.kc_dotconfig_model.specs.PrefixGrammar.{is_name_prefix};
 ghost use Rattle.kc_dotconfig_model.specs.Formats.{FileFormat};
 ghost use Rattle.kc_dotconfig.specs.ConfigStates.{tree_in};
 ghost use Rattle.kc_minimal_model.specs.MinimalFile.{minimal_file};
@@ -24,7 +24,7 @@ pub fn compare(
     requires tree { tree_in left.now ≡ tree_in right.now }
     requires profile { profile_of left.now.system ≡ profile_of right.now.system }
     ensures differences { IfOk result (λ found. found.items ≡ map difference_view (differences (tree_in left.now) left.now.values right.now.values)) }
-    ensures none { IfOk result (λ found. (format : FileFormat) → is_prefix format.prefix ≡ true → (found.items ≡ []) ↔ (minimal_file format (profile_of left.now.system) (tree_in left.now) left.now.values ≡ minimal_file format (profile_of left.now.system) (tree_in left.now) right.now.values)) }
+    ensures none { IfOk result (λ found. (format : FileFormat) → is_name_prefix format.prefix ≡ true → (found.items ≡ []) ↔ (minimal_file format (profile_of left.now.system) (tree_in left.now) left.now.values ≡ minimal_file format (profile_of left.now.system) (tree_in left.now) right.now.values)) }
 {
     differences_decide_minimal_files();
     differing(alloc, left.settled(), left.values(), right.values())

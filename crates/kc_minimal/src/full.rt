@@ -8,10 +8,11 @@ ghost use Rattle.kc_rules.specs.between.SettledViews.{tree_of_settled, tree_mode
 ghost use Rattle.kc_dotconfig_model.specs.between.Formats.{file_format};
 ghost use Rattle.kc_dotconfig_model.specs.between.Prefixes.{prefix_bytes};
 ghost use Rattle.kc_minimal_model.specs.SymbolLine.{ended_line};
-ghost use Rattle.kc_minimal_model.specs.FullFile.{heading, end_line, applies, full_file};
+ghost use Rattle.kc_minimal_model.specs.FullFile.{has_second_space, heading, end_line, applies, full_file};
 ghost use Rattle.kc_minimal.specs.checker.Drafts.{IsDraft};
 
 use crate::symbol_line::{is_n, push_symbol};
+use kc_dotconfig::is_unset_text;
 use kc_dotconfig_model::{Format, Prefix};
 use kc_expr::ExprId;
 use kc_rules::{Settled, UnitValue};
@@ -27,13 +28,24 @@ pub(crate) struct Draft {
     gap: bool,
 }
 
-/// Appends the heading of a menu or a comment. A title that begins with the prefix comes after two spaces, so that it
-/// is never read as an unset line.
+/// Whether a title comes after a second space in its heading, so that the heading is never read as an unset line.
+fn has_second_space(prefix: &Prefix, title: &str) -> bool
+    ensures { result ≡ has_second_space (prefix_bytes prefix.now) title.now }
+{
+    let prefix = prefix.as_bytes();
+    if prefix.is_empty() {
+        is_unset_text(title)
+    } else {
+        title.as_bytes().starts_with(prefix)
+    }
+}
+
+/// Appends the heading of a menu or a comment.
 fn push_heading(out: &mut Vec<u8>, prefix: &Prefix, title: &str) -> Result<(), AllocError>
     ensures { OnOk result (out.new.items ≡ out.old.items ++ heading (prefix_bytes prefix.now) title.now) }
 {
     out.extend_from_slice(b"\n#\n# ")?;
-    if title.as_bytes().starts_with(prefix.as_bytes()) {
+    if has_second_space(prefix, title) {
         out.push(b' ')?;
     }
     out.extend_from_slice(title.as_bytes())?;

@@ -20,7 +20,7 @@ use Rattle.kc_rules_model.specs.Shapes.{user_fits}
 use Rattle.kc_rules_model.specs.checker.FrameLaw.{rules_frame}
 use Rattle.kc_rules_model.specs.checker.RestoreLaw.{rules_restore}
 use Rattle.kc_dotconfig_model.specs.Formats.{FileFormat}
-use Rattle.kc_dotconfig_model.specs.PrefixGrammar.{is_prefix}
+use Rattle.kc_dotconfig_model.specs.PrefixGrammar.{is_name_prefix}
 use Rattle.kc_dotconfig_model.specs.ConfigLines.{LineMeaning}
 use Rattle.kc_rules_model.specs.SymbolValues.{value_of_symbol}
 use Rattle.kc_rules_model.specs.Reports.{symbol_numbers}
@@ -52,7 +52,7 @@ decides a b =
 abbrev pub Fitting : Tree → List (Option UserValue) → Type 0
 Fitting tree users = FitsUsers (length tree.units) (λ u x. IsTrue (user_fits tree u x)) users
 
-module _ (format : FileFormat) (valid : is_prefix format.prefix ≡ true) (profile : Profile) (tree : Tree) (settled : IsOrderedTree tree) where
+module _ (format : FileFormat) (valid : is_name_prefix format.prefix ≡ true) (profile : Profile) (tree : Tree) (settled : IsOrderedTree tree) where
   pub fits_of : (bytes : List ℕ) (meanings : List LineMeaning) → has_utf8_lines bytes ≡ true → FileMeans format tree bytes meanings
       → Fitting tree (file_assignment tree meanings)
   fits_of bytes meanings utf8 has_meaning = file_fits format tree bytes meanings settled.consistent utf8 has_meaning
@@ -144,7 +144,7 @@ none_of_two p q r (x ∷ xs) fails = go (r x) (q x) refl refl (none_of_two p q r
         ∙ rest
     at_head false f = ap (λ b. list_any p (cond b (x ∷ filter q (filter r xs)) (filter q (filter r xs)))) f ∙ rest
 
-module _ (format : FileFormat) (valid : is_prefix format.prefix ≡ true) (profile : Profile) (tree : Tree) (settled : IsOrderedTree tree)
+module _ (format : FileFormat) (valid : is_name_prefix format.prefix ≡ true) (profile : Profile) (tree : Tree) (settled : IsOrderedTree tree)
     (users : List (Option UserValue)) (values : List UnitValue)
     (fitting : FitsUsers (length tree.units) (λ u x. IsTrue (user_fits tree u x)) users) (solved : Solves (length tree.units) (rule profile tree) users values)
     (keeps : ℕ → Bool) where

@@ -12,7 +12,7 @@ use Rattle.kc_rules_model.specs.declared.values.UnitValue.{UnitValue}
 use Rattle.kc_rules_model.specs.declared.values.UserValue.{UserValue}
 use Rattle.kc_rules_model.specs.Shapes.{user_fits}
 use Rattle.kc_dotconfig_model.specs.Formats.{FileFormat}
-use Rattle.kc_dotconfig_model.specs.ConfigLines.{LineMeaning, assigns, notice, silent}
+use Rattle.kc_dotconfig_model.specs.ConfigLines.{LineMeaning, assigns, unchosen, notice, silent}
 use Rattle.kc_dotconfig_model.specs.ConfigFiles.{file_assignment, over, assigned_over, empty_assignment}
 use Rattle.kc_dotconfig_model.proofs.FittingFiles.{file_fits}
 use Rattle.kc_minimal_model.specs.MinimalFile.{has_line, minimal_symbols}
@@ -49,6 +49,7 @@ eqb_laws = record {
 by_a_line : (meanings : List LineMeaning) (held : List (Option UserValue)) (u : ℕ) → is_some (user_of (assigned_over meanings held) u) ≡ true
     → (is_some (user_of held u) ≡ true) ⊎ (list_any (eqb u) (assigned_units meanings) ≡ true)
 by_a_line [] held u some = inl some
+by_a_line (unchosen w s ∷ meanings) held u some = by_a_line meanings held u some
 by_a_line (notice kind ∷ meanings) held u some = by_a_line meanings held u some
 by_a_line (silent ∷ meanings) held u some = by_a_line meanings held u some
 by_a_line (assigns w x ∷ meanings) held u some = elim (by_a_line meanings (slice_set held w (Some (over x (user_of held w)))) u some) [

@@ -14,7 +14,7 @@ use Rattle.kc_rules_model.specs.Kinds.{is_n}
 use Rattle.kc_value.specs.Kinds.{is_tri_kind}
 use Rattle.kc_rules_model.specs.SymbolValues.{tri_symbol_value}
 use Rattle.kc_dotconfig_model.specs.Formats.{FileFormat}
-use Rattle.kc_dotconfig_model.specs.PrefixGrammar.{is_prefix}
+use Rattle.kc_dotconfig_model.specs.PrefixGrammar.{is_name_prefix}
 use Rattle.kc_value.specs.declared.limits.TheConstants.{MAX_PREFIX_BYTES, MAX_LINE_BYTES}
 use Rattle.kc_minimal_model.specs.SymbolLine.{spelled, value_line, unset_line, line_with}
 use Rattle.kc_value.proofs.UnquotedUtf8.{ascii_then, ascii_alone}
@@ -24,14 +24,11 @@ use Rattle.kc_dotconfig_model.proofs.TrimmedLines.{low_utf8, name_utf8}
 abbrev pub IsFitLine : List ℕ → Type 0
 IsFitLine line = (length line ≤ MAX_LINE_BYTES) × IsUtf8 line
 
--- a valid prefix is UTF-8 and has at most `MAX_PREFIX_BYTES` bytes
-pub prefix_fits : (prefix : List ℕ) → is_prefix prefix ≡ true → (length prefix ≤ MAX_PREFIX_BYTES) × IsUtf8 prefix
+-- a prefix, and no prefix too, is UTF-8 and has at most `MAX_PREFIX_BYTES` bytes
+pub prefix_fits : (prefix : List ℕ) → is_name_prefix prefix ≡ true → (length prefix ≤ MAX_PREFIX_BYTES) × IsUtf8 prefix
 prefix_fits prefix valid =
-    let parts = and_parts (nat_lt 0 (length prefix) && nat_le (length prefix) MAX_PREFIX_BYTES) (list_all is_name_byte prefix) valid in (
-      leb-true (length prefix) MAX_PREFIX_BYTES (and_parts (nat_lt 0 (length prefix)) (nat_le (length prefix) MAX_PREFIX_BYTES) parts.0).1,
-      name_utf8 prefix
-          parts.1,
-    )
+    let parts = and_parts (nat_le (length prefix) MAX_PREFIX_BYTES) (list_all is_name_byte prefix) valid in
+    (leb-true (length prefix) MAX_PREFIX_BYTES parts.0, name_utf8 prefix parts.1)
 
 -- the letter of a tristate is one byte
 letter_fits : (t : Tri) → (length (letter t) ≤ 1) × IsUtf8 (letter t)
@@ -39,7 +36,7 @@ letter_fits N = (omega arith, ascii_alone 110 (omega arith))
 letter_fits M = (omega arith, ascii_alone 109 (omega arith))
 letter_fits Y = (omega arith, ascii_alone 121 (omega arith))
 
-module _ (format : FileFormat) (valid : is_prefix format.prefix ≡ true) (name : List ℕ) (short : length name ≤ 256)
+module _ (format : FileFormat) (valid : is_name_prefix format.prefix ≡ true) (name : List ℕ) (short : length name ≤ 256)
     (word : list_all is_name_byte name ≡ true) where
   -- a line `CONFIG_NAME=text` is UTF-8 and short enough, if its text is UTF-8 and its parts together are within the limit
   pub value_fits : (text : List ℕ) → length format.prefix + length name + 1 + length text ≤ MAX_LINE_BYTES → IsUtf8 text

@@ -2,7 +2,7 @@
 use Rattle.std.proofs.Common.{◌≡◌, ◌⊎◌, inl, inr, ℕ, suc, Bool, true, false, not, ◌&&◌, ◌||◌, ◌==◌, cond, IsTrue, List, [], ◌∷◌, ◌++◌, Option, Some, None, length, refl, sym, ap, ◌∙◌, subst, append_assoc, arith}
 use Rattle.std.specs.Prelude.{slice_get, codes, nat_eq, unwrap_or}
 use Rattle.std.specs.Option.{option_map, option_and_then}
-use Rattle.std.specs.List.{AllZip, AllByRecursion, list_any, list_all, starts_with}
+use Rattle.std.specs.List.{AllZip, AllByRecursion, list_any, list_all}
 use Rattle.std.specs.Str.{IsUtf8, is_utf8}
 use Rattle.std.proofs.lemmas.Str.{IsUtf8-nil, IsUtf8-append, IsUtf8-from_is_utf8, is_utf8-from_IsUtf8}
 use Rattle.kc_value.proofs.UnquotedUtf8.{ascii_then, ascii_alone}
@@ -19,13 +19,13 @@ use Rattle.kc_rules_model.specs.Rule.{rule, as_user}
 use Rattle.kc_rules_model.specs.Shapes.{user_fits, value_fits, is_line}
 use Rattle.kc_rules_model.specs.Reports.{is_written, is_written_symbol}
 use Rattle.kc_value.specs.Lines.{has_no_byte, has_newline}
-use Rattle.kc_dotconfig_model.specs.PrefixGrammar.{is_prefix}
-use Rattle.kc_dotconfig_model.specs.ConfigLines.{LineMeaning, assigns, notice, silent, Means}
+use Rattle.kc_dotconfig_model.specs.PrefixGrammar.{is_name_prefix}
+use Rattle.kc_dotconfig_model.specs.ConfigLines.{LineMeaning, assigns, unchosen, notice, silent, Means}
 use Rattle.kc_tree_model.specs.LogicalLines.{without_white_end}
 use Rattle.kc_dotconfig_model.specs.ConfigFiles.{FileMeans, file_lines, has_utf8_lines}
 use Rattle.kc_minimal_model.specs.SymbolLine.{symbol_line, ended_line}
 use Rattle.kc_minimal_model.specs.MinimalFile.{has_line}
-use Rattle.kc_minimal_model.specs.FullFile.{heading_title, heading, end_line, applies, defines}
+use Rattle.kc_minimal_model.specs.FullFile.{has_second_space, heading_title, heading, end_line, applies, defines}
 use Rattle.kc_minimal_model.specs.between.EntryTexts.{entry_texts}
 use Rattle.kc_rules_model.proofs.OrderedTrees.{IsOrderedTree}
 use Rattle.kc_minimal_model.proofs.Bytes.{first_line, all_of_both}
@@ -38,6 +38,7 @@ use Rattle.kc_minimal_model.proofs.OwnLines.{IsOwn, own_line}
 -- whether a line of a configuration file gives the unit `u` a value; `n` of a member gives its choice none
 abbrev pub is_for : ℕ → LineMeaning → Bool
 is_for u (assigns w x) = nat_eq w u && gives x
+is_for u (unchosen w s) = false
 is_for u (notice kind) = false
 is_for u silent = false
 
@@ -68,7 +69,7 @@ plain_title title e =
     let parts = and_parts (not (has_newline title)) (is_utf8 title) e in
     record { one = one_line title (not-true (has_newline title) parts.0); utf8 = IsUtf8-from_is_utf8 title parts.1 }
 
-module _ (format : FileFormat) (valid : is_prefix format.prefix ≡ true) (tree : Tree) (values : List UnitValue) where
+module _ (format : FileFormat) (valid : is_name_prefix format.prefix ≡ true) (tree : Tree) (values : List UnitValue) where
   -- one more line
   own_lines_line : (C D : ℕ → Type 0) (line rest : List ℕ) (meaning : LineMeaning) → has_no_byte 10 line ≡ true → IsUtf8 line
       → Means format tree (without_white_end line) meaning → IsOwn tree.language values meaning → HasOwnLines format tree values C rest
@@ -98,13 +99,13 @@ module _ (format : FileFormat) (valid : is_prefix format.prefix ≡ true) (tree 
       record { meanings = t.meanings; has_meaning = t.has_meaning; utf8 = t.utf8; own = t.own; covers = λ s d. t.covers s (fewer s d) }
 
   title_lacks : (title : List ℕ) → has_no_byte 10 title ≡ true → has_no_byte 10 (heading_title format.prefix title) ≡ true
-  title_lacks title one = go (starts_with nat_eq title format.prefix) where
+  title_lacks title one = go (has_second_space format.prefix title) where
     go : (t : Bool) → has_no_byte 10 (cond t (32 ∷ title) title) ≡ true
     go true = one
     go false = one
 
   title_utf8 : (title : List ℕ) → IsUtf8 title → IsUtf8 (heading_title format.prefix title)
-  title_utf8 title utf8 = go (starts_with nat_eq title format.prefix) where
+  title_utf8 title utf8 = go (has_second_space format.prefix title) where
     go : (t : Bool) → IsUtf8 (cond t (32 ∷ title) title)
     go true = ascii_then 32 title (omega arith) utf8
     go false = utf8
@@ -136,7 +137,7 @@ module _ (format : FileFormat) (valid : is_prefix format.prefix ≡ true) (tree 
       let same : end_line title ++ rest ≡ (codes "# end of " ++ title) ++ 10 ∷ rest = ap (λ l. codes "# end of " ++ l) (append_assoc title (10 ∷ []) rest) in
       subst (HasOwnLines format tree values C) (sym same) line
 
-module _ (format : FileFormat) (valid : is_prefix format.prefix ≡ true) (profile : Profile) (tree : Tree) (settled : IsOrderedTree tree)
+module _ (format : FileFormat) (valid : is_name_prefix format.prefix ≡ true) (profile : Profile) (tree : Tree) (settled : IsOrderedTree tree)
     (users : List (Option UserValue)) (values : List UnitValue)
     (fitting : FitsUsers (length tree.units) (λ u x. IsTrue (user_fits tree u x)) users) (solved : Solves (length tree.units) (rule profile tree) users values)
     (fits : FitsValues (length tree.units) (λ u v. IsTrue (value_fits tree u v)) values) where

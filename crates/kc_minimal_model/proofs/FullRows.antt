@@ -9,7 +9,7 @@ use Rattle.kc_rules_model.proofs.RowTrees.{n, m, y, always, name, otherwise, pla
 use Rattle.kc_dotconfig_model.specs.declared.format.Strings.TheVariants.{Escaped}
 use Rattle.kc_dotconfig_model.specs.Formats.{FileFormat}
 use Rattle.kc_minimal_model.specs.SymbolLine.{symbol_line}
-use Rattle.kc_minimal_model.specs.FullFile.{full_file}
+use Rattle.kc_minimal_model.specs.FullFile.{heading, full_file}
 
 abbrev config : FileFormat
 config = record { prefix = codes "CONFIG_"; strings = Escaped }
@@ -40,3 +40,24 @@ headings : full_file config tree_menu (n ∷ n ∷ n ∷ [])
     ≡ codes "# CONFIG_A is not set\n\n#\n# Net\n#\n# CONFIG_B is not set\n# end of Net\n\n# CONFIG_C is not set\n\n#\n# done\n#\n"
 unfolding symbol_line
 headings = refl
+
+-- where names have no prefix
+abbrev bare : FileFormat
+bare = record { prefix = []; strings = Escaped }
+
+without_prefix : (full_file bare tree_menu (n ∷ y ∷ n ∷ [])
+    ≡ codes "# A is not set\n\n#\n# Net\n#\nB=y\n# end of Net\n\n# C is not set\n\n#\n# done\n#\n")
+    × (full_file bare tree_lifted (y ∷ m ∷ y ∷ []) ≡ codes "MODULES=y\nD=m\nA=y\n")
+unfolding symbol_line
+without_prefix = (refl, refl)
+
+-- a second space comes where `# TITLE` would be an unset line, and with a prefix before each title that begins with it
+second_spaces : (heading [] (codes "A is not set") ≡ codes "\n#\n#  A is not set\n#\n")
+    × (heading [] (codes "no:name is not set \t") ≡ codes "\n#\n#  no:name is not set \t\n#\n")
+    × (heading [] (codes "A is not set yet") ≡ codes "\n#\n# A is not set yet\n#\n")
+    × (heading [] (codes " is not set") ≡ codes "\n#\n#  is not set\n#\n")
+    × (heading [] (codes "A B is not set") ≡ codes "\n#\n# A B is not set\n#\n")
+    × (heading [] [] ≡ codes "\n#\n# \n#\n")
+    × (heading (codes "CONFIG_") (codes "A is not set") ≡ codes "\n#\n# A is not set\n#\n")
+    × (heading (codes "CONFIG_") (codes "CONFIG_ of A") ≡ codes "\n#\n#  CONFIG_ of A\n#\n")
+second_spaces = (refl, refl, refl, refl, refl, refl, refl, refl)

@@ -9,15 +9,16 @@ use Rattle.kc_tree_model.specs.Trees.{Tree}
 use Rattle.kc_tree_model.specs.TreeLookup.{is_name_byte}
 use Rattle.kc_dotconfig_model.specs.Formats.{FileFormat}
 use Rattle.kc_value.specs.Lines.{has_no_byte}
-use Rattle.kc_dotconfig_model.specs.PrefixGrammar.{is_prefix}
+use Rattle.kc_dotconfig_model.specs.PrefixGrammar.{is_name_prefix}
 use Rattle.kc_dotconfig_model.proofs.LineLaws.{line_read}
-use Rattle.kc_dotconfig_model.specs.ConfigLines.{LineMeaning, silent, Means, empty, comment, IsUnsetLine}
+use Rattle.kc_dotconfig_model.proofs.UnsetTexts.{unset_texts_are_read}
+use Rattle.kc_dotconfig_model.specs.ConfigLines.{LineMeaning, silent, Means, empty, comment, IsUnsetLine, is_unset_text}
 use Rattle.kc_tree_model.specs.LogicalLines.{without_white_end}
 use Rattle.kc_minimal_model.specs.FullFile.{heading_title}
 use Rattle.kc_minimal_model.proofs.Bytes.{name_lacks, all_of_both}
 use Rattle.kc_dotconfig_model.proofs.TrimmedLines.{white_suffix_begins}
 
-prefix_bytes : (prefix : List ℕ) → is_prefix prefix ≡ true → list_all is_name_byte prefix ≡ true
+prefix_bytes : (prefix : List ℕ) → is_name_prefix prefix ≡ true → list_all is_name_byte prefix ≡ true
 prefix_bytes prefix e = (and_parts _ (list_all is_name_byte prefix) e).1
 
 -- a line that begins with `#` still does without the white bytes at its end
@@ -66,34 +67,48 @@ starts_own [] rest = refl
 starts_own (x ∷ front) rest = and_from (nat_eq x x) _ (eq-eqb x x refl) (starts_own front rest)
 
 -- the title of a heading doesn't begin with the prefix
-heading_begins : (prefix title rest : List ℕ) → is_prefix prefix ≡ true → heading_title prefix title ≡ prefix ++ rest → ⊥
-heading_begins prefix title rest valid e = go (starts_with nat_eq title prefix) refl e where
-  first : (p : List ℕ) → 0 < length p → list_all is_name_byte p ≡ true → 32 ∷ title ≡ p ++ rest → ⊥
-  first [] some all e = absurd (omega arith)
-  first (x ∷ p) some all e = let same : x ≡ 32 = cc in false≢true (ap is_name_byte (sym same) ∙ (and_parts (is_name_byte x) (list_all is_name_byte p) all).0)
+heading_begins : (b : ℕ) (prefix title rest : List ℕ) → is_name_prefix (b ∷ prefix) ≡ true → heading_title (b ∷ prefix) title ≡ b ∷ (prefix ++ rest) → ⊥
+heading_begins b prefix title rest valid e = go (starts_with nat_eq title (b ∷ prefix)) refl e where
+  go : (t : Bool) → starts_with nat_eq title (b ∷ prefix) ≡ t → cond t (32 ∷ title) title ≡ b ∷ (prefix ++ rest) → ⊥
+  go true starts e =
+      let same : b ≡ 32 = cc in
+      false≢true (ap is_name_byte (sym same) ∙ (and_parts (is_name_byte b) (list_all is_name_byte prefix) (prefix_bytes (b ∷ prefix) valid)).0)
+  go false starts e = false≢true (sym starts ∙ ap (λ t. starts_with nat_eq t (b ∷ prefix)) e ∙ starts_own (b ∷ prefix) rest)
 
-  some_byte : (p : List ℕ) → is_prefix p ≡ true → 0 < length p
-  some_byte [] e = absurd (false≢true e)
-  some_byte (x ∷ p) e = omega arith
+-- a title after two spaces is no name without a space
+after_two_spaces : (title name w rest : List ℕ) → 0 < length name → has_no_byte 32 name ≡ true → 35 ∷ 32 ∷ 32 ∷ title ≡ w ++ rest
+    → w ≡ 35 ∷ 32 ∷ (name ++ codes " is not set") → ⊥
+after_two_spaces title [] w rest some one whole e = absurd (omega (arith, some))
+after_two_spaces title (c ∷ name) w rest some one whole e =
+    let both : 35 ∷ 32 ∷ 32 ∷ title ≡ 35 ∷ 32 ∷ c ∷ ((name ++ codes " is not set") ++ rest) = whole ∙ ap (λ l. l ++ rest) e in
+    let same : c ≡ 32 = cc in
+    false≢true (ap (λ x. not (x == 32)) (sym same) ∙ (and_parts (not (c == 32)) (has_no_byte 32 name) one).0)
 
-  go : (t : Bool) → starts_with nat_eq title prefix ≡ t → cond t (32 ∷ title) title ≡ prefix ++ rest → ⊥
-  go true starts e = first prefix (some_byte prefix valid) (prefix_bytes prefix valid) e
-  go false starts e = false≢true (sym starts ∙ ap (λ t. starts_with nat_eq t prefix) e ∙ starts_own prefix rest)
+-- the line with the title in a heading isn't an unset line, whatever the title is
+heading_not_unset : (prefix title name : List ℕ) → is_name_prefix prefix ≡ true
+    → IsUnsetLine prefix (without_white_end (35 ∷ 32 ∷ heading_title prefix title)) name → ⊥
+heading_not_unset [] title name valid unset = go (is_unset_text (without_white_end title)) refl unset where
+  go : (t : Bool) → is_unset_text (without_white_end title) ≡ t → IsUnsetLine [] (without_white_end (35 ∷ 32 ∷ cond t (32 ∷ title) title)) name → ⊥
+  go true is unset =
+      let front = front_of (35 ∷ 32 ∷ 32 ∷ title) in
+      after_two_spaces title name (without_white_end (35 ∷ 32 ∷ 32 ∷ title)) front.0 unset.0 unset.1 front.1 unset.2
+  go false isn't unset = false≢true (sym isn't ∙ (unset_texts_are_read title).1 (name, unset))
+heading_not_unset (b ∷ prefix) title name valid unset =
+    let front = front_of (35 ∷ 32 ∷ heading_title (b ∷ prefix) title) in
+    no_title (heading_title (b ∷ prefix) title) (without_white_end (35 ∷ 32 ∷ heading_title (b ∷ prefix) title)) front.0 front.1 unset.2
+    (λ rest same. heading_begins b prefix title rest valid same) where
+      no_title : (t w rest : List ℕ) → 35 ∷ 32 ∷ t ≡ w ++ rest → w ≡ 35 ∷ 32 ∷ b ∷ (prefix ++ (name ++ codes " is not set"))
+          → ((more : List ℕ) → t ≡ b ∷ (prefix ++ more) → ⊥) → ⊥
+      no_title t w rest whole e begins =
+          let both : 35 ∷ 32 ∷ t ≡ 35 ∷ 32 ∷ b ∷ ((prefix ++ (name ++ codes " is not set")) ++ rest) = whole ∙ ap (λ l. l ++ rest) e in
+          let tail : t ≡ b ∷ ((prefix ++ (name ++ codes " is not set")) ++ rest) = cc in
+          begins ((name ++ codes " is not set") ++ rest) (tail ∙ ap (λ l. b ∷ l) (append_assoc prefix (name ++ codes " is not set") rest))
 
 -- the line with the title in a heading of the full file assigns nothing, whatever the title is
-pub heading_is_silent : (format : FileFormat) (tree : Tree) (title : List ℕ) → is_prefix format.prefix ≡ true
+pub heading_is_silent : (format : FileFormat) (tree : Tree) (title : List ℕ) → is_name_prefix format.prefix ≡ true
     → Means format tree (without_white_end (35 ∷ 32 ∷ heading_title format.prefix title)) silent
-heading_is_silent format tree title valid = comment_is_silent format tree (32 ∷ heading_title format.prefix title) (λ name unset.
-    let front = front_of (35 ∷ 32 ∷ heading_title format.prefix title) in
-    let e = unset.2 in
-    no_title (heading_title format.prefix title) (without_white_end (35 ∷ 32 ∷ heading_title format.prefix title))
-    (name ++ codes " is not set") front.0 front.1 e
-    (λ rest same. heading_begins format.prefix title rest valid same)) where
-      no_title : (t w x rest : List ℕ) → 35 ∷ 32 ∷ t ≡ w ++ rest → w ≡ 35 ∷ 32 ∷ (format.prefix ++ x) → ((more : List ℕ) → t ≡ format.prefix ++ more → ⊥) → ⊥
-      no_title t w x rest whole e begins =
-          let both : 35 ∷ 32 ∷ t ≡ 35 ∷ 32 ∷ ((format.prefix ++ x) ++ rest) = whole ∙ ap (λ l. l ++ rest) e in
-          let tail : t ≡ (format.prefix ++ x) ++ rest = cc in
-          begins (x ++ rest) (tail ∙ append_assoc format.prefix x rest)
+heading_is_silent format tree title valid =
+    comment_is_silent format tree (32 ∷ heading_title format.prefix title) (λ name unset. heading_not_unset format.prefix title name valid unset)
 
 -- the bytes after the first space
 rest_after_space : (a b x y : List ℕ) → has_no_byte 32 a ≡ true → has_no_byte 32 b ≡ true → a ++ 32 ∷ x ≡ b ++ 32 ∷ y → x ≡ y
@@ -113,7 +128,7 @@ o_is_i : (x y : List ℕ) → 111 ∷ x ≡ 105 ∷ y → ⊥
 o_is_i x y e = omega (arith, first_same 111 105 x y e)
 
 -- the line at a menu's end in the full file assigns nothing, whatever the title of the menu is
-pub end_is_silent : (format : FileFormat) (tree : Tree) (title : List ℕ) → is_prefix format.prefix ≡ true
+pub end_is_silent : (format : FileFormat) (tree : Tree) (title : List ℕ) → is_name_prefix format.prefix ≡ true
     → Means format tree (without_white_end (codes "# end of " ++ title)) silent
 end_is_silent format tree title valid = comment_is_silent format tree (32 ∷ 101 ∷ 110 ∷ 100 ∷ 32 ∷ 111 ∷ 102 ∷ 32 ∷ title) (λ name unset.
     let line = 35 ∷ 32 ∷ 101 ∷ 110 ∷ 100 ∷ 32 ∷ 111 ∷ 102 ∷ 32 ∷ title in
@@ -137,7 +152,7 @@ some_same : (a b : LineMeaning) → Some a ≡ Some b → a ≡ b
 some_same a b e = cc
 
 -- a line of a configuration file that assigns nothing and gives no notice has no other meaning
-pub means_nothing_else : (format : FileFormat) (tree : Tree) (line : List ℕ) (meaning : LineMeaning) → is_prefix format.prefix ≡ true
+pub means_nothing_else : (format : FileFormat) (tree : Tree) (line : List ℕ) (meaning : LineMeaning) → is_name_prefix format.prefix ≡ true
     → Means format tree line silent
     → Means format tree line meaning → meaning ≡ silent
 means_nothing_else format tree line meaning valid first second =

@@ -8,7 +8,7 @@ use Rattle.kc_rules_model.specs.SettledTrees.{IsSettledTree}
 use Rattle.kc_rules_model.proofs.OrderedTrees.{ordered_tree}
 use Rattle.kc_rules_model.proofs.SolutionsFit.{solutions_fit}
 use Rattle.kc_dotconfig_model.specs.Formats.{FileFormat}
-use Rattle.kc_dotconfig_model.specs.PrefixGrammar.{is_prefix}
+use Rattle.kc_dotconfig_model.specs.PrefixGrammar.{is_name_prefix}
 use Rattle.kc_dotconfig_model.specs.ConfigFiles.{file_assignment}
 use Rattle.kc_dotconfig_model.specs.LoadFaults.{IsAccepted}
 use Rattle.kc_dotconfig_model.proofs.AcceptedFiles.{accepted_read}
@@ -32,7 +32,7 @@ canonical format profile tree bytes valid settled accepted =
       canonical = canonical_text format valid profile tree ordered (file_assignment tree reads.meanings) found.0 fits reads.gives.solves;
     }
 
-pub compared : (format : FileFormat) (profile : Profile) (tree : Tree) (a b : List ℕ) → is_prefix format.prefix ≡ true → IsSettledTree tree
+pub compared : (format : FileFormat) (profile : Profile) (tree : Tree) (a b : List ℕ) → is_name_prefix format.prefix ≡ true → IsSettledTree tree
     → IsAccepted format tree a
     → IsAccepted format tree b → AreComparedByMinimalFiles format profile tree a b
 compared format profile tree a b valid settled accepted_a accepted_b =

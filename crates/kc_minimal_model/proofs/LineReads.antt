@@ -1,5 +1,5 @@
 -- The line of a kept value is read as its assignment.
-use Rattle.std.proofs.Common.{◌≡◌, ℕ, Bool, true, false, not, ◌||◌, ◌==◌, cond, List, [], ◌∷◌, ◌++◌, Some, None, refl, sym, ◌∙◌, ap, subst, append_assoc, arith}
+use Rattle.std.proofs.Common.{◌≡◌, ℕ, Bool, true, false, not, ◌||◌, ◌==◌, cond, List, [], ◌∷◌, ◌++◌, Some, None, refl, sym, ◌∙◌, ap, subst, append_assoc, length-append, arith}
 use Rattle.std.specs.Prelude.{codes, slice_get, is_some}
 use Rattle.std.specs.List.{AllZip, list_all, flat_map}
 use Rattle.std.proofs.lemmas.Bool.{false≢true, and_from, and_parts, or_parts, not-true}
@@ -20,8 +20,8 @@ use Rattle.kc_dotconfig_model.specs.declared.format.Strings.{Strings}
 use Rattle.kc_dotconfig_model.specs.declared.format.Strings.TheVariants.{Escaped, Raw}
 use Rattle.kc_dotconfig_model.specs.Formats.{FileFormat, string_spelling, IsStringSpelling}
 use Rattle.kc_value.specs.Lines.{has_no_byte, has_newline}
-use Rattle.kc_dotconfig_model.specs.PrefixGrammar.{is_prefix}
-use Rattle.kc_dotconfig_model.specs.ConfigLines.{LineMeaning, assigns, silent, Means, value, unset, unset_meaning, ValueMeans, tri as says_tri, chosen, quoted as says_quoted, number, tri_of_text}
+use Rattle.kc_dotconfig_model.specs.PrefixGrammar.{is_name_prefix}
+use Rattle.kc_dotconfig_model.specs.ConfigLines.{LineMeaning, BeginsWithHash, assigns, silent, Means, value, unset, unset_meaning, ValueMeans, tri as says_tri, chosen, quoted as says_quoted, number, tri_of_text}
 use Rattle.kc_tree_model.specs.LogicalLines.{without_white_end}
 use Rattle.kc_dotconfig_model.specs.ConfigFiles.{file_lines}
 use Rattle.kc_minimal_model.specs.MinimalFileLaws.{StringsAreReadBack}
@@ -31,6 +31,7 @@ use Rattle.std.specs.Str.{IsUtf8, is_utf8}
 use Rattle.std.proofs.lemmas.Str.{IsUtf8-append, IsUtf8-from_is_utf8}
 use Rattle.kc_value.proofs.UnquotedUtf8.{ascii_then, ascii_alone}
 use Rattle.kc_value.proofs.QuotedUtf8.{quoted_utf8}
+use Rattle.kc_dotconfig_model.proofs.LineForms.{named_no_hash}
 use Rattle.kc_dotconfig_model.proofs.TrimmedLines.{low_utf8, name_utf8}
 use Rattle.kc_rules_model.proofs.Ink.{is_ink, all_weaker}
 use Rattle.kc_rules_model.proofs.Numbers.{IsInk, number_ink}
@@ -91,10 +92,10 @@ pub record IsLine (format : FileFormat) (tree : Tree) (line : List ℕ) (meaning
   pub one : has_no_byte 10 line ≡ true
   pub utf8 : IsUtf8 line
 
-prefix_bytes : (prefix : List ℕ) → is_prefix prefix ≡ true → list_all is_name_byte prefix ≡ true
+prefix_bytes : (prefix : List ℕ) → is_name_prefix prefix ≡ true → list_all is_name_byte prefix ≡ true
 prefix_bytes prefix e = (and_parts _ (list_all is_name_byte prefix) e).1
 
-module _ (format : FileFormat) (valid : is_prefix format.prefix ≡ true) (tree : Tree) (sound : IsConsistent tree) (s : ℕ) (symbol : Symbol)
+module _ (format : FileFormat) (valid : is_name_prefix format.prefix ≡ true) (tree : Tree) (sound : IsConsistent tree) (s : ℕ) (symbol : Symbol)
     (at : slice_get tree.symbols s ≡ Some symbol) where
   one_value_line : (text : List ℕ) → has_no_byte 10 text ≡ true → has_no_byte 10 (value_line format.prefix symbol.name text) ≡ true
   one_value_line text one =
@@ -109,11 +110,21 @@ module _ (format : FileFormat) (valid : is_prefix format.prefix ≡ true) (tree 
   split_value_line : (text : List ℕ) → value_line format.prefix symbol.name text ≡ (format.prefix ++ (symbol.name ++ 61 ∷ [])) ++ text
   split_value_line text = simp append_assoc
 
-  value_line_means : (text : List ℕ) (meaning : LineMeaning) → ValueMeans format.strings tree s symbol text meaning
+  -- a line `CONFIG_NAME=text` begins with a letter, a digit or `_`
+  no_comment : (text : List ℕ) → BeginsWithHash (value_line format.prefix symbol.name text) → ⊥
+  no_comment text hash =
+      let word = sound.words s symbol at in
+      let some = word.0 in
+      named_no_hash (format.prefix ++ symbol.name) (61 ∷ text) (omega (arith, some, length-append format.prefix symbol.name))
+      (all_of_both is_name_byte format.prefix symbol.name (prefix_bytes format.prefix valid) word.1)
+      (subst BeginsWithHash (sym (append_assoc format.prefix symbol.name (61 ∷ text))) hash)
+
+  -- a line `CONFIG_NAME=text` has the meaning that the text has for its symbol
+  pub value_line_means : (text : List ℕ) (meaning : LineMeaning) → ValueMeans format.strings tree s symbol text meaning
       → Means format tree (value_line format.prefix symbol.name text) meaning
   value_line_means text meaning has_meaning =
       value (value_line format.prefix symbol.name text) symbol.name text s symbol meaning
-      ((sound.words s symbol at).0, name_lacks 61 refl symbol.name (sound.words s symbol at).1, refl)
+      ((sound.words s symbol at).0, name_lacks 61 refl symbol.name (sound.words s symbol at).1, refl, no_comment text)
       (found_by_name tree sound s symbol at) at has_meaning
 
   -- a line `CONFIG_NAME=text` has the meaning that the text has for its symbol, if the text is of ink bytes

@@ -33,7 +33,7 @@ use Rattle.kc_value.proofs.QuotedUtf8.{quoted_utf8}
 use Rattle.kc_dotconfig_model.specs.declared.format.Strings.{Strings}
 use Rattle.kc_dotconfig_model.specs.declared.format.Strings.TheVariants.{Escaped, Raw}
 use Rattle.kc_dotconfig_model.specs.Formats.{FileFormat, string_spelling, IsStringSpelling}
-use Rattle.kc_dotconfig_model.specs.PrefixGrammar.{is_prefix}
+use Rattle.kc_dotconfig_model.specs.PrefixGrammar.{is_name_prefix}
 use Rattle.kc_tree_model.specs.LogicalLines.{without_white_end}
 use Rattle.kc_dotconfig_model.specs.ConfigFiles.{file_lines, file_assignment, empty_assignment}
 use Rattle.kc_value.specs.declared.limits.TheConstants.{MAX_CONFIG_LINES, MAX_LINE_BYTES, MAX_NAME_BYTES, MAX_NUMBER_BYTES, MAX_PREFIX_BYTES}
@@ -112,7 +112,7 @@ text_held tree symbol held (TextUser text) large e fits = (text, value_of_text t
 text_held tree symbol held (MemberUser m) large e fits = absurd (false≢true fits)
 text_held tree symbol held (LinesUser l) large e fits = absurd (false≢true fits)
 
-module _ (format : FileFormat) (profile : Profile) (tree : Tree) (bytes : List ℕ) (values : List UnitValue) (valid : is_prefix format.prefix ≡ true)
+module _ (format : FileFormat) (profile : Profile) (tree : Tree) (bytes : List ℕ) (values : List UnitValue) (valid : is_name_prefix format.prefix ≡ true)
     (settled : IsOrderedTree tree)
     (accepted : IsAccepted format tree bytes) (reads : ReadsTo format profile tree bytes values) where
   abbrev held_users : List (Option UserValue)
@@ -277,7 +277,7 @@ short_each p q (x ∷ xs) each all =
 
 -- no line of the minimal file of an accepted file is too long
 pub lines_are_short : (format : FileFormat) (profile : Profile) (tree : Tree) (bytes : List ℕ) (values : List UnitValue)
-    → (valid : is_prefix format.prefix ≡ true)
+    → (valid : is_name_prefix format.prefix ≡ true)
     → IsOrderedTree tree → IsAccepted format tree bytes → ReadsTo format profile tree bytes values
     → list_all (λ s. nat_le (length (symbol_line format tree values s)) MAX_LINE_BYTES) (minimal_symbols profile tree values) ≡ true
 lines_are_short format profile tree bytes values valid settled accepted reads =

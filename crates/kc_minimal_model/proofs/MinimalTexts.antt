@@ -11,7 +11,7 @@ use Rattle.kc_rules_model.specs.SymbolValues.{value_of_symbol}
 use Rattle.kc_rules_model.specs.Shapes.{user_fits}
 use Rattle.kc_rules_model.specs.Reports.{symbol_numbers}
 use Rattle.kc_dotconfig_model.specs.Formats.{FileFormat}
-use Rattle.kc_dotconfig_model.specs.PrefixGrammar.{is_prefix}
+use Rattle.kc_dotconfig_model.specs.PrefixGrammar.{is_name_prefix}
 use Rattle.kc_value.specs.declared.limits.TheConstants.{MAX_CONFIG_BYTES}
 use Rattle.kc_dotconfig_model.specs.LoadFaults.{IsAccepted}
 use Rattle.kc_minimal_model.specs.SymbolLine.{ended_line}
@@ -30,7 +30,7 @@ use Rattle.kc_minimal_model.proofs.LineNumbers.{keeps_symbol, lines_kept, line_c
 use Rattle.kc_minimal_model.proofs.FileAcceptance.{is_short, accepted_symbols, shorts_of_file, file_of_shorts, filter_shorter, flat_shorter}
 use Rattle.kc_minimal_model.proofs.MinimalFileLimits.{few_lines, lines_are_short}
 
-module _ (format : FileFormat) (valid : is_prefix format.prefix ≡ true) (profile : Profile) (tree : Tree) (settled : IsOrderedTree tree)
+module _ (format : FileFormat) (valid : is_name_prefix format.prefix ≡ true) (profile : Profile) (tree : Tree) (settled : IsOrderedTree tree)
     (users : List (Option UserValue)) (values : List UnitValue)
     (fitting : FitsUsers (length tree.units) (λ u x. IsTrue (user_fits tree u x)) users)
     (solved : Solves (length tree.units) (rule profile tree) users values) where

@@ -21,7 +21,7 @@ use Rattle.kc_rules_model.specs.checker.FrameLaw.{rules_frame}
 use Rattle.kc_rules_model.proofs.AssignedTexts.{texts_assigned}
 use Rattle.kc_dotconfig_model.specs.declared.format.Strings.TheVariants.{Escaped}
 use Rattle.kc_dotconfig_model.specs.Formats.{FileFormat}
-use Rattle.kc_dotconfig_model.specs.PrefixGrammar.{is_prefix}
+use Rattle.kc_dotconfig_model.specs.PrefixGrammar.{is_name_prefix}
 use Rattle.kc_minimal_model.specs.MinimalFile.{is_kept, has_line, may_have_line}
 use Rattle.kc_rules_model.proofs.OrderedTrees.{IsOrderedTree}
 use Rattle.kc_minimal_model.specs.CanonicalText.{HasUnitsOfLines, HasValuesOfLines}
@@ -42,7 +42,7 @@ any_found p q (x ∷ xs) any = go (q x) refl any (any_found p q xs) where
 plain : FileFormat
 plain = record { prefix = 67 ∷ []; strings = Escaped }
 
-valid : is_prefix plain.prefix ≡ true
+valid : is_name_prefix plain.prefix ≡ true
 unfolding plain
 valid = refl
 

@@ -28,14 +28,14 @@ use Rattle.kc_rules_model.specs.Rule.{as_user, member_user}
 use Rattle.kc_rules_model.specs.Shapes.{value_fits, unit_value_fits, symbol_value_fits, text_fits, user_text_fits}
 use Rattle.kc_tree_model.proofs.Lookups.{inside, found_by_name, place_is, unit_is}
 use Rattle.kc_dotconfig_model.specs.Formats.{FileFormat}
-use Rattle.kc_dotconfig_model.specs.PrefixGrammar.{is_prefix}
-use Rattle.kc_dotconfig_model.specs.ConfigLines.{LineMeaning, assigns, notice, silent, value, unchosen_meaning, unset_meaning, ValueMeans, no_int, no_hex}
+use Rattle.kc_dotconfig_model.specs.PrefixGrammar.{is_name_prefix}
+use Rattle.kc_dotconfig_model.specs.ConfigLines.{LineMeaning, assigns, unchosen, notice, silent, value, unchosen_meaning, unset_meaning, ValueMeans, no_int, no_hex}
 use Rattle.kc_tree_model.specs.LogicalLines.{without_white_end}
 use Rattle.kc_minimal_model.specs.SymbolLine.{symbol_line, line_of_value, line_with, value_line, unset_line}
 use Rattle.kc_minimal_model.proofs.Bytes.{name_lacks, all_of_both, ends_in_ink}
 use Rattle.kc_minimal_model.proofs.DifferenceLaws.{text_kind}
 use Rattle.kc_minimal_model.proofs.KeptLines.{tri_kind, user_meant}
-use Rattle.kc_minimal_model.proofs.LineReads.{IsLine, utf8_value_line, tri_line, text_line, member_line, not_set_line}
+use Rattle.kc_minimal_model.proofs.LineReads.{IsLine, utf8_value_line, tri_line, text_line, member_line, not_set_line, value_line_means}
 
 -- a user value gives `n` to a member of a choice that isn't selected
 abbrev pub IsUnchosen : List UnitValue → ℕ → UserValue → Type 0
@@ -44,6 +44,7 @@ IsUnchosen values u x = (s : ℕ) × (x ≡ LinesUser (record { member = s; is_y
 -- a line of this meaning assigns a unit its own value, or `n` to a member that isn't selected, or assigns nothing without a notice
 abbrev pub IsOwn : Language → List UnitValue → LineMeaning → Type 0
 IsOwn language values (assigns u x) = (user_meant language values u ≡ Some x) ⊎ IsUnchosen values u x
+IsOwn language values (unchosen u s) = Unit {0}
 IsOwn language values (notice kind) = ⊥
 IsOwn language values silent = Unit {0}
 
@@ -57,7 +58,7 @@ no_bytes : (text : List ℕ) → (length text == 0) ≡ true → text ≡ []
 no_bytes [] e = refl
 no_bytes (b ∷ text) e = let zero_long = eqb-true (length (b ∷ text)) 0 e in absurd (omega (arith, zero_long))
 
-module _ (format : FileFormat) (valid : is_prefix format.prefix ≡ true) (tree : Tree) (sound : IsConsistent tree) (values : List UnitValue)
+module _ (format : FileFormat) (valid : is_name_prefix format.prefix ≡ true) (tree : Tree) (sound : IsConsistent tree) (values : List UnitValue)
     (fits : FitsValues (length tree.units) (λ u v. IsTrue (value_fits tree u v)) values) where
   -- the line of an int or hex without a number
   empty_line : (s : ℕ) (symbol : Symbol) → slice_get tree.symbols s ≡ Some symbol → ValueMeans format.strings tree s symbol [] silent
@@ -67,8 +68,7 @@ module _ (format : FileFormat) (valid : is_prefix format.prefix ≡ true) (tree 
       let bytes = (and_parts _ (list_all is_name_byte format.prefix) valid).1 in
       let same : value_line format.prefix symbol.name [] ≡ (format.prefix ++ symbol.name) ++ 61 ∷ [] = sym (append_assoc format.prefix symbol.name (61 ∷ [])) in
       record {
-        has_meaning = value (value_line format.prefix symbol.name []) symbol.name [] s symbol silent (words.0, name_lacks 61 refl symbol.name words.1, refl)
-            (found_by_name tree sound s symbol at) at has_meaning;
+        has_meaning = value_line_means format valid tree sound s symbol at [] silent has_meaning;
         whole = ap without_white_end same ∙ ends_in_ink (format.prefix ++ symbol.name) 61 refl ∙ sym same;
         one = all_of_both (λ c. not (c == 10)) format.prefix (symbol.name ++ (61 ∷ [])) (name_lacks 10 refl format.prefix bytes)
             (all_of_both (λ c. not (c == 10)) symbol.name (61 ∷ []) (name_lacks 10 refl symbol.name words.1) refl);
@@ -160,7 +160,7 @@ module _ (format : FileFormat) (valid : is_prefix format.prefix ≡ true) (tree 
   -- a member that isn't selected
   unchosen_is_own : (u s : ℕ) → slice_get values u ≢ Some (MemberValue (Some s)) → IsOwn tree.language values (unchosen_meaning tree.language u s)
   unchosen_is_own u s differs = go (is_linux_6_12 tree.language) where
-    go : (b : Bool) → IsOwn tree.language values (cond b (assigns u (LinesUser (record { member = s; is_y = false } ∷ []))) silent)
+    go : (b : Bool) → IsOwn tree.language values (cond b (assigns u (LinesUser (record { member = s; is_y = false } ∷ []))) (unchosen u s))
     go true = inr (s, refl, differs)
     go false = tt
 

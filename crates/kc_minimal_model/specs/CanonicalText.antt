@@ -13,8 +13,8 @@ use Rattle.kc_rules_model.specs.Shapes.{user_fits}
 use Rattle.kc_rules_model.specs.RuleLaws.{is_tri_value, moves_user_values}
 use Rattle.kc_rules_model.specs.SettledTrees.{IsSettledTree}
 use Rattle.kc_dotconfig_model.specs.Formats.{FileFormat}
-use Rattle.kc_dotconfig_model.specs.PrefixGrammar.{is_prefix}
-use Rattle.kc_dotconfig_model.specs.ConfigLines.{LineMeaning, assigns, notice, silent}
+use Rattle.kc_dotconfig_model.specs.PrefixGrammar.{is_name_prefix}
+use Rattle.kc_dotconfig_model.specs.ConfigLines.{LineMeaning, assigns, unchosen, notice, silent}
 use Rattle.kc_dotconfig_model.specs.ConfigFiles.{file_lines, file_assignment}
 use Rattle.kc_value.specs.declared.limits.TheConstants.{MAX_CONFIG_BYTES}
 use Rattle.kc_dotconfig_model.specs.LoadFaults.{IsAccepted}
@@ -50,6 +50,7 @@ HasValuesOfLines profile tree values users = (s : ℕ) (value : UnitValue) → h
 abbrev pub assigned_units : List LineMeaning → List ℕ
 assigned_units [] = []
 assigned_units (assigns u x ∷ meanings) = u ∷ assigned_units meanings
+assigned_units (unchosen u s ∷ meanings) = assigned_units meanings
 assigned_units (notice kind ∷ meanings) = assigned_units meanings
 assigned_units (silent ∷ meanings) = assigned_units meanings
 
@@ -110,7 +111,7 @@ pub record IsCanonicalText (format : FileFormat) (profile : Profile) (tree : Tre
 -- the minimal file of the values that an assignment of fitting user values gives is canonical (`IsCanonicalText`)
 abbrev pub MinimalTextsAreCanonical : Type 0
 MinimalTextsAreCanonical = (format : FileFormat) (profile : Profile) (tree : Tree) (users : List (Option UserValue)) (values : List UnitValue)
-    → is_prefix format.prefix ≡ true → IsSettledTree tree
+    → is_name_prefix format.prefix ≡ true → IsSettledTree tree
     → FitsUsers (length tree.units) (λ u x. IsTrue (user_fits tree u x)) users
     → Solves (length tree.units) (rule profile tree) users values
     → IsCanonicalText format profile tree values (minimal_file format profile tree values)

@@ -5,7 +5,7 @@ use Rattle.kc_rules_model.specs.declared.profile.Profile.{Profile}
 use Rattle.kc_rules_model.specs.declared.values.UnitValue.{UnitValue}
 use Rattle.kc_rules_model.specs.SettledTrees.{IsSettledTree}
 use Rattle.kc_dotconfig_model.specs.Formats.{FileFormat}
-use Rattle.kc_dotconfig_model.specs.PrefixGrammar.{is_prefix}
+use Rattle.kc_dotconfig_model.specs.PrefixGrammar.{is_name_prefix}
 use Rattle.kc_value.specs.declared.limits.TheConstants.{MAX_CONFIG_BYTES, MAX_CONFIG_LINES}
 use Rattle.kc_dotconfig_model.specs.LoadFaults.{IsAccepted}
 use Rattle.kc_dotconfig_model.specs.ConfigFiles.{file_lines}
@@ -16,7 +16,7 @@ use Rattle.kc_minimal_model.specs.FileValues.{ReadsTo, Loads, has_short_lines}
 
 -- the lines of a minimal file are its symbols' lines, in order
 abbrev pub MinimalFileLines : Type 0
-MinimalFileLines = (format : FileFormat) → is_prefix format.prefix ≡ true
+MinimalFileLines = (format : FileFormat) → is_name_prefix format.prefix ≡ true
     → ForSolutions (λ profile tree values. file_lines (minimal_file format profile tree values)
     ≡ map (symbol_line format tree values) (minimal_symbols profile tree values))
 
@@ -30,6 +30,6 @@ ReadFilesAreAccepted = (format : FileFormat) (profile : Profile) (tree : Tree) (
 -- the minimal file of an accepted file is accepted and gives the same values, if it is within the limit of bytes
 abbrev pub MinimalFilesAreAccepted : Type 0
 MinimalFilesAreAccepted = (format : FileFormat) (profile : Profile) (tree : Tree) (bytes : List ℕ) (values : List UnitValue)
-    → is_prefix format.prefix ≡ true → IsSettledTree tree → Loads format profile tree bytes values
+    → is_name_prefix format.prefix ≡ true → IsSettledTree tree → Loads format profile tree bytes values
     → length (minimal_file format profile tree values) ≤ MAX_CONFIG_BYTES
     → Loads format profile tree (minimal_file format profile tree values) values

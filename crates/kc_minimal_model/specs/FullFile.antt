@@ -7,13 +7,20 @@ use Rattle.kc_rules_model.specs.declared.values.UnitValue.{UnitValue}
 use Rattle.kc_rules_model.specs.Kinds.{is_n}
 use Rattle.kc_rules_model.specs.SymbolValues.{condition}
 use Rattle.kc_rules_model.specs.Reports.{is_written}
+use Rattle.kc_tree_model.specs.LogicalLines.{without_white_end}
 use Rattle.kc_dotconfig_model.specs.Formats.{FileFormat}
+use Rattle.kc_dotconfig_model.specs.ConfigLines.{is_unset_text}
 use Rattle.kc_minimal_model.specs.SymbolLine.{ended_line}
 
--- the title in a heading of the full file, after a further space if it begins with the prefix, so that it is never
--- read as an unset line
+-- whether a title comes after a second space in its heading, so that the heading is never read as an unset line: where names have
+-- a prefix, if it begins with the prefix; where they have none, if `# ` and the title are an unset line
+abbrev pub has_second_space : List ℕ → List ℕ → Bool
+has_second_space [] title = is_unset_text (without_white_end title)
+has_second_space (b ∷ prefix) title = starts_with nat_eq title (b ∷ prefix)
+
+-- the title in a heading of the full file, after a further space if it has one
 abbrev pub heading_title : List ℕ → List ℕ → List ℕ
-heading_title prefix title = if starts_with nat_eq title prefix then 32 ∷ title else title
+heading_title prefix title = if has_second_space prefix title then 32 ∷ title else title
 
 -- the heading of a menu or a comment in the full file, from the prefix and the title (Kconfiglib's `write_config`)
 abbrev pub heading : List ℕ → List ℕ → List ℕ

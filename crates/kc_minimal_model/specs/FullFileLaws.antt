@@ -10,7 +10,7 @@ use Rattle.kc_rules_model.specs.Shapes.{user_fits}
 use Rattle.kc_rules_model.specs.SettledTrees.{IsSettledTree}
 use Rattle.kc_rules_model.specs.Reports.{IsLifted}
 use Rattle.kc_dotconfig_model.specs.Formats.{FileFormat}
-use Rattle.kc_dotconfig_model.specs.PrefixGrammar.{is_prefix}
+use Rattle.kc_dotconfig_model.specs.PrefixGrammar.{is_name_prefix}
 use Rattle.kc_minimal_model.specs.FullFile.{full_file}
 use Rattle.kc_minimal_model.specs.FileValues.{ReadsTo}
 
@@ -22,7 +22,7 @@ IsUnlifted profile tree values = (u : ℕ) → IsLifted profile tree values u �
 -- value if its value were also its user value
 abbrev pub FullFilesLeadBack : Type 0
 FullFilesLeadBack = (format : FileFormat) (profile : Profile) (tree : Tree) (users : List (Option UserValue)) (values : List UnitValue)
-    → is_prefix format.prefix ≡ true → IsSettledTree tree
+    → is_name_prefix format.prefix ≡ true → IsSettledTree tree
     → FitsUsers (length tree.units) (λ u x. IsTrue (user_fits tree u x)) users
     → UniquelySolves (length tree.units) (rule profile tree) users values → IsUnlifted profile tree values
     → ReadsTo format profile tree (full_file format tree values) values

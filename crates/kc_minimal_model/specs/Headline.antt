@@ -14,7 +14,7 @@ use Rattle.kc_rules_model.specs.Shapes.{user_fits}
 use Rattle.kc_rules_model.specs.Dependencies.{dependencies}
 use Rattle.kc_rules_model.specs.SettledTrees.{IsSettledTree}
 use Rattle.kc_dotconfig_model.specs.Formats.{FileFormat}
-use Rattle.kc_dotconfig_model.specs.PrefixGrammar.{is_prefix}
+use Rattle.kc_dotconfig_model.specs.PrefixGrammar.{is_name_prefix}
 use Rattle.kc_dotconfig_model.specs.LoadFaults.{IsAccepted}
 use Rattle.kc_minimal_model.specs.MinimalFile.{minimal_file}
 use Rattle.kc_minimal_model.specs.Differences.{differences}
@@ -30,7 +30,7 @@ pub record HasCanonicalFile (format : FileFormat) (profile : Profile) (tree : Tr
 
 -- each accepted file over a consistent tree without a cycle of dependencies has a canonical minimal file (`HasCanonicalFile`)
 abbrev pub MinimalFilesAreCanonical : Type 0
-MinimalFilesAreCanonical = (format : FileFormat) (profile : Profile) (tree : Tree) (bytes : List ℕ) → is_prefix format.prefix ≡ true
+MinimalFilesAreCanonical = (format : FileFormat) (profile : Profile) (tree : Tree) (bytes : List ℕ) → is_name_prefix format.prefix ≡ true
     → IsSettledTree tree → IsAccepted format tree bytes → HasCanonicalFile format profile tree bytes
 
 -- both configuration files have canonical minimal files, and they give every symbol the same value exactly if their
@@ -45,7 +45,7 @@ pub record AreComparedByMinimalFiles (format : FileFormat) (profile : Profile) (
 -- configuration files have canonical minimal files, and give every symbol the same value exactly if these are equal
 -- byte for byte.
 abbrev pub Headline : Type 0
-Headline = (files : Files) (root : List ℕ) (format : FileFormat) (profile : Profile) (a b : List ℕ) → is_prefix format.prefix ≡ true
+Headline = (files : Files) (root : List ℕ) (format : FileFormat) (profile : Profile) (a b : List ℕ) → is_name_prefix format.prefix ≡ true
     → first_tree_fault files root ≡ None
     → HasNoCycle (length (tree_of_files files root).units) (dependencies (tree_of_files files root))
     → IsAccepted format (tree_of_files files root) a → IsAccepted format (tree_of_files files root) b
@@ -55,7 +55,7 @@ Headline = (files : Files) (root : List ℕ) (format : FileFormat) (profile : Pr
 -- for byte
 abbrev pub DifferencesDecideMinimalFiles : Type 0
 DifferencesDecideMinimalFiles = (format : FileFormat) (profile : Profile) (tree : Tree) (a b : List (Option UserValue)) (left right : List UnitValue)
-    → is_prefix format.prefix ≡ true → IsSettledTree tree
+    → is_name_prefix format.prefix ≡ true → IsSettledTree tree
     → FitsUsers (length tree.units) (λ u x. IsTrue (user_fits tree u x)) a
     → FitsUsers (length tree.units) (λ u x. IsTrue (user_fits tree u x)) b
     → UniquelySolves (length tree.units) (rule profile tree) a left → UniquelySolves (length tree.units) (rule profile tree) b right

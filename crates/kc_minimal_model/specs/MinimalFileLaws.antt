@@ -13,7 +13,7 @@ use Rattle.kc_rules_model.specs.declared.values.UserValue.TheVariants.{Text as T
 use Rattle.kc_rules_model.specs.Rule.{rule, as_user}
 use Rattle.kc_rules_model.specs.Shapes.{user_fits, value_fits}
 use Rattle.kc_dotconfig_model.specs.Formats.{FileFormat, string_spelling}
-use Rattle.kc_dotconfig_model.specs.PrefixGrammar.{is_prefix}
+use Rattle.kc_dotconfig_model.specs.PrefixGrammar.{is_name_prefix}
 use Rattle.kc_dotconfig_model.specs.ConfigLines.{LineMeaning, assigns, Means}
 use Rattle.kc_tree_model.specs.LogicalLines.{without_white_end}
 use Rattle.kc_dotconfig_model.specs.ConfigFiles.{FileMeans, file_assignment}
@@ -45,7 +45,7 @@ ForSolutions P =
 
 -- each line of a minimal file is read as the assignment that it spells
 abbrev pub MinimalLinesAreRead : Type 0
-MinimalLinesAreRead = (format : FileFormat) → is_prefix format.prefix ≡ true
+MinimalLinesAreRead = (format : FileFormat) → is_name_prefix format.prefix ≡ true
     → ForSolutions (λ profile tree values. (s : ℕ) → has_line profile tree values s ≡ true
     → IsReadAsItsAssignment format tree values s)
 
@@ -57,13 +57,13 @@ MinimalLinesDiffer =
 
 -- a minimal file is read as the least assignment that gives its values (`IsLeastAssignment`)
 abbrev pub MinimalFilesAssignLeast : Type 0
-MinimalFilesAssignLeast = (format : FileFormat) → is_prefix format.prefix ≡ true
+MinimalFilesAssignLeast = (format : FileFormat) → is_name_prefix format.prefix ≡ true
     → ForSolutions (λ profile tree values. IsReadAsLeast format profile tree values)
 
 -- in each format, the line that is written for a string symbol with a text without a newline is read as the
 -- assignment of this text
 abbrev pub StringsAreReadBack : Type 0
-StringsAreReadBack = (format : FileFormat) (tree : Tree) (s : ℕ) (symbol : Symbol) (text : List ℕ) → is_prefix format.prefix ≡ true
+StringsAreReadBack = (format : FileFormat) (tree : Tree) (s : ℕ) (symbol : Symbol) (text : List ℕ) → is_name_prefix format.prefix ≡ true
     → IsConsistent tree → slice_get tree.symbols s ≡ Some symbol → symbol.kind ≡ Text → has_newline text ≡ false
     → FileMeans format tree (value_line format.prefix symbol.name (string_spelling format.strings text) ++ 10 ∷ [])
     (assigns (unit_of tree s) (TextUser text) ∷ [])

@@ -1,6 +1,7 @@
 //! Kconfig as a system of units, each with a rule for its value.
 #![tactic(auto)]
 
+mod choices;
 mod fault;
 mod graphs;
 mod queries;

@@ -1,1 +1,2 @@
 pub mod CommandParts
+pub mod Simplicity

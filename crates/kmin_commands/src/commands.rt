@@ -1,9 +1,12 @@
 //! The commands and their options, declared for `clap`.
-ghost use Rattle.std.specs.Prelude.{IfOk};
-ghost use Rattle.kmin_commands.specs.checker.Commands.{IsLocal, HasLocalArguments, IsCommandRequired};
+ghost use Rattle.std.specs.Prelude.{◌≡◌, true, [], codes, IfOk};
+ghost use Rattle.std.specs.List.{fold};
+ghost use Rattle.clap.specs.Words.{App, Rule, Shape, app_of, is_simple, with_subcommand};
+ghost use Rattle.kmin_commands.specs.Declarations as declared;
+ghost use Rattle.kmin_commands.specs.checker.Commands.{IsDeclared, IsReadBy, HasApp, HasDeclaredCommands, IsCommandRequired};
 
 use crate::help_texts;
-use crate::messages::{self, message_tables};
+use crate::messages::{self, Row, message_tables};
 use clap::{Arg, ArgAction, Command};
 use std::alloc::{AllocError, Global};
 
@@ -15,37 +18,37 @@ struct CommandHelp {
     after: &'static str,
 }
 
-/// The commands that write a configuration file, made of any number of them.
-static WRITING: [CommandHelp; 2] = [
-    CommandHelp {
-        name: "min",
-        about: help_texts::MIN,
-        long: help_texts::MIN_LONG,
-        after: help_texts::MIN_AFTER,
-    },
-    CommandHelp {
-        name: "full",
-        about: help_texts::FULL,
-        long: help_texts::FULL_LONG,
-        after: help_texts::FULL_AFTER,
-    },
-];
+/// The command that writes a minimal file.
+static MIN: CommandHelp = CommandHelp {
+    name: "min",
+    about: help_texts::MIN,
+    long: help_texts::MIN_LONG,
+    after: help_texts::MIN_AFTER,
+};
 
-/// The commands that list symbols of a configuration, made of any number of files.
-static LISTING: [CommandHelp; 2] = [
-    CommandHelp {
-        name: "missed",
-        about: help_texts::MISSED,
-        long: help_texts::MISSED_LONG,
-        after: help_texts::MISSED_AFTER,
-    },
-    CommandHelp {
-        name: "check",
-        about: help_texts::CHECK,
-        long: help_texts::CHECK_LONG,
-        after: help_texts::CHECK_AFTER,
-    },
-];
+/// The command that writes a full file.
+static FULL: CommandHelp = CommandHelp {
+    name: "full",
+    about: help_texts::FULL,
+    long: help_texts::FULL_LONG,
+    after: help_texts::FULL_AFTER,
+};
+
+/// The command that lists the symbols without their assigned value.
+static MISSED: CommandHelp = CommandHelp {
+    name: "missed",
+    about: help_texts::MISSED,
+    long: help_texts::MISSED_LONG,
+    after: help_texts::MISSED_AFTER,
+};
+
+/// The command that lists the symbols that are selected against their dependencies.
+static CHECK: CommandHelp = CommandHelp {
+    name: "check",
+    about: help_texts::CHECK,
+    long: help_texts::CHECK_LONG,
+    after: help_texts::CHECK_AFTER,
+};
 
 /// The command over two configurations of one file each.
 static COMPARE: CommandHelp = CommandHelp {
@@ -79,21 +82,21 @@ struct OptionHelp {
     help: &'static str,
 }
 
-/// The options for the place of the tree.
-static PLACE: [OptionHelp; 2] = [
-    OptionHelp {
-        name: "root",
-        value: "DIR",
-        default: ".",
-        help: help_texts::ROOT,
-    },
-    OptionHelp {
-        name: "tree",
-        value: "PATH",
-        default: "Kconfig",
-        help: help_texts::TREE,
-    },
-];
+/// The option for the folder of the tree.
+static ROOT: OptionHelp = OptionHelp {
+    name: "root",
+    value: "DIR",
+    default: ".",
+    help: help_texts::ROOT,
+};
+
+/// The option for the tree's first Kconfig file.
+static TREE: OptionHelp = OptionHelp {
+    name: "tree",
+    value: "PATH",
+    default: "Kconfig",
+    help: help_texts::TREE,
+};
 
 /// The option for the prefix of symbol names in configuration files.
 static PREFIX: OptionHelp = OptionHelp {
@@ -128,98 +131,77 @@ static PROFILES: [&str; 2] = ["present", "classic"];
 /// The values of `--language`, which has no default.
 static LANGUAGES: [&str; 4] = ["strict", "linux", "linux-6.1", "linux-6.12"];
 
-/// A repeatable option: its name, the name of its value, and its help.
-struct ListHelp {
-    name: &'static str,
-    value: &'static str,
-    help: &'static str,
+/// The words of the options that take one of a few.
+#[derive(Clone, Copy)]
+pub struct Choices<'a> {
+    /// Those of `--language`.
+    pub languages: &'a [&'a str],
+    /// Those of `--strings`.
+    pub forms: &'a [&'a str],
+    /// Those of `--imply`.
+    pub profiles: &'a [&'a str],
 }
-
-/// The options that answer the questions of a tree's macros.
-static ANSWERS: [ListHelp; 3] = [
-    ListHelp {
-        name: "answers",
-        value: "FILE",
-        help: help_texts::ANSWERS,
-    },
-    ListHelp {
-        name: "define",
-        value: "NAME=VALUE",
-        help: help_texts::DEFINE,
-    },
-    ListHelp {
-        name: "env",
-        value: "NAME",
-        help: help_texts::ENV,
-    },
-];
 
 /// The program and all its commands, as `clap` needs them.
 pub fn program<'a>(alloc: Global) -> Result<Command<'a>, AllocError>
-    ensures { IfOk result IsCommandRequired }
+    ensures required { IfOk result IsCommandRequired }
+    ensures declared { IfOk result HasDeclaredCommands }
+    ensures simple { IfOk result (λ made. is_simple (app_of made) ≡ true) }
 {
-    let program = with_writing(alloc, named(alloc)?)?;
-    let program = with_listing(alloc, program)?;
-    with_tidy_and_wants(alloc, with_compare(alloc, program)?)
+    let choices = Choices {
+        languages: &LANGUAGES,
+        forms: &FORMS,
+        profiles: &PROFILES,
+    };
+    let program = with_writing(alloc, named(alloc)?, &choices)?;
+    let program = with_listing(alloc, program, &choices)?;
+    let program = program.subcommand(compare(alloc, &choices)?)?;
+    with_tidy_and_wants(alloc, program, &choices)
 }
 
 /// Adds the commands that write a configuration file.
-fn with_writing<'a>(alloc: Global, mut program: Command<'a>) -> Result<Command<'a>, AllocError>
-    ensures { IfOk result (λ made. IsCommandRequired program.entry → IsCommandRequired made) }
+fn with_writing<'a>(
+    alloc: Global,
+    program: Command<'a>,
+    choices: &Choices<'a>,
+) -> Result<Command<'a>, AllocError>
+    ensures { IfOk result (λ made. (app : App) → HasApp app program.entry → HasApp (with_subcommand (with_subcommand app (declared.min choices.now)) (declared.full choices.now)) made) }
 {
-    for help in &WRITING {
-        program = program.subcommand(over_files(alloc, help)?)?;
-    }
-    Ok(program)
+    let program = program.subcommand(min(alloc, choices)?)?;
+    program.subcommand(full(alloc, choices)?)
 }
 
 /// Adds the commands that list symbols of a configuration.
-fn with_listing<'a>(alloc: Global, mut program: Command<'a>) -> Result<Command<'a>, AllocError>
-    ensures { IfOk result (λ made. IsCommandRequired program.entry → IsCommandRequired made) }
+fn with_listing<'a>(
+    alloc: Global,
+    program: Command<'a>,
+    choices: &Choices<'a>,
+) -> Result<Command<'a>, AllocError>
+    ensures { IfOk result (λ made. (app : App) → HasApp app program.entry → HasApp (with_subcommand (with_subcommand app (declared.listing (codes "missed") choices.now)) (declared.listing (codes "check") choices.now)) made) }
 {
-    for help in &LISTING {
-        program = program.subcommand(listing(alloc, help)?)?;
-    }
-    Ok(program)
-}
-
-/// Adds the command over two configurations.
-fn with_compare<'a>(alloc: Global, program: Command<'a>) -> Result<Command<'a>, AllocError>
-    ensures { IfOk result (λ made. IsCommandRequired program.entry → IsCommandRequired made) }
-{
-    program.subcommand(over_two_files(alloc, &COMPARE)?)
+    let program = program.subcommand(listing(alloc, &MISSED, choices)?)?;
+    program.subcommand(listing(alloc, &CHECK, choices)?)
 }
 
 /// Adds the command over files, each a configuration of its own, and the one over a tree alone.
-fn with_tidy_and_wants<'a>(alloc: Global, program: Command<'a>) -> Result<Command<'a>, AllocError>
-    ensures { IfOk result (λ made. IsCommandRequired program.entry → IsCommandRequired made) }
+fn with_tidy_and_wants<'a>(
+    alloc: Global,
+    program: Command<'a>,
+    choices: &Choices<'a>,
+) -> Result<Command<'a>, AllocError>
+    ensures { IfOk result (λ made. (app : App) → HasApp app program.entry → HasApp (with_subcommand (with_subcommand app (declared.tidy choices.now)) declared.wants) made) }
 {
-    let program = program.subcommand(over_each_file(alloc, &TIDY)?)?;
-    program.subcommand(over_a_tree(alloc, &WANTS)?)
+    let program = program.subcommand(tidy(alloc, choices)?)?;
+    program.subcommand(wants(alloc)?)
 }
 
 /// The names of all commands, with `help`.
 pub fn command_names(alloc: Global) -> Result<Vec<&'static str>, AllocError> {
-    let names = with_names(Vec::new(alloc), &WRITING)?;
-    with_last_names(with_names(names, &LISTING)?)
-}
-
-/// Adds the names of these commands.
-fn with_names(
-    mut names: Vec<&'static str>,
-    helps: &[CommandHelp],
-) -> Result<Vec<&'static str>, AllocError> {
-    for help in helps {
+    let mut names = Vec::new(alloc);
+    for help in [&MIN, &FULL, &MISSED, &CHECK, &COMPARE, &TIDY, &WANTS] {
         names.push(help.name)?;
     }
-    Ok(names)
-}
-
-/// Adds the names of the commands that are in no list, and `help`.
-fn with_last_names(mut names: Vec<&'static str>) -> Result<Vec<&'static str>, AllocError> {
-    for name in [COMPARE.name, TIDY.name, WANTS.name, "help"] {
-        names.push(name)?;
-    }
+    names.push("help")?;
     Ok(names)
 }
 
@@ -227,16 +209,22 @@ fn with_last_names(mut names: Vec<&'static str>) -> Result<Vec<&'static str>, Al
 pub fn explained_names(alloc: Global) -> Result<Vec<&'static str>, AllocError> {
     let mut names = command_names(alloc)?;
     for table in message_tables() {
-        for row in table.rows {
-            names.push(row.kind)?;
-        }
+        push_kinds(&mut names, table.rows)?;
     }
     Ok(names)
 }
 
+/// Appends the kinds of messages of a table's rows.
+fn push_kinds(names: &mut Vec<&'static str>, rows: &'static [Row]) -> Result<(), AllocError> {
+    for row in rows {
+        names.push(row.kind)?;
+    }
+    Ok(())
+}
+
 /// The program without its commands.
 fn named<'a>(alloc: Global) -> Result<Command<'a>, AllocError>
-    ensures { IfOk result IsCommandRequired }
+    ensures { IfOk result (HasApp declared.named) }
 {
     let program = Command::new(alloc, "kmin")
         .no_binary_name(true)
@@ -244,9 +232,9 @@ fn named<'a>(alloc: Global) -> Result<Command<'a>, AllocError>
     helped(program).bin_name("kmin")
 }
 
-/// Adds the help of the program as a whole.
+/// Adds the version, and the help of the program as a whole.
 fn helped(program: Command<'_>) -> Command<'_>
-    ensures { IsCommandRequired program.entry → IsCommandRequired result }
+    ensures { (app : App) → HasApp app program.entry → HasApp (declared.with_version app) result }
 {
     let program = program
         .version(help_texts::VERSION)
@@ -257,54 +245,48 @@ fn helped(program: Command<'_>) -> Command<'_>
 
 /// Adds the texts after the help of the program as a whole.
 fn explained(program: Command<'_>) -> Command<'_>
-    ensures { IsCommandRequired program.entry → IsCommandRequired result }
+    ensures { (app : App) → HasApp app program.entry → HasApp app result }
 {
     program
         .after_help(messages::AFTER)
         .after_long_help(messages::AFTER_LONG)
 }
 
-/// A command over any number of configuration files, which make one configuration.
-fn over_files<'a>(alloc: Global, help: &CommandHelp) -> Result<Command<'a>, AllocError>
-    ensures { IfOk result HasLocalArguments }
+/// The command that writes a minimal file, with `--output` and `--drop`.
+fn min<'a>(alloc: Global, choices: &Choices<'a>) -> Result<Command<'a>, AllocError>
+    ensures { IfOk result (IsDeclared (declared.min choices.now)) }
 {
-    let command = with_output(alloc, help, with_options(alloc, help)?)?;
+    let command = with_options(alloc, &MIN, choices)?;
+    let command = command.arg(output(alloc))?;
+    let command = command.arg(dropping(alloc, help_texts::DROP_IN_PLACE, "output")?)?;
     command.arg(any_number(alloc, "FILE", help_texts::FILES))
 }
 
-/// Adds `--output` to a command if it writes a configuration file, and `--drop` to `min`.
-fn with_output<'a>(
-    alloc: Global,
-    help: &CommandHelp,
-    command: Command<'a>,
-) -> Result<Command<'a>, AllocError>
-    ensures { IfOk result (λ made. HasLocalArguments command.entry → HasLocalArguments made) }
+/// The command that writes a full file, with `--output`.
+fn full<'a>(alloc: Global, choices: &Choices<'a>) -> Result<Command<'a>, AllocError>
+    ensures { IfOk result (IsDeclared (declared.full choices.now)) }
 {
-    match help.name {
-        "min" => with_output_and_drop(alloc, command),
-        "full" => command.arg(output(alloc)),
-        _ => Ok(command),
-    }
-}
-
-/// Adds `--output` and `--drop` to a command.
-fn with_output_and_drop<'a>(alloc: Global, command: Command<'a>) -> Result<Command<'a>, AllocError>
-    ensures { IfOk result (λ made. HasLocalArguments command.entry → HasLocalArguments made) }
-{
+    let command = with_options(alloc, &FULL, choices)?;
     let command = command.arg(output(alloc))?;
-    command.arg(dropping(alloc, help_texts::DROP_IN_PLACE, "output")?)
+    command.arg(any_number(alloc, "FILE", help_texts::FILES))
 }
 
 /// A command that lists symbols of a configuration, with `--exit-code`.
-fn listing<'a>(alloc: Global, help: &CommandHelp) -> Result<Command<'a>, AllocError>
-    ensures { IfOk result HasLocalArguments }
+fn listing<'a>(
+    alloc: Global,
+    help: &CommandHelp,
+    choices: &Choices<'a>,
+) -> Result<Command<'a>, AllocError>
+    ensures { IfOk result (IsDeclared (declared.listing help.now.name.now choices.now)) }
 {
-    over_files(alloc, help)?.arg(flag(alloc, "exit-code", help_texts::EXIT_CODE))
+    let command = with_options(alloc, help, choices)?;
+    let command = command.arg(any_number(alloc, "FILE", help_texts::FILES))?;
+    command.arg(flag(alloc, "exit-code", help_texts::EXIT_CODE))
 }
 
 /// An argument of any number of words.
 fn any_number<'a>(alloc: Global, name: &'a str, help: &'a str) -> Arg<'a>
-    ensures { IsLocal result }
+    ensures { IsReadBy (declared.any_number name.entry.now) result }
 {
     Arg::new(alloc, name)
         .action(ArgAction::Append)
@@ -312,30 +294,37 @@ fn any_number<'a>(alloc: Global, name: &'a str, help: &'a str) -> Arg<'a>
         .help(help)
 }
 
-/// A command over two files, both of which are required.
-fn over_two_files<'a>(alloc: Global, help: &CommandHelp) -> Result<Command<'a>, AllocError>
-    ensures { IfOk result HasLocalArguments }
+/// The command over two files, both of which are required.
+fn compare<'a>(alloc: Global, choices: &Choices<'a>) -> Result<Command<'a>, AllocError>
+    ensures { IfOk result (IsDeclared (declared.compare choices.now)) }
 {
-    let command = with_options(alloc, help)?;
+    let command = with_options(alloc, &COMPARE, choices)?;
     let command = command.arg(required(alloc, "LEFT", help_texts::LEFT))?;
     command.arg(required(alloc, "RIGHT", help_texts::RIGHT))
 }
 
-/// A command over files, each a configuration of its own, of which at least one, or a list, is required.
-fn over_each_file<'a>(alloc: Global, help: &CommandHelp) -> Result<Command<'a>, AllocError>
-    ensures { IfOk result HasLocalArguments }
+/// The command over files, each a configuration of its own, of which at least one, or a list, is required.
+fn tidy<'a>(alloc: Global, choices: &Choices<'a>) -> Result<Command<'a>, AllocError>
+    ensures { IfOk result (IsDeclared (declared.tidy choices.now)) }
 {
-    let command = with_tidy_flags(alloc, with_options(alloc, help)?)?;
+    let command = with_tidy_flags(alloc, with_options(alloc, &TIDY, choices)?)?;
     let from = valued(alloc, "from", "LIST", help_texts::FROM);
     let command = command.arg(from)?;
     let command = command.arg(nul(alloc)?)?;
+    command.arg(each_file(alloc)?)
+}
+
+/// The files of `tidy`, of which one is required unless a list is given.
+fn each_file<'a>(alloc: Global) -> Result<Arg<'a>, AllocError>
+    ensures { IfOk result (IsReadBy (declared.linked (declared.any_number (codes "FILE")))) }
+{
     let files = any_number(alloc, "FILE", help_texts::EACH_FILE);
-    command.arg(files.required_unless_present("from")?)
+    files.required_unless_present("from")
 }
 
 /// The option for the end of each path of a list.
 fn nul<'a>(alloc: Global) -> Result<Arg<'a>, AllocError>
-    ensures { IfOk result IsLocal }
+    ensures { IfOk result (IsReadBy (declared.linked declared.nul)) }
 {
     let nul = Arg::new(alloc, "z").short('z').action(ArgAction::SetTrue);
     nul.help(help_texts::NUL).requires_arg("from")
@@ -343,7 +332,7 @@ fn nul<'a>(alloc: Global) -> Result<Arg<'a>, AllocError>
 
 /// Adds `--write` and `--drop` to a command.
 fn with_tidy_flags<'a>(alloc: Global, command: Command<'a>) -> Result<Command<'a>, AllocError>
-    ensures { IfOk result (λ made. HasLocalArguments command.entry → HasLocalArguments made) }
+    ensures { IfOk result (λ made. (shape : Shape) → IsDeclared shape command.entry → IsDeclared (fold declared.added shape declared.tidy_flags) made) }
 {
     let command = command.arg(flag(alloc, "write", help_texts::WRITE))?;
     command.arg(dropping(alloc, help_texts::DROP, "write")?)
@@ -351,7 +340,7 @@ fn with_tidy_flags<'a>(alloc: Global, command: Command<'a>) -> Result<Command<'a
 
 /// The option to leave lines out, with its help, which goes with the option `beside` and not with `--strict`.
 fn dropping<'a>(alloc: Global, help: &'a str, beside: &'a str) -> Result<Arg<'a>, AllocError>
-    ensures { IfOk result IsLocal }
+    ensures { IfOk result (IsReadBy (declared.linked (declared.flag (codes "drop")))) }
 {
     let dropping = flag(alloc, "drop", help).requires_arg(beside)?;
     dropping.conflicts_with("strict")
@@ -359,56 +348,58 @@ fn dropping<'a>(alloc: Global, help: &'a str, beside: &'a str) -> Result<Arg<'a>
 
 /// An argument of one word that can't be left out.
 fn required<'a>(alloc: Global, name: &'a str, help: &'a str) -> Arg<'a>
-    ensures { IsLocal result }
+    ensures { IsReadBy (declared.required name.entry.now) result }
 {
     Arg::new(alloc, name).required(true).help(help)
 }
 
-/// A command over a tree without configuration files.
-fn over_a_tree<'a>(alloc: Global, help: &CommandHelp) -> Result<Command<'a>, AllocError>
-    ensures { IfOk result HasLocalArguments }
+/// The command over a tree without configuration files.
+fn wants<'a>(alloc: Global) -> Result<Command<'a>, AllocError>
+    ensures { IfOk result (IsDeclared declared.wants) }
 {
-    let command = with_place(alloc, described(alloc, help))?;
+    let command = with_place(alloc, described(alloc, &WANTS))?;
     with_answers(alloc, command)
 }
 
 /// A command with its help and the options that all commands over configuration files share.
-fn with_options<'a>(alloc: Global, help: &CommandHelp) -> Result<Command<'a>, AllocError>
-    ensures { IfOk result HasLocalArguments }
+fn with_options<'a>(
+    alloc: Global,
+    help: &CommandHelp,
+    choices: &Choices<'a>,
+) -> Result<Command<'a>, AllocError>
+    ensures { IfOk result (IsDeclared (declared.command help.now.name.now (declared.shared choices.now))) }
 {
     let command = with_place(alloc, described(alloc, help))?;
-    let command = command.arg(language(alloc))?;
+    let command = command.arg(language(alloc, choices))?;
     let command = command.arg(option(alloc, &PREFIX))?;
-    let command = command.arg(strings(alloc))?;
-    let command = command.arg(imply(alloc))?;
+    let command = command.arg(flag(alloc, "no-prefix", help_texts::NO_PREFIX))?;
+    let command = command.arg(strings(alloc, choices))?;
+    let command = command.arg(imply(alloc, choices))?;
     let command = command.arg(flag(alloc, "strict", help_texts::STRICT))?;
     with_answers(alloc, command)
 }
 
 /// Adds the options for the place of the tree to a command.
-fn with_place<'a>(alloc: Global, mut command: Command<'a>) -> Result<Command<'a>, AllocError>
-    ensures { IfOk result (λ made. HasLocalArguments command.entry → HasLocalArguments made) }
+fn with_place<'a>(alloc: Global, command: Command<'a>) -> Result<Command<'a>, AllocError>
+    ensures { IfOk result (λ made. (shape : Shape) → IsDeclared shape command.entry → IsDeclared (fold declared.added shape declared.place) made) }
 {
-    for valued in &PLACE {
-        command = command.arg(option(alloc, valued))?;
-    }
-    Ok(command)
+    let command = command.arg(option(alloc, &ROOT))?;
+    command.arg(option(alloc, &TREE))
 }
 
 /// Adds the options that turn the expansion of macros on to a command.
 fn with_answers<'a>(alloc: Global, command: Command<'a>) -> Result<Command<'a>, AllocError>
-    ensures { IfOk result (λ made. HasLocalArguments command.entry → HasLocalArguments made) }
+    ensures { IfOk result (λ made. (shape : Shape) → IsDeclared shape command.entry → IsDeclared (fold declared.added shape declared.answers) made) }
 {
-    let mut command = command.arg(flag(alloc, "expand", help_texts::EXPAND))?;
-    for list in &ANSWERS {
-        command = command.arg(repeated(alloc, list))?;
-    }
-    Ok(command)
+    let command = command.arg(flag(alloc, "expand", help_texts::EXPAND))?;
+    let command = command.arg(repeated(alloc, "answers", "FILE", help_texts::ANSWERS))?;
+    let command = command.arg(repeated(alloc, "define", "NAME=VALUE", help_texts::DEFINE))?;
+    command.arg(repeated(alloc, "env", "NAME", help_texts::ENV))
 }
 
 /// An option without a value.
 fn flag<'a>(alloc: Global, name: &'a str, help: &'a str) -> Arg<'a>
-    ensures { IsLocal result }
+    ensures { IsReadBy (declared.flag name.entry.now) result }
 {
     Arg::new(alloc, name)
         .long(name)
@@ -418,7 +409,7 @@ fn flag<'a>(alloc: Global, name: &'a str, help: &'a str) -> Arg<'a>
 
 /// An option with a value and no default.
 fn valued<'a>(alloc: Global, name: &'a str, value: &'a str, help: &'a str) -> Arg<'a>
-    ensures { IsLocal result }
+    ensures { IsReadBy (declared.valued name.entry.now) result }
 {
     Arg::new(alloc, name)
         .long(name)
@@ -428,7 +419,7 @@ fn valued<'a>(alloc: Global, name: &'a str, value: &'a str, help: &'a str) -> Ar
 
 /// The option for the output file.
 fn output<'a>(alloc: Global) -> Arg<'a>
-    ensures { IsLocal result }
+    ensures { IsReadBy declared.output result }
 {
     valued(alloc, "output", "FILE", help_texts::OUTPUT)
         .short('o')
@@ -436,44 +427,52 @@ fn output<'a>(alloc: Global) -> Arg<'a>
 }
 
 /// An option that may be given again.
-fn repeated<'a>(alloc: Global, list: &ListHelp) -> Arg<'a>
-    ensures { IsLocal result }
+fn repeated<'a>(alloc: Global, name: &'a str, value: &'a str, help: &'a str) -> Arg<'a>
+    ensures { IsReadBy (declared.repeated name.entry.now) result }
 {
-    valued(alloc, list.name, list.value, list.help).action(ArgAction::Append)
+    valued(alloc, name, value, help).action(ArgAction::Append)
 }
 
 /// The option for the language of the tree.
-fn language<'a>(alloc: Global) -> Arg<'a>
-    ensures { IsLocal result }
+fn language<'a>(alloc: Global, choices: &Choices<'a>) -> Arg<'a>
+    ensures { IsReadBy (declared.one_of (declared.valued (codes "language")) choices.now.languages) result }
 {
     let language = valued(alloc, "language", "LANGUAGE", help_texts::LANGUAGE);
-    one_of(language, help_texts::LANGUAGE_LONG, &LANGUAGES)
+    one_of(language, help_texts::LANGUAGE_LONG, choices.languages)
 }
 
 /// An option whose value is one of these, with the long text that explains them.
 fn one_of<'a>(option: Arg<'a>, long_help: &'a str, values: &'a [&'a str]) -> Arg<'a>
-    ensures { IsLocal option.entry → IsLocal result }
+    ensures { (rule : Rule) → IsReadBy rule option.entry → IsReadBy (declared.one_of rule values.entry) result }
 {
     option.long_help(long_help).value_parser(values)
 }
 
 /// The option for the form of strings.
-fn strings<'a>(alloc: Global) -> Arg<'a>
-    ensures { IsLocal result }
+fn strings<'a>(alloc: Global, choices: &Choices<'a>) -> Arg<'a>
+    ensures { IsReadBy (declared.one_of (declared.option (codes "strings") (codes "escaped")) choices.now.forms) result }
 {
-    one_of(option(alloc, &STRINGS), help_texts::STRINGS_LONG, &FORMS)
+    one_of(
+        option(alloc, &STRINGS),
+        help_texts::STRINGS_LONG,
+        choices.forms,
+    )
 }
 
 /// The option for the profile.
-fn imply<'a>(alloc: Global) -> Arg<'a>
-    ensures { IsLocal result }
+fn imply<'a>(alloc: Global, choices: &Choices<'a>) -> Arg<'a>
+    ensures { IsReadBy (declared.one_of (declared.option (codes "imply") (codes "present")) choices.now.profiles) result }
 {
-    one_of(option(alloc, &IMPLY), help_texts::IMPLY_LONG, &PROFILES)
+    one_of(
+        option(alloc, &IMPLY),
+        help_texts::IMPLY_LONG,
+        choices.profiles,
+    )
 }
 
 /// A command with its help and no options.
 fn described<'a>(alloc: Global, help: &CommandHelp) -> Command<'a>
-    ensures { HasLocalArguments result }
+    ensures { IsDeclared (declared.command help.now.name.now []) result }
 {
     Command::new(alloc, help.name)
         .about(help.about)
@@ -483,7 +482,7 @@ fn described<'a>(alloc: Global, help: &CommandHelp) -> Command<'a>
 
 /// An option with a value and a default.
 fn option<'a>(alloc: Global, help: &OptionHelp) -> Arg<'a>
-    ensures { IsLocal result }
+    ensures { IsReadBy (declared.option help.now.name.now help.now.default.now) result }
 {
     valued(alloc, help.name, help.value, help.help).default_value(help.default)
 }

@@ -180,6 +180,9 @@ pub(crate) const TREE: &str = "First file of the tree, below DIR";
 
 pub(crate) const PREFIX: &str = "Text before each name in a file";
 
+pub(crate) const NO_PREFIX: &str =
+    "Names in files are as in the tree, as Buildroot's; not with --prefix";
+
 pub(crate) const STRINGS: &str = "Form of strings";
 
 pub(crate) const STRINGS_LONG: &str = "\

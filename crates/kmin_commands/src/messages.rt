@@ -7,15 +7,18 @@ pub struct Row {
 }
 
 /// A table of help: a heading, and a row for each kind of message.
+#[derive(Clone, Copy)]
 pub struct Table {
     pub heading: &'static str,
     pub rows: &'static [Row],
 }
 
-/// Passes the tables to a macro: of each its heading, and of each row the kind of message and the lines of help.
+/// Passes the tables to a macro, after a word for it if there is one: of each its heading, and of each row the kind of message and
+/// the lines of help.
 macro_rules! tables {
-    ($then:ident) => {
+    ($then:ident $($which:ident)?) => {
         $then! {
+            $($which:)?
             "Kinds of a tree:" {
                 "NotUtf8" "  NotUtf8           the line isn't UTF-8: save the file as UTF-8"
                 "LineTooLong" "  LineTooLong       more than 65,536 bytes in a line: split it"
@@ -72,7 +75,7 @@ macro_rules! tables {
             }
             "Kinds of a configuration file:" {
                 "Malformed" "  Malformed         neither CONFIG_NAME=value, an unset line, a comment nor empty: correct it, or
-                    give another prefix than CONFIG_ by --prefix"
+                    give another prefix than CONFIG_ by --prefix, or none by --no-prefix"
                 "NotUtf8" "  NotUtf8           the line isn't UTF-8: save the file as UTF-8"
                 "LineTooLong" "  LineTooLong       more than 65,536 bytes in a line: shorten it"
                 "TooManyLines" "  TooManyLines      more than 1,048,576 lines: split the file"
@@ -80,6 +83,8 @@ macro_rules! tables {
                 "Read" "  Read              the file can't be opened or read: check the path and the permissions"
                 "UnknownSymbol" "  UnknownSymbol     a notice, the tree has no such symbol, nothing is assigned: take the line out"
                 "NotOfType" "  NotOfType         a notice, the value isn't of the symbol's type and isn't assigned: correct it"
+                "OtherChoice" "  OtherChoice       a notice, by the line Linux since 6.10 selects another member of a choice: give
+                    --language linux-6.12 for a Linux since 6.10, linux-6.1 for one before"
             }
             "Messages of writing:" {
                 "NotRegular" "  FILE:0: NotRegular  FILE is a link, a folder, a pipe or a device, and to be written: name the
@@ -160,11 +165,21 @@ can't be opened or read or has too many bytes; and of what a message says of a f
     };
 }
 
-/// The tables as values, to be searched for a kind.
-macro_rules! as_tables {
-    ($($heading:literal { $($kind:literal $lines:literal)* })*) => {
-        [$(Table { heading: $heading, rows: &[$(Row { kind: $kind, lines: $lines }),*] }),*]
+/// One of the tables as a value, to be searched for a kind.
+macro_rules! table_of {
+    ($heading:literal { $($kind:literal $lines:literal)* }) => {
+        Table { heading: $heading, rows: &[$(Row { kind: $kind, lines: $lines }),*] }
     };
+}
+
+/// The table at a place.
+macro_rules! table_at {
+    (first: $a:literal $b:tt $($rest:tt)*) => { table_of!($a $b) };
+    (second: $a:literal $b:tt $($rest:tt)*) => { table_at!(first: $($rest)*) };
+    (third: $a:literal $b:tt $($rest:tt)*) => { table_at!(second: $($rest)*) };
+    (fourth: $a:literal $b:tt $($rest:tt)*) => { table_at!(third: $($rest)*) };
+    (fifth: $a:literal $b:tt $($rest:tt)*) => { table_at!(fourth: $($rest)*) };
+    (sixth: $a:literal $b:tt $($rest:tt)*) => { table_at!(fifth: $($rest)*) };
 }
 
 pub(crate) const AFTER: &str = with_examples!(
@@ -173,9 +188,51 @@ pub(crate) const AFTER: &str = with_examples!(
 
 pub(crate) const AFTER_LONG: &str = tables!(as_long_help);
 
-static TABLES: [Table; 6] = tables!(as_tables);
+static OF_TREES: Table = tables!(table_at first);
+
+static OF_EXPANSIONS: Table = tables!(table_at second);
+
+static OF_ANSWERS: Table = tables!(table_at third);
+
+static OF_CONFIGURATIONS: Table = tables!(table_at fourth);
+
+static OF_WRITING: Table = tables!(table_at fifth);
+
+static WITHOUT_FILE: Table = tables!(table_at sixth);
 
 /// All tables of help on kinds of messages.
-pub fn message_tables() -> &'static [Table] {
-    &TABLES
+pub fn message_tables() -> [Table; 6] {
+    // Each has a function of its own, since one that sees all of them takes the prover too many steps.
+    [
+        of_trees(),
+        of_expansions(),
+        of_answers(),
+        of_configurations(),
+        of_writing(),
+        without_file(),
+    ]
+}
+
+fn of_trees() -> Table {
+    OF_TREES
+}
+
+fn of_expansions() -> Table {
+    OF_EXPANSIONS
+}
+
+fn of_answers() -> Table {
+    OF_ANSWERS
+}
+
+fn of_configurations() -> Table {
+    OF_CONFIGURATIONS
+}
+
+fn of_writing() -> Table {
+    OF_WRITING
+}
+
+fn without_file() -> Table {
+    WITHOUT_FILE
 }

@@ -10,6 +10,7 @@ use Rattle.kc_tree_model.specs.declared.fault.TreeFault.{TreeFault}
 use Rattle.kc_dotconfig_model.specs.KindNames.{load_kind_name, notice_kind_name}
 use Rattle.kc_dotconfig_model.specs.declared.fault.LoadKind.{LoadKind}
 use Rattle.kc_dotconfig_model.specs.declared.notice.NoticeKind.{NoticeKind}
+use Rattle.kc_dotconfig_model.specs.declared.notice.NoticeKind.TheVariants.{OtherChoice}
 use Rattle.kc_dotconfig_model.specs.ConfigLines.{LineMeaning}
 use Rattle.kc_dotconfig_model.specs.ConfigFiles.{notices_from}
 use Rattle.kc_tree_model.specs.FaultNames.{tree_kind_name}
@@ -108,6 +109,11 @@ abbrev pub notice_lines : (paths : List (List ℕ)) → List (List LineMeaning) 
 notice_lines [] meanings = []
 notice_lines (path ∷ paths) [] = []
 notice_lines (path ∷ paths) (meanings ∷ others) = file_notices path meanings ++ notice_lines paths others
+
+-- the lines of standard error for the notices on choices in configuration files at these paths, in order, each from its place: the
+-- number of its file, from 0, and of its line
+abbrev pub choice_notice_lines : (paths : List (List ℕ)) → List (ℕ × ℕ) → List (List ℕ)
+choice_notice_lines paths places = map (λ (p : ℕ × ℕ). notice_line (unwrap_or (slice_get paths p.0) []) (p.1, OtherChoice)) places
 
 -- the last lines of standard error of a run, by its exit status: `out of memory` for 6, and none for any other
 abbrev pub last_lines : (status : ℕ) → List (List ℕ)

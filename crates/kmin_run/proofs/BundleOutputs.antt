@@ -1,5 +1,10 @@
 -- The outputs for bundles.
-use Rattle.std.proofs.Common.{◌≡◌, ℕ, false, List, [], ◌∷◌, ◌++◌, Option, Some, Result, Ok, Err, Vec, IfOk, IfErr, codes, refl, sym, subst}
+use Rattle.std.proofs.Common.{◌≡◌, ℕ, false, List, [], ◌∷◌, ◌++◌, Option, Some, Result, Ok, Err, Vec, IfOk, IfErr, codes, cond, map, refl, sym, ap, ◌∙◌, subst, append-nil}
+use Rattle.std.proofs.lemmas.Bool.{false≢true}
+use Rattle.kc_tokens.specs.declared.language.Language.TheVariants.{Strict}
+use Rattle.kc_tree_model.specs.TreeFiles.{Files}
+use Rattle.kc_tree_model.specs.Contents.{tree_of_files, tree_of_groups}
+use Rattle.kc_dotconfig_model.specs.OtherChoices.{has_no_version, choice_lines_from, placed_from, other_places, other_choices}
 use Rattle.std.specs.declared.alloc.Global.{Global}
 use Rattle.kc_tree_model.specs.Trees.{Tree}
 use Rattle.kc_rules_model.specs.declared.profile.Profile.TheVariants.{Present}
@@ -17,7 +22,7 @@ use Rattle.kc_dotconfig.specs.ReadResults.{IsReadAs}
 use Rattle.kc_minimal_model.specs.FullFile.{full_file}
 use Rattle.kmin_words.specs.declared.job.Verb.TheVariants.{Full}
 use Rattle.kmin_report.specs.declared.run_error.RunError.{RunError}
-use Rattle.kmin_report.specs.Reports.{notice_lines, last_lines}
+use Rattle.kmin_report.specs.Reports.{notice_lines, choice_notice_lines, last_lines}
 use Rattle.kmin_report.specs.StandardError.{TakesLines}
 use Rattle.kmin_trees.specs.AcceptedTrees.{AreAccepted}
 use Rattle.kmin_run.specs.Answers.{Resolve, of_files}
@@ -32,6 +37,15 @@ use Rattle.kmin_trees.specs.between.TreeStops.{StopsAtTexts, at_texts, for_memor
 use Rattle.kmin_report.proofs.WriterLemmas.{lines_append}
 use Rattle.kmin_run.proofs.Sequences.{stopped_at, stopped_path, loaded_from, loaded_one}
 use Rattle.kmin_run.proofs.JobOutputs.{resolved}
+
+-- a tree has the language of its files
+language_of_files : (files : Files) (root : List ℕ) → (tree_of_files files root).language ≡ files.language
+unfolding tree_of_files tree_of_groups
+language_of_files files root = refl
+
+-- in the strict language there are no notices on choices
+strict_choices : (tree : Tree) (values : List UnitValue) (meanings : List (List LineMeaning)) → tree.language ≡ Strict → other_choices tree values meanings ≡ []
+strict_choices tree values meanings e = ap (λ language. cond (has_no_version language) (other_places tree values (placed_from 0 (map (choice_lines_from 1) meanings))) []) e
 
 -- a bundle's configuration that wasn't accepted ends the run among its configuration files, with the lines that were reported
 pub memory_stops : (text : List ℕ) (left : Option (List ℕ)) (format plain : FileFormat) (tree : Tree) (path : List ℕ) (after : Option (List ℕ))
@@ -105,7 +119,10 @@ module _ (bundle tree configuration : List ℕ) (parts : IsBundle bundle tree co
             tree = tree;
             configuration = configuration;
             parts = parts;
-            answers = of_files (tree_of_settled rules) Full (codes "config" ∷ []) h.0 h.1 refl accepted resolve h.3 refl refl;
+            answers = of_files (tree_of_settled rules) Full (codes "config" ∷ []) h.0 h.1 refl accepted resolve h.3 refl (λ e. absurd (false≢true e))
+                (sym (ap (λ ps. notice_lines (codes "config" ∷ []) h.0 ++ choice_notice_lines (codes "config" ∷ []) ps)
+                (strict_choices (tree_of_settled rules) h.1 h.0 (ap (λ (t : Tree). t.language) accepted.tree_is ∙ language_of_files (bundle_files tree) (codes "Kconfig")))
+                ∙ append-nil (notice_lines (codes "config" ∷ []) h.0)));
           },
           lines_append taken middle failed failed_middle [] _ taken_after failed_after before h.4,
         )

@@ -1,5 +1,5 @@
 -- The outputs of commands.
-use Rattle.std.proofs.Common.{◌≡◌, ◌≢◌, ℕ, Bool, true, false, zero, suc, ◌≤◌, ◌⊎◌, inl, inr, append-nil, List, [], ◌∷◌, ◌++◌, Option, Result, Ok, Err, Vec, IfOk, IfErr, refl, sym, subst, arith}
+use Rattle.std.proofs.Common.{◌≡◌, ◌≢◌, ℕ, Bool, true, false, zero, suc, ◌≤◌, ◌⊎◌, inl, inr, append-nil, List, [], ◌∷◌, ◌++◌, Option, Result, Ok, Err, Vec, IfOk, IfErr, refl, sym, ap, ◌∙◌, subst, map, arith}
 use Rattle.std.specs.declared.alloc.AllocError.{AllocError}
 use Rattle.std.specs.declared.alloc.Global.{Global}
 use Rattle.std.specs.List.{flat_map}
@@ -25,14 +25,20 @@ use Rattle.kmin_report.specs.declared.run_error.RunError.{RunError}
 use Rattle.kmin_run.specs.declared.verb_texts.AnswerText.{AnswerText}
 use Rattle.kmin_trees.specs.FileContents.{Surroundings}
 use Rattle.kmin_trees.specs.JobTexts.{TreeTexts, AreTextsOfJob}
-use Rattle.kmin_report.specs.Reports.{notice_lines, last_lines, output_line}
+use Rattle.kmin_report.specs.Reports.{notice_lines, choice_notice_lines, last_lines, output_line}
+use Rattle.kc_dotconfig_model.specs.declared.choice_line.ChoiceLine.{ChoiceLine}
+use Rattle.kc_dotconfig_model.specs.OtherChoices.{choice_lines_from, placed_from, other_choices_of, other_choices}
+use Rattle.kmin_run.specs.Strictness.{AllowsNotices, RefusesNotices}
 use Rattle.kmin_report.specs.StandardError.{TakesLines}
 use Rattle.kmin_trees.specs.AcceptedTrees.{AreAccepted}
-use Rattle.kmin_run.specs.Answers.{Resolve, Answer, files_assignment, of_files, of_comparison, IsTextOfVerb, difference_line}
+use Rattle.kmin_run.proofs.Sequences.{mean_append, notices_append}
+use Rattle.kmin_run.specs.Answers.{FilesMean, Resolve, Answer, files_assignment, of_files, of_comparison, IsTextOfVerb, difference_line}
 use Rattle.kmin_run.specs.Statuses.{status_of_list, status_of_verb}
-use Rattle.kmin_run.specs.Stops.{Stops, StopsAmongFiles, StopsBefore, among_files}
+use Rattle.kmin_run.specs.Stops.{Stops, StopsAmongFiles, StopsAtChoices, StopsBefore, among_files, at_choices, NoticesOnChoices}
 use Rattle.kmin_run.specs.Stops as stops
-use Rattle.kmin_run.specs.between.LoadResults.{AreLoaded}
+use Rattle.kmin_run.specs.between.LoadResults.{AreLoaded, AreRead, lists_of}
+use Rattle.kmin_run.specs.between.LoadStops.{StopsOverTree, StopsNoticing}
+use Rattle.kmin_run.specs.between.LoadStops as noticing
 use Rattle.kmin_report.specs.between.RunErrors.{status_of}
 use Rattle.kmin_report.proofs.WriterLemmas.{lines_append}
 
@@ -48,26 +54,64 @@ resolved content_of settings config settled paths taken taken_after failed faile
     let gives = rw e at s.gives in
     record { mean = l.mean; gives = rw (← p, ← l.users_are) gives }
 
+-- the places that are found for a configuration are those by its tree and values, and by the lists of its files
+pub places_by : (config : Configured) (settled : Settled) (values : List UnitValue) (slice lines : List (ℕ × ChoiceLine)) (files chosen : List (Vec ChoiceLine Global))
+    (places : List (ℕ × ℕ)) → settled ≡ config.system → values ≡ config.values → slice ≡ lines → lines ≡ placed_from 0 (lists_of files) → files ≡ chosen
+    → places ≡ other_choices_of (tree_of_settled settled) values slice
+    → places ≡ other_choices_of (tree_in config) config.values (placed_from 0 (lists_of chosen))
+places_by config settled values slice lines files chosen places s v l made f p =
+    p ∙ ap (λ (sys : Settled). other_choices_of (tree_of_settled sys) values slice) s
+    ∙ ap (λ (vs : List UnitValue). other_choices_of (tree_in config) vs slice) v
+    ∙ ap (other_choices_of (tree_in config) config.values) (l ∙ made ∙ ap (λ (fs : List (Vec ChoiceLine Global)). placed_from 0 (lists_of fs)) f)
+
+-- the places of the notices on choices, from the lists of the lines of members in the files
+module _ (content_of : List ℕ → FileContent) (settings : Settings) (config : Configured) (settled : Settled) (paths : List (List ℕ))
+    (lists : List (List ChoiceLine)) (taken taken_after : Option (List ℕ)) (failed failed_after : ℕ) (same : config.system ≡ settled)
+    (l : AreRead content_of settings.format settings.strict (tree_of_settled settled) paths (empty_assignment (tree_of_settled settled)) config.users
+    [] lists taken failed taken_after failed_after) where
+  pub places_are : other_choices_of (tree_in config) config.values (placed_from 0 lists) ≡ other_choices (tree_of_settled settled) config.values l.loaded.meanings
+  places_are =
+      ap (λ (ls : List (List ChoiceLine)). other_choices_of (tree_in config) config.values (placed_from 0 ls)) l.chosen_are
+      ∙ ap (λ (sys : Settled). other_choices_of (tree_of_settled sys) config.values (placed_from 0 (map (choice_lines_from 1) l.loaded.meanings))) same
+
+  pub allowed_are : AllowsNotices settings.strict (other_choices_of (tree_in config) config.values (placed_from 0 lists))
+      → AllowsNotices settings.strict (other_choices (tree_of_settled settled) config.values l.loaded.meanings)
+  allowed_are a e = sym places_are ∙ a e
+
+  pub refused_are : RefusesNotices settings.strict (other_choices_of (tree_in config) config.values (placed_from 0 lists))
+      → RefusesNotices settings.strict (other_choices (tree_of_settled settled) config.values l.loaded.meanings)
+  refused_are a = (a.0, λ e. a.1 (places_are ∙ e))
+
+  pub noticed_are : (from to : Option (List ℕ)) (failed_from failed_to : ℕ)
+      → TakesLines from failed_from (choice_notice_lines paths (other_choices_of (tree_in config) config.values (placed_from 0 lists))) to failed_to
+      → TakesLines from failed_from (choice_notice_lines paths (other_choices (tree_of_settled settled) config.values l.loaded.meanings)) to failed_to
+  noticed_are from to failed_from failed_to t = subst (λ ps. TakesLines from failed_from (choice_notice_lines paths ps) to failed_to) places_are t
+
 pub answers_files : (content_of : List ℕ → FileContent) (settings : Settings) (verb : Verb) (config : Configured) (settled : Settled)
-    (paths : List (List ℕ)) (text : List ℕ) (status : ℕ) (taken taken_after : Option (List ℕ)) (failed failed_after : ℕ)
+    (paths : List (List ℕ)) (lists : List (List ChoiceLine)) (text : List ℕ) (status : ℕ) (taken middle taken_after : Option (List ℕ))
+    (failed failed_middle failed_after : ℕ)
     → config.system ≡ settled → profile_of settled ≡ settings.profile → IsSolved config
-    → AreLoaded content_of settings.format settings.strict (tree_of_settled settled) paths (empty_assignment (tree_of_settled settled)) config.users taken
-    failed taken_after
-    failed_after
+    → AreRead content_of settings.format settings.strict (tree_of_settled settled) paths (empty_assignment (tree_of_settled settled)) config.users
+    [] lists taken failed middle failed_middle
+    → AllowsNotices settings.strict (other_choices_of (tree_in config) config.values (placed_from 0 lists))
+    → TakesLines middle failed_middle (choice_notice_lines paths (other_choices_of (tree_in config) config.values (placed_from 0 lists))) taken_after failed_after
     → IsTextOfVerb settings (tree_in config) config.users config.values verb text
     → status ≡ status_of_verb (tree_in config) config.users config.values verb
     → (notices : List (List ℕ)) × ((texts : Files) → AreAccepted texts settings.tree (tree_of_settled settled)
     → Answer content_of settings texts (over verb paths) text status notices)
     × TakesLines taken failed notices taken_after failed_after
-answers_files content_of settings verb config settled paths text status taken taken_after failed failed_after e p s l t n =
-    let same : IsTextOfVerb settings (tree_of_settled settled) (files_assignment (tree_of_settled settled) l.meanings) config.values verb text =
-    rw (← l.users_are, ← e) t in
-    let number : status ≡ status_of_verb (tree_of_settled settled) (files_assignment (tree_of_settled settled) l.meanings) config.values verb =
-    rw (← l.users_are, ← e) n in (
-      notice_lines paths l.meanings,
-      (λ texts accepted. of_files (tree_of_settled settled) verb paths l.meanings config.values refl accepted
-          (resolved content_of settings config settled paths taken taken_after failed failed_after e p s l) same number refl),
-      l.reported,
+answers_files content_of settings verb config settled paths lists text status taken middle taken_after failed failed_middle failed_after e p s l a k t n =
+    let loaded = l.loaded in
+    let same : IsTextOfVerb settings (tree_of_settled settled) (files_assignment (tree_of_settled settled) loaded.meanings) config.values verb text =
+    rw (← loaded.users_are, ← e) t in
+    let number : status ≡ status_of_verb (tree_of_settled settled) (files_assignment (tree_of_settled settled) loaded.meanings) config.values verb =
+    rw (← loaded.users_are, ← e) n in (
+      notice_lines paths loaded.meanings ++ choice_notice_lines paths (other_choices (tree_of_settled settled) config.values loaded.meanings),
+      (λ texts accepted. of_files (tree_of_settled settled) verb paths loaded.meanings config.values refl accepted
+          (resolved content_of settings config settled paths taken middle failed failed_middle e p s loaded) same number
+          (allowed_are content_of settings config settled paths lists taken middle failed failed_middle e l a) refl),
+      lines_append taken middle failed failed_middle _ _ taken_after failed_after loaded.reported
+          (noticed_are content_of settings config settled paths lists taken middle failed failed_middle e l middle taken_after failed_middle failed_after k),
     )
 
 -- the output of the verb `min`, if memory sufficed for it, is the canonical file of the values
@@ -96,29 +140,176 @@ status_of_verb_at_most_one tree users values Full = omega arith
 status_of_verb_at_most_one tree users values (Missed exit_code) = status_at_most_one exit_code (missed tree users values)
 status_of_verb_at_most_one tree users values (Check exit_code) = status_at_most_one exit_code (unmet tree values)
 
-pub answers_comparison : (content_of : List ℕ → FileContent) (settings : Settings) (left right : Configured) (settled : Settled) (a b : List ℕ)
-    (text : List ℕ) (status : ℕ) (taken middle taken_after : Option (List ℕ)) (failed failed_middle failed_after : ℕ)
-    → left.system ≡ settled → right.system ≡ settled → profile_of settled ≡ settings.profile → IsSolved left → IsSolved right
-    → AreLoaded content_of settings.format settings.strict (tree_of_settled settled) (a ∷ []) (empty_assignment (tree_of_settled settled)) left.users taken
-    failed middle
-    failed_middle
-    → AreLoaded content_of settings.format settings.strict (tree_of_settled settled) (b ∷ []) (empty_assignment (tree_of_settled settled)) right.users middle
-    failed_middle
-    taken_after failed_after
-    → text ≡ flat_map (difference_line settings.format.strings (tree_in left)) (differences (tree_in left) left.values right.values)
-    → status ≡ status_of_list true (differences (tree_in left) left.values right.values)
-    → (notices : List (List ℕ)) × ((texts : Files) → AreAccepted texts settings.tree (tree_of_settled settled)
-    → Answer content_of settings texts (compare a b) text status notices)
-    × TakesLines taken failed notices taken_after failed_after
-answers_comparison content_of settings left right settled a b text status taken middle taken_after failed failed_middle failed_after l r p sl sr hl hr
-    t s = (
-      notice_lines (a ∷ []) hl.meanings ++ notice_lines (b ∷ []) hr.meanings,
-      (λ texts accepted. of_comparison (tree_of_settled settled) a b hl.meanings hr.meanings left.values right.values refl accepted
-          (resolved content_of settings left settled (a ∷ []) taken middle failed failed_middle l p sl hl)
-          (resolved content_of settings right settled (b ∷ []) middle taken_after failed_middle failed_after r p sr hr)
-          (rw (← l) t) (rw (← l) s) refl),
-      lines_append taken middle failed failed_middle _ _ taken_after failed_after hl.reported hr.reported,
+-- two configurations of one file each, which are read one after the other, with the notices on their choices
+module _ (content_of : List ℕ → FileContent) (settings : Settings) (left right : Configured) (settled : Settled) (a b : List ℕ)
+    (left_lists right_lists : List (List ChoiceLine)) (taken between middle : Option (List ℕ)) (failed failed_between failed_middle : ℕ)
+    (same_left : left.system ≡ settled) (same_right : right.system ≡ settled) (p : profile_of settled ≡ settings.profile)
+    (sl : IsSolved left) (sr : IsSolved right)
+    (hl : AreRead content_of settings.format settings.strict (tree_of_settled settled) (a ∷ []) (empty_assignment (tree_of_settled settled)) left.users
+    [] left_lists taken failed between failed_between)
+    (hr : AreRead content_of settings.format settings.strict (tree_of_settled settled) (b ∷ []) (empty_assignment (tree_of_settled settled)) right.users
+    [] right_lists between failed_between middle failed_middle) where
+  abbrev tree : Tree
+  tree = tree_of_settled settled
+
+  abbrev left_choices : List (ℕ × ℕ)
+  left_choices = other_choices tree left.values hl.loaded.meanings
+
+  abbrev right_choices : List (ℕ × ℕ)
+  right_choices = other_choices tree right.values hr.loaded.meanings
+
+  abbrev of_lines : List (List ℕ)
+  of_lines = notice_lines (a ∷ []) hl.loaded.meanings ++ notice_lines (b ∷ []) hr.loaded.meanings
+
+  lines_read : TakesLines taken failed of_lines middle failed_middle
+  lines_read = lines_append taken between failed failed_between _ _ middle failed_middle hl.loaded.reported hr.loaded.reported
+
+  -- both files mean what they mean alone
+  both_mean : FilesMean content_of settings.format settings.strict tree (a ∷ b ∷ []) (hl.loaded.meanings ++ hr.loaded.meanings)
+  both_mean = mean_append content_of settings.format settings.strict tree (b ∷ []) hr.loaded.meanings (a ∷ []) hl.loaded.meanings hr.loaded.mean hl.loaded.mean
+
+  both_noticed : notice_lines (a ∷ b ∷ []) (hl.loaded.meanings ++ hr.loaded.meanings) ≡ of_lines
+  both_noticed = notices_append content_of settings.format settings.strict tree (b ∷ []) hr.loaded.meanings (a ∷ []) hl.loaded.meanings hl.loaded.mean
+
+  left_resolved : Resolve content_of settings tree (a ∷ []) hl.loaded.meanings left.values
+  left_resolved = resolved content_of settings left settled (a ∷ []) taken between failed failed_between same_left p sl hl.loaded
+
+  right_resolved : Resolve content_of settings tree (b ∷ []) hr.loaded.meanings right.values
+  right_resolved = resolved content_of settings right settled (b ∷ []) between middle failed_between failed_middle same_right p sr hr.loaded
+
+  -- the first configuration is refused for the notices on its choices, or memory runs out
+  pub stopped_left : (status : ℕ) (after : Option (List ℕ)) (failed_after : ℕ)
+      → StopsNoticing (tree_in left) left.values settings.strict (a ∷ []) left_lists status middle failed_middle after failed_after
+      → (lines : List (List ℕ)) × StopsOverTree content_of settings tree (compare a b) status lines × TakesLines taken failed lines after failed_after
+  stopped_left status after failed_after (noticing.refused given s t) = (
+    of_lines ++ choice_notice_lines (a ∷ []) left_choices,
+    inr (stops.refused (hl.loaded.meanings ++ hr.loaded.meanings) [] ((b ∷ []) ∷ []) [] (a ∷ []) hl.loaded.meanings left.values both_mean refl stops.none
+        left_resolved (refused_are content_of settings left settled (a ∷ []) left_lists taken between failed failed_between same_left hl given) s
+        (ap (λ ls. ls ++ choice_notice_lines (a ∷ []) left_choices) (sym both_noticed))),
+    lines_append taken middle failed failed_middle _ _ after failed_after lines_read
+        (noticed_are content_of settings left settled (a ∷ []) left_lists taken between failed failed_between same_left hl middle after failed_middle failed_after t),
+  )
+  stopped_left status after failed_after (noticing.for_memory s t) = (
+    of_lines ++ [],
+    inr (stops.for_memory (hl.loaded.meanings ++ hr.loaded.meanings) [] ((a ∷ []) ∷ (b ∷ []) ∷ []) [] both_mean refl stops.none s
+        (ap (λ ls. ls ++ []) (sym both_noticed))),
+    lines_append taken middle failed failed_middle _ _ after failed_after lines_read t,
+  )
+
+  module _ (later : Option (List ℕ)) (failed_later : ℕ)
+      (allowed : AllowsNotices settings.strict (other_choices_of (tree_in left) left.values (placed_from 0 left_lists)))
+      (noted : TakesLines middle failed_middle (choice_notice_lines (a ∷ []) (other_choices_of (tree_in left) left.values (placed_from 0 left_lists))) later failed_later) where
+    left_allowed : AllowsNotices settings.strict left_choices
+    left_allowed = allowed_are content_of settings left settled (a ∷ []) left_lists taken between failed failed_between same_left hl allowed
+
+    left_noted : TakesLines middle failed_middle (choice_notice_lines (a ∷ []) left_choices) later failed_later
+    left_noted = noticed_are content_of settings left settled (a ∷ []) left_lists taken between failed failed_between same_left hl middle later failed_middle failed_later noted
+
+    earlier : NoticesOnChoices content_of settings tree ((a ∷ []) ∷ []) (choice_notice_lines (a ∷ []) left_choices ++ [])
+    earlier = stops.more (a ∷ []) hl.loaded.meanings left.values [] [] left_resolved left_allowed stops.none
+
+    -- the second configuration is refused for the notices on its choices, or memory runs out
+    pub stopped_right : (status : ℕ) (after : Option (List ℕ)) (failed_after : ℕ)
+        → StopsNoticing (tree_in right) right.values settings.strict (b ∷ []) right_lists status later failed_later after failed_after
+        → (lines : List (List ℕ)) × StopsOverTree content_of settings tree (compare a b) status lines × TakesLines taken failed lines after failed_after
+    stopped_right status after failed_after (noticing.refused given s t) = (
+      of_lines ++ (choice_notice_lines (a ∷ []) left_choices ++ choice_notice_lines (b ∷ []) right_choices),
+      inr (stops.refused (hl.loaded.meanings ++ hr.loaded.meanings) ((a ∷ []) ∷ []) [] (choice_notice_lines (a ∷ []) left_choices ++ []) (b ∷ [])
+          hr.loaded.meanings right.values both_mean refl earlier right_resolved
+          (refused_are content_of settings right settled (b ∷ []) right_lists between middle failed_between failed_middle same_right hr given) s
+          (ap (λ ls. ls ++ (choice_notice_lines (a ∷ []) left_choices ++ choice_notice_lines (b ∷ []) right_choices)) (sym both_noticed)
+          ∙ ap (λ ls. notice_lines (a ∷ b ∷ []) (hl.loaded.meanings ++ hr.loaded.meanings) ++ (ls ++ choice_notice_lines (b ∷ []) right_choices))
+          (sym (append-nil (choice_notice_lines (a ∷ []) left_choices))))),
+      lines_append taken middle failed failed_middle _ _ after failed_after lines_read
+          (lines_append middle later failed_middle failed_later _ _ after failed_after left_noted
+          (noticed_are content_of settings right settled (b ∷ []) right_lists between middle failed_between failed_middle same_right hr later after failed_later failed_after t)),
     )
+    stopped_right status after failed_after (noticing.for_memory s t) = (
+      of_lines ++ (choice_notice_lines (a ∷ []) left_choices ++ []),
+      inr (stops.for_memory (hl.loaded.meanings ++ hr.loaded.meanings) ((a ∷ []) ∷ []) ((b ∷ []) ∷ []) (choice_notice_lines (a ∷ []) left_choices ++ [])
+          both_mean refl earlier s (ap (λ ls. ls ++ (choice_notice_lines (a ∷ []) left_choices ++ [])) (sym both_noticed))),
+      lines_append taken middle failed failed_middle _ _ after failed_after lines_read
+          (lines_append middle later failed_middle failed_later _ _ after failed_after left_noted t),
+    )
+
+    module _ (after : Option (List ℕ)) (failed_after : ℕ)
+        (right_allowed : AllowsNotices settings.strict (other_choices_of (tree_in right) right.values (placed_from 0 right_lists)))
+        (right_noted : TakesLines later failed_later (choice_notice_lines (b ∷ []) (other_choices_of (tree_in right) right.values (placed_from 0 right_lists))) after failed_after) where
+      both_allowed : AllowsNotices settings.strict right_choices
+      both_allowed = allowed_are content_of settings right settled (b ∷ []) right_lists between middle failed_between failed_middle same_right hr right_allowed
+
+      all_noted : TakesLines taken failed (of_lines ++ (choice_notice_lines (a ∷ []) left_choices ++ choice_notice_lines (b ∷ []) right_choices)) after failed_after
+      all_noted =
+          lines_append taken middle failed failed_middle _ _ after failed_after lines_read
+          (lines_append middle later failed_middle failed_later _ _ after failed_after left_noted
+          (noticed_are content_of settings right settled (b ∷ []) right_lists between middle failed_between failed_middle same_right hr later after failed_later failed_after right_noted))
+
+      -- memory runs out for the output
+      pub stopped_output : (status : ℕ) → status ≡ 6
+          → (lines : List (List ℕ)) × StopsOverTree content_of settings tree (compare a b) status lines × TakesLines taken failed lines after failed_after
+      stopped_output status s = (
+        of_lines ++ (choice_notice_lines (a ∷ []) left_choices ++ choice_notice_lines (b ∷ []) right_choices),
+        inr (stops.for_memory (hl.loaded.meanings ++ hr.loaded.meanings) ((a ∷ []) ∷ (b ∷ []) ∷ []) []
+            (choice_notice_lines (a ∷ []) left_choices ++ (choice_notice_lines (b ∷ []) right_choices ++ [])) both_mean refl
+            (stops.more (a ∷ []) hl.loaded.meanings left.values ((b ∷ []) ∷ []) (choice_notice_lines (b ∷ []) right_choices ++ []) left_resolved left_allowed
+            (stops.more (b ∷ []) hr.loaded.meanings right.values [] [] right_resolved both_allowed stops.none)) s
+            (ap (λ ls. ls ++ (choice_notice_lines (a ∷ []) left_choices ++ choice_notice_lines (b ∷ []) right_choices)) (sym both_noticed)
+            ∙ ap (λ ls. notice_lines (a ∷ b ∷ []) (hl.loaded.meanings ++ hr.loaded.meanings) ++ (choice_notice_lines (a ∷ []) left_choices ++ ls))
+            (sym (append-nil (choice_notice_lines (b ∷ []) right_choices))))),
+        all_noted,
+      )
+
+      pub answers_comparison : (text : List ℕ) (status : ℕ)
+          → text ≡ flat_map (difference_line settings.format.strings (tree_in left)) (differences (tree_in left) left.values right.values)
+          → status ≡ status_of_list true (differences (tree_in left) left.values right.values)
+          → (notices : List (List ℕ)) × ((texts : Files) → AreAccepted texts settings.tree tree → Answer content_of settings texts (compare a b) text status notices)
+          × TakesLines taken failed notices after failed_after
+      answers_comparison text status t s = (
+        of_lines ++ (choice_notice_lines (a ∷ []) left_choices ++ choice_notice_lines (b ∷ []) right_choices),
+        (λ texts accepted. of_comparison tree a b hl.loaded.meanings hr.loaded.meanings left.values right.values refl accepted
+            left_resolved right_resolved (rw (← same_left) t) (rw (← same_left) s) left_allowed both_allowed refl),
+        all_noted,
+      )
+
+-- a configuration of all files of a command, with the notices on its choices
+module _ (content_of : List ℕ → FileContent) (settings : Settings) (verb : Verb) (config : Configured) (settled : Settled) (paths : List (List ℕ))
+    (lists : List (List ChoiceLine)) (taken middle : Option (List ℕ)) (failed failed_middle : ℕ)
+    (same : config.system ≡ settled) (p : profile_of settled ≡ settings.profile) (s : IsSolved config)
+    (l : AreRead content_of settings.format settings.strict (tree_of_settled settled) paths (empty_assignment (tree_of_settled settled)) config.users
+    [] lists taken failed middle failed_middle) where
+  -- the configuration is refused for them, or memory runs out
+  pub stopped_noticing : (status : ℕ) (after : Option (List ℕ)) (failed_after : ℕ)
+      → StopsNoticing (tree_in config) config.values settings.strict paths lists status middle failed_middle after failed_after
+      → (lines : List (List ℕ)) × StopsOverTree content_of settings (tree_of_settled settled) (over verb paths) status lines × TakesLines taken failed lines after failed_after
+  stopped_noticing status after failed_after (noticing.refused given e t) = (
+    notice_lines paths l.loaded.meanings ++ choice_notice_lines paths (other_choices (tree_of_settled settled) config.values l.loaded.meanings),
+    inr (stops.refused l.loaded.meanings [] [] [] paths l.loaded.meanings config.values l.loaded.mean refl stops.none
+        (resolved content_of settings config settled paths taken middle failed failed_middle same p s l.loaded)
+        (refused_are content_of settings config settled paths lists taken middle failed failed_middle same l given) e refl),
+    lines_append taken middle failed failed_middle _ _ after failed_after l.loaded.reported
+        (noticed_are content_of settings config settled paths lists taken middle failed failed_middle same l middle after failed_middle failed_after t),
+  )
+  stopped_noticing status after failed_after (noticing.for_memory e t) = (
+    notice_lines paths l.loaded.meanings ++ [],
+    inr (stops.for_memory l.loaded.meanings [] (paths ∷ []) [] l.loaded.mean refl stops.none e refl),
+    lines_append taken middle failed failed_middle _ _ after failed_after l.loaded.reported t,
+  )
+
+  -- memory runs out for the output
+  pub stopped_after : (status : ℕ) (after : Option (List ℕ)) (failed_after : ℕ) → status ≡ 6
+      → AllowsNotices settings.strict (other_choices_of (tree_in config) config.values (placed_from 0 lists))
+      → TakesLines middle failed_middle (choice_notice_lines paths (other_choices_of (tree_in config) config.values (placed_from 0 lists))) after failed_after
+      → (lines : List (List ℕ)) × StopsOverTree content_of settings (tree_of_settled settled) (over verb paths) status lines × TakesLines taken failed lines after failed_after
+  stopped_after status after failed_after e allowed t =
+      let own = choice_notice_lines paths (other_choices (tree_of_settled settled) config.values l.loaded.meanings) in (
+        notice_lines paths l.loaded.meanings ++ own,
+        inr (stops.for_memory l.loaded.meanings (paths ∷ []) [] (own ++ []) l.loaded.mean refl
+            (stops.more paths l.loaded.meanings config.values [] [] (resolved content_of settings config settled paths taken middle failed failed_middle same p s l.loaded)
+            (allowed_are content_of settings config settled paths lists taken middle failed failed_middle same l allowed) stops.none) e
+            (ap (λ ls. notice_lines paths l.loaded.meanings ++ ls) (sym (append-nil own)))),
+        lines_append taken middle failed failed_middle _ _ after failed_after l.loaded.reported
+            (noticed_are content_of settings config settled paths lists taken middle failed failed_middle same l middle after failed_middle failed_after t),
+      )
 
 -- the output of a command, or its end, over the texts of its tree
 module _ (known : Surroundings) (settings : Settings) (task : Task) (tree : Tree) (t : TreeTexts)
@@ -139,17 +330,19 @@ module _ (known : Surroundings) (settings : Settings) (task : Task) (tree : Tree
   )
 
   pub job_stops : (r : Result AnswerText RunError)
-      → IfErr r (λ stop. (lines : List (List ℕ)) × StopsAmongFiles known.content settings.format settings.strict tree (paths_of task) (status_of stop) lines
-      × TakesLines middle
-      failed_middle lines taken_after failed_after)
+      → IfErr r (λ stop. (lines : List (List ℕ)) × StopsOverTree known.content settings tree task (status_of stop) lines
+      × TakesLines middle failed_middle lines taken_after failed_after)
       → IfErr r (λ stop. (lines : List (List ℕ)) × StopsBefore known settings task (status_of stop) lines × TakesLines taken failed lines taken_after
       failed_after)
   job_stops (Ok answer) h = tt
   job_stops (Err stop) h = (
     t.lines ++ h.0,
-    among_files t tree h.0 are accepted h.1 refl,
+    either h.1,
     lines_append taken middle failed failed_middle t.lines h.0 taken_after failed_after before h.2,
-  )
+  ) where
+    either : StopsOverTree known.content settings tree task (status_of stop) h.0 → StopsBefore known settings task (status_of stop) (t.lines ++ h.0)
+    either (inl k) = among_files t tree h.0 are accepted k refl
+    either (inr k) = at_choices t tree h.0 are accepted k refl
 
 -- a writer that took some lines, and then nothing, took these lines
 pub lines_kept : (before middle after : Option (List ℕ)) (failed failed_middle failed_after : ℕ) (lines : List (List ℕ))

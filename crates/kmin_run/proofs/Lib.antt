@@ -3,6 +3,7 @@ pub mod Sequences
 pub mod BundleCuts
 pub mod NamedLines
 pub mod QuestionEnds
+pub mod RunEnds
 pub mod JobOutputs
 pub mod BundleOutputs
 pub mod TidyLemmas

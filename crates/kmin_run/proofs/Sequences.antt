@@ -1,5 +1,5 @@
 -- Configuration files, one after another: what they mean, and where a run ends among them.
-use Rattle.std.proofs.Common.{◌≡◌, ◌≢◌, ℕ, Bool, true, List, [], ◌∷◌, ◌++◌, Option, Some, Result, Ok, Err, IfOk, map, length, refl, sym, ap, ◌∙◌, subst, append-nil, append_assoc, ◌⊎◌, inl, inr, ◌+◌}
+use Rattle.std.proofs.Common.{◌≡◌, ◌≢◌, ℕ, Bool, true, List, [], ◌∷◌, ◌++◌, Option, Some, Result, Ok, Err, IfOk, map, length, refl, sym, ap, ◌∙◌, subst, append-nil, append_assoc, ◌⊎◌, inl, inr}
 use Rattle.std.specs.Borrow.{Bor}
 use Rattle.std.specs.Io.KnownBytes.{Consumes, IsAtEnd}
 use Rattle.std.proofs.lemmas.List.{nil_from_length}
@@ -12,7 +12,6 @@ use Rattle.kc_dotconfig_model.specs.ConfigLines.{LineMeaning}
 use Rattle.kc_dotconfig_model.specs.ConfigFiles.{file_assignment, overlay, notices_from}
 use Rattle.kc_dotconfig_model.specs.LoadFaults.{IsFirstFault, complete}
 use Rattle.kc_dotconfig.specs.declared.fragment.Fragment.{Fragment}
-use Rattle.kc_dotconfig.specs.ConfigStates.{Configured}
 use Rattle.kc_dotconfig.specs.Fragments.{users_of, notice_pair}
 use Rattle.kc_dotconfig.specs.ReadResults.{IsReadAs, IsRefused, ReportsFault}
 use Rattle.kc_files.specs.TreeContents.{FileContent}
@@ -25,7 +24,13 @@ use Rattle.kmin_run.specs.Answers.{FilesMean, none, file, overlaid_by}
 use Rattle.kmin_run.specs.Stops as stops
 use Rattle.kmin_run.specs.Stops.{StopsAmongFiles, refused, unread, noticed}
 use Rattle.kmin_run.specs.Strictness.{AllowsNotices}
-use Rattle.kmin_run.specs.between.LoadResults.{IsLoaded, AreLoaded}
+use Rattle.kc_dotconfig_model.specs.declared.choice_line.ChoiceLine.{ChoiceLine}
+use Rattle.kc_dotconfig_model.specs.OtherChoices.{choice_lines_from}
+use Rattle.std.proofs.lemmas.List.{map-append}
+use Rattle.std.specs.Global.{Vec}
+use Rattle.std.specs.Result.{IsErrAnd}
+use Rattle.kmin_run.specs.declared.configurations.ReadFiles.{ReadFiles}
+use Rattle.kmin_run.specs.between.LoadResults.{IsLoaded, AreLoaded, AreRead, lists_of}
 use Rattle.kmin_run.specs.between.LoadStops.{StopsLoad, StopsAtPath, at_file, for_memory, fragment_notices, load_lines, load_status}
 use Rattle.kmin_report.proofs.KnownContents.{rest_of, whole_content}
 use Rattle.kmin_report.proofs.Lists.{map_twice}
@@ -49,6 +54,7 @@ module _ (content : FileContent) (format : FileFormat) (tree : Tree) (path : Lis
     means = r.has_meaning;
     users = r.users;
     noted = r.noted;
+    chosen = r.chosen;
     reported = subst (λ lines. TakesLines taken failed lines taken_after failed_after) (notices_are path fragment r.meanings r.noted) t;
   }
 
@@ -112,7 +118,7 @@ stopped_noticed content format strict tree path fragment status taken taken_afte
 )
 
 -- files after files
-mean_append : (content_of : List ℕ → FileContent) (format : FileFormat) (strict : Bool) (tree : Tree) (ys : List (List ℕ)) (ns : List (List LineMeaning))
+pub mean_append : (content_of : List ℕ → FileContent) (format : FileFormat) (strict : Bool) (tree : Tree) (ys : List (List ℕ)) (ns : List (List LineMeaning))
     (xs : List (List ℕ)) (ms : List (List LineMeaning))
     → FilesMean content_of format strict tree ys ns → FilesMean content_of format strict tree xs ms → FilesMean content_of format strict tree (xs ++ ys)
     (ms ++ ns)
@@ -125,7 +131,7 @@ overlaid_append : (tree : Tree) (users : List (Option UserValue)) (ms ns : List 
 overlaid_append tree users [] ns = refl
 overlaid_append tree users (m ∷ ms) ns = overlaid_append tree (overlay (file_assignment tree m) users) ms ns
 
-notices_append : (content_of : List ℕ → FileContent) (format : FileFormat) (strict : Bool) (tree : Tree) (ys : List (List ℕ)) (ns : List (List LineMeaning))
+pub notices_append : (content_of : List ℕ → FileContent) (format : FileFormat) (strict : Bool) (tree : Tree) (ys : List (List ℕ)) (ns : List (List LineMeaning))
     (xs : List (List ℕ)) (ms : List (List LineMeaning))
     → FilesMean content_of format strict tree xs ms → notice_lines (xs ++ ys) (ms ++ ns) ≡ notice_lines xs ms ++ notice_lines ys ns
 notices_append content_of format strict tree ys ns xs ms none = refl
@@ -146,14 +152,6 @@ loaded_one content_of format strict tree path before after fragment taken taken_
   reported = subst (λ lines. TakesLines taken failed lines taken_after failed_after) (sym (append-nil (file_notices path l.meanings))) l.reported;
 }
 
-pub loaded_none : (content_of : List ℕ → FileContent) (format : FileFormat) (strict : Bool) (tree : Tree) (paths : List (Bor (List ℕ)))
-    (before users : List (Option UserValue)) (taken : Option (List ℕ)) (failed : ℕ)
-    → length paths ≡ 0 → users ≡ before → AreLoaded content_of format strict tree (map (λ (path : Bor (List ℕ)). path.now) paths) before users taken
-    failed taken
-    failed
-loaded_none content_of format strict tree paths before users taken failed n e =
-    rw (nil_from_length paths n) (record { meanings = []; mean = none; users_are = e; reported = taking.none })
-
 pub loaded_append : (content_of : List ℕ → FileContent) (format : FileFormat) (strict : Bool) (tree : Tree) (xs ys : List (List ℕ))
     (before between after : List (Option UserValue)) (taken middle taken_after : Option (List ℕ)) (failed failed_middle failed_after : ℕ)
     → AreLoaded content_of format strict tree xs before between taken failed middle failed_middle
@@ -169,16 +167,59 @@ loaded_append content_of format strict tree xs ys before between after taken mid
       (lines_append taken middle failed failed_middle _ _ taken_after failed_after h.reported k.reported);
 }
 
-pub loaded_rest : (content_of : List ℕ → FileContent) (format : FileFormat) (strict : Bool) (tree : Tree) (xs ys all : List (List ℕ))
-    (before between : List (Option UserValue)) (taken middle taken_after : Option (List ℕ)) (failed failed_middle failed_after : ℕ)
-    (r : Result Configured RunError)
-    → all ≡ xs ++ ys → AreLoaded content_of format strict tree xs before between taken failed middle failed_middle
-    → IfOk r (λ config. AreLoaded content_of format strict tree ys between config.users middle failed_middle taken_after failed_after)
-    → IfOk r (λ config. AreLoaded content_of format strict tree all before config.users taken failed taken_after failed_after)
-loaded_rest content_of format strict tree xs ys all before between taken middle taken_after failed failed_middle failed_after (Err e) s h k = tt
-loaded_rest content_of format strict tree xs ys all before between taken middle taken_after failed failed_middle failed_after (Ok config) s h k =
-    rw s (loaded_append content_of format strict tree xs ys before between config.users taken middle taken_after failed failed_middle failed_after
-    h k)
+-- a result that is an error, and whose error is this one
+pub is_err_of : {T E : Type 0} (r : Result T E) (e : E) → IsErrAnd r (λ y. y ≡ e) → r ≡ Err e
+is_err_of (Ok x) e h = absurd h
+is_err_of (Err y) e h = ap (λ z. Err z) h
+
+-- the lists of lines of members with one more
+pub lists_pushed : (old new : List (Vec ChoiceLine)) (lines : Vec ChoiceLine) → new ≡ old ++ lines ∷ [] → lists_of new ≡ lists_of old ++ lines.items ∷ []
+lists_pushed old new lines e = ap lists_of e ∙ map-append (λ (l : Vec ChoiceLine). l.items) old (lines ∷ [])
+
+-- files that are loaded, with their lines of members
+module _ (content_of : List ℕ → FileContent) (format : FileFormat) (strict : Bool) (tree : Tree) where
+  pub read_one : (path : List ℕ) (before after : List (Option UserValue)) (fragment : Fragment) (lists_before lists : List (List ChoiceLine))
+      (taken taken_after : Option (List ℕ)) (failed failed_after : ℕ)
+      → IsLoaded (content_of path) format tree path fragment taken failed taken_after failed_after
+      → AllowsNotices strict (map notice_pair fragment.notices.items)
+      → after ≡ overlay (users_of tree fragment.assigns.items) before → lists ≡ lists_before ++ fragment.chosen.items ∷ []
+      → AreRead content_of format strict tree (path ∷ []) before after lists_before lists taken failed taken_after failed_after
+  unfolding loaded_one
+  read_one path before after fragment lists_before lists taken taken_after failed failed_after l a e m = record {
+    loaded = loaded_one content_of format strict tree path before after fragment taken taken_after failed failed_after l a e;
+    chosen_are = m ∙ ap (λ (own : List ChoiceLine). lists_before ++ own ∷ []) l.chosen;
+  }
+
+  pub read_none : (paths : List (Bor (List ℕ))) (before users : List (Option UserValue)) (lists_before lists : List (List ChoiceLine)) (taken : Option (List ℕ)) (failed : ℕ)
+      → length paths ≡ 0 → users ≡ before → lists ≡ lists_before
+      → AreRead content_of format strict tree (map (λ (path : Bor (List ℕ)). path.now) paths) before users lists_before lists taken failed taken failed
+  read_none paths before users lists_before lists taken failed n e m =
+      rw (nil_from_length paths n)
+      (record { loaded = record { meanings = []; mean = none; users_are = e; reported = taking.none }; chosen_are = m ∙ sym (append-nil lists_before) })
+
+  pub read_append : (xs ys : List (List ℕ)) (before between after : List (Option UserValue)) (lists_before lists_between lists : List (List ChoiceLine))
+      (taken middle taken_after : Option (List ℕ)) (failed failed_middle failed_after : ℕ)
+      → AreRead content_of format strict tree xs before between lists_before lists_between taken failed middle failed_middle
+      → AreRead content_of format strict tree ys between after lists_between lists middle failed_middle taken_after failed_after
+      → AreRead content_of format strict tree (xs ++ ys) before after lists_before lists taken failed taken_after failed_after
+  unfolding loaded_append
+  read_append xs ys before between after lists_before lists_between lists taken middle taken_after failed failed_middle failed_after h k = record {
+    loaded = loaded_append content_of format strict tree xs ys before between after taken middle taken_after failed failed_middle failed_after h.loaded k.loaded;
+    chosen_are =
+        k.chosen_are ∙ ap (λ (l : List (List ChoiceLine)). l ++ map (choice_lines_from 1) k.loaded.meanings) h.chosen_are
+        ∙ append_assoc lists_before (map (choice_lines_from 1) h.loaded.meanings) (map (choice_lines_from 1) k.loaded.meanings)
+        ∙ ap (λ (l : List (List ChoiceLine)). lists_before ++ l) (sym (map-append (choice_lines_from 1) h.loaded.meanings k.loaded.meanings));
+  }
+
+  pub read_rest : (xs ys all : List (List ℕ)) (before between : List (Option UserValue)) (lists_before lists_between : List (List ChoiceLine))
+      (taken middle taken_after : Option (List ℕ)) (failed failed_middle failed_after : ℕ) (r : Result ReadFiles RunError)
+      → all ≡ xs ++ ys → AreRead content_of format strict tree xs before between lists_before lists_between taken failed middle failed_middle
+      → IfOk r (λ read. AreRead content_of format strict tree ys between read.config.users lists_between (lists_of read.chosen.items) middle failed_middle taken_after failed_after)
+      → IfOk r (λ read. AreRead content_of format strict tree all before read.config.users lists_before (lists_of read.chosen.items) taken failed taken_after failed_after)
+  read_rest xs ys all before between lists_before lists_between taken middle taken_after failed failed_middle failed_after (Err e) s h k = tt
+  read_rest xs ys all before between lists_before lists_between taken middle taken_after failed failed_middle failed_after (Ok read) s h k =
+      rw s (read_append xs ys before between read.config.users lists_before lists_between (lists_of read.chosen.items) taken middle taken_after failed
+      failed_middle failed_after h k)
 
 -- at the one file of these
 path_stops : (content_of : List ℕ → FileContent) (format : FileFormat) (strict : Bool) (tree : Tree) (path : List ℕ) (status : ℕ) (lines : List (List ℕ))

@@ -13,6 +13,7 @@ use Rattle.kc_dotconfig_model.specs.ConfigFiles.{FileMeans, notices_from, file_a
 use Rattle.kc_dotconfig_model.specs.ConfigLines.{LineMeaning}
 use Rattle.kc_dotconfig_model.specs.LoadFaults.{IsAccepted}
 use Rattle.kc_dotconfig_model.specs.MissedAssignments.{missed}
+use Rattle.kc_dotconfig_model.specs.OtherChoices.{other_choices}
 use Rattle.kc_minimal_model.specs.CanonicalText.{IsCanonicalText}
 use Rattle.kc_minimal_model.specs.FullFile.{full_file}
 use Rattle.kc_minimal_model.specs.Differences.{Difference, differences}
@@ -23,7 +24,7 @@ use Rattle.kmin_words.specs.Jobs.{Settings, Task, over, compare}
 use Rattle.kmin_words.specs.declared.job.Verb.{Verb}
 use Rattle.kmin_words.specs.declared.job.Verb.TheVariants.{Min, Full, Missed, Check}
 use Rattle.kmin_report.specs.KnownBytes.{AreKnownBytes}
-use Rattle.kmin_report.specs.Reports.{name_at, notice_lines}
+use Rattle.kmin_report.specs.Reports.{name_at, notice_lines, choice_notice_lines}
 use Rattle.kmin_trees.specs.AcceptedTrees.{AreAccepted}
 use Rattle.kmin_run.specs.Strictness.{AllowsNotices}
 use Rattle.kmin_run.specs.Statuses.{status_of_list, status_of_verb}
@@ -69,17 +70,22 @@ IsTextOfVerb settings tree users values (Missed exit_code) text = text ≡ flat_
 IsTextOfVerb settings tree users values (Check exit_code) text = text ≡ flat_map (name_line (codes "unmet ") tree) (unmet tree values)
 
 -- A command has this output, this status and these lines of notices: a verb over one configuration of all its files, or the
--- comparison of two configurations of one file each.
+-- comparison of two configurations of one file each. The notices of the lines of all files come first, and then those on choices,
+-- which are known with the values.
 pub data Answer (content_of : List ℕ → FileContent) (settings : Settings) (texts : Files) (task : Task) (text : List ℕ) (status : ℕ) (notices : List (List ℕ)) : Type 0 where
   of_files : (tree : Tree) (verb : Verb) (paths : List (List ℕ)) (meanings : List (List LineMeaning)) (values : List UnitValue)
       → task ≡ over verb paths → AreAccepted texts settings.tree tree → Resolve content_of settings tree paths meanings values
       → IsTextOfVerb settings tree (files_assignment tree meanings) values verb text
       → status ≡ status_of_verb tree (files_assignment tree meanings) values verb
-      → notices ≡ notice_lines paths meanings → Answer content_of settings texts task text status notices
+      → AllowsNotices settings.strict (other_choices tree values meanings)
+      → notices ≡ notice_lines paths meanings ++ choice_notice_lines paths (other_choices tree values meanings)
+      → Answer content_of settings texts task text status notices
   of_comparison : (tree : Tree) (left right : List ℕ) (left_meanings right_meanings : List (List LineMeaning)) (v w : List UnitValue)
       → task ≡ compare left right → AreAccepted texts settings.tree tree
       → Resolve content_of settings tree (left ∷ []) left_meanings v → Resolve content_of settings tree (right ∷ []) right_meanings w
       → text ≡ flat_map (difference_line settings.format.strings tree) (differences tree v w)
       → status ≡ status_of_list true (differences tree v w)
-      → notices ≡ notice_lines (left ∷ []) left_meanings ++ notice_lines (right ∷ []) right_meanings
+      → AllowsNotices settings.strict (other_choices tree v left_meanings) → AllowsNotices settings.strict (other_choices tree w right_meanings)
+      → notices ≡ (notice_lines (left ∷ []) left_meanings ++ notice_lines (right ∷ []) right_meanings)
+      ++ (choice_notice_lines (left ∷ []) (other_choices tree v left_meanings) ++ choice_notice_lines (right ∷ []) (other_choices tree w right_meanings))
       → Answer content_of settings texts task text status notices

@@ -8,3 +8,4 @@ pub mod BundleAnswers
 pub mod PartialAnswers
 pub mod TidyRuns
 pub mod Saves
+pub mod Runs

@@ -1,5 +1,5 @@
 -- Commands whose output goes to a file.
-use Rattle.std.specs.Prelude.{◌≡◌, ◌≢◌, ◌⊎◌, ℕ, List, [], ◌∷◌, ◌++◌, Option, Some, string_bytes}
+use Rattle.std.specs.Prelude.{◌≡◌, ◌≢◌, ℕ, List, [], ◌∷◌, ◌++◌, Some, string_bytes}
 use Rattle.kmin_disk.specs.Contents.{IsOfKind, file, special}
 use Rattle.kmin_disk.specs.Disks.{Disk, content_at}
 use Rattle.kmin_disk.specs.Failures.{failures_of_update}
@@ -15,7 +15,6 @@ use Rattle.kmin_trees.specs.FileContents.{Surroundings}
 use Rattle.kmin_trees.specs.JobTexts.{TreeTexts, AreTextsOfJob}
 use Rattle.kmin_run.specs.Answers.{Answer}
 use Rattle.kmin_run.specs.Stops.{StopsBefore}
-use Rattle.kmin_run.specs.TidyRuns.{Outputs, SomeWriteEnds}
 
 -- the lines of standard error for an output file that wasn't replaced, or not for good; none where memory ran out
 abbrev pub replace_lines : (path : List ℕ) → ReplaceFault → List (List ℕ)
@@ -66,12 +65,3 @@ pub data SaveEnds (known : Surroundings) (settings : Settings) (task : Task) (pa
       → Answer known.content settings t.texts task text answer_status notices → IsUnsaved old new path text fault → status ≡ update_status fault
       → lines ≡ ((t.lines ++ notices) ++ update_lines path fault) ++ last_lines status
       → SaveEnds known settings task path old new lines status
-
--- some command with an output file ended with this status, and standard output took nothing
-abbrev pub SomeSaveEnds : Surroundings → (old new : Outputs) → (status : ℕ) → Type 0
-SomeSaveEnds known old new status = (settings : Settings) × (task : Task) × (path : List ℕ) × (lines : List (List ℕ))
-    × SaveEnds known settings task path old.disk new.disk lines status × (new.taken ≡ old.taken) × (new.failures ≡ old.failures)
-
--- a command that may change files ended with this status: `tidy --write`, or one with an output file
-abbrev pub SomeChangeEnds : Surroundings → (left : Option (List ℕ)) → (old new : Outputs) → (status : ℕ) → Type 0
-SomeChangeEnds known left old new status = SomeWriteEnds known left old new status ⊎ SomeSaveEnds known old new status

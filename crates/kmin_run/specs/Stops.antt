@@ -8,16 +8,18 @@ use Rattle.kc_dotconfig_model.specs.ConfigLines.{LineMeaning}
 use Rattle.kc_dotconfig_model.specs.LoadFaults.{IsAccepted, IsFirstFault, complete, cut_short}
 use Rattle.kc_dotconfig_model.specs.ConfigFiles.{FileMeans, notices_from}
 use Rattle.kc_files.specs.TreeContents.{FileContent}
-use Rattle.kmin_words.specs.Jobs.{Settings, Task, paths_of}
+use Rattle.kmin_words.specs.Jobs.{Settings, Task, over, compare, paths_of}
 use Rattle.kmin_trees.specs.FileContents.{Surroundings}
 use Rattle.kmin_report.specs.KnownBytes.{AreKnownBytes}
 use Rattle.kmin_disk.specs.Contents.{OpensAs}
 use Rattle.kmin_trees.specs.JobTexts.{TreeTexts, AreTextsOfJob}
-use Rattle.kmin_report.specs.Reports.{file_notices, notice_lines, fault_line, output_line}
-use Rattle.kmin_run.specs.Strictness.{RefusesNotices}
+use Rattle.kc_rules_model.specs.declared.values.UnitValue.{UnitValue}
+use Rattle.kc_dotconfig_model.specs.OtherChoices.{other_choices}
+use Rattle.kmin_report.specs.Reports.{file_notices, notice_lines, choice_notice_lines, fault_line, output_line}
+use Rattle.kmin_run.specs.Strictness.{AllowsNotices, RefusesNotices}
 use Rattle.kmin_trees.specs.AcceptedTrees.{AreAccepted}
 use Rattle.kmin_trees.specs.Stops.{StopsAtTree}
-use Rattle.kmin_run.specs.Answers.{FilesMean, Answer}
+use Rattle.kmin_run.specs.Answers.{FilesMean, Resolve, Answer}
 
 -- A configuration file ends a command, with this status and these lines of standard error: at its first fault, at a failed read
 -- before any fault, since it can't be opened, or since it is refused for its notices.
@@ -45,12 +47,44 @@ pub data StopsAmongFiles (content_of : List ℕ → FileContent) (format : FileF
       → FilesMean content_of format strict tree front meanings → status ≡ 6 → lines ≡ notice_lines front meanings
       → StopsAmongFiles content_of format strict tree paths status lines
 
+-- the configurations of a command, each by the paths of its files
+abbrev pub configurations_of : Task → List (List (List ℕ))
+configurations_of (over verb paths) = paths ∷ []
+configurations_of (compare left right) = (left ∷ []) ∷ (right ∷ []) ∷ []
+
+-- Some configurations, each by the paths of its files, have these lines for the notices on their choices, and aren't refused for
+-- them.
+pub data NoticesOnChoices (content_of : List ℕ → FileContent) (settings : Settings) (tree : Tree) : List (List (List ℕ)) → List (List ℕ) → Type 0 where
+  none : NoticesOnChoices content_of settings tree [] []
+  more : (paths : List (List ℕ)) (meanings : List (List LineMeaning)) (values : List UnitValue) (others : List (List (List ℕ))) (lines : List (List ℕ))
+      → Resolve content_of settings tree paths meanings values → AllowsNotices settings.strict (other_choices tree values meanings)
+      → NoticesOnChoices content_of settings tree others lines
+      → NoticesOnChoices content_of settings tree (paths ∷ others) (choice_notice_lines paths (other_choices tree values meanings) ++ lines)
+
+-- A command ends with this status and these lines of standard error once all its configuration files were accepted, and the first of
+-- its configurations solved: a configuration is refused for the notices on its choices, or memory ran out. The first lines are the
+-- notices of the lines of all files, and then those on the choices of the configurations before.
+pub data StopsAtChoices (content_of : List ℕ → FileContent) (settings : Settings) (tree : Tree) (task : Task) (status : ℕ) (lines : List (List ℕ)) : Type 0 where
+  refused : (all : List (List LineMeaning)) (front back : List (List (List ℕ))) (earlier : List (List ℕ)) (paths : List (List ℕ))
+      (meanings : List (List LineMeaning)) (values : List UnitValue) → FilesMean content_of settings.format settings.strict tree (paths_of task) all
+      → configurations_of task ≡ front ++ paths ∷ back → NoticesOnChoices content_of settings tree front earlier
+      → Resolve content_of settings tree paths meanings values → RefusesNotices settings.strict (other_choices tree values meanings) → status ≡ 4
+      → lines ≡ notice_lines (paths_of task) all ++ (earlier ++ choice_notice_lines paths (other_choices tree values meanings))
+      → StopsAtChoices content_of settings tree task status lines
+  for_memory : (all : List (List LineMeaning)) (front back : List (List (List ℕ))) (earlier : List (List ℕ))
+      → FilesMean content_of settings.format settings.strict tree (paths_of task) all → configurations_of task ≡ front ++ back
+      → NoticesOnChoices content_of settings tree front earlier → status ≡ 6 → lines ≡ notice_lines (paths_of task) all ++ earlier
+      → StopsAtChoices content_of settings tree task status lines
+
 -- A command ends before it has an output, with this status and these lines of standard error: at its tree, among its
--- configuration files, or since memory ran out.
+-- configuration files, at the choices of its configurations, or since memory ran out.
 pub data StopsBefore (known : Surroundings) (settings : Settings) (task : Task) (status : ℕ) (lines : List (List ℕ)) : Type 0 where
   at_tree : StopsAtTree known settings status lines → StopsBefore known settings task status lines
   among_files : (t : TreeTexts) (tree : Tree) (more : List (List ℕ)) → AreTextsOfJob known settings t → AreAccepted t.texts settings.tree tree
       → StopsAmongFiles known.content settings.format settings.strict tree (paths_of task) status more → lines ≡ t.lines ++ more
+      → StopsBefore known settings task status lines
+  at_choices : (t : TreeTexts) (tree : Tree) (more : List (List ℕ)) → AreTextsOfJob known settings t → AreAccepted t.texts settings.tree tree
+      → StopsAtChoices known.content settings tree task status more → lines ≡ t.lines ++ more
       → StopsBefore known settings task status lines
   for_memory : status ≡ 6 → lines ≡ [] → StopsBefore known settings task status lines
 

@@ -1,11 +1,11 @@
--- The option `--strict`: a configuration file with a notice is refused. Notices of a tree's expansion don't count.
-use Rattle.std.specs.Prelude.{◌≡◌, ◌≢◌, Bool, true, []}
-use Rattle.kmin_tidy.specs.Options.{Notices}
+-- The option `--strict`: configuration files with a notice, of their lines or on choices, are refused. Notices of a tree's expansion
+-- don't count.
+use Rattle.std.specs.Prelude.{◌≡◌, ◌≢◌, Bool, true, List, []}
 
--- a configuration file isn't refused for these notices of its lines
-abbrev pub AllowsNotices : (strict : Bool) → Notices → Type 0
+-- configuration files aren't refused for these notices
+abbrev pub AllowsNotices : {A : Type 0} → (strict : Bool) → List A → Type 0
 AllowsNotices strict notices = strict ≡ true → notices ≡ []
 
--- a configuration file is refused for these notices of its lines
-abbrev pub RefusesNotices : (strict : Bool) → Notices → Type 0
+-- configuration files are refused for these notices
+abbrev pub RefusesNotices : {A : Type 0} → (strict : Bool) → List A → Type 0
 RefusesNotices strict notices = (strict ≡ true) × (notices ≢ [])

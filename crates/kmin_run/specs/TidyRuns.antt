@@ -118,11 +118,3 @@ pub data TidyEnds (known : Surroundings) (left : Option (List ℕ)) (t : TidyJob
   over_paths : (bytes : List ℕ) → AreListBytes known.content left t.list bytes → AreNamed (listed_paths t.list bytes)
       → PathsEnd known t.settings t.flags (t.files ++ listed_paths t.list bytes) old new lines status
       → TidyEnds known left t old new lines status
-
--- some command `tidy` ended with this status
-abbrev pub SomeTidyEnds : Surroundings → (left : Option (List ℕ)) → (old new : Outputs) → (status : ℕ) → Type 0
-SomeTidyEnds known left old new status = (t : TidyJob) × (lines : List (List ℕ)) × TidyEnds known left t old new lines status
-
--- some command `tidy --write` ended with this status
-abbrev pub SomeWriteEnds : Surroundings → (left : Option (List ℕ)) → (old new : Outputs) → (status : ℕ) → Type 0
-SomeWriteEnds known left old new status = (t : TidyJob) × (t.flags.write ≡ true) × (lines : List (List ℕ)) × TidyEnds known left t old new lines status

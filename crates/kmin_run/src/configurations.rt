@@ -1,27 +1,38 @@
 //! Configurations of a settled tree, read from files.
-ghost use Rattle.std.specs.Prelude.{◌≡◌, ◌∷◌, [], List, ℕ, map, IfOk, IfErr};
+ghost use Rattle.std.specs.Prelude.{◌≡◌, ◌∷◌, [], List, ℕ, true, false, map, unwrap_or, slice_get, IfOk, IfErr, OnOk};
 ghost use Rattle.std.specs.Borrow.{Bor};
 ghost use Rattle.kc_rules.specs.between.SettledViews.{tree_of_settled};
 ghost use Rattle.kc_dotconfig_model.specs.ConfigFiles.{empty_assignment};
 ghost use Rattle.kc_dotconfig_model.specs.between.Formats.{file_format};
-ghost use Rattle.kc_dotconfig.specs.ConfigStates.{IsSolved};
+ghost use Rattle.kc_dotconfig_model.specs.OtherChoices.{other_choices_of, placed_from};
+ghost use Rattle.kc_dotconfig.specs.ConfigStates.{IsSolved, tree_in};
 ghost use Rattle.kc_dotconfig.specs.Fragments.{FitsTree, notice_pair};
 ghost use Rattle.kc_dotconfig.specs.ReadResults.{IsReadAs};
-ghost use Rattle.kmin_report.specs.Reports.{notice_line};
+ghost use Rattle.kmin_report.specs.Reports.{notice_line, choice_notice_lines};
 ghost use Rattle.kmin_report.specs.StandardError.{TakesLines};
 ghost use Rattle.kmin_run.specs.Stops.{StopsAmongFiles};
-ghost use Rattle.kmin_run.specs.Strictness.{AllowsNotices};
-ghost use Rattle.kmin_run.specs.between.LoadResults.{IsLoaded, AreLoaded};
-ghost use Rattle.kmin_run.specs.between.LoadStops.{StopsLoad, StopsAtPath, fragment_notices, load_lines, load_status};
+ghost use Rattle.kmin_run.specs.Strictness.{AllowsNotices, RefusesNotices};
+ghost use Rattle.kmin_run.specs.between.LoadResults.{IsLoaded, AreLoaded, AreRead, lists_of};
+ghost use Rattle.kmin_run.specs.between.LoadStops.{StopsLoad, StopsAtPath, StopsNoticing, fragment_notices, load_lines, load_status};
 ghost use Rattle.kmin_report.specs.between.RunErrors.{status_of};
 
-use kc_dotconfig::{Config, Format, Fragment, LoadFault, LoadKind, Notice, read_config};
+use kc_dotconfig::{
+    ChoiceLine, Config, Format, Fragment, LoadFault, LoadKind, Notice, NoticeKind, read_config,
+};
+use kc_minimal::{other_choices, placed_lines};
 use kc_rules::Settled;
 use kc_value::{Sink, Source};
 use kmin_report::{Report, RunError, write_report};
 use kmin_trees::Files;
 use kmin_words::Settings;
-use std::alloc::Global;
+use std::alloc::{AllocError, Global};
+
+/// A configuration, and the lines of members of choices in each of the files that it is read from.
+#[derive(Drop)]
+pub(crate) struct ReadFiles<'a> {
+    pub(crate) config: Config<'a>,
+    pub(crate) chosen: Vec<Vec<ChoiceLine>>,
+}
 
 /// Reads the assignments of a configuration file. Reports its notices, or its fault.
 pub(crate) fn load<S: Source, E: Sink>(
@@ -114,7 +125,7 @@ fn load_path<F: Files, E: Sink>(
     }
 }
 
-/// The configuration of one file. Reports the file's notices, and why it is refused.
+/// The configuration of one file. Reports the notices of the file's lines, and why it is refused.
 pub(crate) fn configured_by<'a, F: Files, E: Sink>(
     alloc: Global,
     settled: &'a Settled,
@@ -122,46 +133,62 @@ pub(crate) fn configured_by<'a, F: Files, E: Sink>(
     path: &str,
     files: &mut F,
     err: &mut E,
-) -> Result<Config<'a>, RunError>
+) -> Result<ReadFiles<'a>, RunError>
     ensures same { F.surroundings files.new ≡ F.surroundings files.old }
-    ensures settled { IfOk result (λ config. config.system ≡ settled.now) }
-    ensures solved { IfOk result (λ config. IsSolved config) }
-    ensures loaded { IfOk result (λ config. AreLoaded (F.surroundings files.old).content (file_format settings.now.format) settings.now.strict (tree_of_settled settled.now) (path.now ∷ []) (empty_assignment (tree_of_settled settled.now)) config.users (E.taken err.old) (E.failures err.old) (E.taken err.new) (E.failures err.new)) }
+    ensures settled { IfOk result (λ read. read.config.system ≡ settled.now) }
+    ensures solved { IfOk result (λ read. IsSolved read.config) }
+    ensures loaded { IfOk result (λ read. AreRead (F.surroundings files.old).content (file_format settings.now.format) settings.now.strict (tree_of_settled settled.now) (path.now ∷ []) (empty_assignment (tree_of_settled settled.now)) read.config.users [] (lists_of read.chosen.items) (E.taken err.old) (E.failures err.old) (E.taken err.new) (E.failures err.new)) }
     ensures stopped { IfErr result (λ stop. (lines : List (List ℕ)) × StopsAmongFiles (F.surroundings files.old).content (file_format settings.now.format) settings.now.strict (tree_of_settled settled.now) (path.now ∷ []) (status_of stop) lines × TakesLines (E.taken err.old) (E.failures err.old) lines (E.taken err.new) (E.failures err.new)) }
 {
     let fragment = load_path(alloc, settled, settings, path, files, err)?;
     let config = Config::of(alloc, settled, &fragment);
-    drop(fragment);
-    Ok(config?)
+    let Fragment { chosen, .. } = fragment;
+    let config = config?;
+    let chosen = one_list(alloc, chosen)?;
+    Ok(ReadFiles { config, chosen })
 }
 
-/// Overrides a configuration with files, one after another. Reports their notices, and why one is refused.
+/// One list of lines of members.
+fn one_list(alloc: Global, lines: Vec<ChoiceLine>) -> Result<Vec<Vec<ChoiceLine>>, AllocError>
+    ensures { IfOk result (λ lists. lists_of lists.items ≡ lines.items ∷ []) }
+{
+    let mut lists = Vec::with_capacity(alloc, 1)?;
+    lists.push(lines)?;
+    Ok(lists)
+}
+
+/// Overrides a configuration with files, one after another. Reports the notices of their lines, and why one is refused.
 fn overlaid<'a, F: Files, E: Sink>(
     alloc: Global,
     settled: &'a Settled,
-    begun: Config<'a>,
+    begun: ReadFiles<'a>,
     settings: &Settings<'_>,
     paths: &[&str],
     files: &mut F,
     err: &mut E,
-) -> Result<Config<'a>, RunError>
-    requires settled { begun.system ≡ settled.now }
-    requires solved { IsSolved begun }
+) -> Result<ReadFiles<'a>, RunError>
+    requires settled { begun.config.system ≡ settled.now }
+    requires solved { IsSolved begun.config }
     ensures same { F.surroundings files.new ≡ F.surroundings files.old }
-    ensures settled { IfOk result (λ config. config.system ≡ settled.now) }
-    ensures solved { IfOk result (λ config. IsSolved config) }
-    ensures loaded { IfOk result (λ config. AreLoaded (F.surroundings files.old).content (file_format settings.now.format) settings.now.strict (tree_of_settled settled.now) (map (λ (path : Bor (List ℕ)). path.now) paths.now) begun.entry.users config.users (E.taken err.old) (E.failures err.old) (E.taken err.new) (E.failures err.new)) }
+    ensures settled { IfOk result (λ read. read.config.system ≡ settled.now) }
+    ensures solved { IfOk result (λ read. IsSolved read.config) }
+    ensures loaded { IfOk result (λ read. AreRead (F.surroundings files.old).content (file_format settings.now.format) settings.now.strict (tree_of_settled settled.now) (map (λ (path : Bor (List ℕ)). path.now) paths.now) begun.entry.config.users read.config.users (lists_of begun.entry.chosen.items) (lists_of read.chosen.items) (E.taken err.old) (E.failures err.old) (E.taken err.new) (E.failures err.new)) }
     ensures stopped { IfErr result (λ stop. (lines : List (List ℕ)) × StopsAmongFiles (F.surroundings files.old).content (file_format settings.now.format) settings.now.strict (tree_of_settled settled.now) (map (λ (path : Bor (List ℕ)). path.now) paths.now) (status_of stop) lines × TakesLines (E.taken err.old) (E.failures err.old) lines (E.taken err.new) (E.failures err.new)) }
 {
-    let mut config = begun;
+    let ReadFiles {
+        mut config,
+        mut chosen,
+    } = begun;
     for path in paths {
         let fragment = load_path(alloc, settled, settings, path, files, err)?;
         config.merge(&fragment)?;
+        let Fragment { chosen: lines, .. } = fragment;
+        chosen.push(lines)?;
     }
-    Ok(config)
+    Ok(ReadFiles { config, chosen })
 }
 
-/// The configuration of files, each of which overrides those before it. Reports their notices, and why one is refused.
+/// The configuration of files, each of which overrides those before it. Reports the notices of their lines, and why one is refused.
 pub(crate) fn configured<'a, F: Files, E: Sink>(
     alloc: Global,
     settled: &'a Settled,
@@ -169,16 +196,71 @@ pub(crate) fn configured<'a, F: Files, E: Sink>(
     paths: &[&str],
     files: &mut F,
     err: &mut E,
-) -> Result<Config<'a>, RunError>
+) -> Result<ReadFiles<'a>, RunError>
     ensures same { F.surroundings files.new ≡ F.surroundings files.old }
-    ensures settled { IfOk result (λ config. config.system ≡ settled.now) }
-    ensures solved { IfOk result (λ config. IsSolved config) }
-    ensures loaded { IfOk result (λ config. AreLoaded (F.surroundings files.old).content (file_format settings.now.format) settings.now.strict (tree_of_settled settled.now) (map (λ (path : Bor (List ℕ)). path.now) paths.now) (empty_assignment (tree_of_settled settled.now)) config.users (E.taken err.old) (E.failures err.old) (E.taken err.new) (E.failures err.new)) }
+    ensures settled { IfOk result (λ read. read.config.system ≡ settled.now) }
+    ensures solved { IfOk result (λ read. IsSolved read.config) }
+    ensures loaded { IfOk result (λ read. AreRead (F.surroundings files.old).content (file_format settings.now.format) settings.now.strict (tree_of_settled settled.now) (map (λ (path : Bor (List ℕ)). path.now) paths.now) (empty_assignment (tree_of_settled settled.now)) read.config.users [] (lists_of read.chosen.items) (E.taken err.old) (E.failures err.old) (E.taken err.new) (E.failures err.new)) }
     ensures stopped { IfErr result (λ stop. (lines : List (List ℕ)) × StopsAmongFiles (F.surroundings files.old).content (file_format settings.now.format) settings.now.strict (tree_of_settled settled.now) (map (λ (path : Bor (List ℕ)). path.now) paths.now) (status_of stop) lines × TakesLines (E.taken err.old) (E.failures err.old) lines (E.taken err.new) (E.failures err.new)) }
 {
     let Some((first, others)) = paths.split_first() else {
-        return Ok(Config::new(alloc, settled)?);
+        return Ok(ReadFiles {
+            config: Config::new(alloc, settled)?,
+            chosen: Vec::new(alloc),
+        });
     };
-    let config = configured_by(alloc, settled, settings, first, files, err)?;
-    overlaid(alloc, settled, config, settings, others, files, err)
+    let read = configured_by(alloc, settled, settings, first, files, err)?;
+    overlaid(alloc, settled, read, settings, others, files, err)
+}
+
+/// Reports the notices on the choices of a configuration of files at these paths. Under `strict` the configuration is refused for them.
+pub(crate) fn notice_choices<E: Sink>(
+    alloc: Global,
+    settings: &Settings<'_>,
+    paths: &[&str],
+    read: &ReadFiles<'_>,
+    err: &mut E,
+) -> Result<(), RunError>
+    ensures allowed { OnOk result (AllowsNotices settings.now.strict (other_choices_of (tree_in read.now.config) read.now.config.values (placed_from 0 (lists_of read.now.chosen.items)))) }
+    ensures noticed { OnOk result (TakesLines (E.taken err.old) (E.failures err.old) (choice_notice_lines (map (λ (path : Bor (List ℕ)). path.now) paths.now) (other_choices_of (tree_in read.now.config) read.now.config.values (placed_from 0 (lists_of read.now.chosen.items)))) (E.taken err.new) (E.failures err.new)) }
+    ensures stopped { IfErr result (λ stop. StopsNoticing (tree_in read.now.config) read.now.config.values settings.now.strict (map (λ (path : Bor (List ℕ)). path.now) paths.now) (lists_of read.now.chosen.items) (status_of stop) (E.taken err.old) (E.failures err.old) (E.taken err.new) (E.failures err.new)) }
+{
+    let config = &read.config;
+    let lines = placed_lines(alloc, &read.chosen)?;
+    let places = other_choices(alloc, config.settled(), config.values(), &lines)?;
+    report_choices(paths, &places, err);
+    if is_refused(settings.strict, &places) {
+        return Err(RunError::Configuration);
+    }
+    Ok(())
+}
+
+/// Whether a configuration is refused for the notices on choices at these places.
+fn is_refused(strict: bool, places: &[(usize, u32)]) -> bool
+    ensures refused { result ≡ true → RefusesNotices strict places.now }
+    ensures allowed { result ≡ false → AllowsNotices strict places.now }
+{
+    if strict { !places.is_empty() } else { false }
+}
+
+/// Reports the notices on choices, each at its place in the files at these paths.
+fn report_choices<E: Sink>(paths: &[&str], places: &[(usize, u32)], err: &mut E)
+    ensures { TakesLines (E.taken err.old) (E.failures err.old) (choice_notice_lines (map (λ (path : Bor (List ℕ)). path.now) paths.now) places.now) (E.taken err.new) (E.failures err.new) }
+{
+    for place in places {
+        let (file, line) = *place;
+        let path = path_at(paths, file);
+        let kind = NoticeKind::OtherChoice;
+        write_report(Report::Notice { path, line, kind }, err);
+    }
+}
+
+/// The path of this number; empty if there is none.
+fn path_at<'a>(paths: &[&'a str], file: usize) -> &'a str
+    ensures { result.now ≡ unwrap_or (slice_get (map (λ (path : Bor (List ℕ)). path.now) paths.now) file) [] }
+{
+    match paths.get(file) {
+        Some(path) => path,
+        None => "",
+    }
 }

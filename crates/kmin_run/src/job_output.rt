@@ -4,17 +4,18 @@ ghost use Rattle.std.specs.Borrow.{Bor};
 ghost use Rattle.std.specs.Io.KnownBytes.{Appends};
 ghost use Rattle.kc_tree_model.specs.TreeFiles as trees;
 ghost use Rattle.kc_rules.specs.between.SettledViews.{tree_of_settled, profile_of};
-ghost use Rattle.kmin_words.specs.Jobs.{settings_view, task_view, over, compare, paths_of};
+ghost use Rattle.kmin_words.specs.Jobs.{settings_view, task_view, over, compare};
 ghost use Rattle.kmin_run.specs.Answers.{Answer};
 ghost use Rattle.kmin_trees.specs.AcceptedTrees.{AreAccepted};
 ghost use Rattle.kmin_trees.specs.JobTexts.{TreeTexts, AreTextsOfJob};
 ghost use Rattle.kmin_run.specs.PartialAnswers.{AnswersInPart};
 ghost use Rattle.kmin_report.specs.Reports.{last_lines};
 ghost use Rattle.kmin_report.specs.StandardError.{TakesLines};
-ghost use Rattle.kmin_run.specs.Stops.{Stops, StopsAmongFiles, StopsBefore};
+ghost use Rattle.kmin_run.specs.Stops.{Stops, StopsBefore};
+ghost use Rattle.kmin_run.specs.between.LoadStops.{StopsOverTree};
 ghost use Rattle.kmin_report.specs.between.RunErrors.{status_of};
 
-use crate::configurations::{configured, configured_by};
+use crate::configurations::{configured, configured_by, notice_choices};
 use crate::verb_texts::{AnswerText, answer_of, compared};
 use kc_rules::Settled;
 use kc_value::Sink;
@@ -28,7 +29,8 @@ use std::alloc::Global;
 /// or write failed, 6 out of memory.
 ///
 /// The output is complete before the first write. Standard error gets a line `FILE:LINE: KIND` for each notice and for
-/// the fault that ended the run, at once; a failed write there has no influence.
+/// the fault that ended the run, at once; a failed write there has no influence. The notices on choices come once all files
+/// are accepted and solved.
 ///
 /// Where an option turns the expansion of macros on, the tree is expanded first: status 3 is also a fault of the
 /// expansion, 4 an answer file refused, and the notices of the expansion come first, as `FILE:LINE: KIND TEXT`.
@@ -94,7 +96,7 @@ fn answer_over<F: Files, E: Sink>(
     requires profile { profile_of settled.now ≡ settings.now.profile }
     ensures status { IfOk result (λ answer. answer.status ≤ 1) }
     ensures answer { IfOk result (λ answer. (notices : List (List ℕ)) × ((texts : trees.Files) → AreAccepted texts settings.now.tree.now (tree_of_settled settled.now) → Answer (F.surroundings files.old).content (settings_view settings.now) texts (task_view task.now) answer.text.items answer.status notices) × TakesLines (E.taken err.old) (E.failures err.old) notices (E.taken err.new) (E.failures err.new)) }
-    ensures stopped { IfErr result (λ stop. (lines : List (List ℕ)) × StopsAmongFiles (F.surroundings files.old).content (settings_view settings.now).format settings.now.strict (tree_of_settled settled.now) (paths_of (task_view task.now)) (status_of stop) lines × TakesLines (E.taken err.old) (E.failures err.old) lines (E.taken err.new) (E.failures err.new)) }
+    ensures stopped { IfErr result (λ stop. (lines : List (List ℕ)) × StopsOverTree (F.surroundings files.old).content (settings_view settings.now) (tree_of_settled settled.now) (task_view task.now) (status_of stop) lines × TakesLines (E.taken err.old) (E.failures err.old) lines (E.taken err.new) (E.failures err.new)) }
 {
     match task {
         Task::Over { verb, files: paths } => {
@@ -120,11 +122,12 @@ fn answer_files<F: Files, E: Sink>(
     requires profile { profile_of settled.now ≡ settings.now.profile }
     ensures status { IfOk result (λ answer. answer.status ≤ 1) }
     ensures answer { IfOk result (λ answer. (notices : List (List ℕ)) × ((texts : trees.Files) → AreAccepted texts settings.now.tree.now (tree_of_settled settled.now) → Answer (F.surroundings files.old).content (settings_view settings.now) texts (over verb (map (λ (path : Bor (List ℕ)). path.now) paths.now)) answer.text.items answer.status notices) × TakesLines (E.taken err.old) (E.failures err.old) notices (E.taken err.new) (E.failures err.new)) }
-    ensures stopped { IfErr result (λ stop. (lines : List (List ℕ)) × StopsAmongFiles (F.surroundings files.old).content (settings_view settings.now).format settings.now.strict (tree_of_settled settled.now) (map (λ (path : Bor (List ℕ)). path.now) paths.now) (status_of stop) lines × TakesLines (E.taken err.old) (E.failures err.old) lines (E.taken err.new) (E.failures err.new)) }
+    ensures stopped { IfErr result (λ stop. (lines : List (List ℕ)) × StopsOverTree (F.surroundings files.old).content (settings_view settings.now) (tree_of_settled settled.now) (over verb (map (λ (path : Bor (List ℕ)). path.now) paths.now)) (status_of stop) lines × TakesLines (E.taken err.old) (E.failures err.old) lines (E.taken err.new) (E.failures err.new)) }
 {
-    let config = configured(alloc, settled, settings, paths, files, err)?;
-    let answer = answer_of(alloc, verb, &config, &settings.format);
-    drop(config);
+    let read = configured(alloc, settled, settings, paths, files, err)?;
+    notice_choices(alloc, settings, paths, &read, err)?;
+    let answer = answer_of(alloc, verb, &read.config, &settings.format);
+    drop(read);
     Ok(answer?)
 }
 
@@ -142,12 +145,19 @@ fn answer_comparison<F: Files, E: Sink>(
     requires profile { profile_of settled.now ≡ settings.now.profile }
     ensures status { IfOk result (λ answer. answer.status ≤ 1) }
     ensures answer { IfOk result (λ answer. (notices : List (List ℕ)) × ((texts : trees.Files) → AreAccepted texts settings.now.tree.now (tree_of_settled settled.now) → Answer (F.surroundings files.old).content (settings_view settings.now) texts (compare left.now right.now) answer.text.items answer.status notices) × TakesLines (E.taken err.old) (E.failures err.old) notices (E.taken err.new) (E.failures err.new)) }
-    ensures stopped { IfErr result (λ stop. (lines : List (List ℕ)) × StopsAmongFiles (F.surroundings files.old).content (settings_view settings.now).format settings.now.strict (tree_of_settled settled.now) (left.now ∷ right.now ∷ []) (status_of stop) lines × TakesLines (E.taken err.old) (E.failures err.old) lines (E.taken err.new) (E.failures err.new)) }
+    ensures stopped { IfErr result (λ stop. (lines : List (List ℕ)) × StopsOverTree (F.surroundings files.old).content (settings_view settings.now) (tree_of_settled settled.now) (compare left.now right.now) (status_of stop) lines × TakesLines (E.taken err.old) (E.failures err.old) lines (E.taken err.new) (E.failures err.new)) }
 {
-    let left = configured_by(alloc, settled, settings, left, files, err)?;
-    let right = configured_by(alloc, settled, settings, right, files, err)?;
-    let answer = compared(alloc, &left, &right, settings.format.strings);
-    drop(right);
-    drop(left);
+    let before = configured_by(alloc, settled, settings, left, files, err)?;
+    let after = configured_by(alloc, settled, settings, right, files, err)?;
+    notice_choices(alloc, settings, &[left], &before, err)?;
+    notice_choices(alloc, settings, &[right], &after, err)?;
+    let answer = compared(
+        alloc,
+        &before.config,
+        &after.config,
+        settings.format.strings,
+    );
+    drop(after);
+    drop(before);
     Ok(answer?)
 }

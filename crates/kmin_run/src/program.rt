@@ -1,20 +1,17 @@
 //! The program as a whole: from words or a bundle to the output and the exit status.
-ghost use Rattle.std.specs.Prelude.{◌≡◌, ◌≢◌, ◌≤◌, ◌⊎◌, ◌++◌, [], List, ℕ, length};
-ghost use Rattle.std.specs.Io.KnownBytes.{Appends};
-ghost use Rattle.kc_value.specs.declared.limits.TheConstants.{MAX_BUNDLE_BYTES};
-ghost use Rattle.kmin_run.specs.Bundles.{ReadsToEnd};
-ghost use Rattle.kmin_run.specs.BundleAnswers.{AnswersBundle, StopsOnBundle, WritesPart};
-ghost use Rattle.kmin_report.specs.Reports.{last_lines};
-ghost use Rattle.kmin_run.specs.Saves.{SomeChangeEnds};
-ghost use Rattle.kmin_report.specs.StandardError.{HasRisen, TakesLines};
-ghost use Rattle.kmin_run.specs.TidyRuns.{SomeTidyEnds, outputs_of};
+ghost use Rattle.std.specs.Prelude.{◌≡◌, ◌≢◌, ◌≤◌, ◌⊎◌, List, ℕ, map};
+ghost use Rattle.std.specs.Borrow.{Bor};
+ghost use Rattle.kmin_report.specs.StandardError.{TakesLine, TakesLines};
+ghost use Rattle.kmin_disk.specs.Disks.{Disk};
+ghost use Rattle.kmin_run.specs.Runs.{AskForChanges, AskForTidying, BundleEnds, Ends, HelpEnds, IsTidying, MayChangeFiles, ParsedEnds, input_of};
+ghost use Rattle.kmin_run.specs.TidyRuns.{outputs_of};
 
 use crate::bundle_answer::run_bundle;
 use crate::job_output::serve;
 use crate::output_file::save;
 use crate::tidy_command::tidy;
 use crate::wants_command::list_questions;
-use kc_value::{Sink, Source};
+use kc_value::{Seed, Sink, Source};
 use kmin_disk::WriteDisk;
 use kmin_report::{Report, RunError, exit_status, write_answer, write_report};
 use kmin_trees::Files;
@@ -40,45 +37,55 @@ pub fn run<F: Files, D: WriteDisk, I: Source, O: Sink, E: Sink>(
     err: &mut E,
 ) -> u8
     ensures status { result ≤ 6 }
-    ensures accepted_words { words.now ≡ [] → (result ≢ 1) × (result ≢ 2) }
 
-    // Without words, status 0: it read a bundle of an allowed size to its end, wrote its full file and nothing else, no
-    // read or write failed, and the notices of the configuration are reported.
-    ensures done { words.now ≡ [] → result ≡ 0 → (bundle text : List ℕ) × (notices : List (List ℕ)) × ReadsToEnd (I.left input.old) (I.left input.new) bundle × (length bundle ≤ MAX_BUNDLE_BYTES) × AnswersBundle bundle text notices × Appends (O.taken out.old) (O.taken out.new) text × TakesLines (E.taken err.old) (E.failures err.old) notices (E.taken err.new) (E.failures err.new) }
-    ensures unfailed { words.now ≡ [] → result ≡ 0 → (I.failures input.new ≡ I.failures input.old) × (O.failures out.new ≡ O.failures out.old) }
+    // Without words the run is on a bundle. Else the words are parsed, and the run ends as what they are parsed as does: a
+    // command by the clauses of its own, a help, or a message that refuses them, with status 2; or memory runs out
+    // before. Standard error takes just these lines.
+    ensures ends { (lines : List (List ℕ)) × Ends (F.surroundings files.old) (map (λ (word : Bor (List ℕ)). word.now) words.now)
+        (input_of (I.left input.old) (I.failures input.old)) (input_of (I.left input.new) (I.failures input.new))
+        (outputs_of (D.disk disk.old) (O.taken out.old) (O.failures out.old))
+        (outputs_of (D.disk disk.new) (O.taken out.new) (O.failures out.new)) lines result × TakesLines (E.taken err.old) (E.failures err.old) lines (E.taken err.new) (E.failures err.new) }
 
-    // On every other status the fault that ended the run is reported.
-    ensures stopped { words.now ≡ [] → result ≢ 0 → (lines : List (List ℕ)) × StopsOnBundle (I.left input.old) (I.left input.new) result lines × TakesLines (E.taken err.old) (E.failures err.old) (lines ++ last_lines result) (E.taken err.new) (E.failures err.new) }
-    ensures failures { words.now ≡ [] → result ≡ 5 → HasRisen (I.failures input.old) (I.failures input.new) ⊎ HasRisen (O.failures out.old) (O.failures out.new) }
-    // On status 5 the writer took the first bytes of the full file, or nothing.
-    ensures part { words.now ≡ [] → result ≡ 5 → (O.taken out.new ≡ O.taken out.old) ⊎ WritesPart (I.left input.old) (I.left input.new) (O.taken out.old) (O.taken out.new) }
-    ensures bundle_unwritten { words.now ≡ [] → result ≢ 0 → result ≢ 5 → O.taken out.new ≡ O.taken out.old }
-    ensures untouched { words.now ≡ [] → (D.disk disk.new).state ≡ (D.disk disk.old).state }
+    // The disk changes only if the words are parsed as `tidy --write`, or have an output file.
+    ensures unasked { ((D.disk disk.new).state ≡ (D.disk disk.old).state) ⊎ AskForChanges (map (λ (word : Bor (List ℕ)). word.now) words.now) }
+
+    // On status 4 something was written only if the words are parsed as `tidy`, of which a file is refused.
+    ensures refused { result ≡ 4 → (O.taken out.new ≡ O.taken out.old) ⊎ AskForTidying (map (λ (word : Bor (List ℕ)). word.now) words.now) }
     ensures unwritten { result ≢ 0 → result ≢ 1 → result ≢ 4 → result ≢ 5 → O.taken out.new ≡ O.taken out.old }
-
-    // On status 4 something was written only by a run of `tidy`, of which a file is refused.
-    ensures refused { result ≡ 4 → (O.taken out.new ≡ O.taken out.old) ⊎ SomeTidyEnds (F.surroundings files.old) (I.left input.old)
-        (outputs_of (D.disk disk.old) (O.taken out.old) (O.failures out.old))
-        (outputs_of (D.disk disk.new) (O.taken out.new) (O.failures out.new)) result }
-
-    // The disk changes only by a run of `tidy` that may write files, and by a command with an output file.
-    ensures unasked { ((D.disk disk.new).state ≡ (D.disk disk.old).state) ⊎ SomeChangeEnds (F.surroundings files.old) (I.left input.old)
-        (outputs_of (D.disk disk.old) (O.taken out.old) (O.failures out.old))
-        (outputs_of (D.disk disk.new) (O.taken out.new) (O.failures out.new)) result }
 {
     if words.is_empty() {
-        return match run_bundle(alloc, files.seed(), input, out, err) {
-            Ok(()) => 0,
-            Err(stop) => exit_status(stop, err),
-        };
+        return answer_bundle(alloc, files.seed(), input, out, err);
     }
-    run_words(alloc, words, files, disk, input, out, err)
+    match read_words(alloc, words) {
+        Ok(parsed) => run_parsed(alloc, &parsed, files, disk, input, out, err),
+        Err(_) => exit_status(RunError::Memory, err),
+    }
 }
 
-/// Runs the command that the words are, or writes the help or the message for them.
-fn run_words<F: Files, D: WriteDisk, I: Source, O: Sink, E: Sink>(
+/// Reads a bundle, writes its full file, and returns the exit status.
+fn answer_bundle<I: Source, O: Sink, E: Sink>(
     alloc: Global,
-    words: &[&str],
+    seed: Seed,
+    input: &mut I,
+    out: &mut O,
+    err: &mut E,
+) -> u8
+    ensures status { result ≤ 6 }
+    ensures ends { (disk : Disk) → (lines : List (List ℕ)) × BundleEnds (input_of (I.left input.old) (I.failures input.old)) (input_of (I.left input.new) (I.failures input.new))
+        (outputs_of disk (O.taken out.old) (O.failures out.old))
+        (outputs_of disk (O.taken out.new) (O.failures out.new)) lines result × TakesLines (E.taken err.old) (E.failures err.old) lines (E.taken err.new) (E.failures err.new) }
+    ensures unwritten { result ≢ 0 → result ≢ 5 → O.taken out.new ≡ O.taken out.old }
+{
+    match run_bundle(alloc, seed, input, out, err) {
+        Ok(()) => 0,
+        Err(stop) => exit_status(stop, err),
+    }
+}
+
+/// Runs what the words are parsed as, a command, a help or a message, and returns the exit status.
+fn run_parsed<F: Files, D: WriteDisk, I: Source, O: Sink, E: Sink>(
+    alloc: Global,
+    parsed: &ParsedWords<'_>,
     files: &mut F,
     disk: &mut D,
     input: &mut I,
@@ -86,34 +93,41 @@ fn run_words<F: Files, D: WriteDisk, I: Source, O: Sink, E: Sink>(
     err: &mut E,
 ) -> u8
     ensures status { result ≤ 6 }
+    ensures ends { (lines : List (List ℕ)) × ParsedEnds (F.surroundings files.old) (I.left input.old) parsed.now
+        (outputs_of (D.disk disk.old) (O.taken out.old) (O.failures out.old))
+        (outputs_of (D.disk disk.new) (O.taken out.new) (O.failures out.new)) lines result × TakesLines (E.taken err.old) (E.failures err.old) lines (E.taken err.new) (E.failures err.new) }
+    ensures unasked { ((D.disk disk.new).state ≡ (D.disk disk.old).state) ⊎ MayChangeFiles parsed.now }
+    ensures refused { result ≡ 4 → (O.taken out.new ≡ O.taken out.old) ⊎ IsTidying parsed.now }
     ensures unwritten { result ≢ 0 → result ≢ 1 → result ≢ 4 → result ≢ 5 → O.taken out.new ≡ O.taken out.old }
-    ensures refused { result ≡ 4 → (O.taken out.new ≡ O.taken out.old) ⊎ SomeTidyEnds (F.surroundings files.old) (I.left input.old)
-        (outputs_of (D.disk disk.old) (O.taken out.old) (O.failures out.old))
-        (outputs_of (D.disk disk.new) (O.taken out.new) (O.failures out.new)) result }
-    ensures unasked { ((D.disk disk.new).state ≡ (D.disk disk.old).state) ⊎ SomeChangeEnds (F.surroundings files.old) (I.left input.old)
-        (outputs_of (D.disk disk.old) (O.taken out.old) (O.failures out.old))
-        (outputs_of (D.disk disk.new) (O.taken out.new) (O.failures out.new)) result }
 {
-    match read_words(alloc, words) {
-        Ok(ParsedWords::Job(job)) => serve(alloc, &job, files, out, err),
-        Ok(ParsedWords::Save(output_job)) => save(alloc, &output_job, files, disk, err),
-        Ok(ParsedWords::Questions(questions)) => list_questions(alloc, &questions, files, out, err),
-        Ok(ParsedWords::Tidy(tidy_job)) => tidy(alloc, &tidy_job, files, disk, input, out, err),
-        Ok(ParsedWords::Help(text)) => write_help(&text, out, err),
-        Ok(ParsedWords::Refused(text)) => {
-            write_report(Report::RefusedWords(text.as_str()), err);
-            2
-        }
-        Err(_) => exit_status(RunError::Memory, err),
+    match parsed {
+        ParsedWords::Job(job) => serve(alloc, job, files, out, err),
+        ParsedWords::Save(output_job) => save(alloc, output_job, files, disk, err),
+        ParsedWords::Questions(questions) => list_questions(alloc, questions, files, out, err),
+        ParsedWords::Tidy(tidy_job) => tidy(alloc, tidy_job, files, disk, input, out, err),
+        ParsedWords::Help(text) => write_help(text, out, err),
+        ParsedWords::Refused(text) => refuse_words(text, err),
     }
 }
 
 /// Writes the help that was asked for, and returns the exit status.
 fn write_help<O: Sink, E: Sink>(text: &str, out: &mut O, err: &mut E) -> u8
-    ensures { (result ≡ 0) ⊎ (result ≡ 5) }
+    ensures status { (result ≡ 0) ⊎ (result ≡ 5) }
+    ensures ends { (disk : Disk) → (lines : List (List ℕ)) × HelpEnds text.now
+        (outputs_of disk (O.taken out.old) (O.failures out.old))
+        (outputs_of disk (O.taken out.new) (O.failures out.new)) lines result × TakesLines (E.taken err.old) (E.failures err.old) lines (E.taken err.new) (E.failures err.new) }
 {
     match write_answer(text.as_bytes(), out, err) {
         Ok(()) => 0,
         Err(_) => RunError::Failed.status(),
     }
+}
+
+/// Reports words that are refused by their message, and returns the exit status.
+fn refuse_words<E: Sink>(message: &str, err: &mut E) -> u8
+    ensures status { result ≡ 2 }
+    ensures reported { TakesLine (E.taken err.old) (E.failures err.old) message.now (E.taken err.new) (E.failures err.new) }
+{
+    write_report(Report::RefusedWords(message), err);
+    2
 }

@@ -12,7 +12,7 @@ use Rattle.kc_rules.specs.between.SettledViews.{tree_of_settled, profile_of}
 use Rattle.kc_dotconfig_model.specs.declared.format.Format.{Format}
 use Rattle.kc_dotconfig_model.specs.declared.fault.LoadFault.{LoadFault}
 use Rattle.kc_dotconfig_model.specs.between.Formats.{file_format}
-use Rattle.kc_dotconfig_model.specs.PrefixGrammar.{is_prefix}
+use Rattle.kc_dotconfig_model.specs.PrefixGrammar.{is_name_prefix}
 use Rattle.kc_dotconfig_model.proofs.AcceptedLines.{accepted_utf8}
 use Rattle.kc_dotconfig.specs.declared.fragment.Fragment.{Fragment}
 use Rattle.kc_dotconfig.specs.Fragments.{notice_pair, users_of}
@@ -26,12 +26,19 @@ use Rattle.kmin_disk.specs.declared.kind.FileKind.TheVariants.{NotRegular as Kin
 use Rattle.kmin_disk.specs.declared.fault.ReplaceFault.{ReplaceFault}
 use Rattle.kmin_disk.specs.declared.fault.ReplaceFault.TheVariants.{NotRegular, Unchanged, NamesTaken, Left, FolderNotSynced, OutOfMemory}
 use Rattle.kmin_tidy.specs.Options.{Settings, Notices, settings_of, refuses_notices}
-use Rattle.kmin_tidy.specs.MinimalFiles.{MayBeRead, IsReadAt, HasMinimalFile, Minimises}
+use Rattle.kc_tree_model.specs.Trees.{Tree}
+use Rattle.kc_dotconfig_model.specs.ConfigLines.{LineMeaning}
+use Rattle.kc_dotconfig_model.specs.ConfigFiles.{notices_from}
+use Rattle.kc_dotconfig_model.specs.declared.choice_line.ChoiceLine.{ChoiceLine}
+use Rattle.kc_dotconfig_model.specs.declared.notice.Notice.{Notice}
+use Rattle.kc_dotconfig_model.specs.OtherChoices.{choice_lines_from, other_choices_of}
+use Rattle.kc_minimal_model.specs.FileValues.{Loads}
+use Rattle.kmin_tidy.specs.MinimalFiles.{MayBeRead, IsReadAt, HasNotices, of_choices, choice_notices, HasMinimalFile, Minimises}
 use Rattle.kmin_tidy.specs.Refusals as refusals
 use Rattle.kmin_report.specs.Reports.{fault_line, not_regular_line}
 use Rattle.kmin_tidy.specs.Reports.{notice_lines, difference_line}
 use Rattle.kmin_tidy.specs.Steps.{Step, refused, noticed, minimal, shown, replaced, unwritten, unsynced, call_failed, names_taken, not_regular}
-use Rattle.kmin_tidy.specs.checker.Readings.{IsFragmentOf, IsFaulty}
+use Rattle.kmin_tidy.specs.checker.Readings.{IsFragmentOf, IsFaulty, places_noted}
 use Rattle.kmin_tidy.specs.checker.FileReports.{IsRefusedAs, IsFailedBy, IsStoppedBy}
 use Rattle.kmin_tidy.specs.checker.FileResults as results
 use Rattle.kmin_tidy.specs.checker.FileResults.{IsRewritten, IsWritten, StopsWrite, StopsRewrite, StopsFile}
@@ -70,48 +77,42 @@ module _ (s : Settings) (a : Disk) (path : List ℕ) (report : FileReport) where
       refused (fault_line path fault.line fault.kind) (refused_by s a.state path fault.kind fault.line report.outcome may faulty r.outcome) refl refl
       (lines_of_problem path report (Fault fault) r.notices r.problem)
 
-  -- the lines of a report without a problem are those of the notices of the file's fragment
-  lines_by : (fragment : Fragment) → report.notices.items ≡ fragment.notices.items → report.problem ≡ None
-      → report_lines path report ≡ notice_lines path (map notice_pair fragment.notices.items)
-  lines_by fragment n p = lines_of_notices path report p ∙ ap (λ ns. notice_lines path (map notice_pair ns)) n
+  -- the lines of a report without a problem are those of the notices of the file
+  lines_by : (noted : List Notice) → report.notices.items ≡ noted → report.problem ≡ None
+      → report_lines path report ≡ notice_lines path (map notice_pair noted)
+  lines_by noted n p = lines_of_notices path report p ∙ ap (λ ns. notice_lines path (map notice_pair ns)) n
 
-  lines_with : (fragment : Fragment) (problem : Problem) → report.notices.items ≡ fragment.notices.items → report.problem ≡ Some problem
-      → report_lines path report ≡ notice_lines path (map notice_pair fragment.notices.items) ++ problem_lines path (Some problem)
-  lines_with fragment problem n p =
+  lines_with : (noted : List Notice) (problem : Problem) → report.notices.items ≡ noted → report.problem ≡ Some problem
+      → report_lines path report ≡ notice_lines path (map notice_pair noted) ++ problem_lines path (Some problem)
+  lines_with noted problem n p =
       ap (λ q. notice_lines path (map notice_pair report.notices.items) ++ problem_lines path q) p
       ∙ ap (λ ns. notice_lines path (map notice_pair ns) ++ problem_lines path (Some problem)) n
 
   -- the step of an accepted file that is refused for its notices reports the notices, and leaves the disk unchanged
-  pub notices_step : (bytes : List ℕ) (fragment : Fragment) → IsReadAt s a.state path bytes → IsFragmentOf s.format s.tree bytes fragment
-      → refuses_notices s.options ≡ true → map notice_pair fragment.notices.items ≢ [] → report.notices.items ≡ fragment.notices.items → report.problem ≡ None
+  pub notices_step : (bytes : List ℕ) (noted : List Notice) → IsReadAt s a.state path bytes → HasNotices s bytes (map notice_pair noted)
+      → refuses_notices s.options ≡ true → map notice_pair noted ≢ [] → report.notices.items ≡ noted → report.problem ≡ None
       → report.outcome ≡ Refused → Step s a a path [] (report_lines path report) report.outcome
-  notices_step bytes fragment read f asked some n p o =
-      noticed bytes (map notice_pair fragment.notices.items) read (record {
-        accepted = f.accepted;
-        meanings = f.meanings;
-        means = f.means;
-        notices_are = f.noted;
-      })
-      some asked refl refl (lines_by fragment n p) o
+  notices_step bytes noted read has asked some n p o =
+      noticed bytes (map notice_pair noted) read has some asked refl refl (lines_by noted n p) o
 
   -- the step of an accepted file that isn't refused, from the result of comparing it with its minimal file and replacing it
-  pub rewritten_step : (b : Disk) (bytes least line : List ℕ) (fragment : Fragment) (end : FileEnd)
-      → Minimises s a.state path bytes least (map notice_pair fragment.notices.items) → IsRewritten s.options.write a b path bytes least line end
-      → report.notices.items ≡ fragment.notices.items → report.problem ≡ end.problem → report.outcome ≡ end.outcome
+  pub rewritten_step : (b : Disk) (bytes least line : List ℕ) (noted : List Notice) (end : FileEnd)
+      → Minimises s a.state path bytes least (map notice_pair noted) → IsRewritten s.options.write a b path bytes least line end
+      → report.notices.items ≡ noted → report.problem ≡ end.problem → report.outcome ≡ end.outcome
       → Step s a b path line (report_lines path report) report.outcome
-  rewritten_step b bytes least line fragment end m (results.same e k l q o) n p r =
-      minimal bytes (map notice_pair fragment.notices.items) (subst (λ x. Minimises s a.state path bytes x (map notice_pair fragment.notices.items)) e m) k l
-      (lines_by fragment n (p ∙ q)) (r ∙ o)
-  rewritten_step b bytes least line fragment end m (results.shown ne w k l q o) n p r =
-      shown bytes least (map notice_pair fragment.notices.items) (record { minimises = m; differs = ne }) w k l (lines_by fragment n (p ∙ q)) (r ∙ o)
-  rewritten_step b bytes least line fragment end m (results.replaced ne w t f l q o) n p r =
-      replaced bytes least (map notice_pair fragment.notices.items) (record { minimises = m; differs = ne }) w t f l (lines_by fragment n (p ∙ q)) (r ∙ o)
-  rewritten_step b bytes least line fragment end m (results.unwritten ne w u l q o) n p r =
-      unwritten bytes least (map notice_pair fragment.notices.items) (record { minimises = m; differs = ne }) w u l
-      (lines_with fragment Write n (p ∙ q)) (r ∙ o)
-  rewritten_step b bytes least line fragment end m (results.unsynced ne w u l q o) n p r =
-      unsynced bytes least (map notice_pair fragment.notices.items) (record { minimises = m; differs = ne }) w u l
-      (lines_with fragment Write n (p ∙ q)) (r ∙ o)
+  rewritten_step b bytes least line noted end m (results.same e k l q o) n p r =
+      minimal bytes (map notice_pair noted) (subst (λ x. Minimises s a.state path bytes x (map notice_pair noted)) e m) k l
+      (lines_by noted n (p ∙ q)) (r ∙ o)
+  rewritten_step b bytes least line noted end m (results.shown ne w k l q o) n p r =
+      shown bytes least (map notice_pair noted) (record { minimises = m; differs = ne }) w k l (lines_by noted n (p ∙ q)) (r ∙ o)
+  rewritten_step b bytes least line noted end m (results.replaced ne w t f l q o) n p r =
+      replaced bytes least (map notice_pair noted) (record { minimises = m; differs = ne }) w t f l (lines_by noted n (p ∙ q)) (r ∙ o)
+  rewritten_step b bytes least line noted end m (results.unwritten ne w u l q o) n p r =
+      unwritten bytes least (map notice_pair noted) (record { minimises = m; differs = ne }) w u l
+      (lines_with noted Write n (p ∙ q)) (r ∙ o)
+  rewritten_step b bytes least line noted end m (results.unsynced ne w u l q o) n p r =
+      unsynced bytes least (map notice_pair noted) (record { minimises = m; differs = ne }) w u l
+      (lines_with noted Write n (p ∙ q)) (r ∙ o)
 
 -- a run that ends at the comparison of a file with its minimal file, or at its replacement, ends at that file
 pub stops_rewrite : (s : Settings) (a b : Disk) (path bytes least : List ℕ) (notices : Notices) (stop : Stop) → Minimises s a.state path bytes least notices
@@ -120,17 +121,23 @@ stops_rewrite s a b path bytes least notices stop m (inl h) = inl h
 stops_rewrite s a b path bytes least notices stop m (inr h) =
     inr (record { asked = h.0; bytes = bytes; least = least; notices = notices; differs = record { minimises = m; differs = h.1 } }, h.2)
 
--- the canonical text of the values that a fragment alone gives is the minimal file of the fragment's bytes
-pub has_minimal_file : (settled now : Settled) (format : Format) (options : TidyOptions) (bytes text : List ℕ) (fragment : Fragment)
-    (users : List (Option UserValue)) (values : List UnitValue)
-    → is_prefix (file_format format).prefix ≡ true → now ≡ settled → IsFragmentOf (file_format format) (tree_of_settled settled) bytes fragment
-    → users ≡ users_of (tree_of_settled settled) fragment.assigns.items
-    → UniquelySolves (length (tree_of_settled now).units) (rule (profile_of now) (tree_of_settled now)) users values
-    → IsCanonicalText (file_format format) (profile_of now) (tree_of_settled now) values text
-    → HasMinimalFile (settings_of settled format options) bytes text (map notice_pair fragment.notices.items)
-has_minimal_file settled now format options bytes text fragment users values valid same f held gives canonical = record {
-  values = values;
-  loads = record {
+-- the notices on choices in a file, from the lines of members of its fragment
+pub choices_noted : (tree : Tree) (values : List UnitValue) (meanings : List LineMeaning) (chosen : List ChoiceLine) → chosen ≡ choice_lines_from 1 meanings
+    → places_noted (other_choices_of tree values (map (λ (l : ChoiceLine). (0, l)) chosen)) ≡ choice_notices tree values meanings
+choices_noted tree values meanings chosen e =
+    ap (λ lines. places_noted (other_choices_of tree values lines))
+    (ap (map (λ (l : ChoiceLine). (0, l))) e ∙ sym (append-nil (map (λ (l : ChoiceLine). (0, l)) (choice_lines_from 1 meanings))))
+
+module _ (settled now : Settled) (format : Format) (options : TidyOptions) (bytes : List ℕ) (fragment : Fragment) (noted : List Notice)
+    (users : List (Option UserValue)) (values : List UnitValue) (valid : is_name_prefix (file_format format).prefix ≡ true) (same : now ≡ settled)
+    (f : IsFragmentOf (file_format format) (tree_of_settled settled) bytes fragment)
+    (held : users ≡ users_of (tree_of_settled settled) fragment.assigns.items)
+    (gives : UniquelySolves (length (tree_of_settled now).units) (rule (profile_of now) (tree_of_settled now)) users values)
+    (all : map notice_pair noted ≡ map notice_pair fragment.notices.items
+    ++ places_noted (other_choices_of (tree_of_settled now) values (map (λ (l : ChoiceLine). (0, l)) fragment.chosen.items))) where
+  -- the file of a fragment gives the values that the fragment's user values alone give
+  pub file_loads : Loads (file_format format) (profile_of settled) (tree_of_settled settled) bytes values
+  file_loads = record {
     accepted = f.accepted;
     reads = record {
       utf8 = accepted_utf8 (file_format format) (tree_of_settled settled) bytes valid f.accepted;
@@ -140,10 +147,32 @@ has_minimal_file settled now format options bytes text fragment users values val
           (held ∙ f.users)
           (subst (λ sys. UniquelySolves (length (tree_of_settled sys).units) (rule (profile_of sys) (tree_of_settled sys)) users values) same gives);
     };
-  };
-  canonical = subst (λ sys. IsCanonicalText (file_format format) (profile_of sys) (tree_of_settled sys) values text) same canonical;
-  notices_are = f.noted;
-}
+  }
+
+  -- all notices of the file are those of its lines, and then those on choices
+  all_noted : map notice_pair noted ≡ notices_from 1 f.meanings ++ choice_notices (tree_of_settled settled) values f.meanings
+  all_noted =
+      all ∙ ap (λ ns. ns ++ places_noted (other_choices_of (tree_of_settled now) values (map (λ (l : ChoiceLine). (0, l)) fragment.chosen.items))) f.noted
+      ∙ ap (λ (sys : Settled). notices_from 1 f.meanings ++ places_noted (other_choices_of (tree_of_settled sys) values (map (λ (l : ChoiceLine). (0, l)) fragment.chosen.items))) same
+      ∙ ap (λ ns. notices_from 1 f.meanings ++ ns) (choices_noted (tree_of_settled settled) values f.meanings fragment.chosen.items f.chosen)
+
+  -- the canonical text of the values that a fragment alone gives is the minimal file of the fragment's bytes
+  pub has_minimal_file : (text : List ℕ) → IsCanonicalText (file_format format) (profile_of now) (tree_of_settled now) values text
+      → HasMinimalFile (settings_of settled format options) bytes text (map notice_pair noted)
+  unfolding file_loads
+  has_minimal_file text canonical = record {
+    values = values;
+    loads = file_loads;
+    canonical = subst (λ sys. IsCanonicalText (file_format format) (profile_of sys) (tree_of_settled sys) values text) same canonical;
+    notices_are = all_noted;
+  }
+
+  -- where the lines of the file have no notices, all of its notices are on choices
+  pub has_choice_notices : fragment.notices.items ≡ [] → HasNotices (settings_of settled format options) bytes (map notice_pair noted)
+  unfolding file_loads
+  has_choice_notices none =
+      let empty : notices_from 1 f.meanings ≡ [] = sym f.noted ∙ ap (map notice_pair) none in
+      of_choices values file_loads empty (all_noted ∙ ap (λ ns. ns ++ choice_notices (tree_of_settled settled) values f.meanings) empty)
 
 -- after a fault of replacing a file that lets the run go on, the file counts as not replaced, or not for good
 pub written_by : (a b : Disk) (path least : List ℕ) (fault : ReplaceFault) (end : FileEnd) → FaultLeaves a.state b.state path least fault

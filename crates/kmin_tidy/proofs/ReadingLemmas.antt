@@ -27,6 +27,7 @@ fragment_of_read format tree bytes before after f is r fits =
       means = subst (λ b. FileMeans format tree b r.meanings) (sym e) r.has_meaning;
       users = r.users;
       noted = r.noted;
+      chosen = r.chosen;
       fits = fits;
     }
 

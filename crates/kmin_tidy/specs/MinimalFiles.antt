@@ -1,8 +1,11 @@
 -- Files of a disk, and their minimal files.
-use Rattle.std.specs.Prelude.{◌≡◌, ◌≢◌, ℕ, true, List, Option, Some, None}
+use Rattle.std.specs.Prelude.{◌≡◌, ◌≢◌, ℕ, true, List, [], ◌∷◌, ◌++◌, Option, Some, None, map}
+use Rattle.kc_tree_model.specs.Trees.{Tree}
 use Rattle.kc_rules_model.specs.declared.values.UnitValue.{UnitValue}
 use Rattle.kc_dotconfig_model.specs.ConfigLines.{LineMeaning}
 use Rattle.kc_dotconfig_model.specs.ConfigFiles.{FileMeans, notices_from}
+use Rattle.kc_dotconfig_model.specs.declared.notice.NoticeKind.TheVariants.{OtherChoice}
+use Rattle.kc_dotconfig_model.specs.OtherChoices.{other_choices}
 use Rattle.kc_dotconfig_model.specs.LoadFaults.{IsAccepted}
 use Rattle.kc_minimal_model.specs.CanonicalText.{IsCanonicalText}
 use Rattle.kc_minimal_model.specs.FileValues.{Loads}
@@ -24,20 +27,25 @@ pub record IsReadAt (s : Settings) (disk : DiskState) (path bytes : List ℕ) : 
   pub may : MayBeRead s disk path
   pub bytes_are : IsReadAs (content_at disk path) bytes
 
--- These bytes are an accepted configuration file, whose lines have these notices.
-pub record HasNotices (s : Settings) (bytes : List ℕ) (notices : Notices) : Type 0 where
-  pub accepted : IsAccepted s.format s.tree bytes
-  pub meanings : List LineMeaning
-  pub means : FileMeans s.format s.tree bytes meanings
-  pub notices_are : notices ≡ notices_from 1 meanings
+-- the notices on choices in a configuration file whose lines have these meanings, and which gives these values
+abbrev pub choice_notices : Tree → List UnitValue → List LineMeaning → Notices
+choice_notices tree values meanings = map (λ (place : ℕ × ℕ). (place.1, OtherChoice)) (other_choices tree values (meanings ∷ []))
 
--- These bytes are an accepted configuration file, whose lines have these notices, and `least` is the minimal file of the values
--- that it gives.
+-- These bytes are an accepted configuration file, whose lines have these notices; or its lines have none, and these are on choices,
+-- by the values that it gives.
+pub data HasNotices (s : Settings) (bytes : List ℕ) (notices : Notices) : Type 0 where
+  of_lines : (meanings : List LineMeaning) → IsAccepted s.format s.tree bytes → FileMeans s.format s.tree bytes meanings
+      → notices ≡ notices_from 1 meanings → HasNotices s bytes notices
+  of_choices : (values : List UnitValue) (loads : Loads s.format s.profile s.tree bytes values) → notices_from 1 loads.reads.meanings ≡ []
+      → notices ≡ choice_notices s.tree values loads.reads.meanings → HasNotices s bytes notices
+
+-- These bytes are an accepted configuration file, which has these notices, of its lines and then on choices, and `least` is the
+-- minimal file of the values that it gives.
 pub record HasMinimalFile (s : Settings) (bytes least : List ℕ) (notices : Notices) : Type 0 where
   pub values : List UnitValue
   pub loads : Loads s.format s.profile s.tree bytes values
   pub canonical : IsCanonicalText s.format s.profile s.tree values least
-  pub notices_are : notices ≡ notices_from 1 loads.reads.meanings
+  pub notices_are : notices ≡ notices_from 1 loads.reads.meanings ++ choice_notices s.tree values loads.reads.meanings
 
 -- these bytes are the minimal file of some values of the symbols
 abbrev pub IsMinimalFile : Settings → (bytes : List ℕ) → Type 0

@@ -26,7 +26,7 @@ settings_of settled format options = record {
   options = options;
 }
 
--- notices of the lines of a configuration file, each as the number of its line, counted from 1, and its kind
+-- notices of a configuration file, each as the number of its line, counted from 1, and its kind
 abbrev pub Notices : Type 0
 Notices = List (ℕ × NoticeKind)
 

@@ -1,15 +1,18 @@
 //! One file of a run: it is read, compared with its minimal file, and replaced under the option `--write`.
-ghost use Rattle.std.specs.Prelude.{◌≡◌, ◌≢◌, ◌++◌, [], ℕ, List, map, take, true, false, Some, None, IfOk, IfErr, if◌then◌else◌};
+ghost use Rattle.std.specs.Prelude.{◌≡◌, ◌≢◌, ◌⊎◌, ◌++◌, [], ℕ, List, map, take, true, false, Some, None, IfOk, IfErr, OnOk, if◌then◌else◌};
 ghost use Rattle.kc_dotconfig_model.specs.between.Formats.{file_format};
-ghost use Rattle.kc_dotconfig.specs.ConfigStates.{tree_in};
-ghost use Rattle.kc_dotconfig.specs.Fragments.{FitsTree, notice_pair};
+ghost use Rattle.kc_rules.specs.between.SettledViews.{profile_of};
+ghost use Rattle.kc_dotconfig_model.specs.OtherChoices.{other_choices_of};
+ghost use Rattle.kc_dotconfig.specs.ConfigStates.{tree_in, IsSolved};
+ghost use Rattle.kc_minimal_model.specs.CanonicalText.{IsCanonicalText};
+ghost use Rattle.kc_dotconfig.specs.Fragments.{FitsTree, users_of, notice_pair};
 ghost use Rattle.kmin_disk.specs.Contents.{IsOfKind, readable, special};
 ghost use Rattle.kmin_disk.specs.Disks.{content_at};
 ghost use Rattle.kmin_disk.specs.declared.kind.FileKind.TheVariants.{NotRegular};
-ghost use Rattle.kmin_tidy.specs.Options.{settings_of, refuses_notices, AreAllowed};
-ghost use Rattle.kmin_tidy.specs.MinimalFiles.{HasMinimalFile, IsReadAt, MayBeRead, Minimises};
+ghost use Rattle.kmin_tidy.specs.Options.{settings_of, refuses_notices};
+ghost use Rattle.kmin_tidy.specs.MinimalFiles.{MayBeRead};
 ghost use Rattle.kmin_tidy.specs.Steps.{Step};
-ghost use Rattle.kmin_tidy.specs.checker.Readings.{IsAcceptedAs, IsFragmentOf};
+ghost use Rattle.kmin_tidy.specs.checker.Readings.{IsAcceptedAs, places_noted};
 ghost use Rattle.kmin_tidy.specs.checker.ReportLines.{report_lines};
 ghost use Rattle.kmin_tidy.specs.checker.FileResults.{IsRewritten, IsWritten, StopsWrite, StopsRewrite, StopsFile};
 ghost use Rattle.kmin_tidy.specs.checker.FileReports.{IsRefusedAs, IsFailedBy, IsStoppedBy};
@@ -20,8 +23,8 @@ use crate::options::TidyOptions;
 use crate::outcome::FileOutcome;
 use crate::report::{FileReport, Problem};
 use crate::stop::Stop;
-use kc_dotconfig::{Config, Format, Fragment, LoadFault, LoadKind, Notice};
-use kc_minimal::minimal_text;
+use kc_dotconfig::{ChoiceLine, Config, Format, Fragment, LoadFault, LoadKind, Notice, NoticeKind};
+use kc_minimal::{add_lines, minimal_text, other_choices};
 use kmin_disk::{FileKind, ReadDisk, ReplaceFault, WriteDisk, replace};
 use std::alloc::{AllocError, Global};
 
@@ -120,37 +123,88 @@ fn tidy_accepted<D: WriteDisk>(
 {
     let AcceptedFile { bytes, fragment } = file;
     if is_refused_for(options, &fragment.notices) {
-        return Ok(report_of_notices(fragment));
+        let Fragment { notices, .. } = fragment;
+        return Ok(report_of_notices(notices));
     }
-    let end = tidy_allowed(
-        alloc, config, format, options, path, &bytes, &fragment, disk, text,
-    )?;
-    Ok(report_of_end(fragment, end))
+    let notices = solve(alloc, config, fragment)?;
+    if is_refused_for(options, &notices) {
+        return Ok(report_of_notices(notices));
+    }
+    let end = tidy_allowed(alloc, config, format, options, path, &bytes, disk, text)?;
+    Ok(report_of_end(notices, end))
 }
 
-/// Tidies an accepted file of these bytes that isn't refused for its notices.
-fn tidy_allowed<D: WriteDisk>(
+/// Gives a configuration the user values of one fragment alone, and returns the notices of the fragment's lines, and after them those
+/// on choices.
+fn solve(
     alloc: Global,
     config: &mut Config<'_>,
+    fragment: Fragment,
+) -> Result<Vec<Notice>, AllocError>
+    requires fits { FitsTree (tree_in config.old) fragment.assigns.items }
+    ensures settled { config.new.system ≡ config.old.system }
+    ensures users { OnOk result (config.new.users ≡ users_of (tree_in config.old) fragment.assigns.items) }
+    ensures solved { IsSolved config.new }
+    ensures notices { IfOk result (λ notices. map notice_pair notices.items ≡ map notice_pair fragment.notices.items
+        ++ places_noted (other_choices_of (tree_in config.new) config.new.values (map (λ l. (0, l)) fragment.chosen.items))) }
+{
+    config.replace(&fragment)?;
+    let Fragment {
+        notices,
+        chosen,
+        ..
+    } = fragment;
+    with_choices(alloc, config, notices, &chosen)
+}
+
+/// The notices of a file's lines, and after them those on choices by the values of a configuration, from the lines of members.
+fn with_choices(
+    alloc: Global,
+    config: &Config<'_>,
+    noted: Vec<Notice>,
+    chosen: &[ChoiceLine],
+) -> Result<Vec<Notice>, AllocError>
+    ensures { IfOk result (λ notices. map notice_pair notices.items ≡ map notice_pair noted.items
+        ++ places_noted (other_choices_of (tree_in config.now) config.now.values (map (λ l. (0, l)) chosen.now))) }
+{
+    let mut lines = Vec::new(alloc);
+    add_lines(&mut lines, 0, chosen)?;
+    let places = other_choices(alloc, config.settled(), config.values(), &lines)?;
+    push_choices(noted, &places)
+}
+
+/// Appends the notices on choices at these places.
+fn push_choices(noted: Vec<Notice>, places: &[(usize, u32)]) -> Result<Vec<Notice>, AllocError>
+    ensures { IfOk result (λ notices. map notice_pair notices.items ≡ map notice_pair noted.items ++ places_noted places.now) }
+{
+    let mut notices = noted;
+    for place in places {
+        let (_file, line) = *place;
+        let kind = NoticeKind::OtherChoice;
+        notices.push(Notice { line, kind })?;
+    }
+    Ok(notices)
+}
+
+/// Compares a file of these bytes, which isn't refused, with the minimal file of the values that it gives, and tidies it.
+fn tidy_allowed<D: WriteDisk>(
+    alloc: Global,
+    config: &Config<'_>,
     format: &Format,
     options: TidyOptions,
     path: &str,
     bytes: &[u8],
-    fragment: &Fragment,
     disk: &mut D,
     text: &mut Vec<u8>,
 ) -> Result<FileEnd, Stop>
-    requires read { IsReadAt (settings_of config.old.system format.now options) (D.disk disk.old).state path.now bytes.now }
-    requires fragment { IsFragmentOf (file_format format.now) (tree_in config.old) bytes.now fragment.now }
-    requires allowed { AreAllowed options (map notice_pair fragment.now.notices.items) }
-    ensures settled { config.new.system ≡ config.old.system }
     ensures rewritten { IfOk result (λ end. (line : List ℕ) × (text.new.items ≡ text.old.items ++ line) × (least : List ℕ)
-        × Minimises (settings_of config.old.system format.now options) (D.disk disk.old).state path.now bytes.now least
-        (map notice_pair fragment.now.notices.items) × IsRewritten options.write (D.disk disk.old)
-        (D.disk disk.new) path.now bytes.now least line end) }
-    ensures stopped { IfErr result (StopsFile (settings_of config.old.system format.now options) (D.disk disk.old) (D.disk disk.new) path.now) }
+        × IsCanonicalText (file_format format.now) (profile_of config.now.system) (tree_in config.now) config.now.values least
+        × IsRewritten options.write (D.disk disk.old) (D.disk disk.new) path.now bytes.now least line end) }
+    ensures stopped { IfErr result (λ stop. ((stop ≡ Stop.Memory) × (D.disk disk.new ≡ D.disk disk.old)) ⊎ ((least : List ℕ)
+        × IsCanonicalText (file_format format.now) (profile_of config.now.system) (tree_in config.now) config.now.values least
+        × StopsRewrite options.write (D.disk disk.old) (D.disk disk.new) path.now bytes.now least stop)) }
 {
-    let least = minimal_of(alloc, config, format, fragment)?;
+    let least = minimal_text(alloc, config, format)?;
     rewrite(alloc, options, path, bytes, &least, disk, text)
 }
 
@@ -167,12 +221,11 @@ fn is_refused_for(options: TidyOptions, notices: &[Notice]) -> bool
 }
 
 /// The report of a file that is refused for its notices.
-fn report_of_notices(fragment: Fragment) -> FileReport
-    ensures notices { result.notices.items ≡ fragment.notices.items }
+fn report_of_notices(notices: Vec<Notice>) -> FileReport
+    ensures notices { result.notices.items ≡ notices.items }
     ensures problem { result.problem ≡ None }
     ensures outcome { result.outcome ≡ FileOutcome.Refused }
 {
-    let Fragment { notices, .. } = fragment;
     FileReport {
         notices,
         problem: None,
@@ -189,12 +242,11 @@ pub(crate) struct FileEnd {
 }
 
 /// The report of a file whose minimal file is known.
-fn report_of_end(fragment: Fragment, end: FileEnd) -> FileReport
-    ensures notices { result.notices.items ≡ fragment.notices.items }
+fn report_of_end(notices: Vec<Notice>, end: FileEnd) -> FileReport
+    ensures notices { result.notices.items ≡ notices.items }
     ensures problem { result.problem ≡ end.problem }
     ensures outcome { result.outcome ≡ end.outcome }
 {
-    let Fragment { notices, .. } = fragment;
     let FileEnd {
         problem,
         outcome,
@@ -205,23 +257,6 @@ fn report_of_end(fragment: Fragment, end: FileEnd) -> FileReport
         problem,
         outcome,
     }
-}
-
-/// The minimal file of the configuration of one fragment alone.
-fn minimal_of(
-    alloc: Global,
-    config: &mut Config<'_>,
-    format: &Format,
-    fragment: &Fragment,
-) -> Result<Vec<u8>, AllocError>
-    requires fits { FitsTree (tree_in config.old) fragment.now.assigns.items }
-    ensures settled { config.new.system ≡ config.old.system }
-    ensures minimal { IfOk result (λ least. (options : TidyOptions) (bytes : List ℕ)
-        → IsFragmentOf (file_format format.now) (tree_in config.old) bytes fragment.now
-        → HasMinimalFile (settings_of config.old.system format.now options) bytes least.items (map notice_pair fragment.now.notices.items)) }
-{
-    config.replace(fragment)?;
-    minimal_text(alloc, config, format)
 }
 
 /// Compares a file with its minimal file. Where they differ, replaces the file if `options.write` is set, and appends the file's line

@@ -1,3 +1,3 @@
-pub mod FoundWords
+pub mod CommandWords
 pub mod Lists
 pub mod TidyRefusals

@@ -1,9 +1,9 @@
 //! Parses the words of the command line into a job.
-ghost use Rattle.std.specs.Prelude.{◌≡◌, Ok, IfOk, map, option_map, List, ℕ};
+ghost use Rattle.std.specs.Prelude.{◌≡◌, ◌≢◌, Ok, IfOk, map, option_map, List, ℕ};
 ghost use Rattle.std.specs.Borrow.{Bor};
-ghost use Rattle.clap.specs.Words.{found_of};
-ghost use Rattle.kc_dotconfig_model.specs.between.Prefixes.{prefix_bytes};
+ghost use Rattle.clap.specs.Words.{found_of, kind_of};
 ghost use Rattle.kmin_words.specs.Jobs.{settings_view, questions_view, task_view, paths_of};
+ghost use Rattle.kmin_words.specs.Parses.{AreParsedAs, IsText};
 ghost use Rattle.kmin_words.specs.between.WordValues as parsed;
 ghost use Rattle.kmin_words.specs.checker.Refusals.{Agrees};
 
@@ -11,12 +11,13 @@ use crate::expansion_words::{check_inputs, expansion_if_given, expansion_of};
 use crate::job::{Job, OutputJob, Questions, Settings, Task, TidyJob, Verb};
 use crate::names::{nearest, with_tip};
 use crate::output_words::job_and_output;
+use crate::prefix_words::name_prefix_of;
 use crate::refusal::Refusal;
 use crate::tidy_words::tidy_job_of;
 use crate::values::{is_given, value_of, values_of};
 use clap::error::ErrorKind;
 use clap::{ArgMatches, Error};
-use kc_dotconfig_model::{Format, Prefix, Strings};
+use kc_dotconfig_model::{Format, Strings};
 use kc_rules_model::Profile;
 use kc_tokens::{Language, LinuxVersion};
 use kmin_commands::{command_names, explained_names, kind_asked, message_tables, program};
@@ -41,9 +42,10 @@ pub enum ParsedWords<'a> {
 
 /// Parses the words of the command line after the program's name. An `Err` means out of memory.
 pub fn read_words<'a>(alloc: Global, words: &'a [&'a str]) -> Result<ParsedWords<'a>, AllocError>
-    ensures { IfOk result parsed.HasFoundValues }
+    ensures { IfOk result (AreParsedAs (map (λ (word : Bor (List ℕ)). word.now) words.now)) }
 {
-    let help = kind_asked(alloc, message_tables(), words)?;
+    let tables = message_tables();
+    let help = kind_asked(alloc, &tables, words)?;
     if !help.is_empty() {
         return Ok(ParsedWords::Help(help));
     }
@@ -62,7 +64,8 @@ fn clap_message<'a>(
     words: &[&str],
     error: &Error,
 ) -> Result<ParsedWords<'a>, AllocError>
-    ensures { IfOk result parsed.HasFoundValues }
+    ensures text { IfOk result IsText }
+    ensures memory { IfOk result (λ parsed. kind_of error.now ≢ ErrorKind.OutOfMemory) }
 {
     if error.kind() == ErrorKind::OutOfMemory {
         return Err(AllocError);
@@ -207,16 +210,6 @@ fn settings_beside<'a>(
     }
 }
 
-/// The value of `--prefix`, which is refused if it is no prefix of names.
-fn prefix_of(text: &str) -> Result<Prefix, Refusal>
-    ensures { Agrees prefix_bytes (parsed.prefix_of text.now) result }
-{
-    match Prefix::of(text.as_bytes()) {
-        Some(prefix) => Ok(prefix),
-        None => Err(Refusal::Words("prefix: Malformed\n")),
-    }
-}
-
 /// The options of a command over configuration files of these paths; refused if they and the answer files name standard input
 /// more than once.
 pub(crate) fn settings_of<'a>(
@@ -226,7 +219,7 @@ pub(crate) fn settings_of<'a>(
 ) -> Result<Settings<'a>, Refusal>
     ensures { Agrees settings_view (parsed.settings_of (found_of matches.now) (map (λ (path : Bor (List ℕ)). path.now) paths.now)) result }
 {
-    let prefix = prefix_of(value_of(matches, "prefix"))?;
+    let prefix = name_prefix_of(matches)?;
     let expansion = expansion_if_given(alloc, matches)?;
     check_inputs(matches, paths)?;
     Ok(Settings {

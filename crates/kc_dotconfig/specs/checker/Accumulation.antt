@@ -8,6 +8,7 @@ use Rattle.kc_dotconfig_model.specs.declared.fault.LoadKind.{LoadKind}
 use Rattle.kc_dotconfig_model.specs.declared.fault.LoadKind.TheVariants.{OutOfMemory}
 use Rattle.kc_dotconfig_model.specs.ConfigLines.{LineMeaning}
 use Rattle.kc_dotconfig_model.specs.ConfigFiles.{FileMeans, file_assignment, notices_from}
+use Rattle.kc_dotconfig_model.specs.OtherChoices.{choice_lines_from}
 use Rattle.kc_value.specs.declared.limits.TheConstants.{MAX_CONFIG_BYTES}
 use Rattle.kc_dotconfig_model.specs.LoadFaults.{complete, IsFirstFault, IsAccepted}
 use Rattle.kc_dotconfig_model.specs.between.PartialFiles.{IsCut}
@@ -17,10 +18,11 @@ use Rattle.kc_dotconfig.specs.Fragments.{users_of, notice_pair}
 use Rattle.kc_dotconfig.specs.checker.UserValueOrder.{IsAscending, AreBelow}
 use Rattle.kc_dotconfig.specs.checker.GatheredLines.{value_in, lines_in, held_in, IsPlain}
 
--- the accumulator has the assignment, the notices and the number of the lines with these meanings
+-- the accumulator has the assignment, the notices, the lines of members and the number of the lines with these meanings
 pub record IsGathered (tree : Tree) (meanings : List LineMeaning) (g : Accumulator) : Type 0 where
   pub users : (u : ℕ) → u < length tree.units → user_of (file_assignment tree meanings) u ≡ held_in g.assigns g.members.entries u
   pub noted : map notice_pair g.notices.items ≡ notices_from 1 meanings
+  pub chosen : g.chosen.items ≡ choice_lines_from 1 meanings
   pub counted : g.lines ≡ length meanings
   pub rises : IsAscending g.assigns
   pub below : AreBelow (length tree.units) g.assigns
@@ -76,4 +78,4 @@ abbrev pub IsFragmentOf : FileFormat → Tree → List ℕ → Accumulator → F
 IsFragmentOf format tree line g f = (known : List ℕ) → Holds format tree known line g
     → (meanings : List LineMeaning) × IsAccepted format tree known × FileMeans format tree known meanings
     × (users_of tree f.assigns.items ≡ file_assignment tree meanings) × (map notice_pair f.notices.items ≡ notices_from 1 meanings)
-    × IsAscending f.assigns.items × AreBelow (length tree.units) f.assigns.items
+    × IsAscending f.assigns.items × AreBelow (length tree.units) f.assigns.items × (f.chosen.items ≡ choice_lines_from 1 meanings)

@@ -8,12 +8,7 @@ use Rattle.std.specs.Ordering.{nat_cmp}
 use Rattle.kc_rules_model.specs.declared.values.MemberLine.{MemberLine}
 use Rattle.kc_rules_model.specs.declared.values.UserValue.{UserValue}
 use Rattle.kc_rules_model.specs.declared.values.UserValue.TheVariants.{Tri as TriUser, Text as TextUser, Member as MemberUser, Lines as LinesUser}
-use Rattle.kc_rules_model.specs.MemberLines.{is_listed}
-
--- of some assignments of members the last one of each member, in order
-abbrev pub kept_last : List MemberLine → List MemberLine
-kept_last [] = []
-kept_last (l ∷ lines) = if is_listed lines l.member then kept_last lines else l ∷ kept_last lines
+use Rattle.kc_dotconfig_model.specs.OtherChoices.{kept_last}
 
 -- the user value that assignments of members are together
 abbrev pub lines_user : List MemberLine → UserValue

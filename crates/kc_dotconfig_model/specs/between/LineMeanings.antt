@@ -114,9 +114,18 @@ if_named parts = if nat_lt 0 (length parts.0) then Some parts else None
 abbrev pub named_before : ℕ → List ℕ → Option (List ℕ × List ℕ)
 named_before b text = option_and_then if_named (split_at_byte b text)
 
+-- whether a byte is there, and is `#`
+abbrev pub is_hash : Option ℕ → Bool
+is_hash None = false
+is_hash (Some b) = b == 35
+
+-- whether the first byte of a line that isn't white is `#`
+abbrev pub begins_with_hash : List ℕ → Bool
+begins_with_hash line = is_hash (find (λ b. not (is_white_byte b)) line)
+
 -- the name and the text of a line `CONFIG_NAME=text`, with this prefix; None for any other line
 abbrev pub value_parts : List ℕ → List ℕ → Option (List ℕ × List ℕ)
-value_parts prefix line = option_and_then (named_before 61) (after_front prefix line)
+value_parts prefix line = if begins_with_hash line then None else option_and_then (named_before 61) (after_front prefix line)
 
 -- from a name and the text after it: the name, if the text is `is not set`; None otherwise
 abbrev pub if_not_set : List ℕ × List ℕ → Option (List ℕ)
@@ -138,15 +147,10 @@ abbrev pub of_named : Tree → (ℕ → Symbol → LineMeaning) → Option ℕ �
 of_named tree say None = notice UnknownSymbol
 of_named tree say (Some s) = of_symbol_at say s (slice_get tree.symbols s)
 
--- whether a byte is there, and is `#`
-abbrev pub is_hash : Option ℕ → Bool
-is_hash None = false
-is_hash (Some b) = b == 35
-
 -- the meaning of a line that names no symbol: an empty line or a comment assigns nothing; None for a malformed line
 abbrev pub of_other : List ℕ → Option LineMeaning
 of_other [] = Some silent
-of_other (b ∷ line) = if is_hash (find (λ c. not (is_white_byte c)) (b ∷ line)) then Some silent else None
+of_other (b ∷ line) = if begins_with_hash (b ∷ line) then Some silent else None
 
 -- the meaning of a line that isn't of the form `CONFIG_NAME=text`, given its name if it is `# CONFIG_NAME is not set` and None if
 -- not; the meaning is None if the line is malformed

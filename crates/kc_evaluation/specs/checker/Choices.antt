@@ -1,4 +1,4 @@
--- The rule of a choice that is shown, with the user value as a member, and what the code knows of assigned members.
+-- The rule of a choice that is shown, with the user value as a member.
 use Rattle.std.specs.Prelude.{ℕ, ◌<◌, Bool, not, ◌&&◌, ◌==◌, All, List, Option, Some, None, length, if◌then◌else◌}
 use Rattle.std.specs.List.{list_any}
 use Rattle.std.specs.Option.{option_and_then, option_or}
@@ -13,10 +13,6 @@ abbrev pub shown_choice_rule_of : Tree → Choice → Option ℕ → List UnitVa
 shown_choice_rule_of tree choice user values =
     let by_user = option_and_then (λ s. if is_visible_member tree values s then Some s else None) user in
     if is_shown tree values choice then option_or by_user (default_member tree choice values) else None
-
--- all members to which something is assigned are symbols of a tree
-abbrev pub AreLines : Tree → List MemberLine → Type 0
-AreLines tree lines = All (λ (l : MemberLine). l.member < length tree.symbols) lines
 
 -- whether a member is visible, and its number isn't among these
 abbrev pub is_free : Tree → List UnitValue → List ℕ → ℕ → Bool

@@ -3,6 +3,7 @@ use Rattle.std.specs.Prelude.{◌≡◌, ◌≢◌, ◌⊎◌, ℕ, List, ◌++�
 use Rattle.kc_dotconfig_model.specs.Formats.{FileFormat}
 use Rattle.kc_dotconfig_model.specs.ConfigLines.{LineMeaning}
 use Rattle.kc_dotconfig_model.specs.ConfigFiles.{FileMeans, file_assignment, notices_from}
+use Rattle.kc_dotconfig_model.specs.OtherChoices.{choice_lines_from}
 use Rattle.kc_dotconfig_model.specs.LoadFaults.{IsAccepted, IsFirstFault, complete, cut_short}
 use Rattle.kc_dotconfig_model.specs.declared.fault.LoadKind.{LoadKind}
 use Rattle.kc_dotconfig_model.specs.declared.fault.LoadKind.TheVariants.{Read, OutOfMemory}
@@ -11,16 +12,23 @@ use Rattle.kc_dotconfig.specs.Fragments.{FitsTree, users_of, notice_pair}
 use Rattle.kc_tree_model.specs.Trees.{Tree}
 use Rattle.kmin_disk.specs.Contents.{OpensAs}
 use Rattle.kmin_report.specs.KnownBytes.{AreKnownBytes}
+use Rattle.kc_dotconfig_model.specs.declared.notice.NoticeKind.TheVariants.{OtherChoice}
+use Rattle.kmin_tidy.specs.Options.{Notices}
 use Rattle.kmin_tidy.specs.declared.accepted_file.AcceptedFile.{AcceptedFile}
 
--- a fragment has the assignments of an accepted configuration file of these bytes, and the notices of its lines
+-- a fragment has the assignments of an accepted configuration file of these bytes, the notices of its lines and its lines of members
 pub record IsFragmentOf (format : FileFormat) (tree : Tree) (bytes : List ℕ) (f : Fragment) : Type 0 where
   pub accepted : IsAccepted format tree bytes
   pub meanings : List LineMeaning
   pub means : FileMeans format tree bytes meanings
   pub users : users_of tree f.assigns.items ≡ file_assignment tree meanings
   pub noted : map notice_pair f.notices.items ≡ notices_from 1 meanings
+  pub chosen : f.chosen.items ≡ choice_lines_from 1 meanings
   pub fits : FitsTree tree f.assigns.items
+
+-- notices on choices, from their places
+abbrev pub places_noted : List (ℕ × ℕ) → Notices
+places_noted places = map (λ (place : ℕ × ℕ). (place.1, OtherChoice)) places
 
 -- a file was read and accepted: its bytes agree with `known`, what is known of them, and its fragment is that of these bytes
 pub record IsAcceptedAs (format : FileFormat) (tree : Tree) (known : Option (Option (List ℕ))) (file : AcceptedFile) : Type 0 where

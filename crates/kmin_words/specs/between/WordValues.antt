@@ -1,7 +1,7 @@
 -- The job of accepted words, by the values that their parser found.
 use Rattle.std.specs.Prelude.{◌≡◌, ℕ, ◌+◌, Bool, true, false, not, ◌&&◌, ◌||◌, ◌==◌, nat_lt, nat_le, List, [], ◌∷◌, ◌++◌, length, take, drop, position, count_by, Option, Some, None, Result, Ok, Err, is_some, codes, unwrap_or, option_map, bytes_eq, if◌then◌else◌}
 use Rattle.std.specs.List.{list_all, list_any, filter_map}
-use Rattle.clap.specs.Words.{matched_of, first_value}
+use Rattle.clap.specs.Words.{matched_of, first_value, is_present}
 use Rattle.clap.specs.Matches.{raw_values}
 use Rattle.clap.specs.declared.parser.matches.Found.{Found}
 use Rattle.kc_value.specs.declared.limits.TheConstants.{MAX_VARIABLE_BYTES}
@@ -20,7 +20,7 @@ use Rattle.kmin_words.specs.declared.job.TidyFlags.{TidyFlags}
 use Rattle.kmin_words.specs.declared.job.Verb.{Verb}
 use Rattle.kmin_words.specs.declared.job.Verb.TheVariants.{Min, Full, Missed, Check}
 use Rattle.kmin_words.specs.declared.command_line.ParsedWords.{ParsedWords}
-use Rattle.kmin_words.specs.declared.command_line.ParsedWords.TheVariants.{Job, Save, Questions as TheQuestions, Tidy, Help, Refused}
+use Rattle.kmin_words.specs.declared.command_line.ParsedWords.TheVariants.{Job, Save, Questions as TheQuestions, Tidy, Refused}
 use Rattle.kmin_words.specs.Jobs.{Definition, Expansion, Settings, Questions, PathList, TidyJob, Task, over, compare, paths_of, settings_view, questions_view, tidy_job_view, task_view}
 
 -- the one value that was found for an option or a word of the command line; empty if there is none
@@ -158,10 +158,23 @@ expansion_if_given found = if is_expanded found then and_then (expansion_of foun
 abbrev pub prefix_of : List ℕ → ValueResult (List ℕ)
 prefix_of text = if is_prefix text then Ok text else Err (codes "prefix: Malformed\n")
 
+-- the message with which `--no-prefix` is refused beside `--prefix`
+abbrev pub two_prefixes : List ℕ
+two_prefixes =
+    codes "error: the argument '--prefix <TEXT>' cannot be used with '--no-prefix'\n\nFor more information, try '--help'.\n"
+
+-- what comes before names in configuration files: nothing with `--no-prefix`, which is refused where the words give `--prefix`
+-- too, whatever its text, and else the value of `--prefix`
+abbrev pub name_prefix_of : Found → ValueResult (List ℕ)
+name_prefix_of found =
+    if is_given found (codes "no-prefix")
+    then (if is_present found (codes "prefix") then Err two_prefixes else Ok [])
+    else prefix_of (value_of found (codes "prefix"))
+
 -- the options of a command over configuration files of these paths, by the values that were found
 abbrev pub settings_of : Found → (paths : List (List ℕ)) → ValueResult Settings
 settings_of found paths =
-    and_then (prefix_of (value_of found (codes "prefix"))) (λ prefix.
+    and_then (name_prefix_of found) (λ prefix.
     and_then (expansion_if_given found) (λ expansion.
     and_then (paths_beside (values_of found (codes "answers")) paths) (λ named.
     Ok (record {
@@ -276,12 +289,3 @@ HasValues name found words = elim (bytes_eq name (codes "wants")) [
   | true ↦ AreQuestions (questions_of found) words
   | false ↦ elim (bytes_eq name (codes "tidy")) [ true ↦ IsTidyJob (tidy_job_of found) words | false ↦ AreJob (job_and_output_of name found) words ]
 ]
-
--- a parsed command has the values that were found for a command of some name, none of them refused
-abbrev pub HasFoundValues : ParsedWords → Type 0
-HasFoundValues (Job job) = (found : Found) × (name : List ℕ) × AreJob (job_and_output_of name found) (Job job)
-HasFoundValues (Save output_job) = (found : Found) × (name : List ℕ) × AreJob (job_and_output_of name found) (Save output_job)
-HasFoundValues (TheQuestions questions) = (found : Found) × AreQuestions (questions_of found) (TheQuestions questions)
-HasFoundValues (Tidy tidy_job) = (found : Found) × IsTidyJob (tidy_job_of found) (Tidy tidy_job)
-HasFoundValues (Help text) = Unit {0}
-HasFoundValues (Refused text) = Unit {0}

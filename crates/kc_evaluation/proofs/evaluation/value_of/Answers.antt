@@ -4,19 +4,13 @@ use Rattle.std.specs.Option.{option_copied}
 use Rattle.std.proofs.lemmas.Result.{IfOk-weaker}
 use Rattle.kc_tree.specs.between.Views.{choice_view, symbol_view}
 use Rattle.kc_rules_model.specs.declared.values.UnitValue.TheVariants.{Member as MemberValue}
-use Rattle.kc_evaluation.proofs.Evaluations.{rule_symbol, rule_choice, member_there, lines_there}
+use Rattle.kc_evaluation.proofs.Evaluations.{rule_symbol, rule_choice, member_there}
 use Rattle.kc_evaluation.proofs.evaluation.value_of.Goals as goal
 
 pub choice_rule-requires-clause-member : goal.choice_rule-requires-clause-member
 choice_rule-requires-clause-member c =
     let r = c.args.rules.now in
     member_there r.tree.tree c.args.u c.in-Choice.c (choice_view r.tree.exprs c.choice.result) (option_copied c.args.user)
-    c.in-Choice.ensures.unit c.choice.ensures.choice c.choice.ensures.fits.members c.requires.user
-
-pub choice_rule-requires-clause-lines : goal.choice_rule-requires-clause-lines
-choice_rule-requires-clause-lines c =
-    let r = c.args.rules.now in
-    lines_there r.tree.tree c.args.u c.in-Choice.c (choice_view r.tree.exprs c.choice.result) (option_copied c.args.user)
     c.in-Choice.ensures.unit c.choice.ensures.choice c.choice.ensures.fits.members c.requires.user
 
 pub returns-in-Symbol : goal.returns-in-Symbol

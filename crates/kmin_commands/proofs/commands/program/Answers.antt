@@ -1,8 +1,24 @@
-use Rattle.kmin_commands.proofs.CommandParts.{required_kept}
+use Rattle.std.proofs.Common.{ap, rules}
+use Rattle.std.proofs.lemmas.Result.{IfOk-weaker}
+use Rattle.clap.specs.Words.{App}
+use Rattle.kmin_commands.proofs.CommandParts.{with_command}
+use Rattle.kmin_commands.proofs.Simplicity.{program_is_simple}
 use Rattle.kmin_commands.proofs.commands.program.Goals as goal
 
-pub returns : goal.returns
-returns c =
-    let writing = c.in_ok-program.ensures c.in_ok-named.ensures in
-    let compare = c.in_ok-with_compare.ensures (c.in_ok-program-2.ensures writing) in
-    required_kept _ c.with_tidy_and_wants.result c.with_tidy_and_wants.ensures compare
+pub returns-clause-required : goal.returns-clause-required
+returns-clause-required c =
+    let listing = c.in_ok-program-2.ensures _ (c.in_ok-program.ensures _ c.in_ok-named.ensures) in
+    let compare = with_command _ _ _ _ _ c.in_ok-program-3.ensures c.in_ok-compare.ensures listing in
+    IfOk-weaker c.with_tidy_and_wants.result _ _ (λ made adds.
+    let has = adds _ compare in (has.0, ap (λ (app : App). app.top.subcommand_required) has.1)) c.with_tidy_and_wants.ensures
+
+pub returns-clause-declared : goal.returns-clause-declared
+returns-clause-declared c =
+    let listing = c.in_ok-program-2.ensures _ (c.in_ok-program.ensures _ c.in_ok-named.ensures) in
+    let compare = with_command _ _ _ _ _ c.in_ok-program-3.ensures c.in_ok-compare.ensures listing in
+    IfOk-weaker c.with_tidy_and_wants.result _ _ (λ made adds.
+    (_, record { languages = search rules; forms = search rules; profiles = search rules }, (adds _ compare).1)) c.with_tidy_and_wants.ensures
+
+pub returns-clause-simple : goal.returns-clause-simple
+returns-clause-simple c =
+    IfOk-weaker c.with_tidy_and_wants.result _ _ (λ made is. program_is_simple _ is) (returns-clause-declared c)

@@ -1,12 +1,14 @@
-use Rattle.kmin_commands.proofs.CommandParts.{with_argument, local_kept}
+use Rattle.std.proofs.lemmas.Result.{IfOk-weaker}
+use Rattle.kmin_commands.proofs.CommandParts.{with_argument}
 use Rattle.kmin_commands.proofs.commands.with_options.Goals as goal
 
 pub returns : goal.returns
 returns c =
-    let place = c.in_ok-command.ensures c.described.ensures in
-    let language = with_argument _ _ _ c.in_ok-command-2.ensures c.language.ensures place in
-    let prefix = with_argument _ _ _ c.in_ok-command-3.ensures c.option.ensures language in
-    let strings = with_argument _ _ _ c.in_ok-command-4.ensures c.strings.ensures prefix in
-    let imply = with_argument _ _ _ c.in_ok-command-5.ensures c.imply.ensures strings in
-    let strict = with_argument _ _ _ c.in_ok-command-6.ensures c.flag.ensures imply in
-    local_kept _ c.with_answers.result c.with_answers.ensures strict
+    let place = c.in_ok-command.ensures _ c.described.ensures in
+    let language = with_argument _ _ _ _ _ c.in_ok-command-2.ensures c.language.ensures place in
+    let prefix = with_argument _ _ _ _ _ c.in_ok-command-3.ensures c.option.ensures language in
+    let none = with_argument _ _ _ _ _ c.in_ok-command-4.ensures c.flag.ensures prefix in
+    let strings = with_argument _ _ _ _ _ c.in_ok-command-5.ensures c.strings.ensures none in
+    let imply = with_argument _ _ _ _ _ c.in_ok-command-6.ensures c.imply.ensures strings in
+    let strict = with_argument _ _ _ _ _ c.in_ok-command-7.ensures c.flag-2.ensures imply in
+    IfOk-weaker c.with_answers.result _ _ (λ made answers. answers _ strict) c.with_answers.ensures

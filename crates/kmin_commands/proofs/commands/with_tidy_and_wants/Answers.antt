@@ -1,6 +1,9 @@
-use Rattle.kmin_commands.proofs.CommandParts.{with_command, command_kept}
+use Rattle.std.proofs.lemmas.Result.{IfOk-weaker}
+use Rattle.kmin_commands.proofs.CommandParts.{with_command}
 use Rattle.kmin_commands.proofs.commands.with_tidy_and_wants.Goals as goal
 
 pub returns : goal.returns
-returns c = command_kept _ _ _ c.subcommand-2.result c.subcommand-2.ensures c.in_ok-over_a_tree.ensures
-    (λ h. with_command _ _ _ c.in_ok-program.ensures c.in_ok-over_each_file.ensures h)
+returns c =
+    IfOk-weaker c.subcommand-2.result _ _ (λ made adds app has.
+    with_command _ made _ _ _ adds c.in_ok-wants.ensures (with_command _ _ _ app _ c.in_ok-program.ensures c.in_ok-tidy.ensures has))
+    c.subcommand-2.ensures

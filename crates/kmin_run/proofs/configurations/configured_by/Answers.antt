@@ -3,7 +3,7 @@ use Rattle.kc_rules.specs.between.SettledViews.{tree_of_settled}
 use Rattle.kc_dotconfig_model.specs.ConfigFiles.{empty_assignment}
 use Rattle.kc_dotconfig.proofs.UserValueUnits.{lies_alone}
 use Rattle.kmin_report.proofs.Results.{if_err, memory_err}
-use Rattle.kmin_run.proofs.Sequences.{loaded_one, stopped_path, stopped_for_memory}
+use Rattle.kmin_run.proofs.Sequences.{loaded_one, read_one, stopped_path, stopped_for_memory}
 use Rattle.kmin_run.proofs.configurations.configured_by.Goals as goal
 
 pub returns-in_err-fragment-clause-stopped : goal.returns-in_err-fragment-clause-stopped
@@ -24,6 +24,15 @@ pub returns-clause-loaded : goal.returns-clause-loaded
 returns-clause-loaded g c =
     let tree = tree_of_settled c.args.settled.now in
     let fragment = c.in_ok-fragment.fragment in
-    loaded_one (g.F.Files.surroundings c.args.files.now).content _ _ tree c.args.path.now (empty_assignment tree) c.in_ok-config.field-0.users fragment _ _ _ _
+    read_one (g.F.Files.surroundings c.args.files.now).content _ _ tree c.args.path.now (empty_assignment tree) c.in_ok-config.config.users fragment [] _ _ _ _ _
     c.in_ok-fragment.ensures.loaded c.in_ok-fragment.ensures.allowed
-    (c.in_ok-config.ensures.users ∙ lies_alone tree fragment.assigns.items)
+    (c.in_ok-config.ensures.users ∙ lies_alone tree fragment.assigns.items) c.in_ok-chosen.ensures
+
+pub returns-in_err-chosen-clause-stopped : goal.returns-in_err-chosen-clause-stopped
+returns-in_err-chosen-clause-stopped g c =
+    let content_of = (g.F.Files.surroundings c.args.files.now).content in
+    let tree = tree_of_settled c.args.settled.now in
+    memory_err _ _ c.from_residual-in_err-chosen.ensures (λ stop status.
+    stopped_for_memory content_of _ _ tree _ _ _ _ _ (c.args.path.now ∷ []) [] _ (empty_assignment tree) _ refl status
+    (loaded_one content_of _ _ tree c.args.path.now (empty_assignment tree) _ c.in_ok-fragment.fragment _ _ _ _ c.in_ok-fragment.ensures.loaded
+    c.in_ok-fragment.ensures.allowed refl))

@@ -3,7 +3,7 @@ use Rattle.std.specs.Borrow.{Bor}
 use Rattle.kc_rules.specs.between.SettledViews.{tree_of_settled}
 use Rattle.kc_dotconfig.specs.ConfigStates.{IsSolved}
 use Rattle.kc_dotconfig_model.specs.between.Formats.{file_format}
-use Rattle.kmin_run.specs.between.LoadResults.{AreLoaded}
+use Rattle.kmin_run.specs.between.LoadResults.{AreRead, lists_of}
 use Rattle.kmin_run.proofs.configurations.overlaid.Given as goal
 
 abbrev pub invariant-loop-path : goal.invariant-loop-path
@@ -11,7 +11,7 @@ invariant-loop-path g l = record {
   same : g.F.Files.surroundings l.files ≡ g.F.Files.surroundings l.fn.files;
   settled : l.config.system ≡ l.settled;
   solved : IsSolved l.config;
-  loaded : AreLoaded (g.F.Files.surroundings l.fn.files).content (file_format l.settings.format) l.settings.strict (tree_of_settled l.settled)
-      (map (λ (path : Bor (List ℕ)). path.now) (take l.path-index l.paths)) l.fn.begun.users l.config.users (g.E.Sink.taken l.fn.err)
+  loaded : AreRead (g.F.Files.surroundings l.fn.files).content (file_format l.settings.format) l.settings.strict (tree_of_settled l.settled)
+      (map (λ (path : Bor (List ℕ)). path.now) (take l.path-index l.paths)) l.fn.begun.config.users l.config.users (lists_of l.fn.begun.chosen.items) (lists_of l.chosen.items) (g.E.Sink.taken l.fn.err)
       (g.E.Sink.failures l.fn.err) (g.E.Sink.taken l.err) (g.E.Sink.failures l.err);
 }

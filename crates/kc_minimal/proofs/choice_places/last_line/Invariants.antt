@@ -1,0 +1,6 @@
+use Rattle.std.proofs.Common.{◌≡◌, None, drop}
+use Rattle.kc_dotconfig_model.specs.OtherChoices.{last_line}
+use Rattle.kc_minimal.proofs.choice_places.last_line.Given as goal
+
+abbrev pub invariant-loop-i : goal.invariant-loop-i
+invariant-loop-i l = last_line l.s (drop l.i l.lines) ≡ None

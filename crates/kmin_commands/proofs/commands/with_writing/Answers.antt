@@ -1,0 +1,9 @@
+use Rattle.std.proofs.lemmas.Result.{IfOk-weaker}
+use Rattle.kmin_commands.proofs.CommandParts.{with_command}
+use Rattle.kmin_commands.proofs.commands.with_writing.Goals as goal
+
+pub returns : goal.returns
+returns c =
+    IfOk-weaker c.subcommand-2.result _ _ (λ made adds app has.
+    with_command _ made _ _ _ adds c.in_ok-full.ensures (with_command _ _ _ app _ c.in_ok-program.ensures c.in_ok-min.ensures has))
+    c.subcommand-2.ensures

@@ -1,0 +1,129 @@
+-- Ends of runs, from what the parts of a run ensure.
+use Rattle.std.proofs.Common.{◌≡◌, ◌≢◌, ◌==◌, eqb-true, true≢false, map, false, ◌⊎◌, ℕ, true, List, [], ◌∷◌, ◌++◌, Option, Ok, length, inl, inr, refl, arith}
+use Rattle.std.proofs.lemmas.Bool.Decides.{eqb_tells}
+use Rattle.std.specs.Io.KnownBytes.{Appends}
+use Rattle.kmin_report.specs.Reports.{last_lines}
+use Rattle.kmin_report.specs.StandardError.{TakesLines}
+use Rattle.kmin_report.specs.declared.run_error.RunError.{RunError}
+use Rattle.kmin_report.specs.declared.run_error.RunError.TheVariants.{Tree, Configuration, Failed, Memory}
+use Rattle.kmin_report.specs.between.RunErrors.{status_of}
+use Rattle.kmin_words.specs.Jobs.{Settings, Questions, Task}
+use Rattle.kmin_words.specs.Parses.{AreParsedAs}
+use Rattle.kmin_words.specs.declared.command_line.ParsedWords.{ParsedWords}
+use Rattle.kmin_trees.specs.FileContents.{Surroundings}
+use Rattle.kmin_trees.specs.JobTexts.{TreeTexts, AreTextsOfJob}
+use Rattle.kmin_trees.specs.WantedQuestions.{AreAsked, AsksInPart, StopsWanting, questions_text}
+use Rattle.kmin_run.specs.Answers.{Answer}
+use Rattle.kmin_run.specs.PartialAnswers.{AnswersInPart}
+use Rattle.kmin_run.specs.Statuses.{status_of_list}
+use Rattle.kmin_run.specs.Stops.{Stops}
+use Rattle.kmin_run.specs.TidyRuns.{Outputs}
+use Rattle.kmin_run.specs.Runs as runs
+use Rattle.kmin_run.specs.Runs.{AskForChanges, AskForTidying, BundleEnds, Ends, Input, JobEnds, MayChangeFiles, QuestionsEnd, WordsEnd, IsOfFault, IsTidying}
+
+-- a status is 0 or 1, or it is another one
+zero_or_one : (status : ℕ) → ((status ≡ 0) ⊎ (status ≡ 1)) ⊎ ((status ≢ 0) × (status ≢ 1))
+zero_or_one status = elim (eqb_tells status 0) [
+  | inl zero ↦ inl (inl zero.1)
+  | inr not_zero ↦ elim (eqb_tells status 1) [ inl one ↦ inl (inr one.1) | inr not_one ↦ inr (not_zero.1, not_one.1) ]
+]
+
+-- a run that wrote nothing but on status 5, and then at most a part, wrote nothing, or a part on status 5
+at_most : (P Q : Type 0) (status : ℕ) → (status ≡ 5 → P ⊎ Q) → (status ≢ 5 → P) → P ⊎ ((status ≡ 5) × Q)
+at_most P Q status part unwritten = elim (eqb_tells status 5) [
+  | inl five ↦ elim (part five.1) [ inl nothing ↦ inl nothing | inr some ↦ inr (five.1, some) ]
+  | inr other ↦ inl (unwritten other.1)
+]
+
+module _ (known : Surroundings) (old new : Outputs) (status : ℕ) (taken taken_after : Option (List ℕ)) (failed failed_after : ℕ)
+    (same : new.disk ≡ old.disk) (accepted : status ≢ 2) (unfailed : (status ≡ 0) ⊎ (status ≡ 1) → new.failures ≡ old.failures)
+    (unwritten : status ≢ 0 → status ≢ 1 → status ≢ 5 → new.taken ≡ old.taken) where
+  -- a command over configuration files ends as `JobEnds` defines, by the clauses of `serve`
+  pub job_ended : (settings : Settings) (task : Task)
+      → ((status ≡ 0) ⊎ (status ≡ 1) → (t : TreeTexts) × (text : List ℕ) × (notices : List (List ℕ)) × AreTextsOfJob known settings t
+      × Answer known.content settings t.texts task text status notices × Appends old.taken new.taken text
+      × TakesLines taken failed (t.lines ++ notices) taken_after failed_after)
+      → ((status ≢ 0) × (status ≢ 1) → (lines : List (List ℕ)) × Stops known settings task status lines
+      × TakesLines taken failed (lines ++ last_lines status) taken_after failed_after)
+      → (status ≡ 5 → (new.taken ≡ old.taken) ⊎ AnswersInPart known settings task old.taken new.taken)
+      → (lines : List (List ℕ)) × JobEnds known settings task old new lines status × TakesLines taken failed lines taken_after failed_after
+  job_ended settings task done stopped part = elim (zero_or_one status) [
+    | inl well ↦
+        let w = done well in
+        (w.0.lines ++ w.2, runs.done w.0 w.1 w.2 w.3 w.4 well w.5 (unfailed well) same refl, w.6)
+    | inr other ↦
+        let w = stopped other in (
+          w.0 ++ last_lines status,
+          runs.stopped w.0 w.1 (other.0, other.1, accepted)
+              (at_most _ _ status part (unwritten other.0 other.1)) same refl,
+          w.2,
+        )
+  ]
+
+  -- the command `wants` ends as `QuestionsEnd` defines, by the clauses of `list_questions`
+  pub questions_ended : (questions : Questions)
+      → ((status ≡ 0) ⊎ (status ≡ 1) → (asked : List (List ℕ)) × AreAsked known questions (Ok asked) × (status ≡ status_of_list true asked)
+      × Appends old.taken new.taken (questions_text asked) × TakesLines taken failed [] taken_after failed_after)
+      → ((status ≢ 0) × (status ≢ 1) → (lines : List (List ℕ)) × StopsWanting known questions status lines
+      × TakesLines taken failed (lines ++ last_lines status) taken_after failed_after)
+      → (status ≡ 5 → (new.taken ≡ old.taken) ⊎ AsksInPart known questions old.taken new.taken)
+      → (lines : List (List ℕ)) × QuestionsEnd known questions old new lines status × TakesLines taken failed lines taken_after failed_after
+  questions_ended questions done stopped part = elim (zero_or_one status) [
+    | inl well ↦
+        let w = done well in
+        ([], runs.done w.0 w.1 w.2 w.3 (unfailed well) same refl, w.4)
+    | inr other ↦
+        let w = stopped other in (
+          w.0 ++ last_lines status,
+          runs.stopped w.0 w.1 (other.0, other.1, accepted)
+              (at_most _ _ status part (unwritten other.0 other.1)) same refl,
+          w.2,
+        )
+  ]
+
+-- the status of an error that ends a run is one of a fault
+pub of_fault : (stop : RunError) (status : ℕ) → status ≡ status_of stop → IsOfFault status
+of_fault Tree status is = (λ e. omega arith, λ e. omega arith, λ e. omega arith)
+of_fault Configuration status is = (λ e. omega arith, λ e. omega arith, λ e. omega arith)
+of_fault Failed status is = (λ e. omega arith, λ e. omega arith, λ e. omega arith)
+of_fault Memory status is = (λ e. omega arith, λ e. omega arith, λ e. omega arith)
+
+-- of the errors that end a run just a failed read or write has the status 5
+pub five_is_failed : (stop : RunError) (status : ℕ) → status ≡ status_of stop → status ≡ 5 → stop ≡ Failed
+five_is_failed Tree status is five = absurd (omega arith)
+five_is_failed Configuration status is five = absurd (omega arith)
+five_is_failed Failed status is five = refl
+five_is_failed Memory status is five = absurd (omega arith)
+
+-- a bundle's run that ended early wrote a part at most, and that only on status 5
+pub bundle_wrote : (P Q : Type 0) (stop : RunError) (status : ℕ) → status ≡ status_of stop → (stop ≡ Failed → P ⊎ Q) → (stop ≡ Failed) ⊎ P
+    → P ⊎ ((status ≡ 5) × Q)
+bundle_wrote P Q stop status is part (inl failed) = elim (part failed) [
+  | inl nothing ↦ inl nothing
+  | inr some ↦ inr (rw failed at is, some)
+]
+bundle_wrote P Q stop status is part (inr nothing) = inl nothing
+
+module _ (known : Surroundings) (input input_after : Input) (old new : Outputs) (lines : List (List ℕ)) (status : ℕ) where
+  -- a run without words ends as one on a bundle
+  pub without_words : {A : Type 0} (f : A → List ℕ) (words : List A) → (length words == 0) ≡ true → BundleEnds input input_after old new lines status
+      → Ends known (map f words) input input_after old new lines status
+  without_words f [] none ends = ends
+  without_words f (word ∷ words) none ends = absurd (omega (arith, eqb-true _ _ none))
+
+  -- a run with words ends as they are parsed
+  pub with_words : {A : Type 0} (f : A → List ℕ) (words : List A) → (length words == 0) ≡ false
+      → WordsEnd known (map f words) input.left old new lines status → Ends known (map f words) input input_after old new lines status
+  with_words f [] some ends = absurd (true≢false some)
+  with_words f (word ∷ words) some ends = ends
+
+module _ (P : Type 0) (words : List (List ℕ)) (what : ParsedWords) (are : AreParsedAs words what) where
+  -- what was parsed of the words changes files, if anything does
+  pub asked : P ⊎ MayChangeFiles what → P ⊎ AskForChanges words
+  asked (inl unchanged) = inl unchanged
+  asked (inr may) = inr (what, are, may)
+
+  -- what was parsed of the words is `tidy`, if something was written beside a refused file
+  pub tidied : P ⊎ IsTidying what → P ⊎ AskForTidying words
+  tidied (inl unwritten) = inl unwritten
+  tidied (inr tidies) = inr (what, are, tidies)
