@@ -29,11 +29,22 @@ pub(crate) fn is_the_word(word: &str, token: &Token<'_>) -> bool
     is_word(token) && token.text == word
 }
 
+/// The bytes of names, each at its own place; a `!` at the place of any other byte.
+static NAME_BYTES: [u8; 256] = *b"\
+    !!!!!!!!!!!!!!!!!!!!!!!!!!!!!!!!\
+    !!!!!!!!!!!!!!!!0123456789!!!!!!\
+    !ABCDEFGHIJKLMNOPQRSTUVWXYZ!!!!_\
+    !abcdefghijklmnopqrstuvwxyz!!!!!\
+    !!!!!!!!!!!!!!!!!!!!!!!!!!!!!!!!\
+    !!!!!!!!!!!!!!!!!!!!!!!!!!!!!!!!\
+    !!!!!!!!!!!!!!!!!!!!!!!!!!!!!!!!\
+    !!!!!!!!!!!!!!!!!!!!!!!!!!!!!!!!";
+
 /// Whether a byte is a letter, a digit or `_`.
 fn is_name_byte(byte: u8) -> bool
     ensures { result ≡ is_name_byte byte }
 {
-    matches!(byte, b'A'..=b'Z' | b'a'..=b'z' | b'0'..=b'9' | b'_')
+    NAME_BYTES[byte as usize] != b'!'
 }
 
 /// Whether a token is the name of a symbol: a bare word of letters, digits and `_`, and none of the constants `n`, `m` and `y`.
@@ -61,7 +72,7 @@ fn are_name_bytes(bytes: &[u8]) -> bool
 fn is_constant(word: &str) -> bool
     ensures { result ≡ (bytes_eq word.now (codes "n") || bytes_eq word.now (codes "m") || bytes_eq word.now (codes "y")) }
 {
-    word == "n" || word == "m" || word == "y"
+    matches!(word.as_bytes(), [b'n' | b'm' | b'y'])
 }
 
 /// Whether a token can be an operand: a bare word or a quoted text.
