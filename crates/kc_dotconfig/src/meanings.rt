@@ -12,8 +12,9 @@ ghost use Rattle.kc_dotconfig_model.specs.between.Formats.{file_format};
 ghost use Rattle.kc_dotconfig_model.specs.between.LineMeanings.{line_meaning, tri_meaning, string_meaning, number_meaning, meaning_of_kind, value_meaning, string_text, of_named, of_other};
 ghost use Rattle.kc_dotconfig.specs.checker.MeaningViews.{meaning_view, IsWithin};
 
-use super::line_parts::{between_quotes, is_comment, trimmed, unset_name, value_parts};
-use kc_dotconfig_model::{Format, NoticeKind, Strings};
+use kc_dotconfig_model::{
+    Format, NoticeKind, Strings, between_quotes, is_comment, trimmed, unset_name, value_parts,
+};
 use kc_rules::Settled;
 use kc_rules_model::MemberLine;
 use kc_tokens::Language;

@@ -13,6 +13,8 @@ pub mod Cuts
 pub mod FaultsAtCuts
 pub mod JudgedFiles
 pub mod OtherLines
+pub mod LineParts
+mod UnsetNames
 mod FileRows
 mod FaultRows
 mod MissedRows

@@ -65,7 +65,8 @@ static WORD_BYTES: [u8; 256] = *b"\
     !!!!!!!!!!!!!!!!!!!!!!!!!!!!!!!!\
     !!!!!!!!!!!!!!!!!!!!!!!!!!!!!!!!";
 
-fn is_white(byte: u8) -> bool
+/// Whether a byte is white: a tab, a vertical tab, a form feed, a carriage return or a space.
+pub fn is_white(byte: u8) -> bool
     ensures { result ≡ is_white_byte byte }
 {
     matches!(byte, 0x09 | 0x0B | 0x0C | 0x0D | 0x20)

@@ -2,8 +2,8 @@ use Rattle.std.proofs.Common.{◌≡◌, sym, ◌∙◌, ap, None, arith}
 use Rattle.std.proofs.lemmas.Grind.{common_steps, elements}
 use Rattle.std.specs.Option.{option_and_then}
 use Rattle.kc_dotconfig_model.specs.between.LineMeanings.{if_named, named_before}
-use Rattle.kc_dotconfig.proofs.LineParts.{cut_none, cut_parts, named_is, if_none}
-use Rattle.kc_dotconfig.proofs.line_parts.named_before.Goals as goal
+use Rattle.kc_dotconfig_model.proofs.LineParts.{cut_none, cut_parts, named_is, if_none}
+use Rattle.kc_dotconfig_model.proofs.line_parts.named_before.Goals as goal
 
 pub returns-in_err-name-clause-none : goal.returns-in_err-name-clause-none
 returns-in_err-name-clause-none c =

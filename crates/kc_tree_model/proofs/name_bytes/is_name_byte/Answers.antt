@@ -1,8 +1,8 @@
 use Rattle.std.proofs.Common.{refl, ap, ◌∙◌, arith, zero-add}
-use Rattle.kc_statements.specs.declared.token.TheConstants.{NAME_BYTES}
+use Rattle.kc_tree_model.specs.declared.name_bytes.TheConstants.{NAME_BYTES}
 use Rattle.kc_tree_model.specs.TreeLookup.{is_name_byte}
 use Rattle.kc_tokens.proofs.ByteTables.{marks_all, entry_marks}
-use Rattle.kc_statements.proofs.token.is_name_byte.Goals as goal
+use Rattle.kc_tree_model.proofs.name_bytes.is_name_byte.Goals as goal
 
 pub returns : goal.returns
 unfolding marks_all

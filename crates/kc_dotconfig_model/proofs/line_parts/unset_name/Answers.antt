@@ -1,6 +1,6 @@
 use Rattle.std.proofs.Common.{arith}
 use Rattle.std.proofs.lemmas.Grind.{common_steps, elements}
-use Rattle.kc_dotconfig.proofs.line_parts.unset_name.Goals as goal
+use Rattle.kc_dotconfig_model.proofs.line_parts.unset_name.Goals as goal
 
 pub after_front-requires-2-text-line : goal.after_front-requires-2-text-line
 after_front-requires-2-text-line c = grind (arith, elements)

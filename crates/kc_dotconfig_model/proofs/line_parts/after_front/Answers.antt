@@ -2,8 +2,8 @@ use Rattle.std.proofs.Common.{◌≡◌, ◌++◌, length, drop, sym, ◌∙◌,
 use Rattle.std.proofs.lemmas.Grind.{elements}
 use Rattle.std.proofs.lemmas.Bool.Decides.{Decides-eqb}
 use Rattle.std.proofs.lemmas.Slice.Eq.{starts_is}
-use Rattle.kc_dotconfig.proofs.LineParts.{after_front_some, after_front_none, front_boundary}
-use Rattle.kc_dotconfig.proofs.line_parts.after_front.Goals as goal
+use Rattle.kc_dotconfig_model.proofs.LineParts.{after_front_some, after_front_none, front_boundary}
+use Rattle.kc_dotconfig_model.proofs.line_parts.after_front.Goals as goal
 
 pub returns-then-not-starts_with-clause-none : goal.returns-then-not-starts_with-clause-none
 returns-then-not-starts_with-clause-none c =

@@ -1,7 +1,7 @@
 use Rattle.std.proofs.Common.{◌≡◌, ◌+◌, ◌-◌, ◌<◌, ◌≤◌, true, length, take, get_or}
 use Rattle.std.specs.List.{suffix_len}
 use Rattle.kc_tokens.specs.Token.{is_white_byte}
-use Rattle.kc_dotconfig.proofs.line_parts.trimmed.Given as goal
+use Rattle.kc_dotconfig_model.proofs.line_parts.trimmed.Given as goal
 
 -- the bytes of the line from index `end` on are white space
 abbrev pub invariant-loop-end : goal.invariant-loop-end

@@ -1,6 +1,6 @@
 use Rattle.std.proofs.Common.{arith}
 use Rattle.std.proofs.lemmas.Grind.{common_steps}
-use Rattle.kc_dotconfig.proofs.line_parts.is_comment.Goals as goal
+use Rattle.kc_dotconfig_model.proofs.line_parts.is_comment.Goals as goal
 
 pub loop-byte-preserved : goal.loop-byte-preserved
 loop-byte-preserved c = grind (arith, common_steps)

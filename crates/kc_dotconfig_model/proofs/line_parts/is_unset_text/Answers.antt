@@ -3,8 +3,8 @@ use Rattle.std.specs.Prelude.{codes}
 use Rattle.std.proofs.lemmas.Bool.Decides.{Decides-eqb}
 use Rattle.std.proofs.lemmas.Slice.Eq.{strip_suffix_is}
 use Rattle.kc_tree_model.specs.LogicalLines.{without_white_end}
-use Rattle.kc_dotconfig.proofs.UnsetNames.{no_unset_text, unset_by_name}
-use Rattle.kc_dotconfig.proofs.line_parts.is_unset_text.Goals as goal
+use Rattle.kc_dotconfig_model.proofs.UnsetNames.{no_unset_text, unset_by_name}
+use Rattle.kc_dotconfig_model.proofs.line_parts.is_unset_text.Goals as goal
 
 pub returns-then-not-is_empty : goal.returns-then-not-is_empty
 returns-then-not-is_empty c =

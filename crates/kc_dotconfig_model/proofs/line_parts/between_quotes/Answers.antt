@@ -1,7 +1,7 @@
 use Rattle.std.proofs.Common.{arith}
 use Rattle.std.proofs.lemmas.Str.Pattern.{strip_prefix_char, strip_suffix_char}
-use Rattle.kc_dotconfig.proofs.LineParts.{inner_is, no_inner, no_first_quote}
-use Rattle.kc_dotconfig.proofs.line_parts.between_quotes.Goals as goal
+use Rattle.kc_dotconfig_model.proofs.LineParts.{inner_is, no_inner, no_first_quote}
+use Rattle.kc_dotconfig_model.proofs.line_parts.between_quotes.Goals as goal
 
 pub returns-in_err-strip_prefix-clause-none : goal.returns-in_err-strip_prefix-clause-none
 returns-in_err-strip_prefix-clause-none c =

@@ -1,6 +1,6 @@
 use Rattle.std.proofs.Common.{arith}
 use Rattle.std.proofs.lemmas.Grind.{common_steps, elements}
-use Rattle.kc_dotconfig.proofs.line_parts.trimmed.Goals as goal
+use Rattle.kc_dotconfig_model.proofs.line_parts.trimmed.Goals as goal
 
 pub overflow_sub-end-in-loop-end : goal.overflow_sub-end-in-loop-end
 overflow_sub-end-in-loop-end c = grind (arith, common_steps)

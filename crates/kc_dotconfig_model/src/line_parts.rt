@@ -8,17 +8,11 @@ ghost use Rattle.kc_dotconfig_model.specs.Formats.{between_quotes};
 ghost use Rattle.kc_dotconfig_model.specs.between.Prefixes.{prefix_bytes};
 ghost use Rattle.kc_dotconfig_model.specs.between.LineMeanings.{after_front, named_before, value_parts, unset_name, begins_with_hash};
 
-use kc_dotconfig_model::Prefix;
-
-/// A white byte: a tab, a vertical tab, a form feed, a carriage return or a space.
-fn is_white(byte: u8) -> bool
-    ensures { result ≡ is_white_byte byte }
-{
-    matches!(byte, 9 | 11 | 12 | 13 | 32)
-}
+use super::prefix::Prefix;
+use kc_tokens::is_white;
 
 /// A line without the white-space bytes at its end.
-pub(crate) fn trimmed(line: &str) -> &str
+pub fn trimmed(line: &str) -> &str
     ensures { result.now ≡ without_white_end line.now }
 {
     let bytes = line.as_bytes();
@@ -56,7 +50,7 @@ fn named_before(end: char, text: &str) -> Option<(&str, &str)>
 
 /// The symbol name before the first `=` of a line, without the prefix, and the text after it; `None` if the line has another
 /// form, or is a comment.
-pub(crate) fn value_parts<'a>(prefix: &Prefix, line: &'a str) -> Option<(&'a str, &'a str)>
+pub fn value_parts<'a>(prefix: &Prefix, line: &'a str) -> Option<(&'a str, &'a str)>
     ensures some { IfSome result (λ parts. value_parts (prefix_bytes prefix.now) line.now ≡ Some (parts.0.now, parts.1.now)) }
     ensures none { IfNone result (value_parts (prefix_bytes prefix.now) line.now ≡ None) }
 {
@@ -68,7 +62,7 @@ pub(crate) fn value_parts<'a>(prefix: &Prefix, line: &'a str) -> Option<(&'a str
 }
 
 /// The symbol name of a line `# CONFIG_X is not set`, without the prefix; `None` if the line has another form.
-pub(crate) fn unset_name<'a>(prefix: &Prefix, line: &'a str) -> Option<&'a str>
+pub fn unset_name<'a>(prefix: &Prefix, line: &'a str) -> Option<&'a str>
     ensures some { IfSome result (λ name. unset_name (prefix_bytes prefix.now) line.now ≡ Some name.now) }
     ensures none { IfNone result (unset_name (prefix_bytes prefix.now) line.now ≡ None) }
 {
@@ -93,7 +87,7 @@ pub fn is_unset_text(text: &str) -> bool
 }
 
 /// The text between a `"` at the beginning and a `"` at the end of a text; `None` if it hasn't both.
-pub(crate) fn between_quotes(text: &str) -> Option<&str>
+pub fn between_quotes(text: &str) -> Option<&str>
     ensures some { IfSome result (λ inner. text.now ≡ between_quotes inner.now) }
     ensures none { IfNone result ((inner : List ℕ) → text.now ≢ between_quotes inner) }
 {
@@ -101,7 +95,7 @@ pub(crate) fn between_quotes(text: &str) -> Option<&str>
 }
 
 /// Whether the first byte of a line that isn't white space is `#`.
-pub(crate) fn is_comment(line: &[u8]) -> bool
+pub fn is_comment(line: &[u8]) -> bool
     ensures { result ≡ begins_with_hash line.now }
 {
     for byte in line {
