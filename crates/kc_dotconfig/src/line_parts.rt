@@ -1,10 +1,10 @@
 //! The parts of a line of a configuration file.
-ghost use Rattle.std.specs.Prelude.{◌≡◌, ◌≢◌, ◌<◌, ℕ, List, not, Some, None, IfSome, IfNone, IsAscii};
+ghost use Rattle.std.specs.Prelude.{◌≡◌, ◌≢◌, ◌<◌, ℕ, List, false, not, Some, None, IfSome, IfNone, IsAscii};
 ghost use Rattle.std.specs.List.{find};
 ghost use Rattle.kc_tokens.specs.Token.{is_white_byte};
 ghost use Rattle.kc_tree_model.specs.LogicalLines.{without_white_end};
 ghost use Rattle.kc_dotconfig_model.specs.ConfigLines.{is_unset_text};
-ghost use Rattle.kc_dotconfig_model.specs.Formats.{between_quotes};
+ghost use Rattle.kc_dotconfig_model.specs.Formats.{between_quotes, has_other_escape};
 ghost use Rattle.kc_dotconfig_model.specs.between.Prefixes.{prefix_bytes};
 ghost use Rattle.kc_dotconfig_model.specs.between.LineMeanings.{after_front, named_before, value_parts, unset_name, begins_with_hash};
 
@@ -98,6 +98,24 @@ pub(crate) fn between_quotes(text: &str) -> Option<&str>
     ensures none { IfNone result ((inner : List ℕ) → text.now ≢ between_quotes inner) }
 {
     text.strip_prefix('"')?.strip_suffix('"')
+}
+
+/// Whether a `\` in the spelling of a string is before another byte than `"` and `\`.
+pub(crate) fn has_other_escape(spelling: &[u8]) -> bool
+    ensures { result ≡ has_other_escape false spelling.now }
+{
+    let mut escaped = false;
+    for byte in spelling {
+        if escaped {
+            if *byte != b'"' && *byte != b'\\' {
+                return true;
+            }
+            escaped = false;
+        } else {
+            escaped = *byte == b'\\';
+        }
+    }
+    false
 }
 
 /// Whether the first byte of a line that isn't white space is `#`.

@@ -3,6 +3,7 @@ pub mod LineForms
 pub mod LineLaws
 pub mod UnsetTexts
 pub mod Overlays
+pub mod Escapes
 pub mod FittingFiles
 pub mod AcceptedFiles
 pub mod FirstFaults

@@ -11,7 +11,8 @@ use Rattle.kc_rules_model.specs.declared.values.MemberLine.{MemberLine}
 use Rattle.kc_rules_model.specs.MemberLines.{laid_over}
 use Rattle.kc_dotconfig_model.specs.Formats.{FileFormat}
 use Rattle.kc_dotconfig_model.specs.declared.notice.NoticeKind.{NoticeKind}
-use Rattle.kc_dotconfig_model.specs.ConfigLines.{LineMeaning, assigns, unchosen, notice, silent, Means}
+use Rattle.kc_dotconfig_model.specs.declared.notice.NoticeKind.TheVariants.{Escape}
+use Rattle.kc_dotconfig_model.specs.ConfigLines.{LineMeaning, assigns, assigns_escaped, unchosen, notice, silent, Means}
 use Rattle.kc_tree_model.specs.LogicalLines.{without_white_end}
 
 -- the lines of a configuration file, without their newlines; the last line may lack its newline in the file
@@ -46,6 +47,7 @@ over (MemberUser s) earlier = MemberUser s
 -- the assignment of user values after a line of a configuration file, from the assignment before the line
 abbrev pub assigned : LineMeaning → List (Option UserValue) → List (Option UserValue)
 assigned (assigns u x) users = slice_set users u (Some (over x (user_of users u)))
+assigned (assigns_escaped u text) users = slice_set users u (Some (TextUser text))
 assigned (unchosen u s) users = users
 assigned (notice kind) users = users
 assigned silent users = users
@@ -75,6 +77,7 @@ overlay (Some y ∷ later) (x ∷ users) = Some (over y x) ∷ overlay later use
 abbrev pub notices_from : ℕ → List LineMeaning → List (ℕ × NoticeKind)
 notices_from n [] = []
 notices_from n (assigns u x ∷ meanings) = notices_from (n + 1) meanings
+notices_from n (assigns_escaped u text ∷ meanings) = (n, Escape) ∷ notices_from (n + 1) meanings
 notices_from n (unchosen u s ∷ meanings) = notices_from (n + 1) meanings
 notices_from n (notice kind ∷ meanings) = (n, kind) ∷ notices_from (n + 1) meanings
 notices_from n (silent ∷ meanings) = notices_from (n + 1) meanings

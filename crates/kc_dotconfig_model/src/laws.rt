@@ -1,7 +1,7 @@
 //! Laws of configuration files and their lines.
 ghost use Rattle.kc_dotconfig_model.specs.between.LineMeaningLaws.{LinesAreRead, FilesAreRead};
 ghost use Rattle.kc_dotconfig_model.specs.OtherChoiceLaws.{FilesAreLaidOver, OtherChoicesHaveReasons, OtherChoicesHaveLines};
-ghost use Rattle.kc_dotconfig_model.specs.FileLaws.{PrefixedLinesHaveValues, UnsetTextsAreRead, LinesHaveOneMeaning, FilesHaveOneMeaning, FilesLieOverAssignments, FilesFit, AcceptedFilesAreRead, OneFaultIsFirst, FaultyFilesAreRefused, FailedReadsAreReported, AcceptedFilesHaveGoodLines, EachFileIsJudged, EachCutFileIsJudged};
+ghost use Rattle.kc_dotconfig_model.specs.FileLaws.{PrefixedLinesHaveValues, UnsetTextsAreRead, EscapesAreNoticed, LinesHaveOneMeaning, FilesHaveOneMeaning, FilesLieOverAssignments, FilesFit, AcceptedFilesAreRead, OneFaultIsFirst, FaultyFilesAreRefused, FailedReadsAreReported, AcceptedFilesHaveGoodLines, EachFileIsJudged, EachCutFileIsJudged};
 
 /// With a prefix each line of the prefix, a name, `=` and a text gives the name that text; without one a comment doesn't.
 pub fn prefixed_lines_have_values()
@@ -11,6 +11,11 @@ pub fn prefixed_lines_have_values()
 /// Where names have no prefix, a text after `# ` is an unset line exactly if it is an unset text, but for white bytes at its end.
 pub fn unset_texts_are_read()
     ensures { UnsetTextsAreRead }
+{}
+
+/// In the languages of Linux the spelling of an escaped string has no notice exactly if it is the one that is written.
+pub fn escapes_are_noticed()
+    ensures { EscapesAreNoticed }
 {}
 
 /// A line of a configuration file has at most one meaning, and so has a file.

@@ -10,9 +10,10 @@ use Rattle.kc_system.specs.LeastAssignments.{IsCutTo}
 use Rattle.kc_rules_model.specs.declared.profile.Profile.{Profile}
 use Rattle.kc_rules_model.specs.declared.values.UnitValue.{UnitValue}
 use Rattle.kc_rules_model.specs.declared.values.UserValue.{UserValue}
+use Rattle.kc_rules_model.specs.declared.values.UserValue.TheVariants.{Text as TextUser}
 use Rattle.kc_rules_model.specs.Shapes.{user_fits}
 use Rattle.kc_dotconfig_model.specs.Formats.{FileFormat}
-use Rattle.kc_dotconfig_model.specs.ConfigLines.{LineMeaning, assigns, unchosen, notice, silent}
+use Rattle.kc_dotconfig_model.specs.ConfigLines.{LineMeaning, assigns, assigns_escaped, unchosen, notice, silent}
 use Rattle.kc_dotconfig_model.specs.ConfigFiles.{file_assignment, over, assigned_over, empty_assignment}
 use Rattle.kc_dotconfig_model.proofs.FittingFiles.{file_fits}
 use Rattle.kc_minimal_model.specs.MinimalFile.{has_line, minimal_symbols}
@@ -49,6 +50,13 @@ eqb_laws = record {
 by_a_line : (meanings : List LineMeaning) (held : List (Option UserValue)) (u : ℕ) → is_some (user_of (assigned_over meanings held) u) ≡ true
     → (is_some (user_of held u) ≡ true) ⊎ (list_any (eqb u) (assigned_units meanings) ≡ true)
 by_a_line [] held u some = inl some
+by_a_line (assigns_escaped w text ∷ meanings) held u some = elim (by_a_line meanings (slice_set held w (Some (TextUser text))) u some) [
+  | inl before ↦ elim (cases_eq u w) [
+    | inl same ↦ inr (or_left (eqb u w) (list_any (eqb u) (assigned_units meanings)) (eq-eqb u w same))
+    | inr other ↦ inl (ap is_some (sym (get_or-set_other held w u (Some (TextUser text)) None other)) ∙ before)
+  ]
+  | inr later ↦ inr (or_right (eqb u w) (list_any (eqb u) (assigned_units meanings)) later)
+]
 by_a_line (unchosen w s ∷ meanings) held u some = by_a_line meanings held u some
 by_a_line (notice kind ∷ meanings) held u some = by_a_line meanings held u some
 by_a_line (silent ∷ meanings) held u some = by_a_line meanings held u some

@@ -14,7 +14,7 @@ use Rattle.kc_rules_model.specs.RuleLaws.{is_tri_value, moves_user_values}
 use Rattle.kc_rules_model.specs.SettledTrees.{IsSettledTree}
 use Rattle.kc_dotconfig_model.specs.Formats.{FileFormat}
 use Rattle.kc_dotconfig_model.specs.PrefixGrammar.{is_name_prefix}
-use Rattle.kc_dotconfig_model.specs.ConfigLines.{LineMeaning, assigns, unchosen, notice, silent}
+use Rattle.kc_dotconfig_model.specs.ConfigLines.{LineMeaning, assigns, assigns_escaped, unchosen, notice, silent}
 use Rattle.kc_dotconfig_model.specs.ConfigFiles.{file_lines, file_assignment}
 use Rattle.kc_value.specs.declared.limits.TheConstants.{MAX_CONFIG_BYTES}
 use Rattle.kc_dotconfig_model.specs.LoadFaults.{IsAccepted}
@@ -50,6 +50,7 @@ HasValuesOfLines profile tree values users = (s : ℕ) (value : UnitValue) → h
 abbrev pub assigned_units : List LineMeaning → List ℕ
 assigned_units [] = []
 assigned_units (assigns u x ∷ meanings) = u ∷ assigned_units meanings
+assigned_units (assigns_escaped u text ∷ meanings) = u ∷ assigned_units meanings
 assigned_units (unchosen u s ∷ meanings) = assigned_units meanings
 assigned_units (notice kind ∷ meanings) = assigned_units meanings
 assigned_units (silent ∷ meanings) = assigned_units meanings

@@ -83,6 +83,8 @@ macro_rules! tables {
                 "Read" "  Read              the file can't be opened or read: check the path and the permissions"
                 "UnknownSymbol" "  UnknownSymbol     a notice, the tree has no such symbol, nothing is assigned: take the line out"
                 "NotOfType" "  NotOfType         a notice, the value isn't of the symbol's type and isn't assigned: correct it"
+                "Escape" "  Escape            a notice, a `\\` is before another byte than `\"` and `\\`, and is dropped: give
+                    --strings raw if it is part of the text, else take it out"
                 "OtherChoice" "  OtherChoice       a notice, by the line Linux since 6.10 selects another member of a choice: give
                     --language linux-6.12 for a Linux since 6.10, linux-6.1 for one before"
             }
