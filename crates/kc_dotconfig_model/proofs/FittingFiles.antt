@@ -41,7 +41,7 @@ use Rattle.kc_dotconfig_model.specs.ConfigFiles.{file_lines, over, assigned_over
 use Rattle.kc_dotconfig_model.specs.FileLaws.{FilesFit}
 
 -- the assignment of a meaning fits
-abbrev SayingFits : Tree → LineMeaning → Type 0
+abbrev pub SayingFits : Tree → LineMeaning → Type 0
 SayingFits tree (assigns u x) = user_fits tree u x ≡ true
 SayingFits tree (unchosen u s) = Unit {0}
 SayingFits tree (notice kind) = Unit {0}
@@ -260,7 +260,7 @@ module _ (format : FileFormat) (tree : Tree) (sound : IsConsistent tree) where
   onto_lacks b (line ∷ lines) other all = (and_from (not (b == 10)) (has_no_byte 10 line) (ap not other) all.0, all.1)
 
   -- no line has a newline
-  lines_lack : (bytes : List ℕ) → AllByRecursion (λ line. has_no_byte 10 line ≡ true) (file_lines bytes)
+  pub lines_lack : (bytes : List ℕ) → AllByRecursion (λ line. has_no_byte 10 line ≡ true) (file_lines bytes)
   lines_lack [] = tt
   lines_lack (b ∷ bytes) = go (b == 10) refl (lines_lack bytes) where
     go : (t : Bool) → (b == 10) ≡ t → AllByRecursion (λ line. has_no_byte 10 line ≡ true) (file_lines bytes)
@@ -268,7 +268,7 @@ module _ (format : FileFormat) (tree : Tree) (sound : IsConsistent tree) where
     go true e all = (refl, all)
     go false e all = onto_lacks b (file_lines bytes) e all
 
-  sayings_fit : (lines : List (List ℕ)) (meanings : List LineMeaning) → AllByRecursion (λ line. has_no_byte 10 line ≡ true) lines
+  pub sayings_fit : (lines : List (List ℕ)) (meanings : List LineMeaning) → AllByRecursion (λ line. has_no_byte 10 line ≡ true) lines
       → list_all is_utf8 lines ≡ true
       → AllZip (λ line meaning. Means format tree (without_white_end line) meaning) lines meanings → AllByRecursion (SayingFits tree) meanings
   sayings_fit [] [] one utf8 all = tt
@@ -303,12 +303,12 @@ module _ (format : FileFormat) (tree : Tree) (sound : IsConsistent tree) where
   over_fits (notice kind ∷ meanings) users fitting all = over_fits meanings users fitting all.1
   over_fits (silent ∷ meanings) users fitting all = over_fits meanings users fitting all.1
 
-none_held : (n u : ℕ) → get_or {A = Option UserValue} (replicate n None) u None ≡ None
+pub none_held : (n u : ℕ) → get_or {A = Option UserValue} (replicate n None) u None ≡ None
 none_held zero u = refl
 none_held (suc n) zero = refl
 none_held (suc n) (suc u) = none_held n u
 
-none_length : (n : ℕ) → length {A = Option UserValue} (replicate n None) ≡ n
+pub none_length : (n : ℕ) → length {A = Option UserValue} (replicate n None) ≡ n
 none_length zero = refl
 none_length (suc n) = let rest = none_length n in omega arith
 

@@ -13,6 +13,7 @@ pub mod Cuts
 pub mod FaultsAtCuts
 pub mod JudgedFiles
 pub mod OtherLines
+pub mod ChoiceValues
 mod FileRows
 mod FaultRows
 mod MissedRows

@@ -71,6 +71,15 @@ overlay (y ∷ later) [] = []
 overlay (None ∷ later) (x ∷ users) = x ∷ overlay later users
 overlay (Some y ∷ later) (x ∷ users) = Some (over y x) ∷ overlay later users
 
+-- an assignment, overridden by those of several configuration files, one after another
+abbrev pub overlaid_by : Tree → List (Option UserValue) → List (List LineMeaning) → List (Option UserValue)
+overlaid_by tree users [] = users
+overlaid_by tree users (meanings ∷ others) = overlaid_by tree (overlay (file_assignment tree meanings) users) others
+
+-- the assignment of several configuration files, each of which overrides those before it
+abbrev pub files_assignment : Tree → List (List LineMeaning) → List (Option UserValue)
+files_assignment tree meanings = overlaid_by tree (empty_assignment tree) meanings
+
 -- the notices among the meanings of a file's lines, with the numbers of their lines, where the first line has the number `n`
 abbrev pub notices_from : ℕ → List LineMeaning → List (ℕ × NoticeKind)
 notices_from n [] = []
