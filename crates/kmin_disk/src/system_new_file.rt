@@ -115,17 +115,21 @@ impl SystemNewFile {
 impl SystemRename {
     /// Waits until the rename lasts: syncs the folder in which it was done.
     pub(crate) fn sync_folder(self, runtime: &HostRuntime) -> io::Result<()> {
+        let done = match self.synced_folder(runtime) {
+            Ok(_) => Ok(()),
+            Err(fault) => Err(fault),
+        };
         let SystemRename { target } = self;
-        let _ = sync_folder_of(runtime, &target)?;
-        Ok(())
+        drop(target);
+        done
     }
-}
 
-/// Syncs the folder of a path, so that renames in it last.
-fn sync_folder_of<'a>(runtime: &HostRuntime, path: &'a str) -> io::Result<SyncedFolder<'a>>
-    ensures own { IfOk result (λ folder. folder.path.now ≡ folder_of path.now) }
-{
-    sync_folder(runtime, folder_of(path))
+    /// Syncs the folder in which the rename was done.
+    fn synced_folder(&self, runtime: &HostRuntime) -> io::Result<SyncedFolder<'_>>
+        ensures own { IfOk result (λ folder. folder.path.now ≡ folder_of (string_bytes self.now.target)) }
+    {
+        sync_folder(runtime, folder_of(&self.target))
+    }
 }
 
 /// The folder in which the last name of a path stands.
