@@ -134,7 +134,7 @@ over_sorted b (LinesUser later) (Some (TriUser t)) e f = f
 over_sorted b (LinesUser later) (Some (TextUser text)) e f = f
 over_sorted b (LinesUser later) (Some (MemberUser m)) e f = f
 
-same_length : (meaning : LineMeaning) (users : List (Option UserValue)) → length (assigned meaning users) ≡ length users
+pub same_length : (meaning : LineMeaning) (users : List (Option UserValue)) → length (assigned meaning users) ≡ length users
 same_length (assigns w x) users = length-set users w (Some (over x (user_of users w)))
 same_length (unchosen w m) users = refl
 same_length (notice kind) users = refl

@@ -137,14 +137,19 @@ module _ (tree : Tree) (values : List UnitValue) where
       let g : TriCase → Tri = λ c. given_tri c tree symbol user values in
       through (is_visible tree values symbol) g _ _ _ _ (through (below (visibility tree values symbol) a) g VisibilityTri UserTri _ _ refl (ap (λ o. unwrap_or o N) e) ∙ and_below (visibility tree values symbol) a) (unasked_gives profile symbol user)
 
+  -- before it is lifted
+  pub case_gives : (profile : Profile) (symbol : Symbol) (user : Option UserValue)
+      → given_tri (tri_case profile tree symbol user values) tree symbol user values ≡ tri_or (base profile tree values symbol (assigned_tri user)) (selected tree values symbol)
+  case_gives profile symbol user =
+      let b = base profile tree values symbol (assigned_tri user) in
+      let s = selected tree values symbol in
+      through (below b s) (λ c. given_tri c tree symbol user values) SelectTri (base_case profile tree symbol (assigned_tri user) values) _ _ refl (base_gives profile symbol user (assigned_tri user) refl) ∙ or_below b s
+
   tri_gives : (profile : Profile) (symbol : Symbol) (user : Option UserValue)
       → lifted (lift_of profile tree symbol values (given_tri (tri_case profile tree symbol user values) tree symbol user values)) (given_tri (tri_case profile tree symbol user values) tree symbol user values) ≡ tri_rule profile tree symbol user values
   tri_gives profile symbol user =
-      let b = base profile tree values symbol (assigned_tri user) in
-      let s = selected tree values symbol in
-      let e : given_tri (tri_case profile tree symbol user values) tree symbol user values ≡ tri_or b s =
-      through (below b s) (λ c. given_tri c tree symbol user values) SelectTri (base_case profile tree symbol (assigned_tri user) values) _ _ refl (base_gives profile symbol user (assigned_tri user) refl) ∙ or_below b s in
-      ap (λ t. lifted (lift_of profile tree symbol values t) t) e ∙ lift_table (is_without_m tree values symbol.kind) (leaves_no_m profile tree values symbol) (tri_or b s)
+      let t = tri_or (base profile tree values symbol (assigned_tri user)) (selected tree values symbol) in
+      ap (λ t. lifted (lift_of profile tree symbol values t) t) (case_gives profile symbol user) ∙ lift_table (is_without_m tree values symbol.kind) (leaves_no_m profile tree values symbol) t
 
   default_gives : (symbol : Symbol) (user : Option UserValue) (o : Option Default) → active_default tree values symbol ≡ o → given_text (default_case o) tree symbol user values ≡ default_text tree values symbol
   default_gives symbol user None e = sym (ap (λ p. unwrap_or (option_map (λ (d : Default). expression_text tree values d.value) p) []) e)

@@ -4,7 +4,7 @@ use Rattle.std.specs.Prelude.{◌==◌, find}
 use Rattle.std.specs.Option.{option_or}
 use Rattle.std.specs.List.{list_any, list_all, AllByRecursion}
 use Rattle.std.proofs.lemmas.Bool.{eqb-true, eqb-false, false≢true, true≢false, and_parts}
-use Rattle.std.proofs.lemmas.List.{length-set, get_or-set_same, get_or-set_other}
+use Rattle.std.proofs.lemmas.List.{get_or-set_same, get_or-set_other}
 use Rattle.std.proofs.lemmas.List.Elements.{recursion_from_All}
 use Rattle.kc_system.specs.Solutions.{user_of}
 use Rattle.kc_value.specs.declared.tri.Tri.TheVariants.{N}
@@ -27,6 +27,7 @@ use Rattle.kc_dotconfig_model.specs.ConfigLines.{LineMeaning, assigns, unchosen,
 use Rattle.kc_dotconfig_model.specs.ConfigFiles.{over, assigned, assigned_over}
 use Rattle.kc_reasons_model.specs.AssigningLines.{user_by_line}
 use Rattle.kc_reasons_model.specs.Hindrances.{is_given_both}
+use Rattle.kc_reasons_model.proofs.AssigningLaws.{same_length}
 use Rattle.kc_reasons_model.specs.Laws.{MembersHaveOneLine, LinesGiveOne, SelectableAreTaken}
 
 -- whether a member is listed with this value
@@ -97,12 +98,6 @@ over_one s (LinesUser later) (Some (LinesUser earlier)) e f =
           && cond b (given s (λ (l : MemberLine). not l.is_y) later) (given s (λ (l : MemberLine). not l.is_y) earlier)) ≡ false
       go true = e
       go false = f
-
-same_length : (meaning : LineMeaning) (users : List (Option UserValue)) → length (assigned meaning users) ≡ length users
-same_length (assigns w x) users = length-set users w (Some (over x (user_of users w)))
-same_length (unchosen w m) users = refl
-same_length (notice kind) users = refl
-same_length silent users = refl
 
 module _ (u s : ℕ) where
   one_after : (meaning : LineMeaning) (users : List (Option UserValue)) → u < length users → is_given_both s (user_by_line u meaning) ≡ false → is_given_both s (user_of users u) ≡ false
