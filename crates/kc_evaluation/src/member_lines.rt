@@ -26,7 +26,7 @@ fn is_seen(under: &Valuation<'_>, s: Sym) -> bool
 }
 
 /// The last listed member that has `y` and is visible.
-fn last_y(under: &Valuation<'_>, lines: &[MemberLine]) -> Option<Sym>
+pub fn last_y(under: &Valuation<'_>, lines: &[MemberLine]) -> Option<Sym>
     ensures value { result ≡ last_y (is_visible_member (valuation_tree under.now) (valuation_values under.now)) lines.now }
 {
     for i in (0..lines.len()).rev() {
@@ -39,7 +39,7 @@ fn last_y(under: &Valuation<'_>, lines: &[MemberLine]) -> Option<Sym>
 }
 
 /// Whether a member is listed, with `y` or with `n`.
-fn is_listed(lines: &[MemberLine], s: Sym) -> bool
+pub fn is_listed(lines: &[MemberLine], s: Sym) -> bool
     ensures { result ≡ is_listed lines.now s }
 {
     for line in lines {
@@ -51,7 +51,7 @@ fn is_listed(lines: &[MemberLine], s: Sym) -> bool
 }
 
 /// The first listed member that is visible.
-fn first_listed(under: &Valuation<'_>, lines: &[MemberLine]) -> Option<Sym>
+pub fn first_listed(under: &Valuation<'_>, lines: &[MemberLine]) -> Option<Sym>
     ensures value { result ≡ first_listed (is_visible_member (valuation_tree under.now) (valuation_values under.now)) lines.now }
 {
     for line in lines {
@@ -107,7 +107,7 @@ fn first_without_number(under: &Valuation<'_>, members: &[Sym], numbers: &[u32])
 }
 
 /// The first visible member of a choice that isn't listed.
-fn first_unlisted(
+pub fn first_unlisted(
     alloc: Global,
     under: &Valuation<'_>,
     members: &[Sym],
