@@ -1,5 +1,5 @@
 -- A range of what is no number.
-use Rattle.std.proofs.Common.{◌≡◌, Bool, true, false, ℕ, List, Option, Some, None, pos, refl, unwrap_or}
+use Rattle.std.proofs.Common.{◌≡◌, true, false, List, Option, Some, None, pos, refl}
 use Rattle.kc_value.specs.declared.value.Kind.{Kind}
 use Rattle.kc_value.specs.declared.value.Kind.TheVariants.{Bool as Boolean, Tristate, Text, Int, Hex}
 use Rattle.kc_tree_model.specs.Trees.{Tree, Range}
