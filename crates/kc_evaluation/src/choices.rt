@@ -39,7 +39,7 @@ fn is_default_open(under: &Valuation<'_>, default: MemberDefault) -> bool
     !is_n(under.condition(default.condition)) && is_member_visible(under, default.member)
 }
 
-/// The member of a choice's first default whose condition isn't `n` and whose member is visible.
+/// The member of a choice's first default whose condition isn't `n` and whose member is visible; `None` without such a default.
 pub fn member_by_default(under: &Valuation<'_>, defaults: &[MemberDefault]) -> Option<Sym>
     requires fits { AreMemberDefaults (valuation_exprs under.now) (valuation_tree under.now) defaults.now }
     ensures value { result ≡ default_member_of (valuation_tree under.now) (valuation_values under.now) (map (member_default_view (valuation_exprs under.now)) defaults.now) }
@@ -52,7 +52,7 @@ pub fn member_by_default(under: &Valuation<'_>, defaults: &[MemberDefault]) -> O
     None
 }
 
-/// The first visible member of a choice.
+/// The first visible member of a choice, if there is one.
 pub fn first_member(under: &Valuation<'_>, members: &[Sym]) -> Option<Sym>
     requires fits { AreMembers (valuation_tree under.now) members.now }
     ensures value { result ≡ find (is_visible_member (valuation_tree under.now) (valuation_values under.now)) members.now }

@@ -25,7 +25,7 @@ fn is_seen(under: &Valuation<'_>, s: Sym) -> bool
     is_member_visible(under, s)
 }
 
-/// The last listed member that has `y` and is visible.
+/// The last listed member that has `y` and is visible, if there is one.
 pub fn last_y(under: &Valuation<'_>, lines: &[MemberLine]) -> Option<Sym>
     ensures value { result ≡ last_y (is_visible_member (valuation_tree under.now) (valuation_values under.now)) lines.now }
 {
@@ -50,7 +50,7 @@ pub fn is_listed(lines: &[MemberLine], s: Sym) -> bool
     false
 }
 
-/// The first listed member that is visible.
+/// The first listed member that is visible, if there is one.
 pub fn first_listed(under: &Valuation<'_>, lines: &[MemberLine]) -> Option<Sym>
     ensures value { result ≡ first_listed (is_visible_member (valuation_tree under.now) (valuation_values under.now)) lines.now }
 {
@@ -106,7 +106,7 @@ fn first_without_number(under: &Valuation<'_>, members: &[Sym], numbers: &[u32])
     None
 }
 
-/// The first visible member of a choice that isn't listed.
+/// The first visible member of a choice that isn't listed, if there is one. An `Err` means out of memory.
 pub fn first_unlisted(
     alloc: Global,
     under: &Valuation<'_>,

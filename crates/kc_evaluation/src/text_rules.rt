@@ -77,7 +77,7 @@ pub fn number_of(kind: Kind, text: &str) -> Option<i128>
     }
 }
 
-/// The number of a bound of a range, 0 where it isn't a number of the type.
+/// The number of a bound of an int's or hex's range, 0 where it isn't a number of the type.
 #[tactic(auto, using(crate::proofs::Bounds::bound_is, crate::proofs::Bounds::number_printable))]
 pub fn bound(under: &Valuation<'_>, kind: Kind, id: ExprId) -> i128
     requires there { id < length (valuation_exprs under.now).nodes }
@@ -88,7 +88,7 @@ pub fn bound(under: &Valuation<'_>, kind: Kind, id: ExprId) -> i128
     number_of(kind, under.operand_text(id)).unwrap_or(0)
 }
 
-/// The first range whose condition isn't `n`.
+/// The first range whose condition isn't `n`, if there is one.
 pub fn active_range(under: &Valuation<'_>, ranges: &[Range]) -> Option<Range>
     requires fits { AreRanges (valuation_exprs under.now) ranges.now }
     ensures range { option_map (range_view (valuation_exprs under.now)) result ≡ active_range_of (valuation_tree under.now) (valuation_values under.now) (map (range_view (valuation_exprs under.now)) ranges.now) }
@@ -102,7 +102,7 @@ pub fn active_range(under: &Valuation<'_>, ranges: &[Range]) -> Option<Range>
     None
 }
 
-/// Whether a number is within the range, if there is one.
+/// Whether a number is within the range of an int or hex; true without a range.
 pub fn is_within(under: &Valuation<'_>, kind: Kind, range: &Option<Range>, number: i128) -> bool
     requires there { IfSome range.now (λ r. (r.low < length (valuation_exprs under.now).nodes) × (r.high < length (valuation_exprs under.now).nodes)) }
     requires number { IsNumber kind }
@@ -114,7 +114,7 @@ pub fn is_within(under: &Valuation<'_>, kind: Kind, range: &Option<Range>, numbe
     }
 }
 
-/// Whether the lower bound of the range, if there is one, is above its upper one.
+/// Whether the lower bound of an int's or hex's range is above the upper one; false without a range.
 pub fn is_upside_down(under: &Valuation<'_>, kind: Kind, range: &Option<Range>) -> bool
     requires there { IfSome range.now (λ r. (r.low < length (valuation_exprs under.now).nodes) × (r.high < length (valuation_exprs under.now).nodes)) }
     requires number { IsNumber kind }
