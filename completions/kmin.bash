@@ -9,7 +9,7 @@ _kmin_commands() {
 _kmin_words() {
     case $1 in
         '') echo "min full missed check compare tidy wants help -h --help -V --version" ;;
-        help) echo "min full missed check compare tidy wants help NotUtf8 LineTooLong BadToken UnclosedQuote UnknownStatement Malformed Unclosed StrayEnd Misplaced NoType TypeConflict SecondPrompt DefaultShape RangeType SelectType ChoiceMember ChoiceDefault ModulesType MissingFile SourceLoop TooDeep TooMany Cycle LeftOut Unterminated Undefined Recursion Arguments Error Unanswered JoinedAssignment Info Warning TwoAnswers TooManyLines TooLarge Read UnknownSymbol NotOfType OtherChoice NotRegular Write Left NamedTwice" ;;
+        help) echo "min full missed check compare tidy wants help NotUtf8 LineTooLong BadToken UnclosedQuote UnknownStatement Malformed Unclosed StrayEnd Misplaced NoType TypeConflict SecondPrompt DefaultShape RangeType SelectType ChoiceMember ChoiceDefault ModulesType MissingFile SourceLoop TooDeep TooMany Cycle LeftOut rsource osource orsource transitional optional def_string def_int def_hex env defconfig_list allnoconfig_y Unterminated Undefined Recursion Arguments Error Unanswered JoinedAssignment Info Warning TwoAnswers TooManyLines TooLarge Read UnknownSymbol NotOfType Escape OtherChoice NotRegular Write Left NamedTwice" ;;
     esac
     case $1 in
         min|full|missed|check|compare|tidy|wants) echo "--root --tree --expand --answers --define --env -h --help" ;;

@@ -23,7 +23,7 @@ _kmin_commands() {
 }
 
 _kmin_explained() {
-    local -a kinds=(NotUtf8 LineTooLong BadToken UnclosedQuote UnknownStatement Malformed Unclosed StrayEnd Misplaced NoType TypeConflict SecondPrompt DefaultShape RangeType SelectType ChoiceMember ChoiceDefault ModulesType MissingFile SourceLoop TooDeep TooMany Cycle LeftOut Unterminated Undefined Recursion Arguments Error Unanswered JoinedAssignment Info Warning TwoAnswers TooManyLines TooLarge Read UnknownSymbol NotOfType OtherChoice NotRegular Write Left NamedTwice)
+    local -a kinds=(NotUtf8 LineTooLong BadToken UnclosedQuote UnknownStatement Malformed Unclosed StrayEnd Misplaced NoType TypeConflict SecondPrompt DefaultShape RangeType SelectType ChoiceMember ChoiceDefault ModulesType MissingFile SourceLoop TooDeep TooMany Cycle LeftOut rsource osource orsource transitional optional def_string def_int def_hex env defconfig_list allnoconfig_y Unterminated Undefined Recursion Arguments Error Unanswered JoinedAssignment Info Warning TwoAnswers TooManyLines TooLarge Read UnknownSymbol NotOfType Escape OtherChoice NotRegular Write Left NamedTwice)
     _kmin_commands
     _describe kind kinds
 }

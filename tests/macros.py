@@ -161,6 +161,15 @@ class Tree:
     def __init__(self, folder=None, table=None):
         self.folder, self.table = folder, table
 
+    def has(self, path):
+        """Whether a file is at a path, also one that can't be read."""
+        if self.table is not None:
+            return path in self.table
+        try:
+            return os.path.isfile(os.path.join(os.fsencode(self.folder), path.lstrip(b"/")))
+        except ValueError:
+            return False
+
     def read(self, path):
         if self.table is not None:
             return self.table.get(path)
@@ -403,7 +412,7 @@ class Expansion:
                 raise Fault(at, "MissingFile")
             key = self.list(at, paths, open_files)
         elif optional:
-            key = self.list(at, [path] if self.tree.read(path) is not None else [], open_files)
+            key = self.list(at, [path] if self.tree.has(path) else [], open_files)
         else:
             key = self.file(at, path, open_files)
         return with_tokens(tokens, {0: b"source"} if key == given else {0: b"source", 1: in_quotes(key)})
@@ -422,7 +431,7 @@ class Expansion:
                     raise Fault(at, "TooMany")
                 made += [folder + name for name in names if is_utf8(name) and b"\n" not in name and (name[:1] != b"." or piece[:1] == b".") and matches(piece, name)]
             folders = made if number == len(parts) - 1 else [folder + b"/" for folder in made]
-        return sorted(made for made in folders if self.tree.read(made) is not None)
+        return sorted(made for made in folders if self.tree.has(made))
 
     def refuse(self, at, path, size, open_files):
         if path in open_files:

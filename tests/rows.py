@@ -196,6 +196,7 @@ class Row:
         for name, data in self.files().items():
             write_file(folder, name, data)
         for name, target in self.links.items():
+            os.makedirs(os.path.dirname(f"{folder}/{name}"), exist_ok=True)
             os.symlink(target, f"{folder}/{name}")
         for name in self.pipes:
             os.mkfifo(f"{folder}/{name}")

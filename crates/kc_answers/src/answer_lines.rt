@@ -2,11 +2,13 @@
 ghost use Rattle.std.specs.Prelude.{◌≡◌, ◌+◌, ◌<◌, ◌==◌, Some, IfSome, length, position, slice_index, option_map};
 ghost use Rattle.std.specs.List.{list_all};
 ghost use Rattle.kc_tokens.specs.Token.{is_white_byte};
-ghost use Rattle.kc_tree_model.specs.TreeLookup.{is_name_byte};
 ghost use Rattle.kc_macros_model.specs.Variables.{is_environment_name};
 ghost use Rattle.kc_tree_model.specs.LogicalLines.{without_white_end};
 ghost use Rattle.kc_macros_model.specs.AnswerFiles.{line_after_command, name_not_set, name_with_text, line_alone, meaning_of_line};
 ghost use Rattle.kc_answers.specs.checker.LineView.{line_view};
+
+use kc_tokens::is_white;
+use kc_tree_model::are_name_bytes;
 
 /// The meaning of a line of a file of answers, white at its end aside.
 #[derive(Clone, Copy, Debug, PartialEq, Eq)]
@@ -24,20 +26,6 @@ pub(crate) enum AnswerLine<'a> {
     Malformed,
 }
 
-/// Whether a byte is white: a tab, a vertical tab, a form feed, a carriage return or a space.
-pub fn is_white(byte: u8) -> bool
-    ensures { result ≡ is_white_byte byte }
-{
-    matches!(byte, 9 | 11 | 12 | 13 | 32)
-}
-
-/// A letter, a digit or `_`.
-fn is_name_byte(byte: u8) -> bool
-    ensures { result ≡ is_name_byte byte }
-{
-    byte.is_ascii_alphanumeric() || byte == b'_'
-}
-
 /// A line without the white bytes at its end.
 pub fn without_white_end(line: &[u8]) -> &[u8]
     ensures { result.now ≡ without_white_end line.now }
@@ -47,13 +35,6 @@ pub fn without_white_end(line: &[u8]) -> &[u8]
         end -= 1;
     }
     &line[..end]
-}
-
-/// Whether each byte is a letter, a digit or `_`.
-fn are_name_bytes(text: &[u8]) -> bool
-    ensures { result ≡ list_all is_name_byte text.now }
-{
-    text.iter().all(|&byte| is_name_byte(byte))
 }
 
 /// Whether an environment variable may have this name: letters, digits and `_`, of which the first is no digit.

@@ -7,6 +7,6 @@ mod answers;
 mod file_records;
 mod line_records;
 
-pub use answer_lines::{byte_at, is_environment_name, is_white, without_white_end};
+pub use answer_lines::{byte_at, is_environment_name, without_white_end};
 pub use answer_table::AnswerTable;
 pub use answers::Answers;

@@ -9,6 +9,7 @@ fn notices_and_faults_are_printed_by_the_names_of_their_kinds(rt: HostRuntime) -
     for (kind, name) in [
         (NoticeKind::UnknownSymbol, "UnknownSymbol"),
         (NoticeKind::NotOfType, "NotOfType"),
+        (NoticeKind::Escape, "Escape"),
         (NoticeKind::OtherChoice, "OtherChoice"),
     ] {
         assert_eq!(rt; kind.name(), name);

@@ -23,8 +23,9 @@ use Rattle.kc_dotconfig.proofs.GatheredLines.{lines_over, found_same, found_othe
 use Rattle.kc_tree_model.specs.Trees.{Tree}
 use Rattle.kc_dotconfig_model.specs.declared.notice.Notice.{Notice}
 use Rattle.kc_dotconfig_model.specs.declared.notice.NoticeKind.{NoticeKind}
+use Rattle.kc_dotconfig_model.specs.declared.notice.NoticeKind.TheVariants.{Escape}
 use Rattle.kc_dotconfig.specs.declared.accumulator.Accumulator.{Accumulator}
-use Rattle.kc_dotconfig_model.specs.ConfigLines.{LineMeaning, assigns, unchosen, notice, silent}
+use Rattle.kc_dotconfig_model.specs.ConfigLines.{LineMeaning, assigns, assigns_escaped, unchosen, notice, silent}
 use Rattle.kc_dotconfig_model.specs.ConfigFiles.{over, assigned, assigned_over, empty_assignment, file_assignment, notices_from}
 use Rattle.kc_dotconfig_model.specs.declared.choice_line.ChoiceLine.{ChoiceLine}
 use Rattle.kc_dotconfig_model.specs.OtherChoices.{choice_line_of, choice_lines_from}
@@ -94,6 +95,9 @@ notices_more : (n : ℕ) (a b : List LineMeaning) → notices_from n (a ++ b) �
 notices_more n [] b = ap (λ m. notices_from m b) (let e : n ≡ n + 0 = omega arith in e)
 notices_more n (assigns u x ∷ a) b =
     notices_more (n + 1) a b ∙ ap (λ m. notices_from (n + 1) a ++ notices_from m b) (let e : (n + 1) + length a ≡ n + suc (length a) = omega arith in e)
+notices_more n (assigns_escaped u text ∷ a) b =
+    ap (λ l. (n, Escape) ∷ l) (notices_more (n + 1) a b ∙ ap (λ m. notices_from (n + 1) a ++ notices_from m b)
+    (let e : (n + 1) + length a ≡ n + suc (length a) = omega arith in e))
 notices_more n (unchosen u s ∷ a) b =
     notices_more (n + 1) a b ∙ ap (λ m. notices_from (n + 1) a ++ notices_from m b) (let e : (n + 1) + length a ≡ n + suc (length a) = omega arith in e)
 notices_more n (notice kind ∷ a) b =
@@ -121,6 +125,8 @@ length_over : (meanings : List LineMeaning) (users : List (Option UserValue)) �
 length_over [] users = refl
 length_over (assigns u x ∷ meanings) users =
     length_over meanings (slice_set users u (Some (over x (user_of users u)))) ∙ length-set users u (Some (over x (user_of users u)))
+length_over (assigns_escaped u text ∷ meanings) users =
+    length_over meanings (slice_set users u (Some (TextUser text))) ∙ length-set users u (Some (TextUser text))
 length_over (unchosen u s ∷ meanings) users = length_over meanings users
 length_over (notice kind ∷ meanings) users = length_over meanings users
 length_over (silent ∷ meanings) users = length_over meanings users
@@ -292,6 +298,33 @@ gathers_notice tree meanings g h kind is entries members notices chosen lines = 
   plain = λ u y at. is.plain u y (sym (ap (λ es. value_in es u) entries) ∙ at);
   members_below = λ u past. ap (λ m. lines_in m u) members ∙ is.members_below u past;
 }
+
+-- a line that assigns a text and has the notice Escape is added by inserting the text, listing the notice and counting the line
+pub gathers_escaped : (tree : Tree) (meanings : List LineMeaning) (g h : Accumulator) (w : ℕ) (text : List ℕ) → w < length tree.units
+    → IsGathered tree meanings g → h.assigns ≡ insert_entry nat_cmp g.assigns w (TextUser text) → h.members.entries ≡ g.members.entries
+    → h.notices.items ≡ g.notices.items ++ record { line = g.lines + 1; kind = Escape } ∷ []
+    → h.chosen.items ≡ g.chosen.items → h.lines ≡ g.lines + 1
+    → IsGathered tree (meanings ++ assigns_escaped w text ∷ []) h
+gathers_escaped tree meanings g h w text within is entries members notices chosen lines =
+    let none : h.chosen.items ≡ g.chosen.items ++ [] = chosen ∙ sym (append-nil g.chosen.items) in
+    let plain : Accumulator = record { assigns = h.assigns; members = h.members; chosen = h.chosen; notices = g.notices; lines = h.lines; next = h.next } in
+    let unnoticed : IsGathered tree (meanings ++ assigns w (TextUser text) ∷ []) plain =
+    gathers_user tree meanings g plain w (TextUser text) within tt is entries members refl none lines in
+    record {
+      chosen = chosen_after meanings g h (assigns_escaped w text) is.chosen is.counted none;
+      users = λ u inside. ap (λ l. user_of l u) (over_more meanings (assigns_escaped w text) (empty_assignment tree)
+          ∙ sym (over_more meanings (assigns w (TextUser text)) (empty_assignment tree))) ∙ unnoticed.users u inside;
+      noted =
+          let number : g.lines + 1 ≡ 1 + length meanings = (let e = is.counted in omega arith) in
+          ap (map notice_pair) notices ∙ pairs_more g.notices.items (record { line = g.lines + 1; kind = Escape })
+          ∙ ap (λ l. l ++ (g.lines + 1, Escape) ∷ []) is.noted
+          ∙ ap (λ n. notices_from 1 meanings ++ (n, Escape) ∷ []) number ∙ sym (notices_more 1 meanings (assigns_escaped w text ∷ []));
+      counted = (let e = is.counted in let n = length-append meanings (assigns_escaped w text ∷ []) in omega arith);
+      rises = unnoticed.rises;
+      below = unnoticed.below;
+      plain = unnoticed.plain;
+      members_below = unnoticed.members_below;
+    }
 
 -- an accumulator without assignments, notices and lines has gathered no lines
 pub gathers_none : (tree : Tree) (g : Accumulator) → g.assigns ≡ [] → g.members.entries ≡ [] → g.notices.items ≡ [] → g.chosen.items ≡ [] → g.lines ≡ 0

@@ -4,8 +4,6 @@ pub mod ReadingSteps
 pub mod WholeReads
 pub mod LineMeanings
 pub mod UserValueFits
-pub mod LineParts
-mod UnsetNames
 pub mod UserValueUnits
 pub mod FragmentFits
 pub mod ConfigSolutions

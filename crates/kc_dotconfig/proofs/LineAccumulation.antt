@@ -6,11 +6,13 @@ use Rattle.std.specs.Ordering.{nat_cmp}
 use Rattle.kc_tree_model.specs.Trees.{Tree}
 use Rattle.kc_rules_model.specs.declared.values.MemberLine.{MemberLine}
 use Rattle.kc_rules_model.specs.declared.values.UserValue.{UserValue}
+use Rattle.kc_rules_model.specs.declared.values.UserValue.TheVariants.{Text as TextUser}
 use Rattle.kc_dotconfig.specs.declared.accumulator.Accumulator.{Accumulator}
 use Rattle.kc_dotconfig_model.specs.Formats.{FileFormat}
 use Rattle.kc_dotconfig_model.specs.declared.notice.NoticeKind.{NoticeKind}
+use Rattle.kc_dotconfig_model.specs.declared.notice.NoticeKind.TheVariants.{Escape}
 use Rattle.kc_dotconfig.specs.declared.meanings.Meaning.{Meaning}
-use Rattle.kc_dotconfig.specs.declared.meanings.Meaning.TheVariants.{Unchosen, Line, Noted, Nothing}
+use Rattle.kc_dotconfig.specs.declared.meanings.Meaning.TheVariants.{Escaped, Unchosen, Line, Noted, Nothing}
 use Rattle.kc_dotconfig_model.specs.PrefixGrammar.{is_name_prefix}
 use Rattle.kc_dotconfig_model.specs.ConfigLines.{LineMeaning, assigns, unchosen, Means, IsMalformed}
 use Rattle.kc_dotconfig_model.specs.OtherChoices.{choice_line_of}
@@ -20,7 +22,7 @@ use Rattle.kc_dotconfig_model.specs.between.LineMeanings.{line_meaning}
 use Rattle.kc_dotconfig.specs.checker.MeaningViews.{meaning_view, IsWithin}
 use Rattle.kc_dotconfig.specs.checker.Accumulation.{IsGathered}
 use Rattle.kc_dotconfig.specs.checker.GatheredLines.{lines_in, lines_more, IsPlain}
-use Rattle.kc_dotconfig.proofs.Insertions.{gathers_user, gathers_unchosen, gathers_line, gathers_nothing, gathers_notice}
+use Rattle.kc_dotconfig.proofs.Insertions.{gathers_user, gathers_escaped, gathers_unchosen, gathers_line, gathers_nothing, gathers_notice}
 use Rattle.kc_dotconfig_model.proofs.LineLaws.{line_read}
 
 pub takes_user : {T E : Type 0} (r : Result T E) (g h : Accumulator) (u : ℕ) (x : UserValue) (meaning : Meaning) → meaning_view meaning ≡ assigns u x
@@ -32,6 +34,18 @@ takes_user (Ok y) g h u x meaning is plain entries members notices chosen lines 
     λ tree meanings within before. subst (λ s. IsGathered tree (meanings ++ s ∷ []) h) (sym is)
     (gathers_user tree meanings g h u x (subst (λ s. IsWithin (length tree.units) s) is within) plain before entries members notices chosen lines)
 takes_user (Err e) g h u x meaning is plain entries members notices chosen lines = tt
+
+pub takes_escaped : {T E : Type 0} (r : Result T E) (g h : Accumulator) (u : ℕ) (text : List ℕ) (meaning : Meaning) → meaning ≡ Escaped u text
+    → OnOk r (h.assigns ≡ insert_entry nat_cmp g.assigns u (TextUser text)) → OnOk r (h.members.entries ≡ g.members.entries)
+    → OnOk r (h.notices.items ≡ g.notices.items ++ record { line = g.lines + 1; kind = Escape } ∷ [])
+    → OnOk r (h.chosen.items ≡ g.chosen.items) → OnOk r (h.lines ≡ g.lines + 1)
+    → OnOk r ((tree : Tree) (meanings : List LineMeaning) → IsWithin (length tree.units) (meaning_view meaning) → IsGathered tree meanings g
+    → IsGathered tree (meanings ++ meaning_view meaning ∷ []) h)
+takes_escaped (Ok y) g h u text meaning is entries members notices chosen lines =
+    λ tree meanings within before. subst (λ s. IsGathered tree (meanings ++ meaning_view s ∷ []) h) (sym is)
+    (gathers_escaped tree meanings g h u text (subst (λ s. IsWithin (length tree.units) (meaning_view s)) is within) before entries members notices chosen
+    lines)
+takes_escaped (Err e) g h u text meaning is entries members notices chosen lines = tt
 
 -- what is listed after a line that gives no member of a choice anything
 pub none_chosen : {T E : Type 0} (r : Result T E) (g h : Accumulator) → OnOk r (h.chosen.items ≡ g.chosen.items) → OnOk r (h.chosen.items ≡ g.chosen.items ++ [])

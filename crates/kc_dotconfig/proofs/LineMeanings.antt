@@ -18,10 +18,12 @@ use Rattle.kc_rules_model.specs.declared.values.UserValue.TheVariants.{Text as T
 use Rattle.kc_rules_model.specs.Rule.{member_user}
 use Rattle.kc_tokens.specs.declared.language.Language.{Language}
 use Rattle.kc_tokens.specs.Languages.{is_linux_6_12}
+use Rattle.kc_tokens.specs.declared.language.Language.TheVariants.{Strict, Linux}
 use Rattle.kc_dotconfig_model.specs.declared.format.Strings.{Strings}
+use Rattle.kc_dotconfig_model.specs.declared.format.Strings.TheVariants.{Raw}
 use Rattle.kc_dotconfig_model.specs.Formats.{FileFormat, IsStringSpelling}
 use Rattle.kc_dotconfig_model.specs.declared.notice.NoticeKind.TheVariants.{NotOfType}
-use Rattle.kc_dotconfig_model.specs.ConfigLines.{LineMeaning, assigns, unchosen, notice, silent, tri_of_text, unchosen_meaning, unset_meaning}
+use Rattle.kc_dotconfig_model.specs.ConfigLines.{LineMeaning, assigns, assigns_escaped, unchosen, notice, silent, tri_of_text, unchosen_meaning, has_escape_notice, text_meaning, unset_meaning}
 use Rattle.kc_dotconfig_model.specs.between.LineMeanings.{tri_meaning, string_meaning, number_meaning, without_number, meaning_of_kind, value_meaning, string_text, value_parts, unset_name, of_symbol_at, of_named, is_hash, of_other, of_unset, of_value, line_meaning}
 use Rattle.kc_dotconfig_model.proofs.ValueLaws.{string_is, string_read}
 
@@ -32,16 +34,23 @@ some_is o P x held is = subst (λ p. IfSome p P) is held
 pub none_is : {X : Type 0} (o : Option X) (P : Type 0) → IfNone o P → o ≡ None → P
 none_is o P held is = subst (λ p. IfNone p P) is held
 
-pub string_assigned : (strings : Strings) (unit : ℕ) (text means result : List ℕ) → result ≡ means → IsStringSpelling strings text means
-    → assigns unit (TextUser result) ≡ string_meaning unit (string_text strings text)
-string_assigned strings unit text means result same is =
-    ap (λ t. assigns unit (TextUser t)) same ∙ sym (ap (string_meaning unit) (string_read strings text means is))
+-- a string has the meaning of its text
+pub string_assigned : (language : Language) (strings : Strings) (unit : ℕ) (text means result : List ℕ) → result ≡ means → IsStringSpelling strings text means
+    → text_meaning language strings unit text result ≡ string_meaning language strings unit text (string_text strings text)
+string_assigned language strings unit text means result same is =
+    ap (text_meaning language strings unit text) same ∙ sym (ap (string_meaning language strings unit text) (string_read strings text means is))
 
-pub no_string_noticed : (strings : Strings) (unit : ℕ) (text : List ℕ) → ((means : List ℕ) → IsStringSpelling strings text means → ⊥)
-    → notice NotOfType ≡ string_meaning unit (string_text strings text)
-no_string_noticed strings unit text none = go (string_text strings text) refl where
-  go : (o : Option (List ℕ)) → string_text strings text ≡ o → notice NotOfType ≡ string_meaning unit (string_text strings text)
-  go None e = sym (ap (string_meaning unit) e)
+-- a text that is written raw has no notice
+pub raw_assigned : (language : Language) (unit : ℕ) (text means result : List ℕ) → result ≡ means → IsStringSpelling Raw text means
+    → assigns unit (TextUser result) ≡ string_meaning language Raw unit text (string_text Raw text)
+raw_assigned Strict unit text means result same is = string_assigned Strict Raw unit text means result same is
+raw_assigned (Linux version) unit text means result same is = string_assigned (Linux version) Raw unit text means result same is
+
+pub no_string_noticed : (language : Language) (strings : Strings) (unit : ℕ) (text : List ℕ) → ((means : List ℕ) → IsStringSpelling strings text means → ⊥)
+    → notice NotOfType ≡ string_meaning language strings unit text (string_text strings text)
+no_string_noticed language strings unit text none = go (string_text strings text) refl where
+  go : (o : Option (List ℕ)) → string_text strings text ≡ o → notice NotOfType ≡ string_meaning language strings unit text (string_text strings text)
+  go None e = sym (ap (string_meaning language strings unit text) e)
   go (Some means) e = absurd (none means (string_is strings text means e))
 
 -- what is assigned is assigned to the unit
@@ -59,9 +68,13 @@ tri_within language n u s (Some c) (Some t) h = go (is_y t) where
   go true = h
   go false = unchosen_within language n u s h
 
-string_within : (n u : ℕ) (o : Option (List ℕ)) → u < n → IsWithin n (string_meaning u o)
-string_within n u None h = tt
-string_within n u (Some text) h = h
+string_within : (language : Language) (strings : Strings) (n u : ℕ) (spelling : List ℕ) (o : Option (List ℕ)) → u < n
+    → IsWithin n (string_meaning language strings u spelling o)
+string_within language strings n u spelling None h = tt
+string_within language strings n u spelling (Some text) h = go (has_escape_notice language strings spelling) where
+  go : (b : Bool) → IsWithin n (cond b (assigns_escaped u text) (assigns u (TextUser text)))
+  go true = h
+  go false = h
 
 number_within : (n u : ℕ) (kind : Kind) (text : List ℕ) → u < n → IsWithin n (number_meaning u kind text)
 number_within n u kind text h = go (is_some (number_of_text kind text)) text where
@@ -74,7 +87,7 @@ kind_within : (language : Language) (strings : Strings) (n : ℕ) (kind : Kind) 
     → IsWithin n (meaning_of_kind language strings kind u s choice text)
 kind_within language strings n Boolean u s choice text h = tri_within language n u s choice (tri_of_text Boolean text) h
 kind_within language strings n Tristate u s choice text h = tri_within language n u s choice (tri_of_text Tristate text) h
-kind_within language strings n Text u s choice text h = string_within n u (string_text strings text) h
+kind_within language strings n Text u s choice text h = string_within language strings n u text (string_text strings text) h
 kind_within language strings n Int u s choice text h = number_within n u Int text h
 kind_within language strings n Hex u s choice text h = number_within n u Hex text h
 

@@ -4,7 +4,7 @@ ghost use Rattle.std.specs.Str.{IsUtf8};
 ghost use Rattle.kc_value.specs.declared.limits.TheConstants.{MAX_CONFIG_LINES};
 ghost use Rattle.kc_tree_model.specs.Trees.{Tree};
 ghost use Rattle.kc_rules.specs.between.SettledViews.{tree_of_settled};
-ghost use Rattle.kc_rules_model.specs.declared.values.UserValue.TheVariants.{Member as MemberUser};
+ghost use Rattle.kc_rules_model.specs.declared.values.UserValue.TheVariants.{Text as TextUser, Member as MemberUser};
 ghost use Rattle.kc_dotconfig_model.specs.ConfigLines.{LineMeaning, assigns, unchosen, Means, IsMalformed};
 ghost use Rattle.kc_dotconfig_model.specs.OtherChoices.{choice_line_of};
 ghost use Rattle.kc_tree_model.specs.LogicalLines.{without_white_end};
@@ -24,6 +24,7 @@ use kc_dotconfig_model::{ChoiceLine, Format, LoadKind, Notice, NoticeKind};
 use kc_rules::Settled;
 use kc_rules_model::{MemberLine, UserValue};
 use kc_tree::Sym;
+use kc_value::Text;
 use std::alloc::{AllocError, Global};
 use std::collections::BTreeMap;
 
@@ -128,7 +129,35 @@ fn take_member(
     Ok(())
 }
 
-/// Adds a line with a notice. An `Err` means out of memory.
+/// Lists a notice on the next line. An `Err` means out of memory.
+fn list_notice(gathered: &mut Accumulator, kind: NoticeKind) -> Result<(), AllocError>
+    requires few { gathered.old.lines < MAX_CONFIG_LINES }
+    ensures entries { gathered.new.assigns ≡ gathered.old.assigns }
+    ensures members { gathered.new.members.entries ≡ gathered.old.members.entries }
+    ensures notices { OnOk result (gathered.new.notices.items ≡ gathered.old.notices.items ++ record { line = gathered.old.lines + 1; kind = kind } ∷ []) }
+    ensures chosen { gathered.new.chosen.items ≡ gathered.old.chosen.items }
+    ensures lines { gathered.new.lines ≡ gathered.old.lines }
+{
+    let line = gathered.lines + 1;
+    gathered.notices.push(Notice { line, kind })?;
+    Ok(())
+}
+
+/// Adds a line that assigns a text to a unit and has the notice Escape. An `Err` means out of memory.
+fn take_escaped(gathered: &mut Accumulator, unit: u32, text: Text) -> Result<(), AllocError>
+    requires few { gathered.old.lines < MAX_CONFIG_LINES }
+    ensures entries { OnOk result (gathered.new.assigns ≡ insert_entry nat_cmp gathered.old.assigns unit (TextUser text)) }
+    ensures members { OnOk result (gathered.new.members.entries ≡ gathered.old.members.entries) }
+    ensures notices { OnOk result (gathered.new.notices.items ≡ gathered.old.notices.items ++ record { line = gathered.old.lines + 1; kind = NoticeKind.Escape } ∷ []) }
+    ensures chosen { OnOk result (gathered.new.chosen.items ≡ gathered.old.chosen.items) }
+    ensures lines { OnOk result (gathered.new.lines ≡ gathered.old.lines + 1) }
+    ensures err { OnErr result (gathered.new.lines ≡ gathered.old.lines) }
+{
+    list_notice(gathered, NoticeKind::Escape)?;
+    take_assignment(gathered, unit, UserValue::Text(text))
+}
+
+/// Adds a line that assigns nothing and has a notice. An `Err` means out of memory.
 fn take_notice(gathered: &mut Accumulator, kind: NoticeKind) -> Result<(), AllocError>
     requires few { gathered.old.lines < MAX_CONFIG_LINES }
     ensures entries { OnOk result (gathered.new.assigns ≡ gathered.old.assigns) }
@@ -138,9 +167,8 @@ fn take_notice(gathered: &mut Accumulator, kind: NoticeKind) -> Result<(), Alloc
     ensures lines { OnOk result (gathered.new.lines ≡ gathered.old.lines + 1) }
     ensures err { OnErr result (gathered.new.lines ≡ gathered.old.lines) }
 {
-    let line = gathered.lines + 1;
-    gathered.notices.push(Notice { line, kind })?;
-    gathered.lines = line;
+    list_notice(gathered, kind)?;
+    gathered.lines += 1;
     Ok(())
 }
 
@@ -154,6 +182,7 @@ fn take(alloc: Global, gathered: &mut Accumulator, meaning: Meaning) -> Result<(
     match meaning {
         Meaning::Tri(unit, tri) => take_assignment(gathered, unit, UserValue::Tri(tri)),
         Meaning::Text(unit, text) => take_assignment(gathered, unit, UserValue::Text(text)),
+        Meaning::Escaped(unit, text) => take_escaped(gathered, unit, text),
         Meaning::Member(unit, s) => take_chosen(gathered, unit, s),
         Meaning::Unchosen(unit, s) => take_unchosen(gathered, unit, s),
         Meaning::Line(unit, line) => take_member(alloc, gathered, unit, line),

@@ -10,7 +10,6 @@ mod fragment;
 mod fragment_reader;
 mod gathered_lines;
 mod line_buffer;
-mod line_parts;
 mod meanings;
 mod missed_assignments;
 mod overlaid;
@@ -22,4 +21,3 @@ pub use gathered_lines::last_lines;
 pub use kc_dotconfig_model::{
     ChoiceLine, Format, LoadFault, LoadKind, Notice, NoticeKind, Prefix, Strings,
 };
-pub use line_parts::is_unset_text;

@@ -4,7 +4,7 @@ ghost use Rattle.kc_tree_model.specs.Trees.{Symbol};
 ghost use Rattle.kc_tree_model.specs.TreeLookup.{symbol_named};
 ghost use Rattle.kc_value.specs.Number.{number_of_text};
 ghost use Rattle.kc_rules.specs.between.SettledViews.{tree_of_settled};
-ghost use Rattle.kc_dotconfig_model.specs.ConfigLines.{assigns, tri_of_text, unchosen_meaning, unset_meaning};
+ghost use Rattle.kc_dotconfig_model.specs.ConfigLines.{assigns, tri_of_text, unchosen_meaning, text_meaning, unset_meaning};
 ghost use Rattle.kc_rules_model.specs.Rule.{member_user};
 ghost use Rattle.kc_tree_model.specs.LogicalLines.{without_white_end};
 ghost use Rattle.kc_dotconfig_model.specs.declared.format.Strings.TheVariants.{Escaped, Raw};
@@ -12,8 +12,10 @@ ghost use Rattle.kc_dotconfig_model.specs.between.Formats.{file_format};
 ghost use Rattle.kc_dotconfig_model.specs.between.LineMeanings.{line_meaning, tri_meaning, string_meaning, number_meaning, meaning_of_kind, value_meaning, string_text, of_named, of_other};
 ghost use Rattle.kc_dotconfig.specs.checker.MeaningViews.{meaning_view, IsWithin};
 
-use super::line_parts::{between_quotes, is_comment, trimmed, unset_name, value_parts};
-use kc_dotconfig_model::{Format, NoticeKind, Strings};
+use kc_dotconfig_model::{
+    Format, NoticeKind, Strings, between_quotes, has_other_escape, is_comment, trimmed, unset_name,
+    value_parts,
+};
 use kc_rules::Settled;
 use kc_rules_model::MemberLine;
 use kc_tokens::Language;
@@ -28,6 +30,8 @@ pub(crate) enum Meaning {
     Tri(u32, Tri),
     /// The line assigns a text to the unit of this number.
     Text(u32, Text),
+    /// The line assigns a text to the unit of this number, and the notice Escape is due.
+    Escaped(u32, Text),
     /// The line selects a member for the choice that is the unit of this number.
     Member(u32, Sym),
     /// The line gives a member of the choice that is the unit of this number another value than `y`, and assigns nothing.
@@ -98,19 +102,41 @@ fn read_tri(language: Language, unit: u32, s: Sym, choice: Option<u32>, tri: Opt
     }
 }
 
+/// What a string means that is written escaped, in this spelling. In the languages of Linux other escapes than those of `"` and `\`
+/// have a notice.
+fn escaped_text(language: Language, unit: u32, spelling: &str, text: Text) -> Meaning
+    ensures { meaning_view result ≡ text_meaning language Escaped unit spelling.now text }
+{
+    match language {
+        Language::Strict => Meaning::Text(unit, text),
+        Language::Linux(_) => {
+            if has_other_escape(spelling.as_bytes()) {
+                Meaning::Escaped(unit, text)
+            } else {
+                Meaning::Text(unit, text)
+            }
+        }
+    }
+}
+
 /// Interprets the value of a string that is written escaped.
-fn read_escaped(alloc: Global, unit: u32, text: &str) -> Result<Meaning, AllocError>
-    ensures { IfOk result (λ meaning. meaning_view meaning ≡ string_meaning unit (string_text Escaped text.now)) }
+fn read_escaped(
+    alloc: Global,
+    language: Language,
+    unit: u32,
+    text: &str,
+) -> Result<Meaning, AllocError>
+    ensures { IfOk result (λ meaning. meaning_view meaning ≡ string_meaning language Escaped unit text.now (string_text Escaped text.now)) }
 {
     match read_quoted(alloc, text)? {
-        Some(text) => Ok(Meaning::Text(unit, Text::from_string(text))),
+        Some(means) => Ok(escaped_text(language, unit, text, Text::from_string(means))),
         None => Ok(Meaning::Noted(NoticeKind::NotOfType)),
     }
 }
 
 /// Interprets the value of a string that is written raw.
 fn read_raw(alloc: Global, unit: u32, text: &str) -> Result<Meaning, AllocError>
-    ensures { IfOk result (λ meaning. meaning_view meaning ≡ string_meaning unit (string_text Raw text.now)) }
+    ensures { IfOk result (λ meaning. (language : Language) → meaning_view meaning ≡ string_meaning language Raw unit text.now (string_text Raw text.now)) }
 {
     match between_quotes(text) {
         Some(text) => {
@@ -124,14 +150,15 @@ fn read_raw(alloc: Global, unit: u32, text: &str) -> Result<Meaning, AllocError>
 /// Interprets the value of a string by the form of strings.
 fn read_string(
     alloc: Global,
+    language: Language,
     strings: Strings,
     unit: u32,
     text: &str,
 ) -> Result<Meaning, AllocError>
-    ensures { IfOk result (λ meaning. meaning_view meaning ≡ string_meaning unit (string_text strings text.now)) }
+    ensures { IfOk result (λ meaning. meaning_view meaning ≡ string_meaning language strings unit text.now (string_text strings text.now)) }
 {
     match strings {
-        Strings::Escaped => read_escaped(alloc, unit, text),
+        Strings::Escaped => read_escaped(alloc, language, unit, text),
         Strings::Raw => read_raw(alloc, unit, text),
     }
 }
@@ -175,7 +202,7 @@ fn read_text(
     ensures { IfOk result (λ meaning. meaning_view meaning ≡ meaning_of_kind language strings kind unit s choice text.now) }
 {
     match kind {
-        Kind::Text => read_string(alloc, strings, unit, text),
+        Kind::Text => read_string(alloc, language, strings, unit, text),
         Kind::Int => read_number(alloc, unit, kind, text),
         Kind::Hex => read_number(alloc, unit, kind, text),
         Kind::Bool => Ok(read_tri(language, unit, s, choice, tri_of_text(kind, text))),

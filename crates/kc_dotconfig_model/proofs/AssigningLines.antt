@@ -7,6 +7,7 @@ use Rattle.std.proofs.lemmas.List.{get_or-set_same, get_or-set_other, length-set
 use Rattle.std.proofs.lemmas.List.Sums.{passes_at_first}
 use Rattle.std.proofs.lemmas.Option.{get_or_from_slice_get}
 use Rattle.std.proofs.lemmas.Slice.Eq.{bytes_eq-Decides}
+use Rattle.kc_value.specs.declared.tri.Tri.{Tri}
 use Rattle.kc_value.specs.declared.tri.Tri.TheVariants.{N}
 use Rattle.kc_value.specs.declared.value.Kind.TheVariants.{Text}
 use Rattle.kc_value.specs.Number.{number_of_text}
@@ -22,24 +23,33 @@ use Rattle.kc_tokens.specs.Languages.{is_linux_6_12}
 use Rattle.kc_value.specs.Kinds.{is_tri_kind}
 use Rattle.kc_tree_model.proofs.Lookups.{unit_is, index_if_found}
 use Rattle.kc_dotconfig_model.specs.declared.format.Strings.{Strings}
+use Rattle.kc_dotconfig_model.specs.declared.notice.NoticeKind.{NoticeKind}
+use Rattle.kc_dotconfig_model.specs.declared.notice.NoticeKind.TheVariants.{UnknownSymbol, NotOfType}
 use Rattle.kc_dotconfig_model.specs.Formats.{FileFormat, IsStringSpelling}
-use Rattle.kc_dotconfig_model.specs.ConfigLines.{LineMeaning, assigns, unchosen, notice, silent, unchosen_meaning, unset_meaning, ValueMeans, tri, chosen, not_chosen, quoted, number, no_int, no_hex, no_tri, no_text, no_number, Means, value, unset, unknown_value, unknown_unset, empty, comment}
+use Rattle.kc_dotconfig_model.specs.ConfigLines.{LineMeaning, assigns, assigns_escaped, unchosen, notice, silent, unchosen_meaning, has_escape_notice, text_meaning, unset_meaning, ValueMeans, tri, chosen, not_chosen, quoted, number, no_int, no_hex, no_tri, no_text, no_number, Means, value, unset, unknown_value, unknown_unset, empty, comment}
 use Rattle.kc_tree_model.specs.LogicalLines.{without_white_end}
 use Rattle.kc_dotconfig_model.specs.ConfigFiles.{over, assigned_over}
 
 abbrev Reads : FileFormat → Tree → List (List ℕ) → List LineMeaning → Type 0
 Reads format tree lines meanings = AllZip (λ line meaning. Means format tree (without_white_end line) meaning) lines meanings
 
--- one of the lines assigns the user value `x` to the unit `u`
-pub record HasAssigningLine (format : FileFormat) (tree : Tree) (lines : List (List ℕ)) (u : ℕ) (x : UserValue) : Type 0 where
+-- a line of this meaning assigns this text to the unit `u`, with a notice or without one
+abbrev pub AssignsText : ℕ → List ℕ → LineMeaning → Type 0
+AssignsText u means meaning = (meaning ≡ assigns u (TextUser means)) ⊎ (meaning ≡ assigns_escaped u means)
+
+-- one of the lines assigns this text to the unit `u`
+pub record HasAssigningLine (format : FileFormat) (tree : Tree) (lines : List (List ℕ)) (u : ℕ) (means : List ℕ) : Type 0 where
   pub number : ℕ
   pub line : List ℕ
   pub at : slice_get lines number ≡ Some line
-  pub has_meaning : Means format tree (without_white_end line) (assigns u x)
+  pub meaning : LineMeaning
+  pub has_meaning : Means format tree (without_white_end line) meaning
+  pub assigned : AssignsText u means meaning
 
-one_further : (format : FileFormat) (tree : Tree) (first : List ℕ) (lines : List (List ℕ)) (u : ℕ) (x : UserValue) → HasAssigningLine format tree lines u x
-    → HasAssigningLine format tree (first ∷ lines) u x
-one_further format tree first lines u x h = record { number = suc h.number; line = h.line; at = h.at; has_meaning = h.has_meaning }
+one_further : (format : FileFormat) (tree : Tree) (first : List ℕ) (lines : List (List ℕ)) (u : ℕ) (means : List ℕ) → HasAssigningLine format tree lines u means
+    → HasAssigningLine format tree (first ∷ lines) u means
+one_further format tree first lines u means h =
+    record { number = suc h.number; line = h.line; at = h.at; meaning = h.meaning; has_meaning = h.has_meaning; assigned = h.assigned }
 
 -- a text that is a user value over another one is either of these
 text_over : (y : UserValue) (o : Option UserValue) (means : List ℕ) → over y o ≡ TextUser means → (y ≡ TextUser means) ⊎ (o ≡ Some (TextUser means))
@@ -57,24 +67,45 @@ text_over (LinesUser l) (Some (TextUser t)) means e = inr (ap Some e)
 pub assigning_line : (format : FileFormat) (tree : Tree) (lines : List (List ℕ)) (meanings : List LineMeaning) (held : List (Option UserValue)) (u : ℕ)
     (means : List ℕ)
     → Reads format tree lines meanings → u < length held
-    → user_of (assigned_over meanings held) u ≡ Some (TextUser means) → (user_of held u ≡ Some (TextUser means)) ⊎ HasAssigningLine format tree lines u (TextUser means)
+    → user_of (assigned_over meanings held) u ≡ Some (TextUser means) → (user_of held u ≡ Some (TextUser means)) ⊎ HasAssigningLine format tree lines u means
 assigning_line format tree [] [] held u means reads inside has = inl has
 assigning_line format tree [] (meaning ∷ meanings) held u means reads inside has = absurd reads
 assigning_line format tree (line ∷ lines) [] held u means reads inside has = absurd reads
 assigning_line format tree (line ∷ lines) (unchosen w s ∷ meanings) held u means reads inside has =
     elim (assigning_line format tree lines meanings held u means reads.1 inside has) [
       | inl before ↦ inl before
-      | inr later ↦ inr (one_further format tree line lines u (TextUser means) later)
+      | inr later ↦ inr (one_further format tree line lines u means later)
     ]
 assigning_line format tree (line ∷ lines) (notice kind ∷ meanings) held u means reads inside has =
     elim (assigning_line format tree lines meanings held u means reads.1 inside has) [
       | inl before ↦ inl before
-      | inr later ↦ inr (one_further format tree line lines u (TextUser means) later)
+      | inr later ↦ inr (one_further format tree line lines u means later)
     ]
 assigning_line format tree (line ∷ lines) (silent ∷ meanings) held u means reads inside has =
     elim (assigning_line format tree lines meanings held u means reads.1 inside has) [
       | inl before ↦ inl before
-      | inr later ↦ inr (one_further format tree line lines u (TextUser means) later)
+      | inr later ↦ inr (one_further format tree line lines u means later)
+    ]
+assigning_line format tree (line ∷ lines) (assigns_escaped w text ∷ meanings) held u means reads inside has =
+    let len = length-set held w (Some (TextUser text)) in
+    elim (assigning_line format tree lines meanings (slice_set held w (Some (TextUser text))) u means reads.1 (omega arith) has) [
+      | inl before ↦ elim (cases_eq u w) [
+        | inl same ↦
+            let here : user_of (slice_set held w (Some (TextUser text))) u ≡ Some (TextUser text) =
+            ap (λ k. user_of (slice_set held k (Some (TextUser text))) u) (sym same)
+            ∙ get_or-set_same held u (Some (TextUser text)) None inside in
+            let own : text ≡ means = cc (here, before) in
+            inr (record {
+              number = 0;
+              line = line;
+              at = refl;
+              meaning = assigns_escaped w text;
+              has_meaning = reads.0;
+              assigned = inr (ap (λ k. assigns_escaped k text) (sym same) ∙ ap (assigns_escaped u) own);
+            })
+        | inr other ↦ inl (sym (get_or-set_other held w u (Some (TextUser text)) None other) ∙ before)
+      ]
+      | inr later ↦ inr (one_further format tree line lines u means later)
     ]
 assigning_line format tree (line ∷ lines) (assigns w y ∷ meanings) held u means reads inside has =
     let z = over y (user_of held w) in
@@ -90,14 +121,15 @@ assigning_line format tree (line ∷ lines) (assigns w y ∷ meanings) held u me
                 number = 0;
                 line = line;
                 at = refl;
-                has_meaning = subst (λ k. Means format tree (without_white_end line) (assigns k (TextUser means))) (sym same)
-                    (subst (λ z. Means format tree (without_white_end line) (assigns w z)) own reads.0);
+                meaning = assigns w y;
+                has_meaning = reads.0;
+                assigned = inl (ap (λ k. assigns k y) (sym same) ∙ ap (assigns u) own);
               })
               | inr held_before ↦ inl (ap (user_of held) same ∙ held_before)
             ]
         | inr other ↦ inl (sym (get_or-set_other held w u (Some z) None other) ∙ before)
       ]
-      | inr later ↦ inr (one_further format tree line lines u (TextUser means) later)
+      | inr later ↦ inr (one_further format tree line lines u means later)
     ]
 
 -- the line has the form `CONFIG_NAME=text` for a string, int or hex of the unit `u`, and `means` is the text that it assigns
@@ -117,60 +149,80 @@ TextMeans strings tree s symbol text u means =
     (unit_of tree s ≡ u) × ((IsStringSpelling strings text means × (symbol.kind ≡ Text))
     ⊎ ((text ≡ means) × (is_some (number_of_text symbol.kind text) ≡ true)))
 
-member_no_text : (language : Language) (w s u : ℕ) (means : List ℕ) → assigns w (member_user language s) ≡ assigns u (TextUser means) → ⊥
-member_no_text language w s u means e = go (is_linux_6_12 language) e where
-  go : (b : Bool) → assigns w (cond b (LinesUser (record { member = s; is_y = true } ∷ [])) (MemberUser s)) ≡ assigns u (TextUser means) → ⊥
-  go true e = cc
-  go false e = cc
+no_text_from : (meaning : LineMeaning) (u : ℕ) (means : List ℕ) → (meaning ≡ assigns u (TextUser means) → ⊥) → (meaning ≡ assigns_escaped u means → ⊥)
+    → AssignsText u means meaning → ⊥
+no_text_from meaning u means plain other (inl e) = plain e
+no_text_from meaning u means plain other (inr e) = other e
 
-unchosen_no_text : (language : Language) (w s u : ℕ) (means : List ℕ) → unchosen_meaning language w s ≡ assigns u (TextUser means) → ⊥
-unchosen_no_text language w s u means e = go (is_linux_6_12 language) e where
-  go : (b : Bool) → cond b (assigns w (LinesUser (record { member = s; is_y = false } ∷ []))) (unchosen w s) ≡ assigns u (TextUser means) → ⊥
-  go true e = cc
-  go false e = cc
+tri_no_text : (w u : ℕ) (t : Tri) (means : List ℕ) → AssignsText u means (assigns w (TriUser t)) → ⊥
+tri_no_text w u t means a = no_text_from (assigns w (TriUser t)) u means (λ e. cc) (λ e. cc) a
+
+silent_no_text : (u : ℕ) (means : List ℕ) → AssignsText u means silent → ⊥
+silent_no_text u means a = no_text_from silent u means (λ e. cc) (λ e. cc) a
+
+notice_no_text : (kind : NoticeKind) (u : ℕ) (means : List ℕ) → AssignsText u means (notice kind) → ⊥
+notice_no_text kind u means a = no_text_from (notice kind) u means (λ e. cc) (λ e. cc) a
+
+member_no_text : (language : Language) (w s u : ℕ) (means : List ℕ) → AssignsText u means (assigns w (member_user language s)) → ⊥
+member_no_text language w s u means a = go (is_linux_6_12 language) a where
+  go : (b : Bool) → AssignsText u means (assigns w (cond b (LinesUser (record { member = s; is_y = true } ∷ [])) (MemberUser s))) → ⊥
+  go true a = no_text_from (assigns w (LinesUser (record { member = s; is_y = true } ∷ []))) u means (λ e. cc) (λ e. cc) a
+  go false a = no_text_from (assigns w (MemberUser s)) u means (λ e. cc) (λ e. cc) a
+
+unchosen_no_text : (language : Language) (w s u : ℕ) (means : List ℕ) → AssignsText u means (unchosen_meaning language w s) → ⊥
+unchosen_no_text language w s u means a = go (is_linux_6_12 language) a where
+  go : (b : Bool) → AssignsText u means (cond b (assigns w (LinesUser (record { member = s; is_y = false } ∷ []))) (unchosen w s)) → ⊥
+  go true a = no_text_from (assigns w (LinesUser (record { member = s; is_y = false } ∷ []))) u means (λ e. cc) (λ e. cc) a
+  go false a = no_text_from (unchosen w s) u means (λ e. cc) (λ e. cc) a
+
+-- the text of a string's line, with a notice or without one
+spelled_text : (language : Language) (strings : Strings) (w : ℕ) (spelling text : List ℕ) (u : ℕ) (means : List ℕ)
+    → AssignsText u means (text_meaning language strings w spelling text) → (w ≡ u) × (text ≡ means)
+spelled_text language strings w spelling text u means a = go (has_escape_notice language strings spelling) a where
+  go : (b : Bool) → AssignsText u means (cond b (assigns_escaped w text) (assigns w (TextUser text))) → (w ≡ u) × (text ≡ means)
+  go true (inl e) = cc
+  go true (inr e) = (let unit : w ≡ u = cc in unit, let same : text ≡ means = cc in same)
+  go false (inl e) = (let unit : w ≡ u = cc in unit, let same : text ≡ means = cc in same)
+  go false (inr e) = cc
 
 text_means : (strings : Strings) (tree : Tree) (s : ℕ) (symbol : Symbol) (text : List ℕ) (meaning : LineMeaning) (u : ℕ) (means : List ℕ)
     → ValueMeans strings tree s symbol text meaning
-    → meaning ≡ assigns u (TextUser means) → TextMeans strings tree s symbol text u means
-text_means strings tree s symbol text meaning u means (tri _ t out meant) e = cc
-text_means strings tree s symbol text meaning u means (chosen c _ within meant) e = absurd (member_no_text tree.language (unit_of tree s) s u means e)
-text_means strings tree s symbol text meaning u means (not_chosen c _ t within meant other) e = absurd (unchosen_no_text tree.language (unit_of tree s) s u means e)
-text_means strings tree s symbol text meaning u means (quoted _ other is is_spelling) e =
-    let unit : unit_of tree s ≡ u = cc in
-    let same : other ≡ means = cc in
-    (unit, inl (subst (IsStringSpelling strings text) same is_spelling, is))
-text_means strings tree s symbol text meaning u means (number _ some) e =
+    → AssignsText u means meaning → TextMeans strings tree s symbol text u means
+text_means strings tree s symbol text meaning u means (tri _ t out meant) a = absurd (tri_no_text (unit_of tree s) u t means a)
+text_means strings tree s symbol text meaning u means (chosen c _ within meant) a = absurd (member_no_text tree.language (unit_of tree s) s u means a)
+text_means strings tree s symbol text meaning u means (not_chosen c _ t within meant other) a = absurd (unchosen_no_text tree.language (unit_of tree s) s u means a)
+text_means strings tree s symbol text meaning u means (quoted _ other is is_spelling) a =
+    let t = spelled_text tree.language strings (unit_of tree s) text other u means a in
+    (t.0, inl (subst (IsStringSpelling strings text) t.1 is_spelling, is))
+text_means strings tree s symbol text meaning u means (number _ some) (inl e) =
     let unit : unit_of tree s ≡ u = cc in
     let same : text ≡ means = cc in
     (unit, inr (same, some))
-text_means strings tree s symbol text meaning u means (no_int is) e = cc
-text_means strings tree s symbol text meaning u means (no_hex is) e = cc
-text_means strings tree s symbol text meaning u means (no_tri _ small meant) e = cc
-text_means strings tree s symbol text meaning u means (no_text _ is without) e = cc
-text_means strings tree s symbol text meaning u means (no_number b rest large other without) e = cc
+text_means strings tree s symbol text meaning u means (number _ some) (inr e) = cc
+text_means strings tree s symbol text meaning u means (no_int is) a = absurd (silent_no_text u means a)
+text_means strings tree s symbol text meaning u means (no_hex is) a = absurd (silent_no_text u means a)
+text_means strings tree s symbol text meaning u means (no_tri _ small meant) a = absurd (notice_no_text NotOfType u means a)
+text_means strings tree s symbol text meaning u means (no_text _ is without) a = absurd (notice_no_text NotOfType u means a)
+text_means strings tree s symbol text meaning u means (no_number b rest large other without) a = absurd (notice_no_text NotOfType u means a)
 
-unset_no_text : (tree : Tree) (s : ℕ) (symbol : Symbol) (o : Option ℕ) (u : ℕ) (means : List ℕ) → unset_meaning tree s symbol o ≡ assigns u (TextUser means) → ⊥
-unset_no_text tree s symbol (Some c) u means e = unchosen_no_text tree.language (unit_of tree s) s u means e
-unset_no_text tree s symbol None u means e = go (is_tri_kind symbol.kind) e where
-  go : (t : Bool) → cond t (assigns (unit_of tree s) (TriUser N)) silent ≡ assigns u (TextUser means) → ⊥
-  go true e = cc
-  go false e = cc
-
-is_text_line : (format : FileFormat) (tree : Tree) (line : List ℕ) (meaning : LineMeaning) (u : ℕ) (means : List ℕ) → Means format tree line meaning
-    → meaning ≡ assigns u (TextUser means) → IsTextLine format tree line u means
-is_text_line format tree line meaning u means (value _ name text s symbol _ is named at has_meaning) e =
-    let t = text_means format.strings tree s symbol text meaning u means has_meaning e in
-    record { name = name; text = text; s = s; symbol = symbol; whole = is.2; named = named; at = at; unit = t.0; has_meaning = t.1 }
-is_text_line format tree line meaning u means (unset _ name s symbol is named at) e = absurd (unset_no_text tree s symbol symbol.choice u means e)
-is_text_line format tree line meaning u means (unknown_value _ name text is named) e = cc
-is_text_line format tree line meaning u means (unknown_unset _ name is named) e = cc
-is_text_line format tree line meaning u means empty e = cc
-is_text_line format tree line meaning u means (comment _ hash without) e = cc
+unset_no_text : (tree : Tree) (s : ℕ) (symbol : Symbol) (o : Option ℕ) (u : ℕ) (means : List ℕ) → AssignsText u means (unset_meaning tree s symbol o) → ⊥
+unset_no_text tree s symbol (Some c) u means a = unchosen_no_text tree.language (unit_of tree s) s u means a
+unset_no_text tree s symbol None u means a = go (is_tri_kind symbol.kind) a where
+  go : (t : Bool) → AssignsText u means (cond t (assigns (unit_of tree s) (TriUser N)) silent) → ⊥
+  go true a = tri_no_text (unit_of tree s) u N means a
+  go false a = silent_no_text u means a
 
 -- a line that assigns a text to a unit has the form `CONFIG_NAME=text` for a string, int or hex of that unit
-pub text_line : (format : FileFormat) (tree : Tree) (line : List ℕ) (u : ℕ) (means : List ℕ) → Means format tree line (assigns u (TextUser means))
-    → IsTextLine format tree line u means
-text_line format tree line u means has_meaning = is_text_line format tree line (assigns u (TextUser means)) u means has_meaning refl
+pub text_line : (format : FileFormat) (tree : Tree) (line : List ℕ) (meaning : LineMeaning) (u : ℕ) (means : List ℕ) → Means format tree line meaning
+    → AssignsText u means meaning → IsTextLine format tree line u means
+text_line format tree line meaning u means (value _ name text s symbol _ is named at has_meaning) a =
+    let t = text_means format.strings tree s symbol text meaning u means has_meaning a in
+    record { name = name; text = text; s = s; symbol = symbol; whole = is.2; named = named; at = at; unit = t.0; has_meaning = t.1 }
+text_line format tree line meaning u means (unset _ name s symbol is named at) a = absurd (unset_no_text tree s symbol symbol.choice u means a)
+text_line format tree line meaning u means (unknown_value _ name text is named) a = absurd (notice_no_text UnknownSymbol u means a)
+text_line format tree line meaning u means (unknown_unset _ name is named) a = absurd (notice_no_text UnknownSymbol u means a)
+text_line format tree line meaning u means empty a = absurd (silent_no_text u means a)
+text_line format tree line meaning u means (comment _ hash without) a = absurd (silent_no_text u means a)
 
 -- the symbol that is found in the tree by a name has that name
 pub named_so : (tree : Tree) (name : List ℕ) (s : ℕ) (symbol : Symbol) → symbol_named tree name ≡ Some s → slice_get tree.symbols s ≡ Some symbol

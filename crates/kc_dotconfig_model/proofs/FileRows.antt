@@ -7,8 +7,11 @@ use Rattle.kc_tree_model.specs.Trees.{Tree}
 use Rattle.kc_rules_model.specs.declared.values.UserValue.{UserValue}
 use Rattle.kc_rules_model.specs.declared.values.UserValue.TheVariants.{Tri as TriUser, Member as MemberUser}
 use Rattle.kc_rules_model.proofs.RowTrees.{sets, writes, tree_a, tree_string, tree_pick}
+use Rattle.kc_tokens.specs.declared.language.Language.TheVariants.{Linux}
+use Rattle.kc_tokens.specs.declared.language.LinuxVersion.{LinuxVersion}
+use Rattle.kc_tokens.specs.declared.language.LinuxVersion.TheVariants.{Unknown, V6_1, V6_12}
 use Rattle.kc_dotconfig_model.specs.declared.notice.NoticeKind.{NoticeKind}
-use Rattle.kc_dotconfig_model.specs.declared.notice.NoticeKind.TheVariants.{UnknownSymbol, NotOfType}
+use Rattle.kc_dotconfig_model.specs.declared.notice.NoticeKind.TheVariants.{UnknownSymbol, NotOfType, Escape}
 use Rattle.kc_dotconfig_model.specs.declared.format.Strings.TheVariants.{Escaped, Raw}
 use Rattle.kc_dotconfig_model.specs.Formats.{FileFormat}
 use Rattle.kc_dotconfig_model.specs.ConfigLines.{LineMeaning, assigns, notice, silent}
@@ -40,6 +43,30 @@ strings : (read config tree_string (codes "CONFIG_S=\"\"\n") ≡ assigning (writ
     × (read config tree_string (codes "CONFIG_S=\"ab") ≡ Some (None ∷ [], (1, NotOfType) ∷ []))
 unfolding line_meaning
 strings = (refl, refl, refl, refl, refl)
+
+-- the tree of one string in a language of Linux
+abbrev linux_string : LinuxVersion → Tree
+linux_string version = record tree_string { language = Linux version }
+
+-- a text with the notice Escape on line 1
+abbrev noticed : List ℕ → Option (List (Option UserValue) × List (ℕ × NoticeKind))
+noticed text = Some (writes text ∷ [], (1, Escape) ∷ [])
+
+-- a `\` before another byte than `"` and `\` is noticed, and assigns what it does without the notice
+escapes : (read config (linux_string Unknown) (codes "CONFIG_S=\"a\\nb\"\n") ≡ noticed (codes "anb"))
+    × (read config (linux_string V6_1) (codes "CONFIG_S=\"\\x\"\n") ≡ noticed (codes "x"))
+    × (read config (linux_string V6_12) (codes "CONFIG_S=\"\\ \"\n") ≡ noticed (codes " "))
+    × (read config (linux_string Unknown) (codes "CONFIG_S=\"\\\\\\\"\\\\n\"\n") ≡ assigning (writes (codes "\\\"\\n") ∷ []))
+    × (read config (linux_string Unknown) (codes "CONFIG_S=\"\\\\\\n\"\n") ≡ noticed (codes "\\n"))
+    × (read config (linux_string Unknown) (codes "CONFIG_S=\"\\n\\n\"\n") ≡ noticed (codes "nn"))
+    × (read config (linux_string Unknown) (codes "CONFIG_S=\"\\na\"b\"\n") ≡ Some (None ∷ [], (1, NotOfType) ∷ []))
+    × (read config (linux_string Unknown) (codes "CONFIG_S=\"a\\\"\n") ≡ Some (None ∷ [], (1, NotOfType) ∷ []))
+    × (read config (linux_string Unknown) (codes "CONFIG_T=\"\\n\"\n") ≡ Some (None ∷ [], (1, UnknownSymbol) ∷ []))
+    × (read config (linux_string Unknown) (codes "CONFIG_S=\"\\n\"\nCONFIG_S=\"b\"\n") ≡ noticed (codes "b"))
+    × (read config tree_string (codes "CONFIG_S=\"a\\nb\"\n") ≡ assigning (writes (codes "anb") ∷ []))
+    × (read raw (linux_string Unknown) (codes "CONFIG_S=\"a\\nb\"\n") ≡ assigning (writes (codes "a\\nb") ∷ []))
+unfolding line_meaning
+escapes = (refl, refl, refl, refl, refl, refl, refl, refl, refl, refl, refl, refl)
 
 -- of a raw string the first and the last byte are quotes, and the text is what is between them
 raw_strings : (read raw tree_string (codes "CONFIG_S=\"\"\n") ≡ assigning (writes [] ∷ []))

@@ -35,14 +35,15 @@ use Rattle.kc_value.specs.Number.{number_of_text}
 use Rattle.kc_rules_model.specs.Shapes.{user_fits, unit_user_fits, symbol_user_fits, choice_user_fits, is_member, tri_fits, user_text_fits}
 use Rattle.kc_tree_model.proofs.Lookups.{unit_is}
 use Rattle.kc_value.specs.Lines.{has_no_byte, has_newline}
-use Rattle.kc_dotconfig_model.specs.ConfigLines.{LineMeaning, assigns, unchosen, notice, silent, tri_of_text, unchosen_meaning, ValueMeans, tri, chosen, not_chosen, quoted, number, no_int, no_hex, no_tri, no_text, no_number, unset_meaning, Means, value, unset, unknown_value, unknown_unset, empty, comment}
+use Rattle.kc_dotconfig_model.specs.ConfigLines.{LineMeaning, assigns, assigns_escaped, unchosen, notice, silent, tri_of_text, unchosen_meaning, has_escape_notice, text_meaning, ValueMeans, tri, chosen, not_chosen, quoted, number, no_int, no_hex, no_tri, no_text, no_number, unset_meaning, Means, value, unset, unknown_value, unknown_unset, empty, comment}
 use Rattle.kc_tree_model.specs.LogicalLines.{without_white_end}
 use Rattle.kc_dotconfig_model.specs.ConfigFiles.{file_lines, over, assigned_over, empty_assignment}
 use Rattle.kc_dotconfig_model.specs.FileLaws.{FilesFit}
 
 -- the assignment of a meaning fits
-abbrev SayingFits : Tree → LineMeaning → Type 0
+abbrev pub SayingFits : Tree → LineMeaning → Type 0
 SayingFits tree (assigns u x) = user_fits tree u x ≡ true
+SayingFits tree (assigns_escaped u text) = user_fits tree u (TextUser text) ≡ true
 SayingFits tree (unchosen u s) = Unit {0}
 SayingFits tree (notice kind) = Unit {0}
 SayingFits tree silent = Unit {0}
@@ -167,6 +168,14 @@ module _ (tree : Tree) (sound : IsConsistent tree) (s : ℕ) (symbol : Symbol) (
   outside None e other = e
   outside (Some c) e other = absurd (other (sound.bool_members s c symbol at e))
 
+  -- a text fits, with a notice or without one
+  text_fits_unit : (strings : Strings) (text means : List ℕ) → user_fits tree (unit_of tree s) (TextUser means) ≡ true
+      → SayingFits tree (text_meaning tree.language strings (unit_of tree s) text means)
+  text_fits_unit strings text means fits = go (has_escape_notice tree.language strings text) where
+    go : (b : Bool) → SayingFits tree (cond b (assigns_escaped (unit_of tree s) means) (assigns (unit_of tree s) (TextUser means)))
+    go true = fits
+    go false = fits
+
   value_fits_unit : (strings : Strings) (text : List ℕ) (meaning : LineMeaning) → has_no_byte 10 text ≡ true → IsUtf8 text
       → ValueMeans strings tree s symbol text meaning
       → SayingFits tree meaning
@@ -174,9 +183,10 @@ module _ (tree : Tree) (sound : IsConsistent tree) (s : ℕ) (symbol : Symbol) (
   value_fits_unit strings text meaning one utf8 (chosen c _ within meant) = member_fits c within
   value_fits_unit strings text meaning one utf8 (not_chosen c _ t within meant other) = unchosen_fits c within
   value_fits_unit strings text meaning one utf8 (quoted _ means is is_spelling) =
-      outside_fits (TextUser means) (outside symbol.choice refl (λ same. cc (is, same)))
+      text_fits_unit strings text means
+      (outside_fits (TextUser means) (outside symbol.choice refl (λ same. cc (is, same)))
       (ap (λ k. user_text_fits k means) is ∙ and_from (not (has_newline means)) (is_utf8 means) (ap not (string_one_line strings text means is_spelling one))
-      (is_utf8-from_IsUtf8 means (string_utf8 strings text means is_spelling utf8)))
+      (is_utf8-from_IsUtf8 means (string_utf8 strings text means is_spelling utf8))))
   value_fits_unit strings text meaning one utf8 (number _ some) =
       let fits = number_fits symbol.kind text some in outside_fits (TextUser text) (outside symbol.choice refl fits.1) fits.0
   value_fits_unit strings text meaning one utf8 (no_int is) = tt
@@ -260,7 +270,7 @@ module _ (format : FileFormat) (tree : Tree) (sound : IsConsistent tree) where
   onto_lacks b (line ∷ lines) other all = (and_from (not (b == 10)) (has_no_byte 10 line) (ap not other) all.0, all.1)
 
   -- no line has a newline
-  lines_lack : (bytes : List ℕ) → AllByRecursion (λ line. has_no_byte 10 line ≡ true) (file_lines bytes)
+  pub lines_lack : (bytes : List ℕ) → AllByRecursion (λ line. has_no_byte 10 line ≡ true) (file_lines bytes)
   lines_lack [] = tt
   lines_lack (b ∷ bytes) = go (b == 10) refl (lines_lack bytes) where
     go : (t : Bool) → (b == 10) ≡ t → AllByRecursion (λ line. has_no_byte 10 line ≡ true) (file_lines bytes)
@@ -268,7 +278,7 @@ module _ (format : FileFormat) (tree : Tree) (sound : IsConsistent tree) where
     go true e all = (refl, all)
     go false e all = onto_lacks b (file_lines bytes) e all
 
-  sayings_fit : (lines : List (List ℕ)) (meanings : List LineMeaning) → AllByRecursion (λ line. has_no_byte 10 line ≡ true) lines
+  pub sayings_fit : (lines : List (List ℕ)) (meanings : List LineMeaning) → AllByRecursion (λ line. has_no_byte 10 line ≡ true) lines
       → list_all is_utf8 lines ≡ true
       → AllZip (λ line meaning. Means format tree (without_white_end line) meaning) lines meanings → AllByRecursion (SayingFits tree) meanings
   sayings_fit [] [] one utf8 all = tt
@@ -299,16 +309,17 @@ module _ (format : FileFormat) (tree : Tree) (sound : IsConsistent tree) where
       → AllByRecursion (SayingFits tree) meanings → FitsUsers (length tree.units) (λ w y. IsTrue (user_fits tree w y)) (assigned_over meanings users)
   over_fits [] users fitting all = fitting
   over_fits (assigns u x ∷ meanings) users fitting all = over_fits meanings (slice_set users u (Some (over x (user_of users u)))) (set_fits users u (over x (user_of users u)) fitting (over_user_fits tree u x (user_of users u) all.0 (held_fits tree users u fitting))) all.1
+  over_fits (assigns_escaped u text ∷ meanings) users fitting all = over_fits meanings (slice_set users u (Some (TextUser text))) (set_fits users u (TextUser text) fitting all.0) all.1
   over_fits (unchosen u s ∷ meanings) users fitting all = over_fits meanings users fitting all.1
   over_fits (notice kind ∷ meanings) users fitting all = over_fits meanings users fitting all.1
   over_fits (silent ∷ meanings) users fitting all = over_fits meanings users fitting all.1
 
-none_held : (n u : ℕ) → get_or {A = Option UserValue} (replicate n None) u None ≡ None
+pub none_held : (n u : ℕ) → get_or {A = Option UserValue} (replicate n None) u None ≡ None
 none_held zero u = refl
 none_held (suc n) zero = refl
 none_held (suc n) (suc u) = none_held n u
 
-none_length : (n : ℕ) → length {A = Option UserValue} (replicate n None) ≡ n
+pub none_length : (n : ℕ) → length {A = Option UserValue} (replicate n None) ≡ n
 none_length zero = refl
 none_length (suc n) = let rest = none_length n in omega arith
 

@@ -3,6 +3,7 @@ pub mod LineForms
 pub mod LineLaws
 pub mod UnsetTexts
 pub mod Overlays
+pub mod Escapes
 pub mod FittingFiles
 pub mod AcceptedFiles
 pub mod FirstFaults
@@ -13,6 +14,9 @@ pub mod Cuts
 pub mod FaultsAtCuts
 pub mod JudgedFiles
 pub mod OtherLines
+pub mod LineParts
+mod UnsetNames
+pub mod ChoiceValues
 mod FileRows
 mod FaultRows
 mod MissedRows

@@ -9,7 +9,7 @@ use Rattle.kc_rules_model.specs.declared.values.MemberLine.{MemberLine}
 use Rattle.kc_rules_model.specs.MemberLines.{is_listed, laid_over}
 use Rattle.kc_rules_model.specs.declared.values.UserValue.TheVariants.{Tri as TriUser, Text as TextUser, Member as MemberUser, Lines as LinesUser}
 use Rattle.kc_rules_model.specs.declared.values.UserValue.{UserValue}
-use Rattle.kc_dotconfig_model.specs.ConfigLines.{LineMeaning, assigns, unchosen, notice, silent}
+use Rattle.kc_dotconfig_model.specs.ConfigLines.{LineMeaning, assigns, assigns_escaped, unchosen, notice, silent}
 use Rattle.kc_dotconfig_model.specs.ConfigFiles.{assigned_over, over, overlay, empty_assignment}
 use Rattle.kc_dotconfig_model.specs.FileLaws.{FilesLieOverAssignments}
 
@@ -108,6 +108,9 @@ file_lines_over [] later users e = refl
 file_lines_over (assigns u x ∷ meanings) later users e =
     ap (assigned_over meanings) (set_over later users u x e)
     ∙ file_lines_over meanings (slice_set later u (Some (over x (user_of later u)))) users (length-set later u (Some (over x (user_of later u))) ∙ e)
+file_lines_over (assigns_escaped u text ∷ meanings) later users e =
+    ap (assigned_over meanings) (set_over later users u (TextUser text) e)
+    ∙ file_lines_over meanings (slice_set later u (Some (TextUser text))) users (length-set later u (Some (TextUser text)) ∙ e)
 file_lines_over (unchosen u s ∷ meanings) later users e = file_lines_over meanings later users e
 file_lines_over (notice kind ∷ meanings) later users e = file_lines_over meanings later users e
 file_lines_over (silent ∷ meanings) later users e = file_lines_over meanings later users e

@@ -136,7 +136,7 @@ tri_sound strings tree s symbol kind text is small (Some c) choice (Some M) mean
 
 string_sound : (strings : Strings) (tree : Tree) (s : ℕ) (symbol : Symbol) (text : List ℕ) → symbol.kind ≡ Text → (o : Option (List ℕ))
     → string_text strings text ≡ o
-    → ValueMeans strings tree s symbol text (string_meaning (unit_of tree s) o)
+    → ValueMeans strings tree s symbol text (string_meaning tree.language strings (unit_of tree s) text o)
 string_sound strings tree s symbol text is None e = no_text text is (λ means q. let same = string_read strings text means q in cc)
 string_sound strings tree s symbol text is (Some means) e = quoted text means is (string_is strings text means e)
 
@@ -228,7 +228,8 @@ value_meaning_is strings tree s symbol text meaning (not_chosen c _ t within mea
     ∙ ap (λ o. tri_meaning tree.language (unit_of tree s) s symbol.choice o) meant ∙ ap (λ k. tri_meaning tree.language (unit_of tree s) s k (Some t)) within
     ∙ ap (λ b. cond b (assigns (unit_of tree s) (member_user tree.language s)) (unchosen_meaning tree.language (unit_of tree s) s)) (not_y t other)
 value_meaning_is strings tree s symbol text meaning (quoted _ means is is_body) =
-    ap (λ k. meaning_of_kind tree.language strings k (unit_of tree s) s symbol.choice text) is ∙ ap (string_meaning (unit_of tree s)) (string_read strings text means is_body)
+    ap (λ k. meaning_of_kind tree.language strings k (unit_of tree s) s symbol.choice text) is
+    ∙ ap (string_meaning tree.language strings (unit_of tree s) text) (string_read strings text means is_body)
 value_meaning_is strings tree s symbol text meaning (number _ some) =
     let kinds = number_kind symbol.kind text some in
     of_number_kind tree.language strings symbol.kind (unit_of tree s) s symbol.choice text kinds.0 kinds.1
@@ -242,7 +243,8 @@ value_meaning_is strings tree s symbol text meaning (no_hex is) =
 value_meaning_is strings tree s symbol text meaning (no_tri _ small meant) =
     of_tri_kind tree.language strings symbol.kind (unit_of tree s) s symbol.choice text small ∙ ap (λ o. tri_meaning tree.language (unit_of tree s) s symbol.choice o) meant
 value_meaning_is strings tree s symbol text meaning (no_text _ is lacks) =
-    ap (λ k. meaning_of_kind tree.language strings k (unit_of tree s) s symbol.choice text) is ∙ ap (string_meaning (unit_of tree s))
+    ap (λ k. meaning_of_kind tree.language strings k (unit_of tree s) s symbol.choice text) is
+    ∙ ap (string_meaning tree.language strings (unit_of tree s) text)
     (no_meaning strings text (string_text strings text) refl lacks)
 value_meaning_is strings tree s symbol text meaning (no_number b rest large other lacks) =
     of_number_kind tree.language strings symbol.kind (unit_of tree s) s symbol.choice (b ∷ rest) large other

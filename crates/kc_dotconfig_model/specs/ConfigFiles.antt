@@ -11,7 +11,8 @@ use Rattle.kc_rules_model.specs.declared.values.MemberLine.{MemberLine}
 use Rattle.kc_rules_model.specs.MemberLines.{laid_over}
 use Rattle.kc_dotconfig_model.specs.Formats.{FileFormat}
 use Rattle.kc_dotconfig_model.specs.declared.notice.NoticeKind.{NoticeKind}
-use Rattle.kc_dotconfig_model.specs.ConfigLines.{LineMeaning, assigns, unchosen, notice, silent, Means}
+use Rattle.kc_dotconfig_model.specs.declared.notice.NoticeKind.TheVariants.{Escape}
+use Rattle.kc_dotconfig_model.specs.ConfigLines.{LineMeaning, assigns, assigns_escaped, unchosen, notice, silent, Means}
 use Rattle.kc_tree_model.specs.LogicalLines.{without_white_end}
 
 -- the lines of a configuration file, without their newlines; the last line may lack its newline in the file
@@ -46,6 +47,7 @@ over (MemberUser s) earlier = MemberUser s
 -- the assignment of user values after a line of a configuration file, from the assignment before the line
 abbrev pub assigned : LineMeaning → List (Option UserValue) → List (Option UserValue)
 assigned (assigns u x) users = slice_set users u (Some (over x (user_of users u)))
+assigned (assigns_escaped u text) users = slice_set users u (Some (TextUser text))
 assigned (unchosen u s) users = users
 assigned (notice kind) users = users
 assigned silent users = users
@@ -71,10 +73,20 @@ overlay (y ∷ later) [] = []
 overlay (None ∷ later) (x ∷ users) = x ∷ overlay later users
 overlay (Some y ∷ later) (x ∷ users) = Some (over y x) ∷ overlay later users
 
+-- an assignment, overridden by those of several configuration files, one after another
+abbrev pub overlaid_by : Tree → List (Option UserValue) → List (List LineMeaning) → List (Option UserValue)
+overlaid_by tree users [] = users
+overlaid_by tree users (meanings ∷ others) = overlaid_by tree (overlay (file_assignment tree meanings) users) others
+
+-- the assignment of several configuration files, each of which overrides those before it
+abbrev pub files_assignment : Tree → List (List LineMeaning) → List (Option UserValue)
+files_assignment tree meanings = overlaid_by tree (empty_assignment tree) meanings
+
 -- the notices among the meanings of a file's lines, with the numbers of their lines, where the first line has the number `n`
 abbrev pub notices_from : ℕ → List LineMeaning → List (ℕ × NoticeKind)
 notices_from n [] = []
 notices_from n (assigns u x ∷ meanings) = notices_from (n + 1) meanings
+notices_from n (assigns_escaped u text ∷ meanings) = (n, Escape) ∷ notices_from (n + 1) meanings
 notices_from n (unchosen u s ∷ meanings) = notices_from (n + 1) meanings
 notices_from n (notice kind ∷ meanings) = (n, kind) ∷ notices_from (n + 1) meanings
 notices_from n (silent ∷ meanings) = notices_from (n + 1) meanings

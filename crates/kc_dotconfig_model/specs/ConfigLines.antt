@@ -15,18 +15,22 @@ use Rattle.kc_rules_model.specs.declared.values.UserValue.{UserValue}
 use Rattle.kc_rules_model.specs.declared.values.UserValue.TheVariants.{Tri as TriUser, Text as TextUser, Lines as LinesUser}
 use Rattle.kc_rules_model.specs.Rule.{member_user}
 use Rattle.kc_tokens.specs.declared.language.Language.{Language}
+use Rattle.kc_tokens.specs.declared.language.Language.TheVariants.{Strict, Linux}
 use Rattle.kc_tokens.specs.Languages.{is_linux_6_12}
 use Rattle.kc_dotconfig_model.specs.declared.format.Strings.{Strings}
-use Rattle.kc_dotconfig_model.specs.Formats.{FileFormat, IsStringSpelling}
+use Rattle.kc_dotconfig_model.specs.declared.format.Strings.TheVariants.{Escaped, Raw}
+use Rattle.kc_dotconfig_model.specs.Formats.{FileFormat, IsStringSpelling, has_other_escape}
 use Rattle.kc_dotconfig_model.specs.declared.notice.NoticeKind.{NoticeKind}
 use Rattle.kc_dotconfig_model.specs.declared.notice.NoticeKind.TheVariants.{UnknownSymbol, NotOfType}
 use Rattle.kc_value.specs.Lines.{has_no_byte}
 use Rattle.kc_tree_model.specs.LogicalLines.{without_white_end}
 
--- what a line of a configuration file means: it assigns a user value to a unit, it gives a member of a choice, whose unit is `unit`,
--- another value than `y`, which assigns nothing, it gives a notice, or it does none of these
+-- what a line of a configuration file means: it assigns a user value to a unit, it assigns a text and gives the notice Escape, it gives
+-- a member of a choice, whose unit is `unit`, another value than `y`, which assigns nothing, it gives another notice, or it does none of
+-- these
 pub data LineMeaning : Type 0 where
   assigns : (unit : ℕ) (user : UserValue) → LineMeaning
+  assigns_escaped : (unit : ℕ) (text : List ℕ) → LineMeaning
   unchosen : (unit member : ℕ) → LineMeaning
   notice : NoticeKind → LineMeaning
   silent : LineMeaning
@@ -48,6 +52,19 @@ unchosen_meaning language u s = if is_linux_6_12 language
     then assigns u (LinesUser (record { member = s; is_y = false } ∷ []))
     else unchosen u s
 
+-- whether the spelling of a string has the notice Escape: in the languages of Linux, where strings are escaped, one with a `\` before
+-- another byte than `"` and `\`
+abbrev pub has_escape_notice : Language → Strings → List ℕ → Bool
+has_escape_notice Strict strings spelling = false
+has_escape_notice (Linux version) Raw spelling = false
+has_escape_notice (Linux version) Escaped spelling = has_other_escape false spelling
+
+-- the meaning of a line that assigns a text, written in this spelling, to the unit `u`
+abbrev pub text_meaning : Language → Strings → ℕ → (spelling text : List ℕ) → LineMeaning
+text_meaning language strings u spelling text = if has_escape_notice language strings spelling
+    then assigns_escaped u text
+    else assigns u (TextUser text)
+
 -- the text after `=` has this meaning, by the type of the symbol and the form of strings; an empty int or hex assigns nothing and
 -- gives no notice
 pub data ValueMeans (strings : Strings) (tree : Tree) (s : ℕ) (symbol : Symbol) : List ℕ → LineMeaning → Type 0 where
@@ -58,7 +75,7 @@ pub data ValueMeans (strings : Strings) (tree : Tree) (s : ℕ) (symbol : Symbol
   not_chosen : (c : ℕ) (text : List ℕ) (t : Tri) → symbol.choice ≡ Some c → tri_of_text symbol.kind text ≡ Some t
       → t ≢ Y → ValueMeans strings tree s symbol text (unchosen_meaning tree.language (unit_of tree s) s)
   quoted : (text means : List ℕ) → symbol.kind ≡ Text → IsStringSpelling strings text means
-      → ValueMeans strings tree s symbol text (assigns (unit_of tree s) (TextUser means))
+      → ValueMeans strings tree s symbol text (text_meaning tree.language strings (unit_of tree s) text means)
   number : (text : List ℕ) → is_some (number_of_text symbol.kind text) ≡ true
       → ValueMeans strings tree s symbol text (assigns (unit_of tree s) (TextUser text))
   no_int : symbol.kind ≡ Int → ValueMeans strings tree s symbol [] silent

@@ -1,16 +1,19 @@
 -- The laws of configuration files and their lines.
-use Rattle.std.specs.Prelude.{◌≡◌, ◌⊎◌, ◌↔◌, ℕ, ◌+◌, ◌<◌, ◌≤◌, true, List, [], ◌∷◌, ◌++◌, codes, Option, Some, length, slice_get, IsTrue}
+use Rattle.std.specs.Prelude.{◌≡◌, ◌⊎◌, ◌↔◌, ℕ, ◌+◌, ◌<◌, ◌≤◌, true, false, List, [], ◌∷◌, ◌++◌, codes, Option, Some, length, slice_get, IsTrue}
 use Rattle.std.specs.Str.{IsUtf8}
 use Rattle.kc_tree_model.specs.Trees.{Tree}
 use Rattle.kc_tree_model.specs.TreeLookup.{IsConsistent}
 use Rattle.kc_system.specs.Solutions.{FitsUsers}
 use Rattle.kc_rules_model.specs.Shapes.{user_fits}
 use Rattle.kc_rules_model.specs.declared.values.UserValue.{UserValue}
-use Rattle.kc_dotconfig_model.specs.Formats.{FileFormat}
+use Rattle.kc_tokens.specs.declared.language.Language.TheVariants.{Linux}
+use Rattle.kc_tokens.specs.declared.language.LinuxVersion.{LinuxVersion}
+use Rattle.kc_dotconfig_model.specs.declared.format.Strings.TheVariants.{Escaped}
+use Rattle.kc_dotconfig_model.specs.Formats.{FileFormat, string_spelling, IsStringSpelling}
 use Rattle.kc_dotconfig_model.specs.declared.fault.LoadKind.{LoadKind}
 use Rattle.kc_dotconfig_model.specs.declared.fault.LoadKind.TheVariants.{Read}
 use Rattle.kc_dotconfig_model.specs.PrefixGrammar.{is_prefix, is_name_prefix}
-use Rattle.kc_dotconfig_model.specs.ConfigLines.{LineMeaning, Means, IsValueLine, IsUnsetLine, is_unset_text}
+use Rattle.kc_dotconfig_model.specs.ConfigLines.{LineMeaning, Means, IsValueLine, IsUnsetLine, is_unset_text, has_escape_notice}
 use Rattle.kc_tree_model.specs.LogicalLines.{without_white_end}
 use Rattle.kc_dotconfig_model.specs.ConfigFiles.{file_lines, has_utf8_lines, FileMeans, assigned_over, file_assignment, overlay}
 use Rattle.kc_value.specs.declared.limits.TheConstants.{MAX_CONFIG_BYTES, MAX_CONFIG_LINES, MAX_LINE_BYTES}
@@ -27,6 +30,11 @@ PrefixedLinesHaveValues = (prefix name text : List ℕ) → is_prefix prefix ≡
 abbrev pub UnsetTextsAreRead : Type 0
 UnsetTextsAreRead = (text : List ℕ) → (is_unset_text (without_white_end text) ≡ true)
     ↔ ((name : List ℕ) × IsUnsetLine [] (without_white_end (codes "# " ++ text)) name)
+
+-- in the languages of Linux the spelling of an escaped string has no notice exactly if it is the one that is written
+abbrev pub EscapesAreNoticed : Type 0
+EscapesAreNoticed = (version : LinuxVersion) (spelling text : List ℕ) → IsStringSpelling Escaped spelling text
+    → (has_escape_notice (Linux version) Escaped spelling ≡ false) ↔ (spelling ≡ string_spelling Escaped text)
 
 -- each line of a configuration file has at most one meaning
 abbrev pub LinesHaveOneMeaning : Type 0

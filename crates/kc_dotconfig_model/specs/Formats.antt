@@ -1,5 +1,5 @@
 -- How a configuration file is spelled: the prefix before its names, and the form of its strings.
-use Rattle.std.specs.Prelude.{◌≡◌, ℕ, List, [], ◌∷◌, ◌++◌, codes}
+use Rattle.std.specs.Prelude.{◌≡◌, ℕ, Bool, true, false, not, ◌||◌, ◌==◌, List, [], ◌∷◌, ◌++◌, codes}
 use Rattle.kc_value.specs.QuotedTexts.{quoted, IsQuoted}
 use Rattle.kc_dotconfig_model.specs.declared.format.Strings.{Strings}
 use Rattle.kc_dotconfig_model.specs.declared.format.Strings.TheVariants.{Escaped, Raw}
@@ -27,3 +27,10 @@ string_spelling Raw text = between_quotes text
 abbrev pub IsStringSpelling : Strings → List ℕ → List ℕ → Type 0
 IsStringSpelling Escaped spelling text = IsQuoted spelling text
 IsStringSpelling Raw spelling text = spelling ≡ between_quotes text
+
+-- whether bytes, read in pairs of a `\` and the byte after it, and of other bytes one by one, have a `\` before another byte than `"`
+-- and `\`; the flag says that a `\` is before the first byte
+abbrev pub has_other_escape : Bool → List ℕ → Bool
+has_other_escape escaped [] = false
+has_other_escape true (c ∷ cs) = not (c == 34 || (c == 92)) || has_other_escape false cs
+has_other_escape false (c ∷ cs) = has_other_escape (c == 92) cs

@@ -3,7 +3,7 @@ use Rattle.std.specs.Prelude.{ℕ, List, codes}
 use Rattle.kc_dotconfig_model.specs.declared.fault.LoadKind.{LoadKind}
 use Rattle.kc_dotconfig_model.specs.declared.fault.LoadKind.TheVariants.{Malformed, NotUtf8, LineTooLong, TooManyLines, Read, OutOfMemory, TooLarge}
 use Rattle.kc_dotconfig_model.specs.declared.notice.NoticeKind.{NoticeKind}
-use Rattle.kc_dotconfig_model.specs.declared.notice.NoticeKind.TheVariants.{UnknownSymbol, NotOfType, OtherChoice}
+use Rattle.kc_dotconfig_model.specs.declared.notice.NoticeKind.TheVariants.{UnknownSymbol, NotOfType, Escape, OtherChoice}
 
 -- the name of a kind of load fault, as its variant is called
 abbrev pub load_kind_name : LoadKind → List ℕ
@@ -19,4 +19,5 @@ load_kind_name TooLarge = codes "TooLarge"
 abbrev pub notice_kind_name : NoticeKind → List ℕ
 notice_kind_name UnknownSymbol = codes "UnknownSymbol"
 notice_kind_name NotOfType = codes "NotOfType"
+notice_kind_name Escape = codes "Escape"
 notice_kind_name OtherChoice = codes "OtherChoice"

@@ -18,7 +18,7 @@ use Rattle.kc_rules_model.specs.SymbolValues.{member_of}
 use Rattle.kc_rules_model.specs.Equality.{value_is}
 use Rattle.kc_rules_model.specs.Rule.{is_shown, is_visible_member, default_member}
 use Rattle.kc_dotconfig_model.specs.declared.choice_line.ChoiceLine.{ChoiceLine}
-use Rattle.kc_dotconfig_model.specs.ConfigLines.{LineMeaning, assigns, unchosen, notice, silent}
+use Rattle.kc_dotconfig_model.specs.ConfigLines.{LineMeaning, assigns, assigns_escaped, unchosen, notice, silent}
 
 -- whether a tree in a language has the rules of Linux before 6.10, and doesn't say that they are meant
 abbrev pub has_no_version : Language → Bool
@@ -34,6 +34,7 @@ choice_line_of n (assigns u (MemberUser s)) = record { unit = u; given = record 
 choice_line_of n (assigns u (TriUser t)) = []
 choice_line_of n (assigns u (TextUser text)) = []
 choice_line_of n (assigns u (LinesUser lines)) = []
+choice_line_of n (assigns_escaped u text) = []
 choice_line_of n (unchosen u s) = record { unit = u; given = record { member = s; is_y = false }; line = n } ∷ []
 choice_line_of n (notice kind) = []
 choice_line_of n silent = []

@@ -1,7 +1,7 @@
 //! Laws of configuration files and their lines.
 ghost use Rattle.kc_dotconfig_model.specs.between.LineMeaningLaws.{LinesAreRead, FilesAreRead};
-ghost use Rattle.kc_dotconfig_model.specs.OtherChoiceLaws.{FilesAreLaidOver, OtherChoicesHaveReasons, OtherChoicesHaveLines};
-ghost use Rattle.kc_dotconfig_model.specs.FileLaws.{PrefixedLinesHaveValues, UnsetTextsAreRead, LinesHaveOneMeaning, FilesHaveOneMeaning, FilesLieOverAssignments, FilesFit, AcceptedFilesAreRead, OneFaultIsFirst, FaultyFilesAreRefused, FailedReadsAreReported, AcceptedFilesHaveGoodLines, EachFileIsJudged, EachCutFileIsJudged};
+ghost use Rattle.kc_dotconfig_model.specs.OtherChoiceLaws.{FilesAreLaidOver, OtherChoicesHaveReasons, OtherChoicesHaveLines, ChoicesFollowLines, NoticesAreWhereValuesDiffer, DifferingValuesHaveReasons};
+ghost use Rattle.kc_dotconfig_model.specs.FileLaws.{PrefixedLinesHaveValues, UnsetTextsAreRead, EscapesAreNoticed, LinesHaveOneMeaning, FilesHaveOneMeaning, FilesLieOverAssignments, FilesFit, AcceptedFilesAreRead, OneFaultIsFirst, FaultyFilesAreRefused, FailedReadsAreReported, AcceptedFilesHaveGoodLines, EachFileIsJudged, EachCutFileIsJudged};
 
 /// With a prefix each line of the prefix, a name, `=` and a text gives the name that text; without one a comment doesn't.
 pub fn prefixed_lines_have_values()
@@ -11,6 +11,11 @@ pub fn prefixed_lines_have_values()
 /// Where names have no prefix, a text after `# ` is an unset line exactly if it is an unset text, but for white bytes at its end.
 pub fn unset_texts_are_read()
     ensures { UnsetTextsAreRead }
+{}
+
+/// In the languages of Linux the spelling of an escaped string has no notice exactly if it is the one that is written.
+pub fn escapes_are_noticed()
+    ensures { EscapesAreNoticed }
 {}
 
 /// A line of a configuration file has at most one meaning, and so has a file.
@@ -79,4 +84,14 @@ pub fn other_choices_have_reasons()
     ensures reasons { OtherChoicesHaveReasons }
     ensures lines { OtherChoicesHaveLines }
     ensures files { FilesAreLaidOver }
+{}
+
+/// Over a tree with other rules than those of Linux 6.12, the value that files give a choice is the member that the rules before Linux
+/// 6.10 select by the files' lines. Where the tree's language doesn't say its version, a choice that is shown has the notice exactly
+/// if this value is another one than by the rules of Linux 6.12 and the same lines, the values of all units being the same; and then
+/// it is for an `n` of the member that is the value, or for a member last assigned `y` that isn't visible.
+pub fn choices_follow_lines()
+    ensures values { ChoicesFollowLines }
+    ensures notices { NoticesAreWhereValuesDiffer }
+    ensures reasons { DifferingValuesHaveReasons }
 {}

@@ -1,10 +1,9 @@
 //! The prefix of symbol names in a configuration file.
 ghost use Rattle.std.specs.Prelude.{◌≡◌, ◌↔◌, ◌≤◌, [], codes, take, IsTrue, IsSome, IfSome};
-ghost use Rattle.std.specs.List.{list_all};
-ghost use Rattle.kc_tree_model.specs.TreeLookup.{is_name_byte};
 ghost use Rattle.kc_value.specs.declared.limits.TheConstants.{MAX_PREFIX_BYTES};
 ghost use Rattle.kc_dotconfig_model.specs.PrefixGrammar.{is_prefix, is_name_prefix};
 
+use kc_tree_model::are_name_bytes;
 use kc_value::MAX_PREFIX_BYTES;
 
 /// What comes before the names in configuration files: a prefix, of 1 to `MAX_PREFIX_BYTES` letters, digits and `_`, or nothing,
@@ -17,25 +16,11 @@ pub struct Prefix {
     ghost valid: { IsTrue (is_name_prefix (take len bytes)) },
 }
 
-/// Whether a byte is allowed in a prefix: a letter, a digit or `_`.
-fn is_prefix_byte(byte: u8) -> bool
-    ensures { result ≡ is_name_byte byte }
-{
-    byte.is_ascii_alphanumeric() || byte == b'_'
-}
-
-/// Whether each byte is allowed in a prefix.
-fn are_prefix_bytes(text: &[u8]) -> bool
-    ensures { result ≡ list_all is_name_byte text.now }
-{
-    text.iter().all(|&byte| is_prefix_byte(byte))
-}
-
 /// Whether bytes can be a prefix.
 fn is_valid(text: &[u8]) -> bool
     ensures { result ≡ is_prefix text.now }
 {
-    !text.is_empty() && text.len() <= MAX_PREFIX_BYTES && are_prefix_bytes(text)
+    !text.is_empty() && text.len() <= MAX_PREFIX_BYTES && are_name_bytes(text)
 }
 
 impl Prefix {

@@ -23,7 +23,7 @@ pub fn is_shown(under: &Valuation<'_>, choice: &Choice<'_>) -> bool
 }
 
 /// Whether a member of a choice is visible.
-pub(crate) fn is_member_visible(under: &Valuation<'_>, s: Sym) -> bool
+pub fn is_member_visible(under: &Valuation<'_>, s: Sym) -> bool
     requires there { s < length (valuation_tree under.now).symbols }
     ensures value { result ≡ is_visible_member (valuation_tree under.now) (valuation_values under.now) s }
 {
@@ -39,8 +39,8 @@ fn is_default_open(under: &Valuation<'_>, default: MemberDefault) -> bool
     !is_n(under.condition(default.condition)) && is_member_visible(under, default.member)
 }
 
-/// The member of a choice's first default whose condition isn't `n` and whose member is visible.
-fn member_by_default(under: &Valuation<'_>, defaults: &[MemberDefault]) -> Option<Sym>
+/// The member of a choice's first default whose condition isn't `n` and whose member is visible; `None` without such a default.
+pub fn member_by_default(under: &Valuation<'_>, defaults: &[MemberDefault]) -> Option<Sym>
     requires fits { AreMemberDefaults (valuation_exprs under.now) (valuation_tree under.now) defaults.now }
     ensures value { result ≡ default_member_of (valuation_tree under.now) (valuation_values under.now) (map (member_default_view (valuation_exprs under.now)) defaults.now) }
 {
@@ -52,8 +52,8 @@ fn member_by_default(under: &Valuation<'_>, defaults: &[MemberDefault]) -> Optio
     None
 }
 
-/// The first visible member of a choice.
-fn first_member(under: &Valuation<'_>, members: &[Sym]) -> Option<Sym>
+/// The first visible member of a choice, if there is one.
+pub fn first_member(under: &Valuation<'_>, members: &[Sym]) -> Option<Sym>
     requires fits { AreMembers (valuation_tree under.now) members.now }
     ensures value { result ≡ find (is_visible_member (valuation_tree under.now) (valuation_values under.now)) members.now }
 {
@@ -67,7 +67,7 @@ fn first_member(under: &Valuation<'_>, members: &[Sym]) -> Option<Sym>
 
 /// The default member of a choice: the member of the first default that counts, otherwise the first visible one; `None` for an
 /// optional choice.
-pub(crate) fn default_member(under: &Valuation<'_>, choice: &Choice<'_>) -> Option<Sym>
+pub fn default_member(under: &Valuation<'_>, choice: &Choice<'_>) -> Option<Sym>
     requires fits { ChoiceFits (valuation_exprs under.now) (length (valuation_tree under.now).symbols) choice.now }
     ensures value { result ≡ default_member (valuation_tree under.now) (choice_view (valuation_exprs under.now) choice.now) (valuation_values under.now) }
 {

@@ -17,7 +17,8 @@ use kc_tree::{Choice, Sym, Symbol, Unit};
 use kc_value::{Kind, Tri};
 use std::alloc::{AllocError, Global};
 
-fn assigned_tri(user: Option<&UserValue>) -> Option<Tri>
+/// The tristate that a user value is, if it is one.
+pub fn assigned_tri(user: Option<&UserValue>) -> Option<Tri>
     ensures { result ≡ assigned_tri (option_copied user.entry) }
 {
     match user {
@@ -26,7 +27,8 @@ fn assigned_tri(user: Option<&UserValue>) -> Option<Tri>
     }
 }
 
-fn assigned_text<'a>(user: Option<&'a UserValue>) -> Option<&'a str>
+/// The text that a user value is, if it is one.
+pub fn assigned_text<'a>(user: Option<&'a UserValue>) -> Option<&'a str>
     ensures { option_copied result ≡ assigned_text (option_copied user.entry) }
 {
     match user {
@@ -35,7 +37,8 @@ fn assigned_text<'a>(user: Option<&'a UserValue>) -> Option<&'a str>
     }
 }
 
-fn assigned_member(user: Option<&UserValue>) -> Option<Sym>
+/// The member that a user value selects, if it selects one.
+pub fn assigned_member(user: Option<&UserValue>) -> Option<Sym>
     ensures { result ≡ assigned_member (option_copied user.entry) }
 {
     match user {
@@ -44,7 +47,8 @@ fn assigned_member(user: Option<&UserValue>) -> Option<Sym>
     }
 }
 
-fn assigned_lines<'a>(user: Option<&'a UserValue>) -> &'a [MemberLine]
+/// What a user value assigns to members one by one; nothing where it is another one.
+pub fn assigned_lines<'a>(user: Option<&'a UserValue>) -> &'a [MemberLine]
     ensures { result.now ≡ assigned_lines (option_copied user.entry) }
 {
     match user {

@@ -11,14 +11,17 @@ mod text_rules;
 mod tristate_rules;
 mod valuation;
 
-pub use choices::is_shown;
-pub use evaluation::value_of;
+pub use choices::{default_member, first_member, is_member_visible, is_shown, member_by_default};
+pub use evaluation::{assigned_lines, assigned_member, assigned_text, assigned_tri, value_of};
 pub use kc_dependencies::{Links, links_of, modules_of};
-pub use member_lines::selected_by_lines;
+pub use member_lines::{first_listed, first_unlisted, is_listed, last_y, selected_by_lines};
 pub use rules::Rules;
 pub use symbol_values::{has_no_member, is_n};
-pub use text_rules::{active_default, number_of};
+pub use text_rules::{
+    active_default, active_range, bound, default_text, is_upside_down, is_within, number_of,
+};
 pub use tristate_rules::{
-    default_value, is_from_environment, is_visible, largest, reverse_limit, y_for_m,
+    base, default_value, implied_effect, is_from_environment, is_visible, largest, reverse_limit,
+    tri_rule, visibility, y_for_m,
 };
 pub use valuation::Valuation;

@@ -25,8 +25,8 @@ fn is_seen(under: &Valuation<'_>, s: Sym) -> bool
     is_member_visible(under, s)
 }
 
-/// The last listed member that has `y` and is visible.
-fn last_y(under: &Valuation<'_>, lines: &[MemberLine]) -> Option<Sym>
+/// The last listed member that has `y` and is visible, if there is one.
+pub fn last_y(under: &Valuation<'_>, lines: &[MemberLine]) -> Option<Sym>
     ensures value { result ≡ last_y (is_visible_member (valuation_tree under.now) (valuation_values under.now)) lines.now }
 {
     for i in (0..lines.len()).rev() {
@@ -39,7 +39,7 @@ fn last_y(under: &Valuation<'_>, lines: &[MemberLine]) -> Option<Sym>
 }
 
 /// Whether a member is listed, with `y` or with `n`.
-fn is_listed(lines: &[MemberLine], s: Sym) -> bool
+pub fn is_listed(lines: &[MemberLine], s: Sym) -> bool
     ensures { result ≡ is_listed lines.now s }
 {
     for line in lines {
@@ -50,8 +50,8 @@ fn is_listed(lines: &[MemberLine], s: Sym) -> bool
     false
 }
 
-/// The first listed member that is visible.
-fn first_listed(under: &Valuation<'_>, lines: &[MemberLine]) -> Option<Sym>
+/// The first listed member that is visible, if there is one.
+pub fn first_listed(under: &Valuation<'_>, lines: &[MemberLine]) -> Option<Sym>
     ensures value { result ≡ first_listed (is_visible_member (valuation_tree under.now) (valuation_values under.now)) lines.now }
 {
     for line in lines {
@@ -106,8 +106,8 @@ fn first_without_number(under: &Valuation<'_>, members: &[Sym], numbers: &[u32])
     None
 }
 
-/// The first visible member of a choice that isn't listed.
-fn first_unlisted(
+/// The first visible member of a choice that isn't listed, if there is one. An `Err` means out of memory.
+pub fn first_unlisted(
     alloc: Global,
     under: &Valuation<'_>,
     members: &[Sym],

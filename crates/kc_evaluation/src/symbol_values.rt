@@ -125,7 +125,7 @@ impl<'a> Valuation<'a> {
     }
 
     /// The value of the symbol `MODULES`, `n` where it isn't defined.
-    pub(crate) fn modules(&self) -> Tri
+    pub fn modules(&self) -> Tri
         ensures { result ≡ modules_value (valuation_tree self.now) (valuation_values self.now) }
     {
         match self.rules.modules {

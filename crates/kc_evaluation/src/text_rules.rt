@@ -32,7 +32,7 @@ pub fn active_default(under: &Valuation<'_>, defaults: &[Default]) -> Option<Exp
 }
 
 /// The text of a symbol's first default whose condition isn't `n`, empty without one.
-fn default_text<'a>(under: &'a Valuation<'a>, symbol: &Symbol<'_>) -> &'a str
+pub fn default_text<'a>(under: &'a Valuation<'a>, symbol: &Symbol<'_>) -> &'a str
     requires fits { SymbolFits (valuation_exprs under.now) (length (valuation_tree under.now).symbols) symbol.now }
     ensures value { result.now ≡ default_text (valuation_tree under.now) (valuation_values under.now) (symbol_view (valuation_exprs under.now) symbol.now) }
 {
@@ -77,9 +77,9 @@ pub fn number_of(kind: Kind, text: &str) -> Option<i128>
     }
 }
 
-/// The number of a bound of a range, 0 where it isn't a number of the type.
+/// The number of a bound of an int's or hex's range, 0 where it isn't a number of the type.
 #[tactic(auto, using(crate::proofs::Bounds::bound_is, crate::proofs::Bounds::number_printable))]
-fn bound(under: &Valuation<'_>, kind: Kind, id: ExprId) -> i128
+pub fn bound(under: &Valuation<'_>, kind: Kind, id: ExprId) -> i128
     requires there { id < length (valuation_exprs under.now).nodes }
     requires number { IsNumber kind }
     ensures bound { result ≡ bound (valuation_tree under.now) (valuation_values under.now) kind (operand_or_empty (node_expr (valuation_exprs under.now) id)) }
@@ -88,8 +88,8 @@ fn bound(under: &Valuation<'_>, kind: Kind, id: ExprId) -> i128
     number_of(kind, under.operand_text(id)).unwrap_or(0)
 }
 
-/// The first range whose condition isn't `n`.
-fn active_range(under: &Valuation<'_>, ranges: &[Range]) -> Option<Range>
+/// The first range whose condition isn't `n`, if there is one.
+pub fn active_range(under: &Valuation<'_>, ranges: &[Range]) -> Option<Range>
     requires fits { AreRanges (valuation_exprs under.now) ranges.now }
     ensures range { option_map (range_view (valuation_exprs under.now)) result ≡ active_range_of (valuation_tree under.now) (valuation_values under.now) (map (range_view (valuation_exprs under.now)) ranges.now) }
     ensures there { IfSome result (λ r. (r.low < length (valuation_exprs under.now).nodes) × (r.high < length (valuation_exprs under.now).nodes)) }
@@ -102,8 +102,8 @@ fn active_range(under: &Valuation<'_>, ranges: &[Range]) -> Option<Range>
     None
 }
 
-/// Whether a number is within the range, if there is one.
-fn is_within(under: &Valuation<'_>, kind: Kind, range: &Option<Range>, number: i128) -> bool
+/// Whether a number is within the range of an int or hex; true without a range.
+pub fn is_within(under: &Valuation<'_>, kind: Kind, range: &Option<Range>, number: i128) -> bool
     requires there { IfSome range.now (λ r. (r.low < length (valuation_exprs under.now).nodes) × (r.high < length (valuation_exprs under.now).nodes)) }
     requires number { IsNumber kind }
     ensures value { result ≡ is_within (valuation_tree under.now) (valuation_values under.now) kind (option_map (range_view (valuation_exprs under.now)) range.now) number }
@@ -114,8 +114,8 @@ fn is_within(under: &Valuation<'_>, kind: Kind, range: &Option<Range>, number: i
     }
 }
 
-/// Whether the lower bound of the range, if there is one, is above its upper one.
-fn is_upside_down(under: &Valuation<'_>, kind: Kind, range: &Option<Range>) -> bool
+/// Whether the lower bound of an int's or hex's range is above the upper one; false without a range.
+pub fn is_upside_down(under: &Valuation<'_>, kind: Kind, range: &Option<Range>) -> bool
     requires there { IfSome range.now (λ r. (r.low < length (valuation_exprs under.now).nodes) × (r.high < length (valuation_exprs under.now).nodes)) }
     requires number { IsNumber kind }
     ensures value { result ≡ is_upside_down (valuation_tree under.now) (valuation_values under.now) kind (option_map (range_view (valuation_exprs under.now)) range.now) }

@@ -114,7 +114,7 @@ fn prompted(under: &Valuation<'_>, symbol: &Symbol<'_>) -> Tri
 
 /// The visibility of a symbol: the largest value of its prompts' conditions, with `y` in place of `m` where the symbol can't be
 /// `m`.
-pub(crate) fn visibility(under: &Valuation<'_>, symbol: &Symbol<'_>) -> Tri
+pub fn visibility(under: &Valuation<'_>, symbol: &Symbol<'_>) -> Tri
     requires fits { SymbolFits (valuation_exprs under.now) (length (valuation_tree under.now).symbols) symbol.now }
     ensures value { result ≡ visibility (valuation_tree under.now) (valuation_values under.now) (symbol_view (valuation_exprs under.now) symbol.now) }
 {
@@ -145,7 +145,7 @@ pub fn default_value(under: &Valuation<'_>, defaults: &[Default]) -> Tri
 }
 
 /// The largest value that some `imply` demands of a symbol; `n` without any, and where the symbol's direct dependency is `n`.
-pub(crate) fn implied_effect(under: &Valuation<'_>, symbol: &Symbol<'_>) -> Tri
+pub fn implied_effect(under: &Valuation<'_>, symbol: &Symbol<'_>) -> Tri
     requires fits { SymbolFits (valuation_exprs under.now) (length (valuation_tree under.now).symbols) symbol.now }
     ensures value { result ≡ implied_effect (valuation_tree under.now) (valuation_values under.now) (symbol_view (valuation_exprs under.now) symbol.now) }
 {
@@ -177,7 +177,7 @@ pub(crate) fn unassigned_value(under: &Valuation<'_>, profile: Profile, symbol: 
 }
 
 /// The value of a bool or tristate before selects: the user value up to the visibility, or the value without a user value.
-fn base(under: &Valuation<'_>, profile: Profile, symbol: &Symbol<'_>, user: Option<Tri>) -> Tri
+pub fn base(under: &Valuation<'_>, profile: Profile, symbol: &Symbol<'_>, user: Option<Tri>) -> Tri
     requires fits { SymbolFits (valuation_exprs under.now) (length (valuation_tree under.now).symbols) symbol.now }
     ensures value { result ≡ base profile (valuation_tree under.now) (valuation_values under.now) (symbol_view (valuation_exprs under.now) symbol.now) user }
 {
@@ -208,7 +208,7 @@ fn without_m(under: &Valuation<'_>, profile: Profile, symbol: &Symbol<'_>, value
 }
 
 /// The value of a bool or tristate outside choices, by its user value, if there is one, and its rule in this profile.
-pub(crate) fn tri_rule(
+pub fn tri_rule(
     under: &Valuation<'_>,
     profile: Profile,
     symbol: &Symbol<'_>,

@@ -31,7 +31,7 @@ use Rattle.kc_macros_model.specs.EnvironmentLines.{environment_asked, meant_line
 use Rattle.kc_macros_model.proofs.EnvironmentLines.{meant_same}
 use Rattle.kc_macros_model.specs.declared.fault.MacroKind.{MacroKind}
 use Rattle.kc_macros_model.specs.declared.fault.MacroKind.TheVariants as kinds
-use Rattle.kc_macros_model.specs.Programs.{Place, spend, report, ask, read_file, list_folder, Program, returns, fails, stops, does, ◌>>=◌}
+use Rattle.kc_macros_model.specs.Programs.{Place, spend, report, ask, read_file, find_file, list_folder, Program, returns, fails, stops, does, ◌>>=◌}
 use Rattle.kc_macros_model.specs.Expansion.{fault}
 use Rattle.kc_macros_model.specs.LineTokens.{line_tokens}
 use Rattle.kc_macros_model.specs.declared.token_sort.TokenSort.TheVariants.{Word}
@@ -59,6 +59,7 @@ Gives w P (does (read_file path) k) = Gives w P (k (w.bytes path))
 Gives w P (does (spend at work) k) = ⊥
 Gives w P (does (report notice) k) = ⊥
 Gives w P (does (ask at question) k) = ⊥
+Gives w P (does (find_file path) k) = ⊥
 Gives w P (does (list_folder folder) k) = ⊥
 
 gives_both : {A B : Type 0} (w : World) (Q : A → Type 0) (P : B → Type 0) (p : Program A) (f : A → Program B) → Gives w Q p → ((x : A) → Q x → Gives w P (f x))
@@ -70,6 +71,7 @@ gives_both w Q P (does (read_file path) n) f h k = gives_both w Q P (n (w.bytes 
 gives_both w Q P (does (spend at work) n) f h k = absurd h
 gives_both w Q P (does (report notice) n) f h k = absurd h
 gives_both w Q P (does (ask at question) n) f h k = absurd h
+gives_both w Q P (does (find_file path) n) f h k = absurd h
 gives_both w Q P (does (list_folder folder) n) f h k = absurd h
 
 gives_more : {A : Type 0} (w : World) (Q P : A → Type 0) (p : Program A) → Gives w Q p → ((x : A) → Q x → P x) → Gives w P p
@@ -80,6 +82,7 @@ gives_more w Q P (does (read_file path) n) h k = gives_more w Q P (n (w.bytes pa
 gives_more w Q P (does (spend at work) n) h k = absurd h
 gives_more w Q P (does (report notice) n) h k = absurd h
 gives_more w Q P (does (ask at question) n) h k = absurd h
+gives_more w Q P (does (find_file path) n) h k = absurd h
 gives_more w Q P (does (list_folder folder) n) h k = absurd h
 
 -- what such a program comes to
@@ -117,6 +120,7 @@ module _ {A : Type 0} (w : World) (P : A → Type 0) where
   quiet_outcome all left (does (spend at work) k) h = absurd h
   quiet_outcome all left (does (report notice) k) h = absurd h
   quiet_outcome all left (does (ask at question) k) h = absurd h
+  quiet_outcome all left (does (find_file path) k) h = absurd h
   quiet_outcome all left (does (list_folder folder) k) h = absurd h
 
 -- tests

@@ -12,6 +12,7 @@ pub mod JoinedRuns
 pub mod LinesLeftLemmas
 pub mod WorldLemmas
 pub mod ExpansionLemmas
+pub mod KnownExpansions
 pub mod HelpWordLemmas
 pub mod TreeReadingLemmas
 pub mod ReaderTokens

@@ -57,7 +57,7 @@ lost_list : List (List ℕ × List ℕ)
 lost_list = (codes "a", codes "config A\n\tbool\n\thelp\n\t  text\n$(empty)\n\t  source \"b\"\n") ∷ (codes "b", codes "config B\n\tbool\n") ∷ []
 
 lost_world : World
-lost_world = record { answer = λ question. Some None; bytes = λ path. lookup (bytes_eq path) lost_list; names = λ folder. [] }
+lost_world = record { answer = λ question. Some None; bytes = λ path. lookup (bytes_eq path) lost_list; unreadable = λ path. false; names = λ folder. Some [] }
 
 lost_files : List ExpandedFile
 lost_files =

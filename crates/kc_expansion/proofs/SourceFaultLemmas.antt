@@ -12,7 +12,7 @@ use Rattle.kc_macros_model.specs.ReadingStates.{ReadingState}
 use Rattle.kc_macros_model.specs.TreeExpansion.{source_fault}
 use Rattle.kc_macros_model.specs.declared.fault.MacroKind.{MacroKind}
 use Rattle.kc_expansion.specs.declared.source_faults.ReadCounts.{ReadCounts}
-use Rattle.kc_files.specs.between.KnownFiles.{FileRead, missing, whole, too_long, AreBytes}
+use Rattle.kc_files.specs.between.KnownFiles.{FileRead, missing, unreadable, whole, too_long, AreBytes}
 use Rattle.kc_expansion.specs.checker.Sizes.{size_fault}
 use Rattle.kc_macros.specs.between.SliceTexts.{texts_of_slices}
 use Rattle.kc_expansion.specs.checker.ReadingViews.{MayBeRead, MayNotBeRead}
@@ -100,6 +100,9 @@ module _ (open_files : List (List ℕ)) (counts : ReadCounts) (path : List ℕ) 
 
   pub refused_missing : is_in_list path open_files ≡ false → read ≡ missing → MayNotBeRead open_files counts path read MissingFile
   refused_missing e m = record { is_fault = λ s c bytes h. missing_fault open_files s path bytes e (subst (λ (r : FileRead). AreBytes r bytes) m h) }
+
+  pub refused_unreadable : is_in_list path open_files ≡ false → read ≡ unreadable → MayNotBeRead open_files counts path read MissingFile
+  refused_unreadable e m = record { is_fault = λ s c bytes h. missing_fault open_files s path bytes e (subst (λ (r : FileRead). AreBytes r bytes) m h) }
 
   module _ (there : List ℕ) (e : is_in_list path open_files ≡ false) (m : read ≡ whole there) where
     abbrev fault_now : Option MacroKind

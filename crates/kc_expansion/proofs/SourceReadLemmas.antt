@@ -10,7 +10,7 @@ use Rattle.kc_macros_model.specs.Programs.{Place, read_file, Program, returns, f
 use Rattle.kc_macros_model.specs.Worlds.{returned}
 use Rattle.kc_macros_model.specs.WrittenTokens.{WrittenToken, in_quotes_of}
 use Rattle.kc_macros_model.specs.LineForms.{SourceSort, line_bytes}
-use Rattle.kc_macros_model.specs.PathPatterns.{is_pattern, FoundPaths, readable_paths}
+use Rattle.kc_macros_model.specs.PathPatterns.{is_pattern, FoundPaths, paths_with_files}
 use Rattle.kc_macros_model.specs.ReadingStates.{ExpandedFile, ReadingState, Progress, progress, with_listed, counted, key_of, stored_file}
 use Rattle.kc_macros_model.specs.TreeExpansion.{SourceTarget, one_file, file_list, sourced_path, SourceReader, path_meant, list_name, source_line, pattern_read, path_read, source_followed, lines_read, list_read, source_fault, contents_read, sourced_read, source_read}
 use Rattle.kc_macros.specs.declared.stop.Stop.{Stop}
@@ -184,7 +184,7 @@ module _ (sub : SourceReader) (at : Place) (ts : List WrittenToken) (sort : Sour
 -- which files a path has
 module _ (sub : SourceReader) (at : Place) (sort : SourceSort) (path : List ℕ) (s : ReadingState) where
   alone : Bool → Program Progress
-  alone b = elim b [ true ↦ readable_paths (path ∷ []) >>= λ paths. sub at (file_list (list_name at) paths) s | false ↦ sub at (one_file path) s ]
+  alone b = elim b [ true ↦ paths_with_files (path ∷ []) >>= λ paths. sub at (file_list (list_name at) paths) s | false ↦ sub at (one_file path) s ]
 
   by_pattern : Bool → Program Progress
   unfolding alone
@@ -194,7 +194,7 @@ module _ (sub : SourceReader) (at : Place) (sort : SourceSort) (path : List ℕ)
   unfolding by_pattern alone
   path_of_pattern h = ap by_pattern h
 
-  pub path_optional : is_pattern path ≡ false → sort.optional ≡ true → path_read sub at sort path s ≡ readable_paths (path ∷ []) >>= λ paths. sub at
+  pub path_optional : is_pattern path ≡ false → sort.optional ≡ true → path_read sub at sort path s ≡ paths_with_files (path ∷ []) >>= λ paths. sub at
       (file_list (list_name at) paths) s
   unfolding by_pattern alone
   path_optional h k = ap by_pattern h ∙ ap alone k

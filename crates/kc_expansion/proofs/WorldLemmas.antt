@@ -11,16 +11,17 @@ use Rattle.kc_macros_model.specs.Worlds.{World}
 use Rattle.kc_answers.specs.RunStates.{with_questions}
 use Rattle.kc_macros.specs.Runs.{HasAnswers}
 use Rattle.kc_files.specs.TreeContents.{FileContent, FolderContent, TreeContents, IsContentRead, IsFolderRead, IsWorldOf}
-use Rattle.kc_files.specs.between.KnownFiles.{FileRead, missing, whole, too_long, FolderRead, names, too_many, KnownFiles, AreBytes, AreNames, Agrees, MatchFile, MatchFolder, AreAsKnown}
+use Rattle.kc_files.specs.between.KnownFiles.{FileRead, missing, unreadable, whole, too_long, FolderRead, names, too_many, unlisted, KnownFiles, AreBytes, IsUnreadable, AreNames, Agrees, MatchFile, MatchFolder, AreAsKnown}
 
 -- a list that is longer than this
 longer : {A : Type 0} (x : A) (n : ℕ) → (xs : List A) × (n < length xs)
 longer x n = (replicate (suc n) x, let e = length-replicate (suc n) x in omega (arith, e))
 
 -- bytes that the file of a path may have in a world, given its known content and, if it was read, the result of reading it; none
--- for a missing file
+-- for a missing file and for one that can't be read
 pub bytes_of : FileContent → Option FileRead → Option (List ℕ)
 bytes_of content (Some missing) = None
+bytes_of content (Some unreadable) = None
 bytes_of content (Some (whole bytes)) = Some bytes
 bytes_of (Some (Some known)) (Some too_long) = Some known
 bytes_of (Some None) (Some too_long) = None
@@ -28,53 +29,75 @@ bytes_of None (Some too_long) = Some (longer 0 MAX_TREE_BYTES).0
 bytes_of (Some known) None = known
 bytes_of None None = None
 
-pub names_of : FolderContent → Option FolderRead → List (List ℕ)
-names_of content (Some (names read)) = read
-names_of (Some known) (Some too_many) = known
-names_of None (Some too_many) = (longer {A = List ℕ} [] MAX_LISTED_NAMES).0
-names_of (Some known) None = known
-names_of None None = []
+-- whether the file of a path is there and can't be read, by the result of reading it, if it was read
+pub unread_of : Option FileRead → Bool
+unread_of (Some missing) = false
+unread_of (Some unreadable) = true
+unread_of (Some (whole bytes)) = false
+unread_of (Some too_long) = false
+unread_of None = false
+
+pub names_of : FolderContent → Option FolderRead → Option (List (List ℕ))
+names_of content (Some (names read)) = Some read
+names_of content (Some unlisted) = None
+names_of (Some known) (Some too_many) = Some known
+names_of None (Some too_many) = Some (longer {A = List ℕ} [] MAX_LISTED_NAMES).0
+names_of (Some known) None = Some known
+names_of None None = Some []
 
 bytes_agree : (content : FileContent) (read : FileRead) → MatchFile content read → AreBytes read (bytes_of content (Some read))
 unfolding bytes_of
 bytes_agree content missing m = refl
+bytes_agree content unreadable m = refl
 bytes_agree content (whole bytes) m = refl
 bytes_agree (Some (Some known)) too_long m = (known, refl, m)
 bytes_agree (Some None) too_long m = absurd (let z : ⊥ = cc in z)
 bytes_agree None too_long m = ((longer 0 MAX_TREE_BYTES).0, refl, (longer 0 MAX_TREE_BYTES).1)
 
+unread_agrees : (read : FileRead) → IsUnreadable read (unread_of (Some read))
+unfolding unread_of
+unread_agrees missing = refl
+unread_agrees unreadable = refl
+unread_agrees (whole bytes) = tt
+unread_agrees too_long = tt
+
 bytes_allowed : (content : FileContent) (read : Option FileRead) → ((r : FileRead) → read ≡ Some r → MatchFile content r)
-    → IsContentRead content (bytes_of content read)
-unfolding bytes_of
+    → IsContentRead content (bytes_of content read) (unread_of read)
+unfolding bytes_of unread_of
 bytes_allowed None read m = tt
-bytes_allowed (Some None) None m = refl
-bytes_allowed (Some None) (Some missing) m = refl
+bytes_allowed (Some None) None m = (refl, refl)
+bytes_allowed (Some None) (Some missing) m = (refl, refl)
+bytes_allowed (Some None) (Some unreadable) m = absurd (let e : unreadable ≡ missing = m unreadable refl in let z : ⊥ = cc in z)
 bytes_allowed (Some None) (Some (whole bytes)) m = absurd (let e : whole bytes ≡ missing = m (whole bytes) refl in let z : ⊥ = cc in z)
-bytes_allowed (Some None) (Some too_long) m = refl
+bytes_allowed (Some None) (Some too_long) m = (refl, refl)
 bytes_allowed (Some (Some known)) None m = inl refl
-bytes_allowed (Some (Some known)) (Some missing) m = inr refl
+bytes_allowed (Some (Some known)) (Some missing) m = absurd (m missing refl)
+bytes_allowed (Some (Some known)) (Some unreadable) m = inr (refl, refl)
 bytes_allowed (Some (Some known)) (Some (whole bytes)) m = inl (ap Some (m (whole bytes) refl))
 bytes_allowed (Some (Some known)) (Some too_long) m = inl refl
 
 names_agree : (content : FolderContent) (read : FolderRead) → MatchFolder content read → AreNames read (names_of content (Some read))
 unfolding names_of
 names_agree content (names ns) m = refl
-names_agree (Some known) too_many m = m
-names_agree None too_many m = (longer {A = List ℕ} [] MAX_LISTED_NAMES).1
+names_agree content unlisted m = refl
+names_agree (Some known) too_many m = (known, refl, m)
+names_agree None too_many m = ((longer {A = List ℕ} [] MAX_LISTED_NAMES).0, refl, (longer {A = List ℕ} [] MAX_LISTED_NAMES).1)
 
 names_allowed : (content : FolderContent) (read : Option FolderRead) → ((r : FolderRead) → read ≡ Some r → MatchFolder content r)
     → IsFolderRead content (names_of content read)
 unfolding names_of
 names_allowed None read m = tt
-names_allowed (Some known) None m = refl
-names_allowed (Some known) (Some (names ns)) m = m (names ns) refl
-names_allowed (Some known) (Some too_many) m = refl
+names_allowed (Some known) None m = inl refl
+names_allowed (Some known) (Some (names ns)) m = inl (ap Some (m (names ns) refl))
+names_allowed (Some known) (Some too_many) m = inl refl
+names_allowed (Some known) (Some unlisted) m = inr refl
 
 module _ (contents : TreeContents) (known : KnownFiles) (answers : RecordedAnswers) (m : AreAsKnown contents known) where
   abbrev pub world_of : World
   world_of = record {
     answer = keyword_in_table answers;
     bytes = λ path. bytes_of (contents.file path) (keyword_in_table known.files path);
+    unreadable = λ path. unread_of (keyword_in_table known.files path);
     names = λ folder. names_of (contents.folder folder) (keyword_in_table known.folders folder);
   }
 
@@ -82,6 +105,8 @@ module _ (contents : TreeContents) (known : KnownFiles) (answers : RecordedAnswe
   world_agrees = record {
     files = λ path read e. let f : AreBytes read (bytes_of (contents.file path) (Some read)) = bytes_agree (contents.file path) read (m.files path read e) in
         subst (λ (o : Option FileRead). AreBytes read (bytes_of (contents.file path) o)) (sym e) f;
+    there = λ path read e. let f : IsUnreadable read (unread_of (Some read)) = unread_agrees read in
+        subst (λ (o : Option FileRead). IsUnreadable read (unread_of o)) (sym e) f;
     folders = λ folder read e. let f : AreNames read (names_of (contents.folder folder) (Some read)) =
         names_agree (contents.folder folder) read (m.folders folder read e) in
         subst (λ (o : Option FolderRead). AreNames read (names_of (contents.folder folder) o)) (sym e) f;

@@ -1,6 +1,7 @@
 -- The expansion of a tree, and the questions that it asks, in a world of known files.
-use Rattle.std.specs.Prelude.{◌≡◌, ℕ, List, Vec, Result, Ok, Err}
+use Rattle.std.specs.Prelude.{◌≡◌, ◌≢◌, ℕ, false, List, Vec, Option, Some, None, Result, Ok, Err}
 use Rattle.std.specs.declared.alloc.Global.{Global}
+use Rattle.kc_tree_model.specs.Keywords.{keyword_in_table}
 use Rattle.kc_macros_model.specs.AnswerFiles.{RecordedAnswers}
 use Rattle.kc_macros_model.specs.Programs.{Fault, Notice}
 use Rattle.kc_macros_model.specs.ReadingStates.{ExpandedFile}
@@ -8,7 +9,7 @@ use Rattle.kc_macros_model.specs.Worlds.{World, Ending, returned, failed, expans
 use Rattle.kc_macros.specs.declared.stop.MacroFault.{MacroFault}
 use Rattle.kc_macros.specs.Runs.{HasAnswers, fault_of}
 use Rattle.kc_files.specs.TextViews.{texts_of}
-use Rattle.kc_files.specs.TreeContents.{TreeContents, IsWorldOf}
+use Rattle.kc_files.specs.TreeContents.{FileContent, TreeContents, IsWorldOf}
 
 -- what an expansion by the code ends with: the expanded files, or the fault as one of `kc_macros_model`
 abbrev pub tree_of : Result (List ExpandedFile) MacroFault → Result (List ExpandedFile) Fault
@@ -24,6 +25,16 @@ questions_of (Err fault) = Err (fault_of fault)
 abbrev pub ending_of : Result (List ExpandedFile) Fault → Ending (List ExpandedFile)
 ending_of (Ok files) = returned files
 ending_of (Err fault) = failed fault
+
+-- the bytes that a file is known to have: none where there is no such file, or nothing is known of it
+abbrev pub known_bytes : FileContent → Option (List ℕ)
+known_bytes None = None
+known_bytes (Some bytes) = bytes
+
+-- the world in which each file and each folder of a tree is as it is known, and that has just these answers
+abbrev pub known_world : TreeContents → RecordedAnswers → World
+known_world contents answers =
+    record { answer = keyword_in_table answers; bytes = λ path. known_bytes (contents.file path); unreadable = λ path. false; names = contents.folder }
 
 -- the expansion of the tree with the first file `root` has these notices, and returns these expanded files or fails by this
 -- fault, in some `World` whose files and folders agree with `contents`, and that has just these answers
@@ -41,3 +52,10 @@ pub record AreWanted (contents : TreeContents) (answers : RecordedAnswers) (root
   pub of_contents : IsWorldOf contents world
   pub answered : HasAnswers world answers
   pub are_wanted : wanted world root ≡ questions
+
+-- Where each file and each folder of a tree is known, each expansion that returns files returns those of the known tree, with its
+-- notices: what can't be read is a fault, and is never passed over.
+abbrev pub KnownFilesDetermineTheExpansion : Type 0
+KnownFilesDetermineTheExpansion = (contents : TreeContents) (answers : RecordedAnswers) (root : List ℕ) (notices : List Notice) (files : List ExpandedFile)
+    → ((path : List ℕ) → contents.file path ≢ None) → ((folder : List ℕ) → contents.folder folder ≢ None) → IsExpansion contents answers root notices (Ok files)
+    → ((expansion (known_world contents answers) root).ending ≡ returned files) × ((expansion (known_world contents answers) root).notices ≡ notices)

@@ -73,6 +73,7 @@ fn read_root<F: TreeFiles>(
     let bytes = match read {
         FileRead::Whole(bytes) => bytes,
         FileRead::Missing => return Err(fault(reading.alloc, at, MacroKind::MissingFile)),
+        FileRead::Unreadable => return Err(fault(reading.alloc, at, MacroKind::MissingFile)),
         FileRead::TooLong => return Err(fault(reading.alloc, at, MacroKind::TooMany)),
     };
     if bytes.len() > MAX_TREE_BYTES {

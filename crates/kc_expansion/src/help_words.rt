@@ -4,12 +4,7 @@ ghost use Rattle.kc_tokens.specs.Token.{is_white_byte, is_word_byte};
 ghost use Rattle.kc_tree_model.specs.LogicalLines.{begins_help};
 ghost use Rattle.kc_expansion.specs.checker.HelpWords.{is_end};
 
-/// White space within a line.
-fn is_white(byte: u8) -> bool
-    ensures { result ≡ is_white_byte byte }
-{
-    matches!(byte, 0x09 | 0x0B | 0x0C | 0x0D | 0x20)
-}
+use kc_tokens::is_white;
 
 /// A letter, a digit, `_`, `-`, `.` or `/`.
 fn is_word(byte: u8) -> bool

@@ -1,6 +1,13 @@
-//! Laws of the expansion of trees that the reader accepts.
+//! Laws of the expansion of known trees, and of trees that the reader accepts.
 ghost use Rattle.kc_tokens.specs.declared.language.LinuxVersion.{LinuxVersion};
+ghost use Rattle.kc_expansion.specs.Expansions.{KnownFilesDetermineTheExpansion};
 ghost use Rattle.kc_expansion.specs.TreeLaws.{AcceptedLinesStay, AcceptedTreesStay, AcceptedTreesWantNothing, ReadingsStay, ExpandedTreesStay, AllFilesStay, LosesAFile};
+
+/// Known files, known folders and the answers determine the expansion: whatever can't be read, if files are returned, they are those
+/// of the known tree, with its notices.
+pub fn known_files_determine_the_expansion()
+    ensures { KnownFilesDetermineTheExpansion }
+{}
 
 /// A line that the reader accepts has nothing to expand, is no assignment, and is of no form that the expansion writes anew,
 /// except for a `source` of the path that the reader sources.

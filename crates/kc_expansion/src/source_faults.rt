@@ -71,7 +71,7 @@ fn size_fault(open_count: usize, counts: ReadCounts, size: usize) -> Option<Macr
 ///
 /// # Errors
 ///
-/// The fault of a file that is open already or missing, or of the limit that it passes.
+/// The fault of a file that is open already, is missing or can't be read, or of the limit that it passes.
 pub(crate) fn bytes_to_read(
     open_files: &[&[u8]],
     counts: ReadCounts,
@@ -86,6 +86,7 @@ pub(crate) fn bytes_to_read(
     }
     match read {
         FileRead::Missing => Err(MacroKind::MissingFile),
+        FileRead::Unreadable => Err(MacroKind::MissingFile),
         FileRead::Whole(bytes) => match size_fault(open_files.len(), counts, bytes.len()) {
             Some(kind) => Err(kind),
             None => Ok(bytes),

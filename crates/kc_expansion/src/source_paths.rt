@@ -1,7 +1,7 @@
 //! The paths that a `source` line reads.
 ghost use Rattle.std.specs.Prelude.{◌≡◌, ◌∷◌, [], ◌||◌, not, nat_lt, length, IfOk};
 ghost use Rattle.kc_macros_model.specs.Worlds.{returned};
-ghost use Rattle.kc_macros_model.specs.PathPatterns.{readable_paths};
+ghost use Rattle.kc_macros_model.specs.PathPatterns.{paths_with_files};
 ghost use Rattle.kc_macros_model.specs.TreeExpansion.{SourceReader, path_read};
 ghost use Rattle.kc_macros.specs.Runs.{place_of};
 ghost use Rattle.kc_macro_forms.specs.between.LineFormViews.{source_sort_of};
@@ -15,7 +15,7 @@ ghost use Rattle.kc_expansion.specs.checker.ReadingViews.{state_of, file_run_of,
 use super::faults::fault;
 use super::reading_state::Reading;
 use kc_files::{
-    FoundPaths, PatternStop, Store, TreeFiles, files_of_pattern, is_pattern, readable_paths,
+    FoundPaths, PatternStop, Store, TreeFiles, files_of_pattern, is_pattern, paths_with_files,
 };
 use kc_macro_forms::SourceSort;
 use kc_macros::{MacroKind, Place, Stop};
@@ -28,7 +28,8 @@ fn lacks_files(paths: &[Vec<u8>], optional: bool) -> bool
     paths.is_empty() && !optional
 }
 
-/// The readable files that a pattern matches; a pattern without files is a fault, unless they may be missing.
+/// The files that a pattern matches, also those that can't be read; a pattern without files is a fault, unless they may be
+/// missing, and so is a folder that is there and can't be listed.
 fn pattern_paths<F: TreeFiles>(
     reading: &mut Reading<'_>,
     files: &mut F,
@@ -53,12 +54,13 @@ fn pattern_paths<F: TreeFiles>(
             Ok(Some(found.paths))
         }
         Err(PatternStop::TooMany) => Err(fault(reading.alloc, at, MacroKind::TooMany)),
+        Err(PatternStop::Unlisted) => Err(fault(reading.alloc, at, MacroKind::MissingFile)),
         Err(PatternStop::OutOfMemory) => Err(Stop::OutOfMemory),
     }
 }
 
-/// A list of one path, or of none where its file can't be read.
-fn path_if_readable<F: TreeFiles>(
+/// A list of one path, or of none where no file is at it.
+fn path_if_there<F: TreeFiles>(
     alloc: Global,
     store: &mut Store,
     files: &mut F,
@@ -66,12 +68,12 @@ fn path_if_readable<F: TreeFiles>(
 ) -> Result<Vec<Vec<u8>>, AllocError>
     ensures same { F.contents files.new ≡ F.contents files.old }
     ensures grows { Grows (F.contents files.old) (known_of store.old) (known_of store.new) }
-    ensures reads { IfOk result (λ readable. Comes (known_of store.new) (readable_paths (path.now ∷ [])) (returned (texts_of readable))) }
+    ensures reads { IfOk result (λ found. Comes (known_of store.new) (paths_with_files (path.now ∷ [])) (returned (texts_of found))) }
 {
     let mut paths = Vec::new(alloc);
     let copy = Vec::from_slice(alloc, path)?;
     paths.push(copy)?;
-    readable_paths(alloc, store, files, &paths)
+    paths_with_files(alloc, store, files, &paths)
 }
 
 /// The files that a `source` line reads as a list: those of a pattern, or one that may be missing; `None` where it reads the
@@ -89,7 +91,7 @@ pub(crate) fn paths_to_read<F: TreeFiles>(
         return pattern_paths(reading, files, at, sort, path);
     }
     if sort.optional {
-        let paths = path_if_readable(reading.alloc, &mut reading.store, files, path)?;
+        let paths = path_if_there(reading.alloc, &mut reading.store, files, path)?;
         return Ok(Some(paths));
     }
     Ok(None)

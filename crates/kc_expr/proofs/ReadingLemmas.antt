@@ -4,7 +4,7 @@ use Rattle.std.proofs.Math.Seq.{take-length}
 use Rattle.std.proofs.lemmas.List.{take-map, drop-take}
 use Rattle.kc_tokens.specs.declared.fault.ExprFault.{ExprFault}
 use Rattle.kc_tokens.specs.declared.fault.ExprKind.{ExprKind}
-use Rattle.kc_tokens.specs.declared.fault.ExprKind.TheVariants.{OutOfMemory}
+use Rattle.kc_tokens.specs.MemoryFaults.{IsOutOfMemory}
 use Rattle.kc_expr.specs.declared.store.Store.{Store}
 use Rattle.kc_tokens.specs.declared.token.Token.{Token as CodeToken}
 use Rattle.kc_expr.specs.Expr.{Expr}
@@ -63,7 +63,7 @@ module _ (ts line : List CodeToken) (at end : ℕ) (is_line : line ≡ take end 
   not_in f r x g = let k = expr_complete (expr_tokens (lexemes_of ts) at) x g in cc
 
   pub line_refused : (e : ExprFault) → IsRefusedToEnd (lexemes_of line) (read_all_tokens 64 (drop at (lexemes_of line))) e
-      → (e.kind ≡ OutOfMemory) ⊎ RefusesExpr (lexemes_of ts) at e
+      → IsOutOfMemory e ⊎ RefusesExpr (lexemes_of ts) at e
   line_refused e (inl m) = inl m
   line_refused e (inr (f, r, q)) =
       let middle = ap (λ l. drop at (lexemes_of l)) is_line ∙ middle_pieces ts at end is_end in

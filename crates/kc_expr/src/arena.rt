@@ -2,6 +2,7 @@
 ghost use Rattle.std.specs.Prelude.{◌≡◌, ◌<◌, ◌≤◌, ◌⊎◌, ◌↔◌, ◌++◌, ◌||◌, ◌^◌, ℕ, Bool, List, false, true, length, map, [], All, Contains, IfOk, IfErr, IfSome, OnOk, OnErr, Some, option_map, slice_index_or};
 ghost use Rattle.std.specs.List.Sorted.{IsStrictlyIncreasing};
 ghost use Rattle.kc_tokens.specs.declared.fault.ExprKind.TheVariants.{OutOfMemory};
+ghost use Rattle.kc_tokens.specs.MemoryFaults.{IsOutOfMemory};
 
 use super::evaluate::value_of;
 use super::ids::{ExprId, NameId};
@@ -100,7 +101,7 @@ impl Arena {
         ensures names { IfOk result (λ r. self.new.names ≡ with_names (names_in (node_expr self.new r.0)) self.old.names) }
         ensures end { IfOk result (λ r. r.1 ≡ expr_end (lexemes_of tokens.now) at) }
         ensures ok { IfOk result (λ r. ReadsExpr self.new r.0 condition (expr_tokens (lexemes_of tokens.now) at)) }
-        ensures fault { IfErr result (λ e. (e.kind ≡ OutOfMemory) ⊎ RefusesExpr (lexemes_of tokens.now) at e) }
+        ensures fault { IfErr result (λ e. IsOutOfMemory e ⊎ RefusesExpr (lexemes_of tokens.now) at e) }
         ensures err { OnErr result (self.new ≡ self.old) }
     {
         let end = at + extent_len(&tokens[at..]);

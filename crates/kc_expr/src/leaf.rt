@@ -1,6 +1,6 @@
 //! Operands, and the nodes of those that are whole expressions.
 ghost use Rattle.std.specs.Prelude.{◌≡◌, ◌<◌, length, drop, IfOk, IfErr, IfSome, option_map, Some};
-ghost use Rattle.kc_tokens.specs.declared.fault.ExprKind.TheVariants.{OutOfMemory};
+ghost use Rattle.kc_tokens.specs.MemoryFaults.{IsOutOfMemory};
 ghost use Rattle.kc_expr.specs.between.Arena.{Represents};
 ghost use Rattle.kc_expr.specs.Expr.{alone, named, quoted};
 ghost use Rattle.kc_expr.specs.Grammar.{constant_or, letter_value, quoted_text};
@@ -47,7 +47,7 @@ impl Store {
         ensures fits { IfOk result (λ l. LeafFits (length (stored_names self.new)) (length self.new.texts.items) l) }
         ensures names { IfOk result (λ l. stored_names self.new ≡ with_names (operand_names (operand_of (stored_names self.new) self.new.texts.items l)) (stored_names self.old)) }
         ensures operand { IfOk result (λ l. operand_of (stored_names self.new) self.new.texts.items l ≡ constant_or named text.now) }
-        ensures memory { IfErr result (λ e. e.kind ≡ OutOfMemory) }
+        ensures memory { IfErr result IsOutOfMemory }
     {
         if let Some(t) = constant_of(text) {
             return Ok(Leaf::Constant(t));
@@ -67,7 +67,7 @@ impl Store {
         ensures fits { IfOk result (λ l. LeafFits (length (stored_names self.new)) (length self.new.texts.items) l) }
         ensures names { IfOk result (λ l. stored_names self.new ≡ with_names (operand_names (operand_of (stored_names self.new) self.new.texts.items l)) (stored_names self.old)) }
         ensures operand { IfOk result (λ l. operand_of (stored_names self.new) self.new.texts.items l ≡ constant_or quoted (quoted_text text.now)) }
-        ensures memory { IfErr result (λ e. e.kind ≡ OutOfMemory) }
+        ensures memory { IfErr result IsOutOfMemory }
     {
         let inside = text_of(self.alloc(), text)?;
         match constant_of(inside.as_str()) {
@@ -92,7 +92,7 @@ impl Store {
         ensures fits { IfOk result (λ o. IfSome o (LeafFits (length (stored_names self.new)) (length self.new.texts.items))) }
         ensures names { IfOk result (λ o. stored_names self.new ≡ with_names (names_of_leaf (stored_names self.new) self.new.texts.items o) (stored_names self.old)) }
         ensures operand { IfOk result (λ o. option_map (operand_of (stored_names self.new) self.new.texts.items) o ≡ first_operand (drop at (lexemes_of tokens.now))) }
-        ensures memory { IfErr result (λ e. e.kind ≡ OutOfMemory) }
+        ensures memory { IfErr result IsOutOfMemory }
     {
         if at >= tokens.len() {
             return Ok(None);
@@ -113,7 +113,7 @@ impl Store {
         ensures extends { Extends self.old self.new }
         ensures names { IfOk result (HasNamesOf self.old self.new) }
         ensures represents { IfOk result (λ id. Represents (exprs_in self.new) id (as_condition condition (alone (constant_or named text.now)))) }
-        ensures memory { IfErr result (λ e. e.kind ≡ OutOfMemory) }
+        ensures memory { IfErr result IsOutOfMemory }
     {
         let leaf = self.word_leaf(text)?;
         self.push_alone(leaf, condition)
@@ -129,7 +129,7 @@ impl Store {
         ensures extends { Extends self.old self.new }
         ensures names { IfOk result (λ _. stored_names self.new ≡ with_names (names_of_m condition leaf) (stored_names self.old)) }
         ensures represents { IfOk result (λ id. Represents (exprs_in self.new) id (as_condition condition (alone (operand_of (stored_names self.old) self.old.texts.items leaf)))) }
-        ensures memory { IfErr result (λ e. e.kind ≡ OutOfMemory) }
+        ensures memory { IfErr result IsOutOfMemory }
     {
         let id = self.push(Node::Alone(leaf))?;
         if !condition || !is_constant_m(leaf) {

@@ -1,6 +1,6 @@
 //! The lists that an arena holds.
 ghost use Rattle.std.specs.Prelude.{◌≡◌, ◌<◌, ◌^◌, [], length, take, Some, IsTrue, IfSome, IfOk, IfErr, OnOk, OnErr, slice_index_or};
-ghost use Rattle.kc_tokens.specs.declared.fault.ExprKind.TheVariants.{OutOfMemory};
+ghost use Rattle.kc_tokens.specs.MemoryFaults.{IsOutOfMemory};
 ghost use Rattle.kc_expr.specs.between.Arena.{Represents};
 ghost use Rattle.kc_expr.specs.Lookup.{index_of_name};
 ghost use Rattle.kc_expr.specs.between.Names.{with_name};
@@ -34,7 +34,7 @@ pub(crate) struct Mark {
 fn index_of_32_bits(place: usize) -> Result<u32, ExprFault>
     ensures number { IfOk result (λ n. n ≡ place) }
     ensures below { OnOk result (place < 2 ^ 32) }
-    ensures memory { IfErr result (λ e. e.kind ≡ OutOfMemory) }
+    ensures memory { IfErr result IsOutOfMemory }
 {
     if place > u32::MAX as usize {
         return Err(AllocError.into());
@@ -144,7 +144,7 @@ impl Store {
         ensures extends { Extends self.old self.new }
         ensures names { stored_names self.new ≡ stored_names self.old }
         ensures represents { IfOk result (λ id. Represents (exprs_in self.new) id (expr_of (stored_names self.old) self.old.texts.items (exprs_in self.old).nodes node)) }
-        ensures memory { IfErr result (λ e. e.kind ≡ OutOfMemory) }
+        ensures memory { IfErr result IsOutOfMemory }
         ensures err { OnErr result (exprs_in self.new ≡ exprs_in self.old) }
     {
         let id = index_of_32_bits(self.nodes.len())?;
@@ -163,7 +163,7 @@ impl Store {
         ensures names { IfOk result (λ i. stored_names self.new ≡ with_name name.now (stored_names self.old)) }
         ensures texts { self.new.texts.items ≡ self.old.texts.items }
         ensures nodes { self.new.nodes.items ≡ self.old.nodes.items }
-        ensures memory { IfErr result (λ e. e.kind ≡ OutOfMemory) }
+        ensures memory { IfErr result IsOutOfMemory }
         ensures err { OnErr result (exprs_in self.new ≡ exprs_in self.old) }
     {
         match self.find(name) {
@@ -184,7 +184,7 @@ impl Store {
         ensures names { IfOk result (λ i. stored_names self.new ≡ with_name name.now (stored_names self.old)) }
         ensures texts { self.new.texts.items ≡ self.old.texts.items }
         ensures nodes { self.new.nodes.items ≡ self.old.nodes.items }
-        ensures memory { IfErr result (λ e. e.kind ≡ OutOfMemory) }
+        ensures memory { IfErr result IsOutOfMemory }
         ensures err { OnErr result (exprs_in self.new ≡ exprs_in self.old) }
     {
         let _ = index_of_32_bits(self.names.len())?;
@@ -200,7 +200,7 @@ impl Store {
         ensures within { IfOk result (λ i. i < length self.new.texts.items) }
         ensures names { stored_names self.new ≡ stored_names self.old }
         ensures text { IfOk result (λ i. slice_index_or self.new.texts.items i [] ≡ text) }
-        ensures memory { IfErr result (λ e. e.kind ≡ OutOfMemory) }
+        ensures memory { IfErr result IsOutOfMemory }
     {
         let id = index_of_32_bits(self.texts.len())?;
         self.texts.push(text)?;

@@ -1,6 +1,6 @@
 -- The paths of patterns.
-use Rattle.std.proofs.Common.{◌≡◌, ℕ, zero, suc, ◌+◌, ◌<◌, ◌≤◌, Bool, true, false, cond, List, [], ◌∷◌, ◌++◌, length, map, drop, take, get_or, Some, refl, sym, ap, ◌∙◌, subst, append_assoc, arith, length-drop}
-use Rattle.std.specs.Prelude.{Vec, Result, Ok, Err, filter, nat_lt, ◌==◌, is_some, if◌then◌else◌}
+use Rattle.std.proofs.Common.{◌≡◌, ℕ, zero, suc, ◌+◌, ◌<◌, ◌≤◌, Bool, true, false, cond, List, [], ◌∷◌, ◌++◌, length, map, drop, take, get_or, None, Some, refl, sym, ap, ◌∙◌, subst, append_assoc, arith, length-drop}
+use Rattle.std.specs.Prelude.{Vec, Result, Ok, Err, filter, nat_lt, ◌==◌, if◌then◌else◌}
 use Rattle.std.specs.List.{onto_first}
 use Rattle.std.specs.declared.alloc.Global.{Global}
 use Rattle.std.proofs.lemmas.Bool.Decides.{nat_tests}
@@ -8,17 +8,17 @@ use Rattle.std.proofs.lemmas.List.{append-nil}
 use Rattle.std.proofs.Math.Seq.{drop-cons}
 use Rattle.kc_tree_model.specs.Keywords.{keyword_in_table}
 use Rattle.kc_value.specs.declared.limits.TheConstants.{MAX_LISTED_NAMES}
-use Rattle.kc_macros_model.specs.Programs.{Place, list_folder, Program, returns, fails, does, ◌>>=◌}
-use Rattle.kc_macros_model.specs.Worlds.{World, returned, failed, Outcome, outcome}
-use Rattle.kc_macros_model.specs.PathPatterns.{is_pattern, FoundPaths, found, matches_name, matching_names, paths_in_folder, paths_in_folders, paths_below, path_pieces, readable_paths, files_of_pattern, sorted}
+use Rattle.kc_macros_model.specs.Programs.{Place, Fault, list_folder, Program, returns, fails, does, ◌>>=◌}
+use Rattle.kc_macros_model.specs.Worlds.{World, has_file, returned, failed, Outcome, outcome}
+use Rattle.kc_macros_model.specs.PathPatterns.{is_pattern, FoundPaths, found, matches_name, matching_names, matching_listed, paths_in_folder, paths_in_folders, paths_below, path_pieces, paths_with_files, files_of_pattern, sorted}
 use Rattle.kc_files.specs.declared.patterns.FoundPaths.{FoundPaths as CodePaths}
 use Rattle.kc_files.specs.declared.patterns.PatternStop.{PatternStop}
-use Rattle.kc_files.specs.declared.patterns.PatternStop.TheVariants.{TooMany, OutOfMemory}
+use Rattle.kc_files.specs.declared.patterns.PatternStop.TheVariants.{TooMany, Unlisted, OutOfMemory}
 use Rattle.kc_files.specs.TreeContents.{TreeContents}
 use Rattle.kc_files.specs.TextViews.{items_of}
-use Rattle.kc_files.specs.between.KnownFiles.{KnownFiles, names, too_many, Agrees, Grows}
-use Rattle.kc_files.specs.between.FileRuns.{Comes, HaveSameOutcome, too_many_at}
-use Rattle.kc_files.specs.checker.PatternRuns.{found_of, slashed, IsCut, Finds, FindsMore}
+use Rattle.kc_files.specs.between.KnownFiles.{KnownFiles, names, too_many, unlisted, Agrees, Grows}
+use Rattle.kc_files.specs.between.FileRuns.{Comes, HaveSameOutcome, missing_at, too_many_at}
+use Rattle.kc_files.specs.checker.PatternRuns.{found_of, slashed, IsCut, Finds, FindsMore, StopsAtFolder}
 use Rattle.kc_files.proofs.ProgramLemmas.{nothing_after, grouped, same_rest, same_then, fails_then, comes_at_once, fails_at_once, same_by, same_twice, comes_as, same_listed, same_later}
 
 -- a name that matches a piece comes, as a path in its folder, after the paths before it and before those of the names after it
@@ -47,12 +47,12 @@ many_names at piece folder listed all e =
 
 module _ (known : KnownFiles) (at : Place) (piece folder : List ℕ) (listed : ℕ) where
   pub finds_listed : (all : List (List ℕ)) → keyword_in_table known.folders folder ≡ Some (names all) → nat_lt MAX_LISTED_NAMES (listed + length all) ≡ false
-      → Comes known (does (list_folder folder) (matching_names at piece folder listed))
+      → Comes known (does (list_folder folder) (matching_listed at piece folder listed))
       (returned (found (map (λ n. folder ++ n) (filter (matches_name piece) all)) (listed + length all)))
   finds_listed all e few =
-      comes_as known (does (list_folder folder) (matching_names at piece folder listed)) (matching_names at piece folder listed all)
+      comes_as known (does (list_folder folder) (matching_listed at piece folder listed)) (matching_names at piece folder listed all)
       (returned (found (map (λ n. folder ++ n) (filter (matches_name piece) all)) (listed + length all)))
-      (same_listed known folder (matching_names at piece folder listed) all (λ w a. a.folders folder (names all) e))
+      (same_listed known folder (matching_listed at piece folder listed) (Some all) (λ w a. a.folders folder (names all) e))
       (comes_as known (matching_names at piece folder listed all) (returns
       (found (map (λ n. folder ++ n) (filter (matches_name piece) all)) (listed + length all)))
       (returned (found (map (λ n. folder ++ n) (filter (matches_name piece) all)) (listed + length all)))
@@ -61,26 +61,43 @@ module _ (known : KnownFiles) (at : Place) (piece folder : List ℕ) (listed : �
       (comes_at_once known (found (map (λ n. folder ++ n) (filter (matches_name piece) all)) (listed + length all))))
 
   pub too_many_listed : (all : List (List ℕ)) → keyword_in_table known.folders folder ≡ Some (names all) → nat_lt MAX_LISTED_NAMES (listed + length all) ≡ true
-      → Comes known (does (list_folder folder) (matching_names at piece folder listed)) (failed (too_many_at at))
+      → Comes known (does (list_folder folder) (matching_listed at piece folder listed)) (failed (too_many_at at))
   too_many_listed all e many =
-      comes_as known (does (list_folder folder) (matching_names at piece folder listed)) (matching_names at piece folder listed all) (failed (too_many_at at))
-      (same_listed known folder (matching_names at piece folder listed) all (λ w a. a.folders folder (names all) e))
+      comes_as known (does (list_folder folder) (matching_listed at piece folder listed)) (matching_names at piece folder listed all) (failed (too_many_at at))
+      (same_listed known folder (matching_listed at piece folder listed) (Some all) (λ w a. a.folders folder (names all) e))
       (comes_as known (matching_names at piece folder listed all) (fails (too_many_at at)) (failed (too_many_at at))
       (same_by known (matching_names at piece folder listed all) (fails (too_many_at at)) (many_names at piece folder listed all many))
       (fails_at_once known (too_many_at at)))
 
   -- the search for matching names in a folder with more names than may be listed fails by `TooMany`
-  pub too_many_there : keyword_in_table known.folders folder ≡ Some too_many → Comes known (does (list_folder folder) (matching_names at piece folder listed))
+  pub too_many_there : keyword_in_table known.folders folder ≡ Some too_many → Comes known (does (list_folder folder) (matching_listed at piece folder listed))
       (failed (too_many_at at))
   too_many_there e = record {
-    in_world = λ w a all left. (comes_as known (matching_names at piece folder listed (w.names folder)) (fails (too_many_at at)) (failed (too_many_at at))
-        (same_by known (matching_names at piece folder listed (w.names folder)) (fails (too_many_at at))
-        (many_names at piece folder listed (w.names folder) (many (length (w.names folder)) (a.folders folder too_many e))))
+    in_world = λ w a all left.
+        let (more, is_more, too_long) = a.folders folder too_many e in
+        (comes_as known (matching_listed at piece folder listed (w.names folder)) (fails (too_many_at at)) (failed (too_many_at at))
+        (same_by known (matching_listed at piece folder listed (w.names folder)) (fails (too_many_at at))
+        (ap (matching_listed at piece folder listed) is_more ∙ many_names at piece folder listed more (many (length more) too_long)))
         (fails_at_once known (too_many_at at))).in_world w a all left;
   }
     where
       many : (n : ℕ) → MAX_LISTED_NAMES < n → nat_lt MAX_LISTED_NAMES (listed + n) ≡ true
       many n h = grind (arith, nat_tests)
+
+module _ (known : KnownFiles) (at : Place) (piece folder : List ℕ) (listed : ℕ) where
+  -- the search for matching names in a folder that is there and can't be listed fails by `MissingFile`
+  unlisted_there : keyword_in_table known.folders folder ≡ Some unlisted → Comes known (does (list_folder folder) (matching_listed at piece folder listed))
+      (failed (missing_at at))
+  unlisted_there e =
+      comes_as known (does (list_folder folder) (matching_listed at piece folder listed)) (fails (missing_at at)) (failed (missing_at at))
+      (same_listed known folder (matching_listed at piece folder listed) None (λ w a. a.folders folder unlisted e)) (fails_at_once known (missing_at at))
+
+  -- where the code stops at a folder that was listed, the search for matching names in it fails
+  pub folder_stops : (T : Type 0) (before after : FoundPaths) (stop : PatternStop) → StopsAtFolder stop (keyword_in_table known.folders folder)
+      → FindsMore {T = T} known at (does (list_folder folder) (matching_listed at piece folder listed)) before after (Err stop)
+  folder_stops T before after TooMany h = too_many_there known at piece folder listed h
+  folder_stops T before after Unlisted h = unlisted_there h
+  folder_stops T before after OutOfMemory h = absurd h
 
 module _ (at : Place) (piece : List ℕ) where
   -- the program that finds the paths that a piece matches in the remaining folders, and lists those that were found `before` in
@@ -108,15 +125,15 @@ module _ (at : Place) (piece : List ℕ) where
       (λ rest. returns (found (after.paths ++ rest.paths) rest.listed))
       (λ rest. ap (λ ps. returns (found ps rest.listed)) (sym (append_assoc before.paths more rest.paths) ∙ ap (λ ps. ps ++ rest.paths) (sym e)))))
 
-  -- where the search in a folder fails by `TooMany`, the search in it and the remaining folders fails by it too
-  pub stops_there : (known : KnownFiles) (folder : List ℕ) (folders : List (List ℕ)) (before : FoundPaths)
-      → Comes known (paths_in_folder at piece folder before.listed) (failed (too_many_at at))
-      → Comes known (rest_of_paths (folder ∷ folders) before) (failed (too_many_at at))
-  stops_there known folder folders before c =
+  -- where the search in a folder fails, the search in it and the remaining folders fails by the same fault
+  pub stops_there : (known : KnownFiles) (folder : List ℕ) (folders : List (List ℕ)) (before : FoundPaths) (g : Fault)
+      → Comes known (paths_in_folder at piece folder before.listed) (failed g)
+      → Comes known (rest_of_paths (folder ∷ folders) before) (failed g)
+  stops_there known folder folders before g c =
       let p = paths_in_folder at piece folder before.listed in
       let f : FoundPaths → Program FoundPaths = λ first. paths_in_folders at piece folders first.listed >>= λ rest. returns
       (found (first.paths ++ rest.paths) rest.listed) in
-      fails_then known (p >>= f) (λ rest. returns (found (before.paths ++ rest.paths) rest.listed)) (too_many_at at) (fails_then known p f (too_many_at at) c)
+      fails_then known (p >>= f) (λ rest. returns (found (before.paths ++ rest.paths) rest.listed)) g (fails_then known p f g c)
 
   -- the search in all folders is the search in the remaining folders where none was searched yet
   pub from_first : (known : KnownFiles) (folders : List (List ℕ)) (listed : ℕ) → HaveSameOutcome known (paths_in_folders at piece folders listed)
@@ -135,7 +152,9 @@ module _ (at : Place) (piece : List ℕ) where
       → HaveSameOutcome known whole (rest_of_paths (folder ∷ folders) before) → FindsMore {T = T} known at
       (paths_in_folder at piece folder before.listed) before after (Err stop) → Finds known at whole (Err stop)
   all_stop T known whole folder folders before after TooMany s h = comes_as known whole (rest_of_paths (folder ∷ folders) before) (failed (too_many_at at)) s
-      (stops_there known folder folders before h)
+      (stops_there known folder folders before (too_many_at at) h)
+  all_stop T known whole folder folders before after Unlisted s h = comes_as known whole (rest_of_paths (folder ∷ folders) before) (failed (missing_at at)) s
+      (stops_there known folder folders before (missing_at at) h)
   all_stop T known whole folder folders before after OutOfMemory s h = tt
 
   -- where the code's search in a folder finds its paths, the whole search goes on in the folders after it with these paths added
@@ -161,14 +180,14 @@ less_is_few n h = grind (arith, nat_tests)
 
 -- the paths that a piece with `*` or `?` matches in a folder are found by listing the folder
 pub by_pattern : (at : Place) (piece folder : List ℕ) (listed : ℕ) → is_pattern piece ≡ true → paths_in_folder at piece folder listed
-    ≡ does (list_folder folder) (matching_names at piece folder listed)
+    ≡ does (list_folder folder) (matching_listed at piece folder listed)
 by_pattern at piece folder listed e =
-    ap (λ b. elim b [ true ↦ does (list_folder folder) (matching_names at piece folder listed) | false ↦ returns (found ((folder ++ piece) ∷ []) listed) ]) e
+    ap (λ b. elim b [ true ↦ does (list_folder folder) (matching_listed at piece folder listed) | false ↦ returns (found ((folder ++ piece) ∷ []) listed) ]) e
 
 pub as_it_is : (at : Place) (piece folder : List ℕ) (listed : ℕ) → is_pattern piece ≡ false → paths_in_folder at piece folder listed
     ≡ returns (found ((folder ++ piece) ∷ []) listed)
 as_it_is at piece folder listed e =
-    ap (λ b. elim b [ true ↦ does (list_folder folder) (matching_names at piece folder listed) | false ↦ returns (found ((folder ++ piece) ∷ []) listed) ]) e
+    ap (λ b. elim b [ true ↦ does (list_folder folder) (matching_listed at piece folder listed) | false ↦ returns (found ((folder ++ piece) ∷ []) listed) ]) e
 
 not_slash : (c : ℕ) → (c ≡ 47 → ⊥) → (c == 47) ≡ false
 not_slash c h = grind (arith, nat_tests)
@@ -224,11 +243,13 @@ module _ (at : Place) where
   pub stops_then : (known : KnownFiles) (p : Program FoundPaths) (f : FoundPaths → Program FoundPaths) (stop : PatternStop) → Finds known at p (Err stop)
       → Finds known at (p >>= f) (Err stop)
   stops_then known p f TooMany h = fails_then known p f (too_many_at at) h
+  stops_then known p f Unlisted h = fails_then known p f (missing_at at) h
   stops_then known p f OutOfMemory h = tt
 
   pub stops_same : (known : KnownFiles) (p q : Program FoundPaths) (stop : PatternStop) → HaveSameOutcome known p q → Finds known at q (Err stop)
       → Finds known at p (Err stop)
   stops_same known p q TooMany s h = comes_as known p q (failed (too_many_at at)) s h
+  stops_same known p q Unlisted s h = comes_as known p q (failed (missing_at at)) s h
   stops_same known p q OutOfMemory s h = tt
 
   pub finds_same : (known : KnownFiles) (p q : Program FoundPaths) (r : Result CodePaths PatternStop) → HaveSameOutcome known p q → Finds known at q r
@@ -277,15 +298,15 @@ is_cut path n front back h e none f b = record {
   shorter = (let l = length-drop (n + 1) path in let m : length back ≡ length (drop (n + 1) path) = ap length b in omega arith);
 }
 
--- the program that finds those of the remaining paths whose files can be read, and lists those that were found `before` in front
-abbrev pub rest_of_readable : List (List ℕ) → List (List ℕ) → Program (List (List ℕ))
-rest_of_readable paths before = readable_paths paths >>= λ rest. returns (before ++ rest)
+-- the program that finds those of the remaining paths at which files are, and lists those that were found `before` in front
+abbrev pub rest_with_files : List (List ℕ) → List (List ℕ) → Program (List (List ℕ))
+rest_with_files paths before = paths_with_files paths >>= λ rest. returns (before ++ rest)
 
-pub readable_more : (known : KnownFiles) (path : List ℕ) (paths before : List (List ℕ)) (b : Bool) → ((w : World) → Agrees w known → is_some (w.bytes path) ≡ b)
-    → HaveSameOutcome known (rest_of_readable (path ∷ paths) before) (rest_of_readable paths (cond b (before ++ path ∷ []) before))
-readable_more known path paths before b h = record {
+pub with_files_more : (known : KnownFiles) (path : List ℕ) (paths before : List (List ℕ)) (b : Bool) → ((w : World) → Agrees w known → has_file w path ≡ b)
+    → HaveSameOutcome known (rest_with_files (path ∷ paths) before) (rest_with_files paths (cond b (before ++ path ∷ []) before))
+with_files_more known path paths before b h = record {
   in_world = λ w a all left.
-      let k : Bool → Program (List (List ℕ)) = λ c. (readable_paths paths >>= λ rest. returns (if c then path ∷ rest else rest)) >>= λ rest. returns
+      let k : Bool → Program (List (List ℕ)) = λ c. (paths_with_files paths >>= λ rest. returns (if c then path ∷ rest else rest)) >>= λ rest. returns
       (before ++ rest) in
       ap (λ c. let o = outcome all w left (k c) in let r : Outcome (List (List ℕ)) = record {
         notices = o.notices;
@@ -293,8 +314,8 @@ readable_more known path paths before b h = record {
         left = o.left;
         ending = o.ending;
       } in r) (h w a)
-      ∙ ap (outcome all w left) (grouped (readable_paths paths) (λ rest. returns (if b then path ∷ rest else rest)) (λ rest. returns (before ++ rest))
-      ∙ same_rest (readable_paths paths) (λ rest. returns (before ++ (if b then path ∷ rest else rest)))
+      ∙ ap (outcome all w left) (grouped (paths_with_files paths) (λ rest. returns (if b then path ∷ rest else rest)) (λ rest. returns (before ++ rest))
+      ∙ same_rest (paths_with_files paths) (λ rest. returns (before ++ (if b then path ∷ rest else rest)))
       (λ rest. returns (cond b (before ++ path ∷ []) before ++ rest)) (λ rest. ap returns (placed b rest)));
 }
   where
@@ -302,20 +323,20 @@ readable_more known path paths before b h = record {
     placed true rest = sym (append_assoc before (path ∷ []) rest)
     placed false rest = refl
 
-pub readable_first : (known : KnownFiles) (paths : List (List ℕ)) → HaveSameOutcome known (readable_paths paths) (rest_of_readable paths [])
-readable_first known paths = same_by known (readable_paths paths) (rest_of_readable paths []) (sym (nothing_after (readable_paths paths)))
+pub with_files_first : (known : KnownFiles) (paths : List (List ℕ)) → HaveSameOutcome known (paths_with_files paths) (rest_with_files paths [])
+with_files_first known paths = same_by known (paths_with_files paths) (rest_with_files paths []) (sym (nothing_after (paths_with_files paths)))
 
-pub readable_last : (known : KnownFiles) (before : List (List ℕ)) → Comes known (rest_of_readable [] before) (returned before)
-readable_last known before = subst (λ ps. Comes known (rest_of_readable [] before) (returned ps)) (append-nil before) (comes_at_once known (before ++ []))
+pub with_files_last : (known : KnownFiles) (before : List (List ℕ)) → Comes known (rest_with_files [] before) (returned before)
+with_files_last known before = subst (λ ps. Comes known (rest_with_files [] before) (returned ps)) (append-nil before) (comes_at_once known (before ++ []))
 
--- the files of a pattern are those paths that match it and can be read, sorted
+-- the files of a pattern are those paths that match it and at which files are, sorted
 pub files_found : (known : KnownFiles) (at : Place) (pattern : List ℕ) (listed : ℕ) (f : FoundPaths) (paths : List (List ℕ))
     → Comes known (paths_below at (path_pieces pattern) ([] ∷ []) listed) (returned f)
-    → Comes known (readable_paths f.paths) (returned paths) → Comes known (files_of_pattern at pattern listed) (returned (found (sorted paths) f.listed))
+    → Comes known (paths_with_files f.paths) (returned paths) → Comes known (files_of_pattern at pattern listed) (returned (found (sorted paths) f.listed))
 files_found known at pattern listed f paths b r =
     let p = paths_below at (path_pieces pattern) ([] ∷ []) listed in
-    let k : FoundPaths → Program FoundPaths = λ g. readable_paths g.paths >>= λ ps. returns (found (sorted ps) g.listed) in
+    let k : FoundPaths → Program FoundPaths = λ g. paths_with_files g.paths >>= λ ps. returns (found (sorted ps) g.listed) in
     let e = returned (found (sorted paths) f.listed) in
     comes_as known (p >>= k) (k f) e (same_then known p k f b)
-    (comes_as known (k f) (returns (found (sorted paths) f.listed)) e (same_then known (readable_paths f.paths)
+    (comes_as known (k f) (returns (found (sorted paths) f.listed)) e (same_then known (paths_with_files f.paths)
     (λ ps. returns (found (sorted ps) f.listed)) paths r) (comes_at_once known (found (sorted paths) f.listed)))

@@ -1,5 +1,5 @@
 -- Outcomes of programs that only read files and list folders.
-use Rattle.std.proofs.Common.{◌≡◌, ℕ, List, refl, ap, ◌∙◌}
+use Rattle.std.proofs.Common.{◌≡◌, ℕ, List, Option, refl, ap, ◌∙◌}
 use Rattle.std.proofs.Math.Path.{fun_ext}
 use Rattle.kc_macros_model.specs.Programs.{Fault, list_folder, Program, returns, fails, stops, does, ◌>>=◌}
 use Rattle.kc_macros_model.specs.Worlds.{World, Ending, returned, failed, Outcome, outcome}
@@ -63,10 +63,10 @@ module _ {A : Type 0} (contents : TreeContents) (old new : KnownFiles) (g : Grow
   same_later p q c = record { in_world = λ w h. c.in_world w (g.worlds w h) }
 
 -- a program that lists a folder with known names has the outcome of going on with those names
-pub same_listed : {A : Type 0} (known : KnownFiles) (folder : List ℕ) (k : List (List ℕ) → Program A) (names : List (List ℕ))
+pub same_listed : {A : Type 0} (known : KnownFiles) (folder : List ℕ) (k : Option (List (List ℕ)) → Program A) (names : Option (List (List ℕ)))
     → ((w : World) → Agrees w known → w.names folder ≡ names)
     → HaveSameOutcome known (does (list_folder folder) k) (k names)
 same_listed {A = A} known folder k names h = record {
-  in_world = λ w a all left. ap (λ (ns : List (List ℕ)). let o = outcome all w left (k ns) in let r : Outcome A =
+  in_world = λ w a all left. ap (λ (ns : Option (List (List ℕ))). let o = outcome all w left (k ns) in let r : Outcome A =
       record { notices = o.notices; questions = o.questions; left = o.left; ending = o.ending } in r) (h w a);
 }

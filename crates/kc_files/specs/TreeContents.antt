@@ -1,5 +1,5 @@
 -- The known contents of the files and folders of a tree, before they are read.
-use Rattle.std.specs.Prelude.{◌≡◌, ℕ, ◌<◌, ◌⊎◌, List, length, Option, Some, None}
+use Rattle.std.specs.Prelude.{◌≡◌, ℕ, ◌<◌, ◌⊎◌, Bool, true, false, List, length, Option, Some, None}
 use Rattle.kc_macros_model.specs.Worlds.{World}
 
 -- what is known of the file of a path before it is read: nothing, that there is no regular file (`Some None`), or its bytes
@@ -23,16 +23,17 @@ ListsAs None most names = Unit {0}
 ListsAs (Some known) most (Some names) = names ≡ known
 ListsAs (Some known) most None = most < length known
 
--- the bytes of the file of a path, or none, agree with its known content; a known file may have none, since its reading may fail
-abbrev pub IsContentRead : FileContent → Option (List ℕ) → Type 0
-IsContentRead None bytes = Unit {0}
-IsContentRead (Some None) bytes = bytes ≡ None
-IsContentRead (Some (Some known)) bytes = (bytes ≡ Some known) ⊎ (bytes ≡ None)
+-- the bytes of the file of a path, none where there is no such file or it can't be read, and whether it is there and can't be read,
+-- agree with its known content: a known file has its bytes, or it can't be read
+abbrev pub IsContentRead : FileContent → (bytes : Option (List ℕ)) → (unreadable : Bool) → Type 0
+IsContentRead None bytes unreadable = Unit {0}
+IsContentRead (Some None) bytes unreadable = (bytes ≡ None) × (unreadable ≡ false)
+IsContentRead (Some (Some known)) bytes unreadable = (bytes ≡ Some known) ⊎ ((bytes ≡ None) × (unreadable ≡ true))
 
--- the names in a folder agree with its known content
-abbrev pub IsFolderRead : FolderContent → List (List ℕ) → Type 0
+-- the names in a folder, `None` where it can't be listed, agree with its known content
+abbrev pub IsFolderRead : FolderContent → Option (List (List ℕ)) → Type 0
 IsFolderRead None names = Unit {0}
-IsFolderRead (Some known) names = names ≡ known
+IsFolderRead (Some known) names = (names ≡ Some known) ⊎ (names ≡ None)
 
 -- what is known of a tree and doesn't change while it is read: the contents of its files and folders, and of the paths beside the
 -- tree, which an expansion doesn't read; and the number of the reference through which files are read, if there is one
@@ -44,5 +45,5 @@ pub record TreeContents : Type 0 where
 
 -- the files and folders of a world agree with the known contents of a tree
 pub record IsWorldOf (contents : TreeContents) (w : World) : Type 0 where
-  pub files : (path : List ℕ) → IsContentRead (contents.file path) (w.bytes path)
+  pub files : (path : List ℕ) → IsContentRead (contents.file path) (w.bytes path) (w.unreadable path)
   pub folders : (folder : List ℕ) → IsFolderRead (contents.folder folder) (w.names folder)

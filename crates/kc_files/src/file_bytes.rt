@@ -4,15 +4,16 @@ ghost use Rattle.std.specs.Io.KnownBytes.{Consumes, IsAtEnd};
 ghost use Rattle.kc_files.specs.between.KnownFiles.{MatchFile, content_of_reader};
 ghost use Rattle.kc_files.specs.checker.FileViews.{file_of};
 
-use super::files::TreeFiles;
+use super::files::{FileStop, TreeFiles};
 use kc_value::{MAX_BLOCK_BYTES, MAX_FILE_BYTES, Source};
 use std::alloc::{AllocError, Global};
 use std::rc::Rc;
 
-/// The result of reading a file: it is missing, has these bytes, or has more bytes than may be read.
+/// The result of reading a file: it is missing, is there and can't be read, has these bytes, or has more bytes than may be read.
 #[derive(Drop)]
 pub enum FileRead {
     Missing,
+    Unreadable,
     Whole(Rc<Vec<u8>>),
     TooLong,
 }
@@ -41,7 +42,7 @@ fn read_front<S: Source>(
     Ok(Some(bytes))
 }
 
-/// The result of reading the file of a reader; where a read fails, the file is missing.
+/// The result of reading the file of a reader; where a read fails, the file is unreadable.
 fn read_bytes<S: Source>(
     alloc: Global,
     source: &mut S,
@@ -51,13 +52,13 @@ fn read_bytes<S: Source>(
     ensures { IfOk result (λ read. MatchFile (content_of_reader (S.left source.old)) (file_of read)) }
 {
     match read_front(alloc, source, room, block)? {
-        None => Ok(FileRead::Missing),
+        None => Ok(FileRead::Unreadable),
         Some(bytes) if bytes.len() < MAX_FILE_BYTES => Ok(FileRead::Whole(Rc::new(alloc, bytes)?)),
         Some(_) => Ok(FileRead::TooLong),
     }
 }
 
-/// Opens the file of a path, and reads it block by block into `block`. A file that can't be opened or read is missing.
+/// Opens the file of a path, and reads it block by block into `block`.
 ///
 /// # Errors
 ///
@@ -71,11 +72,13 @@ pub(crate) fn read_file<F: TreeFiles>(
     ensures same { F.contents files.new ≡ F.contents files.old }
     ensures matched { IfOk result (λ read. MatchFile ((F.contents files.old).file path.now) (file_of read)) }
 {
-    match files.open(alloc, path)? {
-        Some(mut reader) => {
+    match files.open(alloc, path) {
+        Ok(Some(mut reader)) => {
             let room = files.size_of(&reader).min(MAX_FILE_BYTES);
             read_bytes(alloc, &mut reader, room, block)
         }
-        None => Ok(FileRead::Missing),
+        Ok(None) => Ok(FileRead::Missing),
+        Err(FileStop::Failed) => Ok(FileRead::Unreadable),
+        Err(FileStop::OutOfMemory) => Err(AllocError),
     }
 }

@@ -1,25 +1,26 @@
-//! The folders that were listed, with their names.
+//! The folders that were listed, by their paths.
 ghost use Rattle.std.specs.Prelude.{◌≡◌, [], ◌∷◌, ◌++◌, None, OnOk, OnErr, option_map};
 ghost use Rattle.kc_tree_model.specs.Keywords.{keyword_in_table};
-ghost use Rattle.kc_files.specs.checker.FileViews.{folder_of_names};
+ghost use Rattle.kc_files.specs.checker.FileViews.{folder_of};
 
+use super::folder_names::FolderRead;
 use indexmap::IndexMap;
 use kc_value::Seed;
 use std::alloc::{AllocError, Global};
 use std::marker::Model;
 
-/// The folders that were listed: paths, each with the names in the folder, or `None` where it has more than may be listed.
+/// The folders that were listed: paths, each with the result of listing the folder.
 #[derive(Drop)]
 pub(crate) struct FolderTable {
     alloc: Global,
-    entries: IndexMap<Vec<u8>, Option<Vec<Vec<u8>>>, Seed>,
+    entries: IndexMap<Vec<u8>, FolderRead, Seed>,
 }
 
 impl Model for FolderTable {
     ghost use Rattle.std.specs.Prelude.{ℕ, List, map};
-    ghost use Rattle.kc_files.specs.between.KnownFiles.{FolderRead};
+    ghost use Rattle.kc_files.specs.between.KnownFiles.{FolderRead as Read};
 
-    ghost Value = { List (List ℕ × FolderRead) };
+    ghost Value = { List (List ℕ × Read) };
 
     ghost use Rattle.kc_files.specs.checker.FileViews.{folder_of_entry};
 
@@ -37,25 +38,25 @@ impl FolderTable {
         }
     }
 
-    /// The names in a folder, if it was listed; the inner `None` means more names than may be listed.
-    pub fn get(&self, folder: &[u8]) -> Option<&Option<Vec<Vec<u8>>>>
-        ensures { option_map (λ ns. folder_of_names ns.now) result ≡ keyword_in_table self.now folder.now }
+    /// The result of listing a folder, if it was listed.
+    pub fn get(&self, folder: &[u8]) -> Option<&FolderRead>
+        ensures { option_map (λ r. folder_of r.now) result ≡ keyword_in_table self.now folder.now }
     {
         self.entries.get(folder)
     }
 
-    /// Adds a folder that the table doesn't have, with the names in it, or `None` where it has more than may be listed.
+    /// Adds a folder that the table doesn't have, with the result of listing it.
     ///
     /// # Errors
     ///
     /// Where memory runs out, nothing is changed.
-    pub fn insert(&mut self, folder: &[u8], names: Option<Vec<Vec<u8>>>) -> Result<(), AllocError>
+    pub fn insert(&mut self, folder: &[u8], read: FolderRead) -> Result<(), AllocError>
         requires absent { keyword_in_table self.old folder.now ≡ None }
-        ensures ok { OnOk result (self.new ≡ self.old ++ (folder.now, folder_of_names names) ∷ []) }
+        ensures ok { OnOk result (self.new ≡ self.old ++ (folder.now, folder_of read) ∷ []) }
         ensures err { OnErr result (self.new ≡ self.old) }
     {
         let folder = Vec::from_slice(self.alloc, folder)?;
-        self.entries.insert(folder, names)?;
+        self.entries.insert(folder, read)?;
         Ok(())
     }
 }

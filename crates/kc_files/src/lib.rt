@@ -4,6 +4,7 @@
 mod file_bytes;
 mod file_table;
 mod files;
+mod folder_names;
 mod folder_table;
 mod name_matches;
 mod paths;
@@ -11,8 +12,8 @@ mod patterns;
 mod store;
 
 pub use file_bytes::FileRead;
-pub use files::TreeFiles;
+pub use files::{FileStop, TreeFiles};
 pub use name_matches::is_utf8;
 pub use paths::{has_bracket, is_pattern, list_name, path_meant};
-pub use patterns::{FoundPaths, PatternStop, files_of_pattern, readable_paths};
+pub use patterns::{FoundPaths, PatternStop, files_of_pattern, paths_with_files};
 pub use store::Store;

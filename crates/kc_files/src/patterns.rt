@@ -2,7 +2,7 @@
 ghost use Rattle.std.specs.Prelude.{◌≡◌, ◌≢◌, ℕ, ◌<◌, ◌++◌, ◌∷◌, [], IfOk, IfSome, IfNone, OnOk, filter, length, map, slice_index, if◌then◌else◌};
 ghost use Rattle.kc_macros_model.specs.Programs.{Place, list_folder, does};
 ghost use Rattle.kc_macros_model.specs.Worlds.{returned};
-ghost use Rattle.kc_macros_model.specs.PathPatterns.{matches_name, matching_names, paths_in_folder, paths_in_folders, paths_below, path_pieces, readable_paths, files_of_pattern};
+ghost use Rattle.kc_macros_model.specs.PathPatterns.{matches_name, matching_listed, paths_in_folder, paths_in_folders, paths_below, path_pieces, paths_with_files, files_of_pattern};
 ghost use Rattle.kc_files.specs.TextViews.{items_of, texts_of};
 ghost use Rattle.kc_files.specs.between.KnownFiles.{Grows};
 ghost use Rattle.kc_files.specs.between.FileRuns.{Comes};
@@ -23,10 +23,11 @@ pub struct FoundPaths {
     pub listed: usize,
 }
 
-/// Why the files of a pattern aren't found: too many names were listed, or memory ran out.
+/// Why the files of a pattern aren't found: too many names were listed, a folder that is there can't be listed, or memory ran out.
 #[derive(Drop)]
 pub enum PatternStop {
     TooMany,
+    Unlisted,
     OutOfMemory,
 }
 
@@ -80,11 +81,12 @@ fn push_listed<F: TreeFiles>(
 ) -> Result<(), PatternStop>
     ensures same { F.contents files.new ≡ F.contents files.old }
     ensures grows { Grows (F.contents files.old) (known_of store.old) (known_of store.new) }
-    ensures finds { (at : Place) → FindsMore (known_of store.new) at (does (list_folder folder.now) (matching_names at piece.now folder.now found.old.listed)) (found_of found.old) (found_of found.new) result }
+    ensures finds { (at : Place) → FindsMore (known_of store.new) at (does (list_folder folder.now) (matching_listed at piece.now folder.now found.old.listed)) (found_of found.old) (found_of found.new) result }
 {
     store.list(alloc, files, folder)?;
-    let Some(names) = store.names_in(folder) else {
-        return Err(PatternStop::TooMany);
+    let names = match store.names_in(folder) {
+        Ok(names) => names,
+        Err(stop) => return Err(stop),
     };
     let listed = found.listed.saturating_add(names.len());
     if listed > MAX_LISTED_NAMES {
@@ -247,24 +249,24 @@ fn matching_paths<F: TreeFiles>(
     paths_in_folders(alloc, store, files, rest, &found.paths, found.listed)
 }
 
-/// Appends a path where `readable` is true.
+/// Appends a path where `there` is true.
 fn push_if(
     alloc: Global,
-    readable: bool,
+    there: bool,
     path: &[u8],
     paths: &mut Vec<Vec<u8>>,
 ) -> Result<(), AllocError>
-    ensures { OnOk result (texts_of paths.new ≡ (if readable then texts_of paths.old ++ path.now ∷ [] else texts_of paths.old)) }
+    ensures { OnOk result (texts_of paths.new ≡ (if there then texts_of paths.old ++ path.now ∷ [] else texts_of paths.old)) }
 {
-    if readable {
+    if there {
         let copy = Vec::from_slice(alloc, path)?;
         paths.push(copy)?;
     }
     Ok(())
 }
 
-/// Those paths of a list whose files can be read, in the order of the list. An `Err` means out of memory.
-pub fn readable_paths<F: TreeFiles>(
+/// Those paths of a list at which files are, in the order of the list, also those that can't be read. An `Err` means out of memory.
+pub fn paths_with_files<F: TreeFiles>(
     alloc: Global,
     store: &mut Store,
     files: &mut F,
@@ -272,17 +274,17 @@ pub fn readable_paths<F: TreeFiles>(
 ) -> Result<Vec<Vec<u8>>, AllocError>
     ensures same { F.contents files.new ≡ F.contents files.old }
     ensures grows { Grows (F.contents files.old) (known_of store.old) (known_of store.new) }
-    ensures reads { IfOk result (λ readable. Comes (known_of store.new) (readable_paths (items_of paths.now)) (returned (texts_of readable))) }
+    ensures reads { IfOk result (λ found. Comes (known_of store.new) (paths_with_files (items_of paths.now)) (returned (texts_of found))) }
 {
-    let mut readable = Vec::new(alloc);
+    let mut found = Vec::new(alloc);
     for path in paths {
-        let may_be_read = store.is_readable(alloc, files, path)?;
-        push_if(alloc, may_be_read, path, &mut readable)?;
+        let there = store.has_file(alloc, files, path)?;
+        push_if(alloc, there, path, &mut found)?;
     }
-    Ok(readable)
+    Ok(found)
 }
 
-/// The files of a pattern: the paths that match it and can be read, in ascending order of their bytes.
+/// The files of a pattern: the paths that match it and at which files are, in ascending order of their bytes.
 pub fn files_of_pattern<F: TreeFiles>(
     alloc: Global,
     store: &mut Store,
@@ -298,7 +300,7 @@ pub fn files_of_pattern<F: TreeFiles>(
         Ok(found) => found,
         Err(stop) => return Err(stop),
     };
-    let mut paths = readable_paths(alloc, store, files, &found.paths)?;
+    let mut paths = paths_with_files(alloc, store, files, &found.paths)?;
     paths.sort()?;
     Ok(FoundPaths {
         paths,

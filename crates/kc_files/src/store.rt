@@ -1,15 +1,19 @@
 //! The store of the files and folders of a tree: each path is opened at most once, and each folder listed at most once.
-ghost use Rattle.std.specs.Prelude.{◌≡◌, [], ◌≢◌, None, Some, IfOk, is_some, option_map};
+ghost use Rattle.std.specs.Prelude.{◌≡◌, [], ◌≢◌, None, Some, IfOk, IfErr};
 ghost use Rattle.kc_tree_model.specs.Keywords.{keyword_in_table};
-ghost use Rattle.kc_macros_model.specs.Worlds.{World};
-ghost use Rattle.kc_files.specs.between.KnownFiles.{is_read, Agrees, Grows};
-ghost use Rattle.kc_files.specs.checker.FileViews.{file_of, folder_of_items, known_of};
+ghost use Rattle.kc_macros_model.specs.Worlds.{World, has_file};
+ghost use Rattle.kc_files.specs.between.KnownFiles.{names, is_there, Agrees, Grows};
+ghost use Rattle.kc_files.specs.checker.FileViews.{file_of, known_of};
+ghost use Rattle.kc_files.specs.checker.PatternRuns.{StopsAtFolder};
+ghost use Rattle.kc_files.specs.TextViews.{items_of};
 
 use super::file_bytes::{FileRead, read_file};
 use super::file_table::FileTable;
 use super::files::TreeFiles;
+use super::folder_names::{FolderRead, list_folder};
 use super::folder_table::FolderTable;
-use kc_value::{MAX_BLOCK_BYTES, MAX_LISTED_NAMES, Seed};
+use super::patterns::PatternStop;
+use kc_value::{MAX_BLOCK_BYTES, Seed};
 use std::alloc::{AllocError, Global};
 use std::rc::Rc;
 
@@ -28,17 +32,19 @@ fn shared(read: &FileRead) -> Result<FileRead, AllocError>
 {
     match read {
         FileRead::Missing => Ok(FileRead::Missing),
+        FileRead::Unreadable => Ok(FileRead::Unreadable),
         FileRead::Whole(bytes) => Ok(FileRead::Whole(bytes.clone()?)),
         FileRead::TooLong => Ok(FileRead::TooLong),
     }
 }
 
-/// Whether a file that was read isn't missing.
-fn is_read(read: &FileRead) -> bool
-    ensures { result ≡ is_read (file_of read.now) }
+/// Whether a file is there, by the result of reading it.
+fn is_there(read: &FileRead) -> bool
+    ensures { result ≡ is_there (file_of read.now) }
 {
     match read {
         FileRead::Missing => false,
+        FileRead::Unreadable => true,
         FileRead::Whole(_) => true,
         FileRead::TooLong => true,
     }
@@ -101,27 +107,34 @@ impl Store {
         if self.folders.get(folder).is_some() {
             return Ok(());
         }
-        let names = files.names_in(alloc, folder, MAX_LISTED_NAMES)?;
-        self.folders.insert(folder, names)
+        let read = list_folder(alloc, files, folder)?;
+        self.folders.insert(folder, read)
     }
 
-    /// The names in a folder that was listed; `None` where there are more than may be listed.
-    pub(crate) fn names_in(&self, folder: &[u8]) -> Option<&[Vec<u8>]>
+    /// The names in a folder that was listed.
+    ///
+    /// # Errors
+    ///
+    /// The folder has more names than may be listed, or it is there and can't be listed.
+    pub(crate) fn names_in(&self, folder: &[u8]) -> Result<&[Vec<u8>], PatternStop>
         requires listed { keyword_in_table self.now.folders folder.now ≢ None }
-        ensures value { keyword_in_table self.now.folders folder.now ≡ Some (folder_of_items (option_map (λ ns. ns.now) result)) }
+        ensures value { IfOk result (λ ns. keyword_in_table self.now.folders folder.now ≡ Some (names (items_of ns.now))) }
+        ensures stop { IfErr result (λ stop. StopsAtFolder stop (keyword_in_table self.now.folders folder.now)) }
     {
-        match self.folders.get(folder)? {
-            Some(names) => Some(names.as_slice()),
-            None => None,
+        match self.folders.get(folder) {
+            Some(FolderRead::Names(names)) => Ok(names.as_slice()),
+            Some(FolderRead::TooMany) => Err(PatternStop::TooMany),
+            Some(FolderRead::Unlisted) => Err(PatternStop::Unlisted),
+            None => unreachable!(),
         }
     }
 
-    /// Whether the file of a path can be read.
+    /// Whether a file is at a path, also one that can't be read.
     ///
     /// # Errors
     ///
     /// Memory runs out.
-    pub(crate) fn is_readable<F: TreeFiles>(
+    pub(crate) fn has_file<F: TreeFiles>(
         &mut self,
         alloc: Global,
         files: &mut F,
@@ -129,9 +142,9 @@ impl Store {
     ) -> Result<bool, AllocError>
         ensures same { F.contents files.new ≡ F.contents files.old }
         ensures grows { Grows (F.contents files.old) (known_of self.old) (known_of self.new) }
-        ensures readable { IfOk result (λ readable. (w : World) → Agrees w (known_of self.new) → is_some (w.bytes path.now) ≡ readable) }
+        ensures there { IfOk result (λ there. (w : World) → Agrees w (known_of self.new) → has_file w path.now ≡ there) }
     {
         let read = self.file(alloc, files, path)?;
-        Ok(is_read(&read))
+        Ok(is_there(&read))
     }
 }

@@ -1,18 +1,82 @@
 //! Trees in memory, expanded.
 use kc_answers::Answers;
 use kc_expansion::{ExpandedTree, Expansion, expand, wants};
-use kc_files::TreeFiles;
+use kc_files::{FileStop, TreeFiles};
 use kc_macros::{MacroFault, MacroKind};
 use kc_value::Seed;
 use kmin_fakes::{Script, Then, twice};
 use std::alloc::{AllocError, Global};
 
-/// A tree in memory: the texts of paths, and the names in folders. It counts how often a path is tried, also a missing one.
+/// What fails in a tree: nothing, the opening or the reading of the file of a path, or the listing of a folder.
+#[derive(Clone, Copy)]
+enum Failing {
+    Nothing,
+    Opening(&'static str),
+    Reading(&'static str),
+    Listing(&'static str),
+}
+
+/// A tree in memory: the texts of paths, the names in folders, and what fails. It counts how often a path is tried, also a missing
+/// one.
 #[derive(Drop)]
 struct MemoryTree {
     texts: &'static [(&'static str, &'static str)],
     names: &'static [(&'static str, &'static str)],
+    failing: Failing,
     opened: usize,
+}
+
+/// Whether the file of a path can't be opened.
+fn fails_to_open(failing: Failing, path: &[u8]) -> bool {
+    match failing {
+        Failing::Opening(name) => name.as_bytes() == path,
+        _ => false,
+    }
+}
+
+/// Whether a folder can't be listed.
+fn fails_to_list(failing: Failing, folder: &[u8]) -> bool {
+    match failing {
+        Failing::Listing(name) => name.as_bytes() == folder,
+        _ => false,
+    }
+}
+
+/// How the reading of the file of a path ends.
+fn end_of(failing: Failing, path: &[u8]) -> Then {
+    match failing {
+        Failing::Reading(name) if name.as_bytes() == path => Then::Fail,
+        _ => Then::End,
+    }
+}
+
+/// The text of a path, if it has one.
+fn bytes_at(
+    alloc: Global,
+    texts: &[(&str, &str)],
+    path: &[u8],
+) -> Result<Option<Vec<u8>>, AllocError> {
+    for (name, text) in texts {
+        if name.as_bytes() == path {
+            return Ok(Some(Vec::from_slice(alloc, text.as_bytes())?));
+        }
+    }
+    Ok(None)
+}
+
+/// The names in a folder.
+fn names_at(
+    alloc: Global,
+    names: &[(&str, &str)],
+    folder: &[u8],
+) -> Result<Vec<Vec<u8>>, AllocError> {
+    let mut found = Vec::new(alloc);
+    for (place, name) in names {
+        if place.as_bytes() == folder {
+            found.push(Vec::from_slice(alloc, name.as_bytes())?)?;
+        }
+    }
+    Ok(found)
 }
 
 impl TreeFiles for MemoryTree {
@@ -26,15 +90,15 @@ impl TreeFiles for MemoryTree {
         Seed::fixed()
     }
 
-    fn open(&mut self, alloc: Global, path: &[u8]) -> Result<Option<Script>, AllocError> {
+    fn open(&mut self, alloc: Global, path: &[u8]) -> Result<Option<Script>, FileStop> {
         self.opened = self.opened.saturating_add(1);
-        for (name, text) in self.texts {
-            if name.as_bytes() == path {
-                let bytes = Vec::from_slice(alloc, text.as_bytes())?;
-                return Ok(Some(Script::new(bytes, 100, Then::End)));
-            }
+        if fails_to_open(self.failing, path) {
+            return Err(FileStop::Failed);
         }
-        Ok(None)
+        match bytes_at(alloc, self.texts, path)? {
+            Some(bytes) => Ok(Some(Script::new(bytes, 100, end_of(self.failing, path)))),
+            None => Ok(None),
+        }
     }
 
     fn names_in(
@@ -42,14 +106,11 @@ impl TreeFiles for MemoryTree {
         alloc: Global,
         folder: &[u8],
         _most: usize,
-    ) -> Result<Option<Vec<Vec<u8>>>, AllocError> {
-        let mut names = Vec::new(alloc);
-        for (place, name) in self.names {
-            if place.as_bytes() == folder {
-                names.push(Vec::from_slice(alloc, name.as_bytes())?)?;
-            }
+    ) -> Result<Option<Vec<Vec<u8>>>, FileStop> {
+        if fails_to_list(self.failing, folder) {
+            return Err(FileStop::Failed);
         }
-        Ok(Some(names))
+        Ok(Some(names_at(alloc, self.names, folder)?))
     }
 }
 
@@ -126,6 +187,7 @@ fn memory_tree(
     MemoryTree {
         texts,
         names,
+        failing: Failing::Nothing,
         opened: 0,
     }
 }
@@ -183,6 +245,74 @@ fn questions_come_before_the_fault(rt: HostRuntime) -> Result<(), std::test::Fai
             assert_eq!(rt; fault.line, 5);
             assert!(rt; matches!(fault.kind, MacroKind::MissingFile));
         }
+    }
+    Ok(())
+}
+
+/// The line that sources a file of the folder `b`, in each way in which a file may be missing or has to be there.
+const SOURCING: &[&[(&str, &str)]] = &[
+    &[
+        ("Kconfig", "config A\n\tbool\nsource \"b/K1\"\n"),
+        ("b/K1", "config B\n"),
+    ],
+    &[
+        ("Kconfig", "config A\n\tbool\nosource \"b/K1\"\n"),
+        ("b/K1", "config B\n"),
+    ],
+    &[
+        ("Kconfig", "config A\n\tbool\nsource \"b/K*\"\n"),
+        ("b/K1", "config B\n"),
+    ],
+    &[
+        ("Kconfig", "config A\n\tbool\norsource \"b/?1\"\n"),
+        ("b/K1", "config B\n"),
+    ],
+];
+
+/// The fault of a tree in which something fails, if it has one.
+fn fault_where(
+    alloc: Global,
+    texts: &'static [(&'static str, &'static str)],
+    failing: Failing,
+) -> Result<Option<MacroFault>, AllocError> {
+    let mut files = memory_tree(texts, &[("b/", "K1")]);
+    files.failing = failing;
+    let answers = Answers::new(alloc, Seed::fixed());
+    let Expansion { tree, .. } = expand(alloc, &mut files, b"Kconfig", &answers)?;
+    match tree {
+        Ok(_) => Ok(None),
+        Err(fault) => Ok(Some(fault)),
+    }
+}
+
+/// Whether a tree in which something fails is refused with `MissingFile` at this line.
+fn misses_a_file(
+    alloc: Global,
+    texts: &'static [(&'static str, &'static str)],
+    failing: Failing,
+    line: u32,
+) -> Result<bool, AllocError> {
+    match fault_where(alloc, texts, failing)? {
+        Some(fault) => Ok(fault.line == line && matches!(fault.kind, MacroKind::MissingFile)),
+        None => Ok(false),
+    }
+}
+
+#[test]
+fn files_that_fail_are_never_passed_over(rt: HostRuntime) -> Result<(), std::test::Fail> {
+    for texts in SOURCING {
+        assert!(rt; twice!(fault_where(rt.alloc(), texts, Failing::Nothing)).is_none());
+        assert!(rt; twice!(misses_a_file(rt.alloc(), texts, Failing::Opening("b/K1"), 3)));
+        assert!(rt; twice!(misses_a_file(rt.alloc(), texts, Failing::Reading("b/K1"), 3)));
+        assert!(rt; twice!(misses_a_file(rt.alloc(), texts, Failing::Opening("Kconfig"), 0)));
+    }
+    Ok(())
+}
+
+#[test]
+fn folders_that_fail_are_never_passed_over(rt: HostRuntime) -> Result<(), std::test::Fail> {
+    for texts in &SOURCING[2..] {
+        assert!(rt; twice!(misses_a_file(rt.alloc(), texts, Failing::Listing("b/"), 3)));
     }
     Ok(())
 }

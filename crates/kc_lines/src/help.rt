@@ -6,12 +6,7 @@ ghost use Rattle.kc_tokens.specs.Token.{is_white_byte};
 ghost use Rattle.kc_lines.specs.between.LinePlaces.{IsHelpAt, AreIndented};
 
 use super::lines::physical_at;
-
-fn is_white(byte: u8) -> bool
-    ensures { result ≡ is_white_byte byte }
-{
-    matches!(byte, 0x09 | 0x0B | 0x0C | 0x0D | 0x20)
-}
+use kc_tokens::is_white;
 
 /// Whether the text of a line has white bytes alone, or none.
 fn is_white_line(text: &[u8]) -> bool

@@ -8,7 +8,7 @@ use Rattle.kc_expr.specs.between.Arena.{Exprs, Grows}
 use Rattle.kc_tokens.specs.Token.{with_front}
 use Rattle.kc_tokens.specs.Token.{Lexeme, lexemes_from}
 use Rattle.kc_tokens.specs.declared.fault.ExprFault.{ExprFault}
-use Rattle.kc_tokens.specs.declared.fault.ExprKind.TheVariants as expr_kinds
+use Rattle.kc_tokens.specs.MemoryFaults.{IsOutOfMemory}
 use Rattle.kc_tree_model.specs.declared.fault.TreeKind.{TreeKind}
 use Rattle.kc_tree_model.specs.declared.fault.TreeKind.TheVariants.{OutOfMemory, UnknownStatement, LeftOut, Misplaced, StrayEnd, TooDeep, TooMany}
 use Rattle.kc_tree_model.specs.Keywords.{keyword_of}
@@ -229,7 +229,7 @@ module _ (r : FileSource) (file line : ℕ) (before : List Group) (text : List �
   line_of_tokens ts (Err kind) e (inr h) = inr (gives_tokens r.language before line text short utf8 ∙ ap (statement_or_fault r.language before) e ∙ h.0, h.1)
 
   -- a line whose tokens can't be read has the fault of its first token that can't be read, or memory ran out
-  pub line_of_fault : (f : ExprFault) (kind : TreeKind) → kind ≡ kind_of_fault f.kind → (f.kind ≡ expr_kinds.OutOfMemory)
+  pub line_of_fault : (f : ExprFault) (kind : TreeKind) → kind ≡ kind_of_fault f.kind → IsOutOfMemory f
       ⊎ (lexemes_from r.language 0 0 text ≡ Err f) → RepresentsListing new.listing before → ReturnsLineRead r file line text before new (Err kind)
-  line_of_fault f kind e (inl m) s = inl (e ∙ ap kind_of_fault m)
+  line_of_fault f kind e (inl m) s = inl (e ∙ ap kind_of_fault m.0)
   line_of_fault f kind e (inr h) s = inr (gives_tokens r.language before line text short utf8 ∙ ap (statement_or_fault r.language before) h ∙ ap Err (sym e), s)

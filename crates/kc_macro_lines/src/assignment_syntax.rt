@@ -7,9 +7,10 @@ ghost use Rattle.kc_macro_lines.specs.checker.LineTexts.{token_view};
 ghost use Rattle.kc_macro_lines.specs.checker.LineFronts.{name_token, assigned_of};
 
 use super::line_tokens::LineToken;
-use kc_answers::{byte_at, is_white};
+use kc_answers::byte_at;
 use kc_macro_forms::is_keyword;
 use kc_macros_model::Operator;
+use kc_tokens::is_white;
 
 /// An assignment as a line has it: its name before expansion, its operator, and the text after the operator.
 #[derive(Clone, Copy)]

@@ -7,8 +7,8 @@ ghost use Rattle.kc_macros_model.specs.LineTokens.{extent, is_run_byte, run_toke
 ghost use Rattle.kc_macro_lines.specs.checker.LineTexts.{first_item_of, first_token_of, token_view, ends_extent};
 
 use super::token_values::has_dollar;
-use kc_answers::is_white;
 use kc_macros::{begins_reference_at, inside_length};
+use kc_tokens::is_white;
 
 /// A token of a logical line: white or a comment; a run of word bytes, references and `$`; the bytes between two quotes;
 /// other bytes; the rest of a line that has a `$(` without its `)`.

@@ -1,29 +1,44 @@
--- Programs that never stop where each question has an answer.
-use Rattle.std.proofs.Common.{◌≡◌, ℕ, Bool, true, false, cond, List, [], Option, Some, None, Ok, Err, refl}
+-- Programs that never stop where each question has an answer, and fail where a file can't be read or a folder can't be listed.
+use Rattle.std.proofs.Common.{◌≡◌, ℕ, Bool, true, false, cond, List, [], Option, Some, None, Ok, Err, refl, ap}
 use Rattle.std.specs.Prelude.{nat_lt, ◌-◌}
 use Rattle.kc_macros_model.specs.declared.fault.MacroKind.TheVariants.{TooMany}
-use Rattle.kc_macros_model.specs.Programs.{Place, Answer, spend, report, ask, read_file, list_folder, Program, returns, fails, stops, does, ◌>>=◌}
-use Rattle.kc_macros_model.specs.Worlds.{World, reply, open_question, if_unanswered, unless_unanswered, stopped, Outcome, after_event, unless_fault, outcome}
+use Rattle.kc_macros_model.specs.Programs.{Place, Fault, Answer, Event, Reply, spend, report, ask, read_file, find_file, list_folder, Program, returns, fails, stops, does, ◌>>=◌}
+use Rattle.kc_macros_model.specs.Worlds.{World, has_file, reply, open_question, if_unanswered, unless_unanswered, stopped, Outcome, after_event, unless_fault, outcome}
 
--- along a run in which no question is open, a program doesn't stop, and the fact holds of the value that it returns, if any
+-- the rest of a program after an event fails where it gets no bytes of a file, or no names of a folder
+abbrev pub FailsUnread : {A : Type 0} → (event : Event) → (Reply event → Program A) → Type 0
+FailsUnread (read_file path) k = (f : Fault) × (k None ≡ fails f)
+FailsUnread (list_folder folder) k = (f : Fault) × (k None ≡ fails f)
+FailsUnread e k = Unit {0}
+
+unread_then : {A B : Type 0} (e : Event) (k : Reply e → Program A) (f : A → Program B) → FailsUnread e k → FailsUnread e (λ r. k r >>= f)
+unread_then (spend at work) k f h = tt
+unread_then (report n) k f h = tt
+unread_then (ask at question) k f h = tt
+unread_then (read_file path) k f (g, e) = (g, ap (λ p. p >>= f) e)
+unread_then (find_file path) k f h = tt
+unread_then (list_folder folder) k f (g, e) = (g, ap (λ p. p >>= f) e)
+
+-- along a run in which no question is open, a program doesn't stop, it fails where it gets no bytes of a file or no names of a folder,
+-- and the fact holds of the value that it returns, if any
 abbrev pub NeverStops : {A : Type 0} → World → (A → Type 0) → Program A → Type 0
 NeverStops w P (returns x) = P x
 NeverStops w P (fails f) = Unit {0}
 NeverStops w P stops = ⊥
-NeverStops w P (does e k) = open_question w e ≡ [] → NeverStops w P (k (reply w e))
+NeverStops w P (does e k) = (open_question w e ≡ [] → NeverStops w P (k (reply w e))) × FailsUnread e k
 
 pub never_mono : {A : Type 0} (w : World) (P Q : A → Type 0) → ((x : A) → P x → Q x) → (p : Program A) → NeverStops w P p → NeverStops w Q p
 never_mono w P Q f (returns x) h = f x h
 never_mono w P Q f (fails g) h = tt
 never_mono w P Q f stops h = absurd h
-never_mono w P Q f (does e k) h = λ n. never_mono w P Q f (k (reply w e)) (h n)
+never_mono w P Q f (does e k) h = ((λ n. never_mono w P Q f (k (reply w e)) (h.0 n)), h.1)
 
 never_both : {A B : Type 0} (w : World) (P : B → Type 0) (p : Program A) (f : A → Program B) → NeverStops w (λ x. NeverStops w P (f x)) p
     → NeverStops w P (p >>= f)
 never_both w P (returns x) f h = h
 never_both w P (fails g) f h = tt
 never_both w P stops f h = absurd h
-never_both w P (does e k) f h = λ n. never_both w P (k (reply w e)) f (h n)
+never_both w P (does e k) f h = ((λ n. never_both w P (k (reply w e)) f (h.0 n)), unread_then e k f h.1)
 
 -- two programs in sequence never stop if the first never stops, and the second doesn't after any value that the first may return
 pub never_then : {A B : Type 0} (w : World) (Q : A → Type 0) (P : B → Type 0) (p : Program A) (f : A → Program B)
@@ -61,8 +76,9 @@ module _ {A : Type 0} (w : World) (P : A → Type 0) where
   job_never_stops left (returns x) h e = let z : ⊥ = cc in z
   job_never_stops left (fails f) h e = let z : ⊥ = cc in z
   job_never_stops left stops h e = absurd h
-  job_never_stops left (does (report n) k) h e = job_never_stops left (k (tt {0})) (h refl) e
-  job_never_stops left (does (read_file path) k) h e = job_never_stops left (k (w.bytes path)) (h refl) e
-  job_never_stops left (does (list_folder folder) k) h e = job_never_stops left (k (w.names folder)) (h refl) e
-  job_never_stops left (does (spend at work) k) h e = spent_never left at work k (λ n. job_never_stops n (k (tt {0})) (h refl)) e
-  job_never_stops left (does (ask at question) k) h e = asked_never left at question k (λ r. job_never_stops left (k r)) h e
+  job_never_stops left (does (report n) k) h e = job_never_stops left (k (tt {0})) (h.0 refl) e
+  job_never_stops left (does (read_file path) k) h e = job_never_stops left (k (w.bytes path)) (h.0 refl) e
+  job_never_stops left (does (find_file path) k) h e = job_never_stops left (k (has_file w path)) (h.0 refl) e
+  job_never_stops left (does (list_folder folder) k) h e = job_never_stops left (k (w.names folder)) (h.0 refl) e
+  job_never_stops left (does (spend at work) k) h e = spent_never left at work k (λ n. job_never_stops n (k (tt {0})) (h.0 refl)) e
+  job_never_stops left (does (ask at question) k) h e = asked_never left at question k (λ r. job_never_stops left (k r)) h.0 e

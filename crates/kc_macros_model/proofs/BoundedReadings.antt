@@ -7,11 +7,11 @@ use Rattle.std.proofs.lemmas.List.Elements.{All-append, All-cons, All-nil}
 use Rattle.kc_tree_model.specs.LogicalLines.{split_at_newlines}
 use Rattle.kc_macros_model.specs.declared.fault.MacroKind.TheVariants.{TooMany}
 use Rattle.kc_value.specs.declared.limits.TheConstants.{MAX_FILES, MAX_TREE_BYTES, MAX_OPEN_FILES, MAX_WORK}
-use Rattle.kc_macros_model.specs.Programs.{Place, Answer, spend, report, ask, read_file, list_folder, Program, returns, fails, stops, does, ◌>>=◌}
+use Rattle.kc_macros_model.specs.Programs.{Place, Answer, spend, report, ask, read_file, find_file, list_folder, Program, returns, fails, stops, does, ◌>>=◌}
 use Rattle.kc_macros_model.specs.Expansion.{fault}
 use Rattle.kc_macros_model.specs.ReadingStates.{ExpandedFile, ReadingState, initial_state, Progress, counted, has_key, key_of, stored_file}
 use Rattle.kc_macros_model.specs.TreeExpansion.{place, SourceReader, lines_read, source_read, root_read, tree_read}
-use Rattle.kc_macros_model.specs.Worlds.{World, reply, unless_unanswered, returned, Outcome, after_event, unless_fault, outcome, expansion}
+use Rattle.kc_macros_model.specs.Worlds.{World, has_file, reply, unless_unanswered, returned, Outcome, after_event, unless_fault, outcome, expansion}
 use Rattle.kc_macros_model.specs.ExpansionRules.{ending_in}
 use Rattle.kc_macros_model.specs.ReadingLaws.{IsWithinLimits, CountsAreBounded, TreeCountsAreBounded, IsKeyOf, the_path, KeysAreBounded, KeysDiffer, FilesAreBounded, work_in, WorkIsBounded}
 use Rattle.kc_macros_model.proofs.RunInvariants.{Along, along_then, fact_of_success}
@@ -261,6 +261,7 @@ module _ {A : Type 0} (w : World) (y : A) where
   job_adds left stops e = absurd (let z : ⊥ = cc in z)
   job_adds left (does (report n) k) e = job_adds left (k (tt {0})) e
   job_adds left (does (read_file path) k) e = job_adds left (k (w.bytes path)) e
+  job_adds left (does (find_file path) k) e = job_adds left (k (has_file w path)) e
   job_adds left (does (list_folder folder) k) e = job_adds left (k (w.names folder)) e
   job_adds left (does (spend at work) k) e = spent_adds left at work (work_in w (k (tt {0}))) k (λ n. job_adds n (k (tt {0}))) e
   job_adds left (does (ask at question) k) e = asked_adds left at question (λ r. work_in w (k r)) k (λ r. job_adds left (k r)) e

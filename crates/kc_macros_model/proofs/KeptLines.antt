@@ -1,6 +1,6 @@
 -- Each expanded file has the lines of the file that was read for it under their numbers.
 use Rattle.std.proofs.Common.{◌≡◌, ℕ, zero, suc, ◌+◌, Bool, true, false, ◌&&◌, ◌||◌, cond, List, [], ◌∷◌, ◌++◌, length, take, drop, map, Option, Some, None, refl, sym, ap, ◌∙◌, subst, arith}
-use Rattle.std.specs.Prelude.{not, nat_lt, is_some, filter, bytes_eq, codes, decimal, slice_index, reverse, ◌==◌}
+use Rattle.std.specs.Prelude.{not, nat_lt, filter, bytes_eq, codes, decimal, slice_index, reverse, ◌==◌}
 use Rattle.std.specs.List.{All, list_any, onto_first, prefix_len}
 use Rattle.std.specs.Str.{is_utf8}
 use Rattle.std.specs.Cmp.{first_so, second_so}
@@ -20,10 +20,10 @@ use Rattle.kc_macros_model.specs.WrittenTokens.{WrittenToken, in_quotes_of, writ
 use Rattle.kc_macros_model.specs.Assignments.{without_front, is_gap, LineContent, line_content, variable_assigned}
 use Rattle.kc_macros_model.specs.EnvironmentLines.{meant_line}
 use Rattle.kc_macros_model.specs.LineForms.{SourceSort, LineForm, plain, bare_prompt, replaced_by, named_choice, sources, form_of_pair, form_by_word, form_of, without_gaps, with_nth_token, with_replacement, line_bytes, quoted_text_token, is_help_line, is_undecided}
-use Rattle.kc_macros_model.specs.PathPatterns.{is_pattern, is_writable_name, matches_name, path_pieces, is_in_order, inserted, sorted, FoundPaths, found, matching_names, paths_in_folder, paths_in_folders, paths_below, readable_paths, files_of_pattern, matches}
+use Rattle.kc_macros_model.specs.PathPatterns.{is_pattern, is_writable_name, matches_name, path_pieces, is_in_order, inserted, sorted, FoundPaths, found, matching_listed, paths_in_folder, paths_in_folders, paths_below, paths_with_files, files_of_pattern, matches}
 use Rattle.kc_macros_model.specs.ReadingStates.{ExpandedFile, ReadingState, initial_state, Progress, progress, WrittenLine, written_line, bound, with_choice, with_listed, counted, has_key, is_taken, free_key, key_of, stored_file}
 use Rattle.kc_macros_model.specs.TreeExpansion.{place, SourceTarget, one_file, file_list, SourceReader, folder_of, begins_with_slash, path_meant, list_name, source_line, pattern_read, path_read, source_followed, form_written, short_line, tokens_written, content_written, line_written, bytes_of_lines, lines_written, help_after, lines_read, list_read, source_fault, contents_read, sourced_read, source_read, root_read, tree_read}
-use Rattle.kc_macros_model.specs.Worlds.{World, reply, returned}
+use Rattle.kc_macros_model.specs.Worlds.{World, has_file, reply, returned}
 use Rattle.kc_macros_model.specs.ExpansionRules.{ending_in}
 use Rattle.kc_macros_model.specs.LinePlaces.{line_of, IsWrittenFor, written_for, AreInPlace, no_more, logical_line}
 use Rattle.kc_value.specs.Lines.{newline_count, has_newline}
@@ -211,16 +211,20 @@ module _ (w : World) (answers : CleanAnswers w) where
   folder_good : (at : Place) (piece folder : List ℕ) (n : ℕ) → IsClean piece → IsClean folder → Gives GoodPaths (paths_in_folder at piece folder n)
   folder_good at piece folder n h k = by_test (is_pattern piece)
     where
-      by_size : (b : Bool) → Gives GoodPaths (cond b (fault at TooMany [])
-          (returns (found (map (λ name. folder ++ name) (filter (matches_name piece) (w.names folder))) (n + length (w.names folder)))))
-      by_size true = tt
-      by_size false = record { paths = matching_clean piece folder k (w.names folder) }
+      by_size : (names : List (List ℕ)) (b : Bool) → Gives GoodPaths (cond b (fault at TooMany [])
+          (returns (found (map (λ name. folder ++ name) (filter (matches_name piece) names)) (n + length names))))
+      by_size names true = tt
+      by_size names false = record { paths = matching_clean piece folder k names }
+
+      by_names : (names : Option (List (List ℕ))) → Gives GoodPaths (matching_listed at piece folder n names)
+      by_names None = tt
+      by_names (Some names) = by_size names (nat_lt MAX_LISTED_NAMES (n + length names))
 
       by_test : (b : Bool) → Gives GoodPaths (elim b as (λ z. Program FoundPaths) [
-        | true ↦ does (list_folder folder) (matching_names at piece folder n)
+        | true ↦ does (list_folder folder) (matching_listed at piece folder n)
         | false ↦ returns (found ((folder ++ piece) ∷ []) n)
       ])
-      by_test true = (tt, by_size (nat_lt MAX_LISTED_NAMES (n + length (w.names folder))))
+      by_test true = (tt, by_names (w.names folder))
       by_test false = record { paths = next_text (clean_append folder piece k h) no_texts }
 
   folders_good : (at : Place) (piece : List ℕ) → IsClean piece → {folders : List (List ℕ)} → AreClean folders → (n : ℕ)
@@ -243,12 +247,12 @@ module _ (w : World) (answers : CleanAnswers w) where
       (λ f. paths_below at (next ∷ pieces) (map (λ path. path ++ 47 ∷ []) f.paths) f.listed) (folders_good at piece h r n)
       (λ f g. below_good at (next_text k q) (with_slashes g.paths) f.listed)
 
-  readable_good : {paths : List (List ℕ)} → AreClean paths → Gives AreClean (readable_paths paths)
-  readable_good no_texts = no_texts
-  readable_good (next_text {s = path} {ss = paths} h r) = (
+  with_files_good : {paths : List (List ℕ)} → AreClean paths → Gives AreClean (paths_with_files paths)
+  with_files_good no_texts = no_texts
+  with_files_good (next_text {s = path} {ss = paths} h r) = (
     tt,
-    along_then w E AreClean AreClean (readable_paths paths) (λ rest. returns (cond (is_some (w.bytes path)) (path ∷ rest) rest)) (readable_good r)
-        (λ rest k. by_test rest k (is_some (w.bytes path))),
+    along_then w E AreClean AreClean (paths_with_files paths) (λ rest. returns (cond (has_file w path) (path ∷ rest) rest)) (with_files_good r)
+        (λ rest k. by_test rest k (has_file w path)),
   )
     where
       by_test : (rest : List (List ℕ)) → AreClean rest → (b : Bool) → AreClean (cond b (path ∷ rest) rest)
@@ -258,9 +262,9 @@ module _ (w : World) (answers : CleanAnswers w) where
   pattern_good : (at : Place) (pattern : List ℕ) (n : ℕ) → IsClean pattern → Gives GoodPaths (files_of_pattern at pattern n)
   pattern_good at pattern n h =
       along_then w E GoodPaths GoodPaths (paths_below at (path_pieces pattern) ([] ∷ []) n)
-      (λ f. readable_paths f.paths >>= λ paths. returns (found (sorted paths) f.listed))
+      (λ f. paths_with_files f.paths >>= λ paths. returns (found (sorted paths) f.listed))
       (below_good at (path_pieces_clean pattern h) (next_text clean_none no_texts) n)
-      (λ f g. along_then w E AreClean GoodPaths (readable_paths f.paths) (λ paths. returns (found (sorted paths) f.listed)) (readable_good g.paths)
+      (λ f g. along_then w E AreClean GoodPaths (paths_with_files f.paths) (λ paths. returns (found (sorted paths) f.listed)) (with_files_good g.paths)
       (λ paths k. record { paths = sorted_clean k }))
 
   -- a file or the list of a line
@@ -302,14 +306,14 @@ module _ (w : World) (answers : CleanAnswers w) where
         by_tests : (c d : Bool) → Gives GoodProgress (elim c as (λ z. Program Progress) [
           | true ↦ files_of_pattern at path s.listed >>= pattern_read sub at sort s
           | false ↦ elim d as (λ z. Program Progress) [
-            | true ↦ readable_paths (path ∷ []) >>= λ paths. sub at (file_list (list_name at) paths) s
+            | true ↦ paths_with_files (path ∷ []) >>= λ paths. sub at (file_list (list_name at) paths) s
             | false ↦ sub at (one_file path) s
           ]
         ])
         by_tests true d = along_then w E GoodPaths GoodProgress (files_of_pattern at path s.listed) (pattern_read sub at sort s)
             (pattern_good at path s.listed h) (λ x k. list_good x k (nat_lt 0 (length x.paths) || sort.optional))
-        by_tests false true = along_then w E AreClean GoodProgress (readable_paths (path ∷ [])) (λ paths. sub at (file_list (list_name at) paths) s)
-            (readable_good (next_text h no_texts)) (λ paths k. reads at (file_list (list_name at) paths) s f (clean_list at f k) g)
+        by_tests false true = along_then w E AreClean GoodProgress (paths_with_files (path ∷ [])) (λ paths. sub at (file_list (list_name at) paths) s)
+            (with_files_good (next_text h no_texts)) (λ paths k. reads at (file_list (list_name at) paths) s f (clean_list at f k) g)
         by_tests false false = reads at (one_file path) s f (clean_file h) g
 
     followed_good : (at : Place) {ts : List WrittenToken} (sort : SourceSort) {v : Value} (s : ReadingState) → IsClean at.file → AreCleanWritten ts

@@ -150,7 +150,7 @@ module _ (w : World) (at : Place) (b : Bindings) (bindings : KnownBindings b) wh
           (then_token (token_of_text []) (token_of_text_known []) (line_content at b true ts) (ih true)) l)
 
   stored_known : (v : Value) (x : Variable) → IsKnownVariable x → Gives IsKnownVariable (stored at v x)
-  stored_known v x h = unless_long_known w at IsKnownVariable (value_length v) (spends at (value_length v) (returns x)) (λ n. h)
+  stored_known v x h = unless_long_known w at IsKnownVariable (value_length v) (spends at (value_length v) (returns x)) ((λ n. h), tt)
 
   text_stored_known : (s : List ℕ) → Gives IsKnownVariable (stored_recursive at s)
   text_stored_known s = stored_known (Some s) (recursive s) known_recursive

@@ -53,7 +53,7 @@ module _ (w : World) (at : Place) where
   Knows p = NeverStops w IsKnown p
 
   asked_known : (question : List ℕ) → Knows (asked_value at question)
-  asked_known question = by_answer (w.answer question)
+  asked_known question = (by_answer (w.answer question), tt)
     where
       by_answer : (a : Option Answer) → if_unanswered question a ≡ [] → IsKnown (value_of_answer a)
       by_answer None e = absurd (let z : ⊥ = cc in z)
@@ -76,8 +76,8 @@ module _ (w : World) (at : Place) where
   built_in_known name functions.Filename none_known = known
   built_in_known name functions.Lineno none_known = known
   built_in_known name functions.Shell (next_known h none_known) = shell_known h
-  built_in_known name functions.Info (next_known {v = v} h none_known) = message_known (reported at Info) (λ s n. known) (Some (codes "y")) v
-  built_in_known name functions.WarningIf (next_known {v = c} g (next_known {v = v} h none_known)) = message_known (reported at Warning) (λ s n. known) c v
+  built_in_known name functions.Info (next_known {v = v} h none_known) = message_known (reported at Info) (λ s. ((λ n. known), tt)) (Some (codes "y")) v
+  built_in_known name functions.WarningIf (next_known {v = c} g (next_known {v = v} h none_known)) = message_known (reported at Warning) (λ s. ((λ n. known), tt)) c v
   built_in_known name functions.ErrorIf (next_known {v = c} g (next_known {v = v} h none_known)) = message_known (fault at Error) (λ s. tt) c v
   built_in_known name f h = tt
 
@@ -156,9 +156,11 @@ module _ (w : World) (at : Place) where
     expanded_known : (more : ℕ) → ExpandsKnown (expanded more at b)
     expanded_known zero open_names args text h = tt
     expanded_known (suc more) open_names args text h =
-        let f = item_value (expanded more at b) at b open_names args in
-        λ n. never_then w IsKnown IsKnown (item_values at f 0 (items false 0 text)) (λ v. spends at (value_length v) (returns v))
-        (items_known f (item_known (expanded more at b) (expanded_known more) open_names h) 0 (items false 0 text)) (λ v k m. k)
+        let f = item_value (expanded more at b) at b open_names args in (
+          (λ n. never_then w IsKnown IsKnown (item_values at f 0 (items false 0 text)) (λ v. spends at (value_length v) (returns v))
+              (items_known f (item_known (expanded more at b) (expanded_known more) open_names h) 0 (items false 0 text)) (λ v k. ((λ m. k), tt))),
+          tt,
+        )
 
     -- the expansion of a text never stops where each question has an answer, and returns a known value
     pub text_value_known : (text : List ℕ) → NeverStops w IsKnown (text_value at b text)

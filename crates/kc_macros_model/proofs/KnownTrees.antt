@@ -1,14 +1,14 @@
 -- The reading of a tree where each question has an answer: it never stops.
 use Rattle.std.proofs.Common.{◌≡◌, ℕ, zero, suc, ◌+◌, Bool, true, false, ◌&&◌, ◌||◌, cond, List, [], ◌∷◌, ◌++◌, length, take, drop, map, Option, Some, None, refl, ap, ◌∙◌, subst}
-use Rattle.std.specs.Prelude.{not, nat_lt, is_some, filter, bytes_eq, codes, ◌==◌}
+use Rattle.std.specs.Prelude.{not, nat_lt, filter, bytes_eq, codes, ◌==◌}
 use Rattle.std.specs.List.{list_any}
 use Rattle.std.specs.Str.{is_utf8}
 use Rattle.kc_tree_model.specs.Limits.{is_in_list}
 use Rattle.kc_tree_model.specs.LogicalLines.{PhysicalLine, split_at_newlines, without_return, is_continued, joined_bytes, continuation_count, begins_help}
 use Rattle.kc_macros_model.specs.declared.fault.MacroKind.{MacroKind}
-use Rattle.kc_macros_model.specs.declared.fault.MacroKind.TheVariants.{MissingFile, TooMany, LineTooLong}
+use Rattle.kc_macros_model.specs.declared.fault.MacroKind.TheVariants.{MissingFile, SourceLoop, TooMany, LineTooLong}
 use Rattle.kc_value.specs.declared.limits.TheConstants.{MAX_TEXT_BYTES, MAX_TREE_BYTES, MAX_OPEN_FILES, MAX_WORK, MAX_LISTED_NAMES}
-use Rattle.kc_macros_model.specs.Programs.{Place, Program, returns, stops, list_folder, does, ◌>>=◌}
+use Rattle.kc_macros_model.specs.Programs.{Place, Fault, Program, returns, fails, stops, list_folder, does, ◌>>=◌}
 use Rattle.kc_macros_model.specs.Variables.{Value, Variable}
 use Rattle.kc_macros_model.specs.Expansion.{fault}
 use Rattle.kc_macros_model.specs.LineTokens.{line_tokens}
@@ -17,10 +17,10 @@ use Rattle.kc_macros_model.specs.WrittenTokens.{WrittenToken, written_as, in_quo
 use Rattle.kc_macros_model.specs.Assignments.{LineContent, is_gap, is_unknown, line_content, variable_assigned}
 use Rattle.kc_macros_model.specs.EnvironmentLines.{meant_line}
 use Rattle.kc_macros_model.specs.LineForms.{SourceSort, LineForm, plain, bare_prompt, replaced_by, named_choice, sources, source_words, help_words, is_word, form_of_pair, form_by_word, form_of, without_gaps, with_nth_token, line_bytes, is_help_line, is_undecided}
-use Rattle.kc_macros_model.specs.PathPatterns.{is_pattern, matches_name, path_pieces, sorted, FoundPaths, found, matching_names, paths_in_folder, paths_in_folders, paths_below, readable_paths, files_of_pattern}
+use Rattle.kc_macros_model.specs.PathPatterns.{is_pattern, matches_name, path_pieces, sorted, FoundPaths, found, matching_listed, paths_in_folder, paths_in_folders, paths_below, paths_with_files, files_of_pattern}
 use Rattle.kc_macros_model.specs.ReadingStates.{ExpandedFile, ReadingState, initial_state, Progress, progress, WrittenLine, written_line, bound, with_choice, with_listed, counted, stored_file}
 use Rattle.kc_macros_model.specs.TreeExpansion.{place, SourceTarget, one_file, file_list, sourced_path, SourceReader, path_meant, list_name, source_line, pattern_read, path_read, source_followed, form_written, short_line, tokens_written, content_written, line_written, bytes_of_lines, lines_written, help_after, lines_read, list_read, source_fault, contents_read, sourced_read, source_read, root_read, tree_read}
-use Rattle.kc_macros_model.specs.Worlds.{World, expansion}
+use Rattle.kc_macros_model.specs.Worlds.{World, has_file, expansion}
 use Rattle.kc_macros_model.specs.TreeLaws.{ExpansionNeverStops}
 use Rattle.kc_macros_model.proofs.AnsweredPrograms.{NeverStops, never_then, job_never_stops}
 use Rattle.kc_macros_model.proofs.KnownTexts.{IsKnown, known, IsKnownVariable, KnownBindings}
@@ -97,16 +97,20 @@ module _ (w : World) where
   folder_goes_on : (at : Place) (piece folder : List ℕ) (n : ℕ) → Gives Anything (paths_in_folder at piece folder n)
   folder_goes_on at piece folder n = by_test (is_pattern piece)
     where
-      by_size : (b : Bool) → Gives Anything (cond b (fault at TooMany [])
-          (returns (found (map (λ name. folder ++ name) (filter (matches_name piece) (w.names folder))) (n + length (w.names folder)))))
-      by_size true = tt
-      by_size false = tt
+      by_size : (names : List (List ℕ)) (b : Bool) → Gives Anything (cond b (fault at TooMany [])
+          (returns (found (map (λ name. folder ++ name) (filter (matches_name piece) names)) (n + length names))))
+      by_size names true = tt
+      by_size names false = tt
+
+      by_names : (names : Option (List (List ℕ))) → Gives Anything (matching_listed at piece folder n names)
+      by_names None = tt
+      by_names (Some names) = by_size names (nat_lt MAX_LISTED_NAMES (n + length names))
 
       by_test : (b : Bool) → Gives Anything (elim b as (λ z. Program FoundPaths) [
-        | true ↦ does (list_folder folder) (matching_names at piece folder n)
+        | true ↦ does (list_folder folder) (matching_listed at piece folder n)
         | false ↦ returns (found ((folder ++ piece) ∷ []) n)
       ])
-      by_test true = λ e. by_size (nat_lt MAX_LISTED_NAMES (n + length (w.names folder)))
+      by_test true = ((λ e. by_names (w.names folder)), (record { at = at; kind = MissingFile; text = [] }, refl))
       by_test false = tt
 
   folders_go_on : (at : Place) (piece : List ℕ) (folders : List (List ℕ)) (n : ℕ) → Gives Anything (paths_in_folders at piece folders n)
@@ -126,16 +130,19 @@ module _ (w : World) where
       (λ f. paths_below at (next ∷ pieces) (map (λ path. path ++ 47 ∷ []) f.paths) f.listed) (folders_go_on at piece folders n)
       (λ f g. below_goes_on at (next ∷ pieces) (map (λ path. path ++ 47 ∷ []) f.paths) f.listed)
 
-  readable_go_on : (paths : List (List ℕ)) → Gives Anything (readable_paths paths)
-  readable_go_on [] = tt
-  readable_go_on (path ∷ paths) = λ e. never_then w Anything Anything (readable_paths paths)
-      (λ rest. returns (cond (is_some (w.bytes path)) (path ∷ rest) rest)) (readable_go_on paths) (λ rest k. tt)
+  with_files_go_on : (paths : List (List ℕ)) → Gives Anything (paths_with_files paths)
+  with_files_go_on [] = tt
+  with_files_go_on (path ∷ paths) = (
+    (λ e. never_then w Anything Anything (paths_with_files paths)
+        (λ rest. returns (cond (has_file w path) (path ∷ rest) rest)) (with_files_go_on paths) (λ rest k. tt)),
+    tt,
+  )
 
   pattern_goes_on : (at : Place) (pattern : List ℕ) (n : ℕ) → Gives Anything (files_of_pattern at pattern n)
   pattern_goes_on at pattern n =
       never_then w Anything Anything (paths_below at (path_pieces pattern) ([] ∷ []) n)
-      (λ f. readable_paths f.paths >>= λ paths. returns (found (sorted paths) f.listed)) (below_goes_on at (path_pieces pattern) ([] ∷ []) n)
-      (λ f g. never_then w Anything Anything (readable_paths f.paths) (λ paths. returns (found (sorted paths) f.listed)) (readable_go_on f.paths)
+      (λ f. paths_with_files f.paths >>= λ paths. returns (found (sorted paths) f.listed)) (below_goes_on at (path_pieces pattern) ([] ∷ []) n)
+      (λ f g. never_then w Anything Anything (paths_with_files f.paths) (λ paths. returns (found (sorted paths) f.listed)) (with_files_go_on f.paths)
       (λ paths k. tt))
 
   abbrev ReadsOn : SourceReader → Type 0
@@ -153,14 +160,14 @@ module _ (w : World) where
         by_tests : (c d : Bool) → Gives KnownProgress (elim c as (λ z. Program Progress) [
           | true ↦ files_of_pattern at path s.listed >>= pattern_read sub at sort s
           | false ↦ elim d as (λ z. Program Progress) [
-            | true ↦ readable_paths (path ∷ []) >>= λ paths. sub at (file_list (list_name at) paths) s
+            | true ↦ paths_with_files (path ∷ []) >>= λ paths. sub at (file_list (list_name at) paths) s
             | false ↦ sub at (one_file path) s
           ]
         ])
         by_tests true d = never_then w Anything KnownProgress (files_of_pattern at path s.listed) (pattern_read sub at sort s)
             (pattern_goes_on at path s.listed) (λ x k. list_goes_on x (nat_lt 0 (length x.paths) || sort.optional))
-        by_tests false true = never_then w Anything KnownProgress (readable_paths (path ∷ [])) (λ paths. sub at (file_list (list_name at) paths) s)
-            (readable_go_on (path ∷ [])) (λ paths k. reads at (file_list (list_name at) paths) s g)
+        by_tests false true = never_then w Anything KnownProgress (paths_with_files (path ∷ [])) (λ paths. sub at (file_list (list_name at) paths) s)
+            (with_files_go_on (path ∷ [])) (λ paths k. reads at (file_list (list_name at) paths) s g)
         by_tests false false = reads at (one_file path) s g
 
     followed_goes_on : (at : Place) (ts : List WrittenToken) (sort : SourceSort) {v : Value} (s : ReadingState) → IsKnown v → KnownState s
@@ -294,11 +301,25 @@ module _ (w : World) where
         by_fault None = never_then w KnownProgress KnownProgress (contents_read sub at what bytes s) (λ p. returns (stored_file root (sourced_path what) p))
             (contents_go_on at what bytes s g) (λ p x. x)
 
+  -- a file that can't be read is a fault of the line that sources it
+  unread_source : (sub : SourceReader) (root : List ℕ) (open_files : List (List ℕ)) (at : Place) (path : List ℕ) (s : ReadingState)
+      → (f : Fault) × (sourced_read sub root open_files at (one_file path) s None ≡ fails f)
+  unread_source sub root open_files at path s = by_test (is_in_list path open_files)
+    where
+      by_test : (b : Bool) → (f : Fault) × ((elim (cond b (Some SourceLoop) (Some MissingFile)) as (λ z. Program Progress) [
+        | Some kind ↦ fault at kind []
+        | None ↦ contents_read sub at (one_file path) None s >>= λ p. returns (stored_file root path p)
+      ]) ≡ fails f)
+      by_test true = (record { at = at; kind = SourceLoop; text = [] }, refl)
+      by_test false = (record { at = at; kind = MissingFile; text = [] }, refl)
+
   source_goes_on : (depth : ℕ) (root : List ℕ) (open_files : List (List ℕ)) → ReadsOn (source_read depth root open_files)
   source_goes_on zero root open_files at what s g = g
-  source_goes_on (suc depth) root open_files at (one_file path) s g =
-      λ e. sourced_goes_on (source_read depth root (path ∷ open_files)) (source_goes_on depth root (path ∷ open_files)) root open_files at (one_file path) s g
-      (w.bytes path)
+  source_goes_on (suc depth) root open_files at (one_file path) s g = (
+    (λ e. sourced_goes_on (source_read depth root (path ∷ open_files)) (source_goes_on depth root (path ∷ open_files)) root open_files at (one_file path) s g
+        (w.bytes path)),
+    unread_source (source_read depth root (path ∷ open_files)) root open_files at path s,
+  )
   source_goes_on (suc depth) root open_files at (file_list name paths) s g =
       sourced_goes_on (source_read depth root (name ∷ open_files)) (source_goes_on depth root (name ∷ open_files)) root open_files at (file_list name paths) s g
       (Some [])
@@ -324,7 +345,10 @@ module _ (w : World) where
   -- the reading of a tree never stops where each question has an answer
   pub tree_goes_on : (root : List ℕ) → NeverStops w (λ files. Unit {0}) (tree_read root)
   unfolding tree_read
-  tree_goes_on root = λ e. root_goes_on root initial_state (record { each = λ name x e. absurd (let z : ⊥ = cc in z) }) (w.bytes root)
+  tree_goes_on root = (
+    (λ e. root_goes_on root initial_state (record { each = λ name x e. absurd (let z : ⊥ = cc in z) }) (w.bytes root)),
+    (record { at = place root 0; kind = MissingFile; text = [] }, refl),
+  )
 
 pub expansion_never_stops : ExpansionNeverStops
 unfolding expansion

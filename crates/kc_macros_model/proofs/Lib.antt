@@ -5,6 +5,7 @@ pub mod AnsweredPrograms
 pub mod KnownTexts
 pub mod KnownLines
 pub mod KnownTrees
+pub mod FailedReads
 pub mod TreeAnswers
 pub mod TextItems
 pub mod ExpansionByRules

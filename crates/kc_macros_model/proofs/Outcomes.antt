@@ -1,10 +1,14 @@
 -- Outcomes of programs: with more answers, with no open question, and in sequence.
-use Rattle.std.proofs.Common.{◌≡◌, ℕ, Bool, true, false, cond, List, [], ◌++◌, Option, Some, None, Result, Ok, Err, refl, sym, ap, ◌∙◌, append_assoc}
-use Rattle.std.specs.Prelude.{nat_lt, ◌-◌}
+use Rattle.std.proofs.Common.{◌≡◌, ℕ, Bool, true, false, ◌||◌, cond, List, [], ◌++◌, Option, Some, None, Result, Ok, Err, refl, sym, ap, ◌∙◌, append_assoc}
+use Rattle.std.specs.Prelude.{nat_lt, ◌-◌, is_some}
 use Rattle.kc_macros_model.specs.declared.fault.MacroKind.TheVariants.{TooMany}
-use Rattle.kc_macros_model.specs.Programs.{Place, Fault, Answer, Event, spend, report, ask, read_file, list_folder, Reply, Program, returns, fails, stops, does, ◌>>=◌}
-use Rattle.kc_macros_model.specs.Worlds.{World, reply, notices_of, open_question, left_after, unless_unanswered, Ending, returned, failed, stopped, Outcome, after_event, unless_fault, outcome}
+use Rattle.kc_macros_model.specs.Programs.{Place, Fault, Answer, Event, spend, report, ask, read_file, find_file, list_folder, Reply, Program, returns, fails, stops, does, ◌>>=◌}
+use Rattle.kc_macros_model.specs.Worlds.{World, has_file, reply, notices_of, open_question, left_after, unless_unanswered, Ending, returned, failed, stopped, Outcome, after_event, unless_fault, outcome}
 use Rattle.kc_macros_model.specs.ProgramLaws.{Extends, is_unanswered}
+
+-- a world with more answers has files at the same paths
+pub same_files : {w more : World} → Extends w more → (path : List ℕ) → has_file more path ≡ has_file w path
+same_files {w = w} {more = more} ext path = ap (λ o. is_some o || more.unreadable path) (ext.bytes path) ∙ ap (λ b. is_some (w.bytes path) || b) (ext.unreadable path)
 
 module _ {A : Type 0} (w more : World) (ext : Extends w more) where
   -- the second outcome is the same as the first, unless the first fails for want of an answer
@@ -47,6 +51,9 @@ module _ {A : Type 0} (w more : World) (ext : Extends w more) where
   same_if_answered left (does (read_file path) k) h =
       ap (λ r. after_event w (read_file path) (outcome true more left (k r))) (ext.bytes path) ∙ ap (after_event w (read_file path))
       (same_if_answered left (k (w.bytes path)) h)
+  same_if_answered left (does (find_file path) k) h =
+      ap (λ r. after_event w (find_file path) (outcome true more left (k r))) (same_files ext path) ∙ ap (after_event w (find_file path))
+      (same_if_answered left (k (has_file w path)) h)
   same_if_answered left (does (list_folder folder) k) h =
       ap (λ r. after_event w (list_folder folder) (outcome true more left (k r))) (ext.names folder)
       ∙ ap (after_event w (list_folder folder)) (same_if_answered left (k (w.names folder)) h)
@@ -91,6 +98,7 @@ module _ {A : Type 0} (w : World) where
   same_if_none_open left stops h = refl
   same_if_none_open left (does (report n) k) h = ap (after_event w (report n)) (same_if_none_open left (k (tt {0})) h)
   same_if_none_open left (does (read_file path) k) h = ap (after_event w (read_file path)) (same_if_none_open left (k (w.bytes path)) h)
+  same_if_none_open left (does (find_file path) k) h = ap (after_event w (find_file path)) (same_if_none_open left (k (has_file w path)) h)
   same_if_none_open left (does (list_folder folder) k) h = ap (after_event w (list_folder folder)) (same_if_none_open left (k (w.names folder)) h)
   same_if_none_open left (does (spend at work) k) h = agree_spent left at work k (λ n. same_if_none_open n (k (tt {0}))) h
   same_if_none_open left (does (ask at question) k) h = agree_asked left at question k (λ r. same_if_none_open left (k r)) h

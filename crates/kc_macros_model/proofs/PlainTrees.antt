@@ -12,7 +12,7 @@ use Rattle.kc_tree_model.specs.LogicalLines.{PhysicalLine, split_at_newlines, wi
 use Rattle.kc_macros_model.specs.declared.fault.MacroKind.{MacroKind}
 use Rattle.kc_macros_model.specs.declared.fault.MacroKind.TheVariants.{MissingFile, SourceLoop, TooDeep, TooMany}
 use Rattle.kc_value.specs.declared.limits.TheConstants.{MAX_TEXT_BYTES, MAX_FILES, MAX_TREE_BYTES, MAX_OPEN_FILES, MAX_WORK}
-use Rattle.kc_macros_model.specs.Programs.{Place, Fault, Answer, spend, report, ask, read_file, list_folder, Program, returns, fails, stops, does, ◌>>=◌}
+use Rattle.kc_macros_model.specs.Programs.{Place, Fault, Answer, spend, report, ask, read_file, find_file, list_folder, Program, returns, fails, stops, does, ◌>>=◌}
 use Rattle.kc_macros_model.specs.Expansion.{fault}
 use Rattle.kc_macros_model.specs.LineTokens.{line_tokens}
 use Rattle.kc_macros_model.specs.declared.token_sort.TokenSort.TheVariants.{Word}
@@ -41,6 +41,7 @@ OnlyReads w P (does (read_file path) k) = OnlyReads w P (k (w.bytes path))
 OnlyReads w P (does (spend at work) k) = ⊥
 OnlyReads w P (does (report notice) k) = ⊥
 OnlyReads w P (does (ask at question) k) = ⊥
+OnlyReads w P (does (find_file path) k) = ⊥
 OnlyReads w P (does (list_folder folder) k) = ⊥
 
 only_both : {A B : Type 0} (w : World) (Q : A → Type 0) (P : B → Type 0) (p : Program A) (f : A → Program B) → OnlyReads w Q p
@@ -52,6 +53,7 @@ only_both w Q P (does (read_file path) n) f h k = only_both w Q P (n (w.bytes pa
 only_both w Q P (does (spend at work) n) f h k = absurd h
 only_both w Q P (does (report notice) n) f h k = absurd h
 only_both w Q P (does (ask at question) n) f h k = absurd h
+only_both w Q P (does (find_file path) n) f h k = absurd h
 only_both w Q P (does (list_folder folder) n) f h k = absurd h
 
 -- the outcome of a program that only reads files: no notices, no questions, and a value with the fact `P` or a fault of sourcing
@@ -89,6 +91,7 @@ module _ {A : Type 0} (w : World) (P : A → Type 0) where
   quiet_outcome left (does (spend at work) k) h = absurd h
   quiet_outcome left (does (report notice) k) h = absurd h
   quiet_outcome left (does (ask at question) k) h = absurd h
+  quiet_outcome left (does (find_file path) k) h = absurd h
   quiet_outcome left (does (list_folder folder) k) h = absurd h
 
   -- the outcome of a program that only reads files is the same under any answers
@@ -101,6 +104,7 @@ module _ {A : Type 0} (w : World) (P : A → Type 0) where
   same_outcome answer left (does (spend at work) k) h = absurd h
   same_outcome answer left (does (report notice) k) h = absurd h
   same_outcome answer left (does (ask at question) k) h = absurd h
+  same_outcome answer left (does (find_file path) k) h = absurd h
   same_outcome answer left (does (list_folder folder) k) h = absurd h
 
 -- faults of sources, and what holds where there is none

@@ -3,10 +3,11 @@ use Rattle.std.proofs.Common.{◌≡◌, ℕ, Bool, true, false, List, [], Optio
 use Rattle.std.specs.Prelude.{nat_le}
 use Rattle.kc_macros_model.specs.declared.fault.MacroKind.TheVariants.{LineTooLong}
 use Rattle.kc_value.specs.declared.limits.TheConstants.{MAX_TEXT_BYTES}
-use Rattle.kc_macros_model.specs.Programs.{Place, Fault, Notice, Answer, Event, spend, report, ask, read_file, list_folder, Program, returns, fails, stops, does, ◌>>=◌}
+use Rattle.kc_macros_model.specs.Programs.{Place, Fault, Notice, Answer, Event, spend, report, ask, read_file, find_file, list_folder, Program, returns, fails, stops, does, ◌>>=◌}
 use Rattle.kc_macros_model.specs.Expansion.{fault, spends, unless_too_long}
-use Rattle.kc_macros_model.specs.Worlds.{World, if_unanswered}
+use Rattle.kc_macros_model.specs.Worlds.{World, has_file, if_unanswered}
 use Rattle.kc_macros_model.specs.ProgramLaws.{Extends}
+use Rattle.kc_macros_model.proofs.Outcomes.{same_files}
 use Rattle.kc_macros_model.proofs.RunInvariants.{Along, along_then, Succeeds, success_of_both}
 
 -- Two worlds of the same files, of which the second answers more, but not this question.
@@ -17,6 +18,7 @@ module _ (w more : World) (ext : Extends w more) (question : List ℕ) (unanswer
   Spares (spend at work) = Unit {0}
   Spares (report notice) = Unit {0}
   Spares (read_file path) = Unit {0}
+  Spares (find_file path) = Unit {0}
   Spares (list_folder folder) = Unit {0}
 
   -- where the second program succeeds with more answers, the first never asks `question` in vain, and returns only related values
@@ -47,13 +49,18 @@ module _ (w more : World) (ext : Extends w more) (question : List ℕ) (unanswer
       → Matches R (does (report n) p) (does (report n) m)
   match_report R n p m h z s = (tt, h z s.1)
 
+  pub match_found : {A : Type 0} (R : A → A → Type 0) (path : List ℕ) (p m : Bool → Program A)
+      → ((there : Bool) → Matches R (p there) (m there))
+      → Matches R (does (find_file path) p) (does (find_file path) m)
+  match_found R path p m h z s = (tt, h (has_file w path) z (subst (λ b. Succeeds more z (m b)) (same_files ext path) s.1))
+
   pub match_file : {A : Type 0} (R : A → A → Type 0) (path : List ℕ) (p m : Option (List ℕ) → Program A)
       → ((bytes : Option (List ℕ)) → Matches R (p bytes) (m bytes))
       → Matches R (does (read_file path) p) (does (read_file path) m)
   match_file R path p m h z s = (tt, h (w.bytes path) z (subst (λ b. Succeeds more z (m b)) (ext.bytes path) s.1))
 
-  pub match_folder : {A : Type 0} (R : A → A → Type 0) (folder : List ℕ) (p m : List (List ℕ) → Program A)
-      → ((names : List (List ℕ)) → Matches R (p names) (m names))
+  pub match_folder : {A : Type 0} (R : A → A → Type 0) (folder : List ℕ) (p m : Option (List (List ℕ)) → Program A)
+      → ((names : Option (List (List ℕ))) → Matches R (p names) (m names))
       → Matches R (does (list_folder folder) p) (does (list_folder folder) m)
   match_folder R folder p m h z s = (tt, h (w.names folder) z (subst (λ b. Succeeds more z (m b)) (ext.names folder) s.1))
 

@@ -18,7 +18,7 @@ use Rattle.kc_macros_model.specs.WrittenTokens.{WrittenToken, written_as, in_quo
 use Rattle.kc_macros_model.specs.Assignments.{LineContent, assigns, tokens, line_content, variable_assigned}
 use Rattle.kc_macros_model.specs.EnvironmentLines.{meant_line}
 use Rattle.kc_macros_model.specs.LineForms.{SourceSort, LineForm, plain, bare_prompt, replaced_by, named_choice, sources, form_of, without_gaps, with_nth_token, line_bytes, is_help_line, is_undecided}
-use Rattle.kc_macros_model.specs.PathPatterns.{is_pattern, matches_name, path_pieces, sorted, FoundPaths, found, matching_names, paths_in_folder, paths_in_folders, paths_below, readable_paths, files_of_pattern}
+use Rattle.kc_macros_model.specs.PathPatterns.{is_pattern, matches_name, path_pieces, sorted, FoundPaths, found, matching_listed, paths_in_folder, paths_in_folders, paths_below, paths_with_files, files_of_pattern}
 use Rattle.kc_macros_model.specs.ReadingStates.{ReadingState, Progress, progress, WrittenLine, written_line, bound, with_choice, with_listed, counted, stored_file}
 use Rattle.kc_macros_model.specs.TreeExpansion.{place, SourceTarget, one_file, file_list, sourced_path, SourceReader, path_meant, list_name, source_line, pattern_read, path_read, source_followed, form_written, short_line, tokens_written, content_written, line_written, bytes_of_lines, lines_written, help_after, lines_read, list_read, source_fault, contents_read, sourced_read, source_read}
 use Rattle.kc_macros_model.specs.Worlds.{World, reply}
@@ -43,19 +43,22 @@ module _ (w : World) where
   folder_listed : (at : Place) (piece folder : List ℕ) (n : ℕ) → n ≤ MAX_LISTED_NAMES → Along w AnyEvent IsListed (paths_in_folder at piece folder n)
   folder_listed at piece folder n h = by_test (is_pattern piece)
     where
-      by_size : (b : Bool) → nat_lt MAX_LISTED_NAMES (n + length (w.names folder)) ≡ b
+      by_size : (names : List (List ℕ)) (b : Bool) → nat_lt MAX_LISTED_NAMES (n + length names) ≡ b
           → Along w AnyEvent IsListed
-          (cond b (fault at TooMany []) (returns (found (map (λ name. folder ++ name) (filter (matches_name piece) (w.names folder)))
-          (n + length (w.names folder)))))
-      by_size true e = tt
-      by_size false e = ltb-false MAX_LISTED_NAMES (n + length (w.names folder)) e
+          (cond b (fault at TooMany []) (returns (found (map (λ name. folder ++ name) (filter (matches_name piece) names)) (n + length names))))
+      by_size names true e = tt
+      by_size names false e = ltb-false MAX_LISTED_NAMES (n + length names) e
+
+      by_names : (names : Option (List (List ℕ))) → Along w AnyEvent IsListed (matching_listed at piece folder n names)
+      by_names None = tt
+      by_names (Some names) = by_size names (nat_lt MAX_LISTED_NAMES (n + length names)) refl
 
       by_test : (b : Bool) → Along w AnyEvent IsListed (elim b as (λ z. Program FoundPaths) [
         | true ↦
-            does (list_folder folder) (matching_names at piece folder n)
+            does (list_folder folder) (matching_listed at piece folder n)
         | false ↦ returns (found ((folder ++ piece) ∷ []) n)
       ])
-      by_test true = (tt, by_size (nat_lt MAX_LISTED_NAMES (n + length (w.names folder))) refl)
+      by_test true = (tt, by_names (w.names folder))
       by_test false = h
 
   folders_listed : (at : Place) (piece : List ℕ) (folders : List (List ℕ)) (n : ℕ) → n ≤ MAX_LISTED_NAMES
@@ -79,9 +82,9 @@ module _ (w : World) where
   pattern_listed : (at : Place) (pattern : List ℕ) (n : ℕ) → n ≤ MAX_LISTED_NAMES → Along w AnyEvent IsListed (files_of_pattern at pattern n)
   pattern_listed at pattern n h =
       along_then w AnyEvent IsListed IsListed (paths_below at (path_pieces pattern) ([] ∷ []) n)
-      (λ f. readable_paths f.paths >>= λ paths. returns (found (sorted paths) f.listed)) (below_listed at (path_pieces pattern) ([] ∷ []) n h)
-      (λ f g. along_then w AnyEvent (λ x. Unit {0}) IsListed (readable_paths f.paths) (λ paths. returns (found (sorted paths) f.listed))
-      (anything w (readable_paths f.paths)) (λ paths k. g))
+      (λ f. paths_with_files f.paths >>= λ paths. returns (found (sorted paths) f.listed)) (below_listed at (path_pieces pattern) ([] ∷ []) n h)
+      (λ f g. along_then w AnyEvent (λ x. Unit {0}) IsListed (paths_with_files f.paths) (λ paths. returns (found (sorted paths) f.listed))
+      (anything w (paths_with_files f.paths)) (λ paths k. g))
 
 -- each step of a reading keeps a fact of its state and of how many more files are open in it than the first
 pub record IsKept (root : List ℕ) (I : ℕ → ReadingState → Type 0) : Type 0 where
@@ -129,15 +132,15 @@ module _ (w : World) (root : List ℕ) (I : ℕ → ReadingState → Type 0) (ke
         by_tests : (c d : Bool) → Along w AnyEvent (After k) (elim c as (λ z. Program Progress) [
           | true ↦ files_of_pattern at path s.listed >>= pattern_read sub at sort s
           | false ↦ elim d as (λ z. Program Progress) [
-            | true ↦ readable_paths (path ∷ []) >>= λ paths. sub at (file_list (list_name at) paths) s
+            | true ↦ paths_with_files (path ∷ []) >>= λ paths. sub at (file_list (list_name at) paths) s
             | false ↦ sub at (one_file path) s
           ]
         ])
         by_tests true d = along_then w AnyEvent (IsListed w) (After k) (files_of_pattern at path s.listed) (pattern_read sub at sort s)
             (pattern_listed w at path s.listed (keep.listed k s g)) (λ x h. list_keeps x h (nat_lt 0 (length x.paths) || sort.optional))
         by_tests false true =
-            along_then w AnyEvent (λ x. Unit {0}) (After k) (readable_paths (path ∷ [])) (λ paths. sub at (file_list (list_name at) paths) s)
-            (anything w (readable_paths (path ∷ []))) (λ paths h. reads at (file_list (list_name at) paths) s g)
+            along_then w AnyEvent (λ x. Unit {0}) (After k) (paths_with_files (path ∷ [])) (λ paths. sub at (file_list (list_name at) paths) s)
+            (anything w (paths_with_files (path ∷ []))) (λ paths h. reads at (file_list (list_name at) paths) s g)
         by_tests false false = reads at (one_file path) s g
 
     followed_keeps : (at : Place) (ts : List WrittenToken) (sort : SourceSort) (v : Value) (s : ReadingState) → I k s

@@ -1,5 +1,5 @@
 -- Worked rows, computed.
-use Rattle.std.proofs.Common.{◌≡◌, ℕ, List, [], ◌∷◌, Some, None, Result, Ok, Err, refl, true, map, drop, length}
+use Rattle.std.proofs.Common.{◌≡◌, ℕ, List, [], ◌∷◌, Some, None, Result, Ok, Err, refl, true, false, map, drop, length}
 use Rattle.std.specs.Prelude.{codes, filter, ◌==◌, not, take_while, bytes_eq}
 use Rattle.std.specs.Fmt.{digits}
 use Rattle.std.specs.Str.{is_utf8, chars}
@@ -25,7 +25,7 @@ names_in files folder = without_repeats (map (λ (f : List ℕ × List ℕ). tak
 
 -- a world of these files and answers
 abbrev world : List (List ℕ × List ℕ) → RecordedAnswers → World
-world files answers = record { answer = keyword_in_table answers; bytes = λ path. lookup (bytes_eq path) files; names = names_in files }
+world files answers = record { answer = keyword_in_table answers; bytes = λ path. lookup (bytes_eq path) files; unreadable = λ path. false; names = λ folder. Some (names_in files folder) }
 
 -- a tree of one file
 abbrev one_file : List ℕ → RecordedAnswers → World

@@ -1,6 +1,6 @@
 -- The reading of a tree where a question is open, compared with the reading where more is answered.
 use Rattle.std.proofs.Common.{◌≡◌, ℕ, zero, suc, ◌+◌, Bool, true, false, ◌||◌, cond, List, [], ◌∷◌, ◌++◌, length, take, drop, map, Option, Some, None, refl, sym, ap, ◌∙◌, subst}
-use Rattle.std.specs.Prelude.{not, nat_lt, filter, is_some, codes, ◌==◌}
+use Rattle.std.specs.Prelude.{not, nat_lt, filter, codes, ◌==◌}
 use Rattle.std.specs.List.{list_any}
 use Rattle.std.specs.Str.{is_utf8}
 use Rattle.kc_tree_model.specs.Limits.{is_in_list}
@@ -17,12 +17,12 @@ use Rattle.kc_macros_model.specs.WrittenTokens.{WrittenToken, in_quotes_of, writ
 use Rattle.kc_macros_model.specs.Assignments.{AssignedText, LineContent, assigns, line_content, variable_assigned}
 use Rattle.kc_macros_model.specs.EnvironmentLines.{meant_line}
 use Rattle.kc_macros_model.specs.LineForms.{SourceSort, LineForm, plain, bare_prompt, replaced_by, named_choice, sources, form_of, without_gaps, with_nth_token, line_bytes, is_help_line, is_undecided, with_replacement}
-use Rattle.kc_macros_model.specs.PathPatterns.{is_pattern, matches_name, path_pieces, sorted, FoundPaths, found, matching_names, paths_in_folder, paths_in_folders, paths_below, readable_paths, files_of_pattern}
+use Rattle.kc_macros_model.specs.PathPatterns.{is_pattern, matches_name, path_pieces, sorted, FoundPaths, found, matching_names, matching_listed, paths_in_folder, paths_in_folders, paths_below, paths_with_files, files_of_pattern}
 use Rattle.kc_macros_model.specs.ReadingStates.{ExpandedFile, ReadingState, initial_state, Progress, progress, WrittenLine, written_line, bound, with_choice, with_listed, counted, stored_file}
 use Rattle.kc_macros_model.specs.TreeExpansion.{place, SourceTarget, one_file, file_list, sourced_path, SourceReader, path_meant, list_name, source_line, pattern_read, path_read, source_followed, choice_written, form_written, short_line, tokens_written, content_written, line_written, bytes_of_lines, lines_written, help_after, lines_read, list_read, source_fault, contents_read, sourced_read, source_read, root_read, tree_read}
 use Rattle.kc_macros_model.specs.Worlds.{World}
 use Rattle.kc_macros_model.specs.ProgramLaws.{Extends}
-use Rattle.kc_macros_model.proofs.ProgramMatches.{Matches, match_return, match_fault, match_failed, match_stop, match_then, match_file, match_folder}
+use Rattle.kc_macros_model.proofs.ProgramMatches.{Matches, match_return, match_fault, match_failed, match_stop, match_then, match_found, match_file, match_folder}
 use Rattle.kc_macros_model.proofs.TextMatches.{NoLess, unknown, same, VariableNoLess, not_set, BindingsNoLess}
 use Rattle.kc_macros_model.proofs.LineMatches.{LineNoLess, ContentNoLess, same_assignment, line_tokens as both_tokens, content_matches, variable_matches, with_variable_no_less}
 use Rattle.kc_macros_model.proofs.FormMatches.{is_source, FormNoLess, no_source, same_source, SameEffect, same_effect}
@@ -66,19 +66,25 @@ module _ (w more : World) (ext : Extends w more) (question : List ℕ) (unanswer
       (match_return w more ext question unanswered SamePaths (found (map (λ name. folder ++ name) (filter (matches_name piece) names)) (n + length names))
       (found (map (λ name. folder ++ name) (filter (matches_name piece) names)) (l + length names)) refl)
 
+  listed_match : (at : Place) (piece folder : List ℕ) (n l : ℕ) (names : Option (List (List ℕ))) → M SamePaths (matching_listed at piece folder n names)
+      (matching_listed at piece folder l names)
+  listed_match at piece folder n l None = match_fault w more ext question unanswered SamePaths (fault at MissingFile [])
+      (record { at = at; kind = MissingFile; text = [] })
+  listed_match at piece folder n l (Some names) = names_match at piece folder n l names
+
   folder_matches : (at : Place) (piece folder : List ℕ) (n l : ℕ) → M SamePaths (paths_in_folder at piece folder n) (paths_in_folder at piece folder l)
   folder_matches at piece folder n l = by_test (is_pattern piece)
     where
       by_test : (c : Bool) → M SamePaths (elim c as (λ z. Program FoundPaths) [
-        | true ↦ does (list_folder folder) (matching_names at piece folder n)
+        | true ↦ does (list_folder folder) (matching_listed at piece folder n)
         | false ↦ returns (found ((folder ++ piece) ∷ []) n)
       ]) (elim c as (λ z. Program FoundPaths) [
         | true ↦
-            does (list_folder folder) (matching_names at piece folder l)
+            does (list_folder folder) (matching_listed at piece folder l)
         | false ↦ returns (found ((folder ++ piece) ∷ []) l)
       ])
-      by_test true = match_folder w more ext question unanswered SamePaths folder (matching_names at piece folder n) (matching_names at piece folder l)
-          (names_match at piece folder n l)
+      by_test true = match_folder w more ext question unanswered SamePaths folder (matching_listed at piece folder n) (matching_listed at piece folder l)
+          (listed_match at piece folder n l)
       by_test false = match_return w more ext question unanswered SamePaths (found ((folder ++ piece) ∷ []) n) (found ((folder ++ piece) ∷ []) l) refl
 
   folders_match : (at : Place) (piece : List ℕ) (folders : List (List ℕ)) (n l : ℕ) → M SamePaths (paths_in_folders at piece folders n)
@@ -106,24 +112,24 @@ module _ (w more : World) (ext : Extends w more) (question : List ℕ) (unanswer
       (paths_below at (next ∷ pieces) (map (λ path. path ++ 47 ∷ []) z) g.listed)) e
       (below_matches at (next ∷ pieces) (map (λ path. path ++ 47 ∷ []) f.paths) f.listed g.listed))
 
-  readable_match : (paths : List (List ℕ)) → M (λ x y. x ≡ y) (readable_paths paths) (readable_paths paths)
-  readable_match [] = match_return w more ext question unanswered (λ x y. x ≡ y) [] [] refl
-  readable_match (path ∷ paths) =
-      match_file w more ext question unanswered (λ x y. x ≡ y) path (λ bytes. readable_paths paths >>= λ rest. returns
-      (cond (is_some bytes) (path ∷ rest) rest)) (λ bytes. readable_paths paths >>= λ rest. returns (cond (is_some bytes) (path ∷ rest) rest))
-      (λ bytes. match_then w more ext question unanswered (λ x y. x ≡ y) (λ x y. x ≡ y) (readable_paths paths) (readable_paths paths)
-      (λ rest. returns (cond (is_some bytes) (path ∷ rest) rest)) (λ rest. returns (cond (is_some bytes) (path ∷ rest) rest)) (readable_match paths)
-      (λ x y e. match_return w more ext question unanswered (λ x y. x ≡ y) (cond (is_some bytes) (path ∷ x) x) (cond (is_some bytes) (path ∷ y) y)
-      (ap (λ z. cond (is_some bytes) (path ∷ z) z) e)))
+  with_files_match : (paths : List (List ℕ)) → M (λ x y. x ≡ y) (paths_with_files paths) (paths_with_files paths)
+  with_files_match [] = match_return w more ext question unanswered (λ x y. x ≡ y) [] [] refl
+  with_files_match (path ∷ paths) =
+      match_found w more ext question unanswered (λ x y. x ≡ y) path (λ there. paths_with_files paths >>= λ rest. returns
+      (cond there (path ∷ rest) rest)) (λ there. paths_with_files paths >>= λ rest. returns (cond there (path ∷ rest) rest))
+      (λ there. match_then w more ext question unanswered (λ x y. x ≡ y) (λ x y. x ≡ y) (paths_with_files paths) (paths_with_files paths)
+      (λ rest. returns (cond there (path ∷ rest) rest)) (λ rest. returns (cond there (path ∷ rest) rest)) (with_files_match paths)
+      (λ x y e. match_return w more ext question unanswered (λ x y. x ≡ y) (cond there (path ∷ x) x) (cond there (path ∷ y) y)
+      (ap (λ z. cond there (path ∷ z) z) e)))
 
   pattern_matches : (at : Place) (pattern : List ℕ) (n l : ℕ) → M SamePaths (files_of_pattern at pattern n) (files_of_pattern at pattern l)
   pattern_matches at pattern n l =
       match_then w more ext question unanswered SamePaths SamePaths (paths_below at (path_pieces pattern) ([] ∷ []) n)
-      (paths_below at (path_pieces pattern) ([] ∷ []) l) (λ f. readable_paths f.paths >>= λ paths. returns (found (sorted paths) f.listed))
-      (λ f. readable_paths f.paths >>= λ paths. returns (found (sorted paths) f.listed)) (below_matches at (path_pieces pattern) ([] ∷ []) n l)
-      (λ f g e. match_then w more ext question unanswered (λ x y. x ≡ y) SamePaths (readable_paths f.paths) (readable_paths g.paths)
+      (paths_below at (path_pieces pattern) ([] ∷ []) l) (λ f. paths_with_files f.paths >>= λ paths. returns (found (sorted paths) f.listed))
+      (λ f. paths_with_files f.paths >>= λ paths. returns (found (sorted paths) f.listed)) (below_matches at (path_pieces pattern) ([] ∷ []) n l)
+      (λ f g e. match_then w more ext question unanswered (λ x y. x ≡ y) SamePaths (paths_with_files f.paths) (paths_with_files g.paths)
       (λ paths. returns (found (sorted paths) f.listed)) (λ paths. returns (found (sorted paths) g.listed))
-      (subst (λ z. M (λ x y. x ≡ y) (readable_paths f.paths) (readable_paths z)) e (readable_match f.paths))
+      (subst (λ z. M (λ x y. x ≡ y) (paths_with_files f.paths) (paths_with_files z)) e (with_files_match f.paths))
       (λ x y h. match_return w more ext question unanswered SamePaths (found (sorted x) f.listed) (found (sorted y) g.listed) (ap sorted h)))
 
   -- ways to read files that relate states
@@ -154,7 +160,7 @@ module _ (w more : World) (ext : Extends w more) (question : List ℕ) (unanswer
         way : SourceReader → ReadingState → Bool → Bool → Program Progress
         way reader u c d = elim c [
           | true ↦ files_of_pattern at path u.listed >>= pattern_read reader at sort u
-          | false ↦ elim d [ true ↦ readable_paths (path ∷ []) >>= λ paths. reader at (file_list (list_name at) paths) u | false ↦ reader at (one_file path) u ]
+          | false ↦ elim d [ true ↦ paths_with_files (path ∷ []) >>= λ paths. reader at (file_list (list_name at) paths) u | false ↦ reader at (one_file path) u ]
         ]
 
         by_tests : (c d : Bool) → M ProgressNoLess (way sub s c d) (way sup t c d)
@@ -162,8 +168,8 @@ module _ (w more : World) (ext : Extends w more) (question : List ℕ) (unanswer
             (files_of_pattern at path t.listed) (pattern_read sub at sort s) (pattern_read sup at sort t) (pattern_matches at path s.listed t.listed)
             (pattern_read_matches at sort s t r)
         by_tests false true =
-            match_then w more ext question unanswered (λ x y. x ≡ y) ProgressNoLess (readable_paths (path ∷ [])) (readable_paths (path ∷ []))
-            (λ paths. sub at (file_list (list_name at) paths) s) (λ paths. sup at (file_list (list_name at) paths) t) (readable_match (path ∷ []))
+            match_then w more ext question unanswered (λ x y. x ≡ y) ProgressNoLess (paths_with_files (path ∷ [])) (paths_with_files (path ∷ []))
+            (λ paths. sub at (file_list (list_name at) paths) s) (λ paths. sup at (file_list (list_name at) paths) t) (with_files_match (path ∷ []))
             (λ x y e. subst (λ z. M ProgressNoLess (sub at (file_list (list_name at) x) s) (sup at (file_list (list_name at) z) t)) e
             (follow at (file_list (list_name at) x) s t r))
         by_tests false false = follow at (one_file path) s t r

@@ -7,10 +7,10 @@ use Rattle.std.proofs.lemmas.Slice.Eq.{bytes_eq-Decides}
 use Rattle.kc_tree_model.specs.Limits.{is_in_list, without_repeats}
 use Rattle.kc_macros_model.specs.declared.fault.MacroKind.TheVariants.{TooMany}
 use Rattle.kc_value.specs.declared.limits.TheConstants.{MAX_WORK}
-use Rattle.kc_macros_model.specs.Programs.{Place, Answer, spend, report, ask, read_file, list_folder, Program, returns, fails, stops, does}
+use Rattle.kc_macros_model.specs.Programs.{Place, Answer, spend, report, ask, read_file, find_file, list_folder, Program, returns, fails, stops, does}
 use Rattle.kc_macros_model.specs.ReadingStates.{ExpandedFile}
 use Rattle.kc_macros_model.specs.TreeExpansion.{tree_read}
-use Rattle.kc_macros_model.specs.Worlds.{World, if_unanswered, unless_unanswered, Ending, returned, failed, stopped, Outcome, after_event, unless_fault, outcome, expansion, questions_or_fault, wanted}
+use Rattle.kc_macros_model.specs.Worlds.{World, has_file, if_unanswered, unless_unanswered, Ending, returned, failed, stopped, Outcome, after_event, unless_fault, outcome, expansion, questions_or_fault, wanted}
 use Rattle.kc_macros_model.specs.ProgramLaws.{Extends}
 use Rattle.kc_macros_model.specs.TreeLaws.{WantedIsNeeded}
 use Rattle.kc_macros_model.proofs.RunInvariants.{Along, Succeeds}
@@ -49,6 +49,7 @@ module _ {A : Type 0} (w : World) (y : A) where
   job_succeeds left stops e = let z : ⊥ = cc in z
   job_succeeds left (does (report n) k) e = (refl, job_succeeds left (k (tt {0})) e)
   job_succeeds left (does (read_file path) k) e = (refl, job_succeeds left (k (w.bytes path)) e)
+  job_succeeds left (does (find_file path) k) e = (refl, job_succeeds left (k (has_file w path)) e)
   job_succeeds left (does (list_folder folder) k) e = (refl, job_succeeds left (k (w.names folder)) e)
   job_succeeds left (does (spend at work) k) e = (refl, spent_success left at work k (λ n. job_succeeds n (k (tt {0}))) e)
   job_succeeds left (does (ask at question) k) e = asked_success left at question k (λ r. job_succeeds left (k r)) e
@@ -90,6 +91,7 @@ module _ {A : Type 0} (w more : World) (ext : Extends w more) (question : List �
   spared_questions left stops h = refl
   spared_questions left (does (report n) k) h = spared_questions left (k (tt {0})) h.1
   spared_questions left (does (read_file path) k) h = spared_questions left (k (w.bytes path)) h.1
+  spared_questions left (does (find_file path) k) h = spared_questions left (k (has_file w path)) h.1
   spared_questions left (does (list_folder folder) k) h = spared_questions left (k (w.names folder)) h.1
   spared_questions left (does (spend at work) k) h = spared_spent left at work k (λ n. spared_questions n (k (tt {0})) h.1)
   spared_questions left (does (ask at other) k) h = spared_asked left at other k h.0 (spared_questions left (k (w.answer other)) h.1)

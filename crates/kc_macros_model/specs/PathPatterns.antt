@@ -1,11 +1,11 @@
 -- Patterns of paths: `*` and `?`, piece by piece between slashes.
-use Rattle.std.specs.Prelude.{ℕ, ◌+◌, Bool, true, false, not, ◌&&◌, ◌||◌, ◌==◌, nat_lt, nat_le, List, [], ◌∷◌, ◌++◌, length, map, filter, is_some, slice_index, if◌then◌else◌}
+use Rattle.std.specs.Prelude.{ℕ, ◌+◌, Bool, true, false, not, ◌&&◌, ◌||◌, ◌==◌, nat_lt, nat_le, List, [], ◌∷◌, ◌++◌, length, map, filter, Option, Some, None, slice_index, if◌then◌else◌}
 use Rattle.std.specs.List.{list_any, onto_first}
 use Rattle.std.specs.Str.{is_utf8}
 use Rattle.kc_value.specs.Lines.{has_newline}
-use Rattle.kc_macros_model.specs.declared.fault.MacroKind.TheVariants.{TooMany}
+use Rattle.kc_macros_model.specs.declared.fault.MacroKind.TheVariants.{MissingFile, TooMany}
 use Rattle.kc_value.specs.declared.limits.TheConstants.{MAX_LISTED_NAMES}
-use Rattle.kc_macros_model.specs.Programs.{Place, read_file, list_folder, Program, returns, does, ◌>>=◌}
+use Rattle.kc_macros_model.specs.Programs.{Place, find_file, list_folder, Program, returns, does, ◌>>=◌}
 use Rattle.kc_macros_model.specs.Expansion.{fault}
 
 -- whether a byte is `*` or `?`
@@ -75,10 +75,15 @@ matching_names at piece folder listed names =
     if nat_lt MAX_LISTED_NAMES (listed + length names) then fault at TooMany []
     else returns (found (map (λ name. folder ++ name) (filter (matches_name piece) names)) (listed + length names))
 
+-- the paths of the names of a folder that match a piece of a path pattern; a fault if the folder is there and can't be listed
+abbrev pub matching_listed : Place → (piece folder : List ℕ) → ℕ → Option (List (List ℕ)) → Program FoundPaths
+matching_listed at piece folder listed None = fault at MissingFile []
+matching_listed at piece folder listed (Some names) = matching_names at piece folder listed names
+
 -- the paths that a pattern's piece matches in a folder (empty, or ending in `/`); a piece without wildcards matches itself
 abbrev pub paths_in_folder : Place → (piece folder : List ℕ) → ℕ → Program FoundPaths
 paths_in_folder at piece folder listed =
-    elim (is_pattern piece) [ true ↦ does (list_folder folder) (matching_names at piece folder listed) | false ↦ returns (found ((folder ++ piece) ∷ []) listed) ]
+    elim (is_pattern piece) [ true ↦ does (list_folder folder) (matching_listed at piece folder listed) | false ↦ returns (found ((folder ++ piece) ∷ []) listed) ]
 
 -- the paths that a piece of a path pattern matches in a list of folders, folder by folder
 abbrev pub paths_in_folders : Place → List ℕ → List (List ℕ) → ℕ → Program FoundPaths
@@ -93,12 +98,13 @@ paths_below at (piece ∷ []) folders listed = paths_in_folders at piece folders
 paths_below at (piece ∷ next ∷ pieces) folders listed =
     paths_in_folders at piece folders listed >>= λ f. paths_below at (next ∷ pieces) (map (λ path. path ++ 47 ∷ []) f.paths) f.listed
 
--- the paths of a list whose files can be read, in the same order
-abbrev pub readable_paths : List (List ℕ) → Program (List (List ℕ))
-readable_paths [] = returns []
-readable_paths (path ∷ paths) = does (read_file path) (λ bytes. readable_paths paths >>= λ rest. returns (if is_some bytes then path ∷ rest else rest))
+-- the paths of a list at which files are, in the same order; a file that is there and can't be read is among them, and fails where
+-- it is read
+abbrev pub paths_with_files : List (List ℕ) → Program (List (List ℕ))
+paths_with_files [] = returns []
+paths_with_files (path ∷ paths) = does (find_file path) (λ there. paths_with_files paths >>= λ rest. returns (if there then path ∷ rest else rest))
 
--- the paths that match a path pattern and whose files can be read, in ascending order
+-- the paths that match a path pattern and at which files are, in ascending order
 abbrev pub files_of_pattern : Place → List ℕ → ℕ → Program FoundPaths
 files_of_pattern at pattern listed =
-    paths_below at (path_pieces pattern) ([] ∷ []) listed >>= λ f. readable_paths f.paths >>= λ paths. returns (found (sorted paths) f.listed)
+    paths_below at (path_pieces pattern) ([] ∷ []) listed >>= λ f. paths_with_files f.paths >>= λ paths. returns (found (sorted paths) f.listed)

@@ -1,5 +1,5 @@
 -- A reading of a tree as a program: the things that it needs from outside, and its result.
-use Rattle.std.specs.Prelude.{ℕ, List, Option}
+use Rattle.std.specs.Prelude.{ℕ, Bool, List, Option}
 use Rattle.kc_macros_model.specs.declared.fault.MacroKind.{MacroKind}
 use Rattle.kc_macros_model.specs.declared.fault.MacroNoticeKind.{MacroNoticeKind}
 
@@ -24,21 +24,25 @@ pub record Notice : Type 0 where
 abbrev pub Answer : Type 0
 Answer = Option (List ℕ)
 
--- an event of a program: it does work, reports a notice, asks a question, reads the bytes of a path, or lists a folder's names
+-- an event of a program: it does work, reports a notice, asks a question, reads the bytes of a path, asks whether a file is at a
+-- path, or lists a folder's names
 pub data Event : Type 0 where
   spend : Place → ℕ → Event
   report : Notice → Event
   ask : Place → List ℕ → Event
   read_file : List ℕ → Event
+  find_file : List ℕ → Event
   list_folder : List ℕ → Event
 
--- the type of the reply to an event: an answer if there is one, the bytes of a path if it can be read, the names in a folder
+-- the type of the reply to an event: an answer if there is one, the bytes of a path if it can be read, whether a file is at a path,
+-- the names in a folder unless it is there and can't be listed
 abbrev pub Reply : Event → Type 0
 Reply (spend at work) = Unit {0}
 Reply (report notice) = Unit {0}
 Reply (ask at question) = Option Answer
 Reply (read_file path) = Option (List ℕ)
-Reply (list_folder folder) = List (List ℕ)
+Reply (find_file path) = Bool
+Reply (list_folder folder) = Option (List (List ℕ))
 
 -- a program returns a value, fails, stops since the rest depends on an open question, or has an event and goes on by the reply
 pub data Program (A : Type 0) : Type 0 where

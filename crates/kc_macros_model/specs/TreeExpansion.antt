@@ -16,7 +16,7 @@ use Rattle.kc_macros_model.specs.WrittenTokens.{WrittenToken, written_as, in_quo
 use Rattle.kc_macros_model.specs.Assignments.{without_front, LineContent, assigns, tokens, line_content, variable_assigned}
 use Rattle.kc_macros_model.specs.EnvironmentLines.{meant_line}
 use Rattle.kc_macros_model.specs.LineForms.{SourceSort, LineForm, plain, bare_prompt, replaced_by, named_choice, sources, form_of, without_gaps, with_nth_token, with_replacement, line_bytes, quoted_text_token, is_help_line, is_undecided}
-use Rattle.kc_macros_model.specs.PathPatterns.{is_pattern, FoundPaths, files_of_pattern, readable_paths}
+use Rattle.kc_macros_model.specs.PathPatterns.{is_pattern, FoundPaths, files_of_pattern, paths_with_files}
 use Rattle.kc_macros_model.specs.ReadingStates.{ExpandedFile, ReadingState, initial_state, Progress, progress, WrittenLine, written_line, bound, with_choice, with_listed, counted, stored_file}
 
 -- the place of a line: the path of its file and its number
@@ -70,7 +70,7 @@ abbrev pub path_read : SourceReader → Place → SourceSort → List ℕ → Re
 path_read sub at sort path s =
     elim (is_pattern path) [
       | true ↦ files_of_pattern at path s.listed >>= pattern_read sub at sort s
-      | false ↦ elim sort.optional [ true ↦ readable_paths (path ∷ []) >>= λ paths. sub at (file_list (list_name at) paths) s | false ↦ sub at (one_file path) s ]
+      | false ↦ elim sort.optional [ true ↦ paths_with_files (path ∷ []) >>= λ paths. sub at (file_list (list_name at) paths) s | false ↦ sub at (one_file path) s ]
     ]
 
 -- reads the files of a `source` line and returns the line with a key as its path; an unknown path stops the reading, and a line

@@ -7,13 +7,18 @@ use Rattle.kc_macros_model.specs.Programs.{Place, Fault}
 use Rattle.kc_macros_model.specs.ReadingStates.{ExpandedFile}
 use Rattle.kc_macros_model.specs.TreeExpansion.{list_name}
 use Rattle.kc_macros_model.specs.Worlds.{World, returned, failed, stopped, expansion, wanted}
-use Rattle.kc_macros_model.specs.ProgramLaws.{Extends, is_unanswered}
+use Rattle.kc_macros_model.specs.ProgramLaws.{Extends, IsReadInPart, is_unanswered}
 use Rattle.kc_macros_model.specs.LinePlaces.{line_of, AreInPlace}
 use Rattle.kc_value.specs.Lines.{newline_count, has_newline}
 
 -- more answers than an expansion needs change nothing of its files, fault, notices and work
 abbrev pub AnswersNotAskedChangeNothing : Type 0
 AnswersNotAskedChangeNothing = (w more : World) (root : List ℕ) → Extends w more → is_unanswered (expansion w root).ending ≡ false → expansion more root ≡ expansion w root
+
+-- An expansion that returns files returns the same, with the same notices and work, where each file can be read and each folder can
+-- be listed: what can't be read is never passed over.
+abbrev pub FailedReadsChangeNothing : Type 0
+FailedReadsChangeNothing = (known w : World) (root : List ℕ) (files : List ExpandedFile) → IsReadInPart known w → (expansion w root).ending ≡ returned files → expansion known root ≡ expansion w root
 
 -- where the search for open questions finds no question and no fault, the expansion of the tree doesn't fail
 abbrev pub NothingWantedIsExpanded : Type 0

@@ -1,17 +1,23 @@
 -- A program in a world that replies: its notices, its open questions, and its end.
-use Rattle.std.specs.Prelude.{ℕ, ◌-◌, Bool, true, false, nat_lt, List, [], ◌∷◌, ◌++◌, reverse, Option, Some, None, Result, Ok, Err, if◌then◌else◌}
+use Rattle.std.specs.Prelude.{ℕ, ◌-◌, Bool, true, false, ◌||◌, is_some, nat_lt, List, [], ◌∷◌, ◌++◌, reverse, Option, Some, None, Result, Ok, Err, if◌then◌else◌}
 use Rattle.kc_tree_model.specs.Limits.{without_repeats}
 use Rattle.kc_macros_model.specs.declared.fault.MacroKind.TheVariants.{Unanswered, TooMany}
 use Rattle.kc_value.specs.declared.limits.TheConstants.{MAX_WORK}
-use Rattle.kc_macros_model.specs.Programs.{Place, Fault, Notice, Answer, Event, spend, report, ask, read_file, list_folder, Reply, Program, returns, fails, stops, does}
+use Rattle.kc_macros_model.specs.Programs.{Place, Fault, Notice, Answer, Event, spend, report, ask, read_file, find_file, list_folder, Reply, Program, returns, fails, stops, does}
 use Rattle.kc_macros_model.specs.ReadingStates.{ExpandedFile}
 use Rattle.kc_macros_model.specs.TreeExpansion.{tree_read}
 
--- the outside of a reading: answers to questions, the bytes of paths, the names in folders (whose paths are empty or end in `/`)
+-- The outside of a reading: answers to questions, the bytes of paths that can be read, at which other paths a file is that can't be
+-- read, and the names in folders (whose paths are empty or end in `/`); `None` for a folder that is there and can't be listed.
 pub record World : Type 0 where
   pub answer : List ℕ → Option Answer
   pub bytes : List ℕ → Option (List ℕ)
-  pub names : List ℕ → List (List ℕ)
+  pub unreadable : List ℕ → Bool
+  pub names : List ℕ → Option (List (List ℕ))
+
+-- whether a file is at a path in a world, also one that can't be read
+abbrev pub has_file : World → List ℕ → Bool
+has_file w path = is_some (w.bytes path) || w.unreadable path
 
 -- the reply of a world, with its answers, files and folders, to an event of a program
 abbrev pub reply : World → (event : Event) → Reply event
@@ -19,6 +25,7 @@ reply w (spend at work) = tt {0}
 reply w (report notice) = tt {0}
 reply w (ask at question) = w.answer question
 reply w (read_file path) = w.bytes path
+reply w (find_file path) = has_file w path
 reply w (list_folder folder) = w.names folder
 
 -- the notice that an event of a program reports, or none

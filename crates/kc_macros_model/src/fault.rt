@@ -25,7 +25,8 @@ pub enum MacroKind {
     /// The line of a variable's assignment is continued by a backslash.
     #[error("JoinedAssignment")]
     JoinedAssignment,
-    /// The first file of the tree or a sourced file can't be found, or the path pattern of a `source` matches no file.
+    /// The first file of the tree or a sourced file can't be found, the path pattern of a `source` matches no file, or a file
+    /// that is there can't be read, or a folder that is there can't be listed.
     #[error("MissingFile")]
     MissingFile,
     /// A file is sourced while it is still being read: by itself, or by a file that it sources, directly or through others.

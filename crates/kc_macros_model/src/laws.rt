@@ -3,7 +3,7 @@ ghost use Rattle.kc_macros_model.specs.ExpansionLaws.{ExpansionKeepsTheRules, Ru
 ghost use Rattle.kc_macros_model.specs.SecondExpansionLaws.{NothingIsLeftToExpand, WrittenLinesStay};
 ghost use Rattle.kc_macros_model.specs.PlainLines.{LinesWithoutDollars, PlainLinesStay, PlainFilesStay, PlainTreesStay};
 ghost use Rattle.kc_macros_model.specs.ReadingLaws.{CountsAreBounded, TreeCountsAreBounded, KeysAreBounded, SourceKeysHaveFiles, KeysDiffer, FilesAreBounded, WorkIsBounded};
-ghost use Rattle.kc_macros_model.specs.TreeLaws.{AnswersNotAskedChangeNothing, ExpansionNeverStops, NothingWantedIsExpanded, NothingWantedReturnsFiles, WantedIsNeeded, LinesAreKept};
+ghost use Rattle.kc_macros_model.specs.TreeLaws.{AnswersNotAskedChangeNothing, FailedReadsChangeNothing, ExpansionNeverStops, NothingWantedIsExpanded, NothingWantedReturnsFiles, WantedIsNeeded, LinesAreKept};
 
 /// The expansion of a text agrees with the rules of macro expansion: it returns only values that the rules give, and each of
 /// them, unless it exceeds a limit or a variable needs its own value.
@@ -27,6 +27,12 @@ pub fn values_are_bounded()
 /// The expansion of a tree depends only on its files and on the answers to the questions that it asks.
 pub fn answers_not_asked_change_nothing()
     ensures { AnswersNotAskedChangeNothing }
+{}
+
+/// An expansion that returns files is that of the tree whose files can all be read and whose folders can all be listed: a file or a
+/// folder that fails ends the expansion by a fault, and is never passed over.
+pub fn failed_reads_change_nothing()
+    ensures { FailedReadsChangeNothing }
 {}
 
 /// The expansion of a tree ends with the expanded files or with a fault, and never stops for want of an answer.

@@ -1,22 +1,31 @@
 -- Lines of members, grouped by the units of their choices.
-use Rattle.std.proofs.Common.{◌≡◌, ◌≢◌, inl, inr, ℕ, zero, suc, ◌+◌, ◌<◌, Bool, true, false, ◌&&◌, ◌==◌, eq-eqb, cond, filter, List, [], ◌∷◌, ◌++◌, length, map, take, drop, get_or, Option, Some, None, Result, IfOk, refl, sym, ◌∙◌, ap, arith}
+use Rattle.std.proofs.Common.{◌≡◌, ◌≢◌, inl, inr, ℕ, zero, suc, ◌+◌, ◌<◌, ◌≤◌, Bool, true, false, ◌==◌, eq-eqb, cond, List, [], ◌∷◌, ◌++◌, length, map, take, drop, get_or, Option, Some, None, Result, IfOk, refl, sym, ◌∙◌, ap, arith}
 use Rattle.std.specs.Global.{Vec}
 use Rattle.std.specs.declared.alloc.AllocError.{AllocError}
 use Rattle.std.proofs.lemmas.Result.{IfOk-weaker}
-use Rattle.std.specs.Prelude.{unwrap_or, slice_get, slice_set, slice_index_or}
+use Rattle.std.specs.Prelude.{unwrap_or, slice_get}
 use Rattle.std.proofs.lemmas.Bool.{cases_eq, ne_eqb}
-use Rattle.kc_minimal.specs.checker.LineGroups.{group_at}
-use Rattle.std.specs.List.{filter_map, range_with_len, cons_option}
+use Rattle.kc_minimal.specs.checker.LineGroups.{group_in, group_more, lines_at, line_from}
+use Rattle.std.specs.List.{filter_map, range_with_len, cons_option, AllByRecursion}
+use Rattle.std.specs.List.Sorted.{IsStrictlySortedBy}
+use Rattle.std.specs.Map.{lookup, keys_of}
+use Rattle.std.specs.BTreeMap.{is_at, insert_entry}
+use Rattle.std.specs.Ordering.{nat_cmp}
+use Rattle.std.specs.declared.cmp.Ordering.TheVariants.{Less}
+use Rattle.std.proofs.lemmas.Cmp.{ranked}
+use Rattle.std.proofs.lemmas.Map.Keys.{sorted_head, sorted_tail}
+use Rattle.std.proofs.lemmas.Option.{slice_get_past}
 use Rattle.std.specs.Option.{option_map, option_or, option_and_then}
 use Rattle.std.proofs.lemmas.List.{append-nil, append_assoc, take_more, map-append, at_drop_more}
 use Rattle.std.proofs.lemmas.List.Elements.{filter-append}
+use Rattle.kc_dotconfig.proofs.GatheredLines.{at_same, at_other, found_same, found_other}
 use Rattle.kc_system.proofs.Lists.{get-some}
 use Rattle.kc_tree_model.specs.Trees.{Tree, Choice}
 use Rattle.kc_tree_model.specs.declared.ids.Unit.{Unit as TreeUnit}
 use Rattle.kc_tree_model.specs.declared.ids.Unit.TheVariants.{Symbol as of_symbol, Choice as of_choice}
 use Rattle.kc_rules_model.specs.declared.values.UnitValue.{UnitValue}
 use Rattle.kc_dotconfig_model.specs.declared.choice_line.ChoiceLine.{ChoiceLine}
-use Rattle.kc_dotconfig_model.specs.OtherChoices.{has_no_version, placed_from, lines_of, last_line, last_n_line, noticed_line, other_line, other_line_of_unit, other_places, place_of, other_choices_of}
+use Rattle.kc_dotconfig_model.specs.OtherChoices.{has_no_version, placed_from, lines_of, last_line, noticed_line, other_line, other_line_of_unit, other_places, place_of, other_choices_of}
 
 -- files with one more
 pub placed_more : (f : ℕ) (files : List (List ChoiceLine)) (lines : List ChoiceLine)
@@ -85,39 +94,131 @@ module _ (tree : Tree) (values : List UnitValue) where
       ap (map place_of) (nothing_found (λ u. other_line_of_unit tree values u (slice_get tree.units u) [])
       (λ u. none_without_lines u (slice_get tree.units u) [] refl) (range_with_len 0 (length tree.units)))
 
--- the group at an index after another group is put somewhere
-set_same : (groups : List (Vec (ℕ × ChoiceLine))) (u : ℕ) (new : Vec (ℕ × ChoiceLine)) → u < length groups → group_at (slice_set groups u new) u ≡ new.items
-set_same [] u new h = absurd (omega arith)
-set_same (g ∷ groups) zero new h = refl
-set_same (g ∷ groups) (suc u) new h = set_same groups u new (omega arith)
-
-set_other : (groups : List (Vec (ℕ × ChoiceLine))) (w u : ℕ) (new : Vec (ℕ × ChoiceLine)) → u ≢ w → group_at (slice_set groups w new) u ≡ group_at groups u
-set_other [] w u new other = refl
-set_other (g ∷ groups) zero zero new other = absurd (other refl)
-set_other (g ∷ groups) zero (suc u) new other = refl
-set_other (g ∷ groups) (suc w) zero new other = refl
-set_other (g ∷ groups) (suc w) (suc u) new other = set_other groups w u new (λ e. other (ap suc e))
-
-held_at : (groups : List (Vec (ℕ × ChoiceLine))) (u : ℕ) (old : Vec (ℕ × ChoiceLine)) → old ≡ slice_index_or groups u old → u < length groups
-    → group_at groups u ≡ old.items
-held_at [] u old e h = absurd (omega arith)
-held_at (g ∷ groups) zero old e h = ap (λ (v : Vec (ℕ × ChoiceLine)). v.items) (sym e)
-held_at (g ∷ groups) (suc u) old e h = held_at groups u old e (omega arith)
-
--- a line that is added to a group
-pub group_pushed : (groups : List (Vec (ℕ × ChoiceLine))) (w : ℕ) (old new : Vec (ℕ × ChoiceLine)) (l : ℕ × ChoiceLine) → old ≡ slice_index_or groups w old
-    → new.items ≡ old.items ++ l ∷ [] → (u : ℕ) → u < length groups
-    → group_at (slice_set groups w new) u ≡ group_at groups u ++ cond (w == u) (l ∷ []) []
-group_pushed groups w old new l held pushed u h = elim (cases_eq u w) [
+-- the groups after a unit that has none gets one of one line
+pub group_inserted : (old new : List (ℕ × Vec (ℕ × ChoiceLine))) (unit : ℕ) (group : Vec (ℕ × ChoiceLine)) (l : ℕ × ChoiceLine)
+    → new ≡ insert_entry nat_cmp old unit group → group.items ≡ l ∷ [] → lookup (is_at (nat_cmp unit)) old ≡ None
+    → (u : ℕ) → group_in new u ≡ cond (u == unit) (group_more (group_in old u) l) (group_in old u)
+group_inserted old new unit group l is own none u = elim (cases_eq u unit) [
   | inl same ↦
-      let here : w < length groups = omega arith in
-      ap (group_at (slice_set groups w new)) same ∙ set_same groups w new here ∙ pushed
-      ∙ ap (λ ls. ls ++ l ∷ []) (sym (held_at groups w old held here)) ∙ ap (λ k. group_at groups k ++ l ∷ []) (sym same)
-      ∙ ap (λ b. group_at groups u ++ cond b (l ∷ []) []) (sym (eq-eqb w u (sym same)))
+      ap (λ k. group_in new k) same ∙ ap (λ es. group_in es unit) is
+      ∙ ap (option_map (λ (v : Vec (ℕ × ChoiceLine)). v.items)) (found_same old unit group) ∙ ap (λ ls. Some ls) own
+      ∙ ap (λ o. group_more (option_map (λ (v : Vec (ℕ × ChoiceLine)). v.items) o) l) (sym none)
+      ∙ ap (λ k. group_more (group_in old k) l) (sym same)
+      ∙ ap (λ b. cond b (group_more (group_in old u) l) (group_in old u)) (sym (eq-eqb u unit same))
   | inr other ↦
-      set_other groups w u new other ∙ sym (append-nil (group_at groups u))
-      ∙ ap (λ b. group_at groups u ++ cond b (l ∷ []) []) (sym (ne_eqb w u (λ e. other (sym e))))
+      ap (λ es. group_in es u) is ∙ ap (option_map (λ (v : Vec (ℕ × ChoiceLine)). v.items)) (found_other old u unit group other)
+      ∙ ap (λ b. cond b (group_more (group_in old u) l) (group_in old u)) (sym (ne_eqb u unit other))
 ]
+
+-- the lines in the group of a unit after a line is added to the group of its choice's unit
+pub line_grouped : (old new : Option (List (ℕ × ChoiceLine))) (l : ℕ × ChoiceLine) (u : ℕ) → new ≡ cond (u == l.1.unit) (group_more old l) old
+    → unwrap_or new [] ≡ unwrap_or old [] ++ cond (l.1.unit == u) (l ∷ []) []
+line_grouped old new l u is = elim (cases_eq u l.1.unit) [
+  | inl same ↦
+      ap (λ o. unwrap_or o []) (is ∙ ap (λ b. cond b (group_more old l) old) (eq-eqb u l.1.unit same))
+      ∙ ap (λ b. unwrap_or old [] ++ cond b (l ∷ []) []) (sym (eq-eqb l.1.unit u (sym same)))
+  | inr other ↦
+      ap (λ o. unwrap_or o []) (is ∙ ap (λ b. cond b (group_more old l) old) (ne_eqb u l.1.unit other))
+      ∙ sym (append-nil (unwrap_or old []))
+      ∙ ap (λ b. unwrap_or old [] ++ cond b (l ∷ []) []) (sym (ne_eqb l.1.unit u (λ e. other (sym e))))
+]
+
+-- numbers from one on are from each smaller one on
+from_less : (a b : ℕ) (us : List ℕ) → a ≤ b → AllByRecursion (λ u. b ≤ u) us → AllByRecursion (λ u. a ≤ u) us
+from_less a b [] h all = tt
+from_less a b (u ∷ us) h all = ((let more = all.0 in omega arith), from_less a b us h all.1)
+
+from_zero : (us : List ℕ) → AllByRecursion (λ u. 0 ≤ u) us
+from_zero [] = tt
+from_zero (u ∷ us) = (omega arith, from_zero us)
+
+-- where units ascend, all after the first are greater
+above_first : (u : ℕ) (us : List ℕ) → IsStrictlySortedBy nat_cmp (u ∷ us) → AllByRecursion (λ w. suc u ≤ w) us
+above_first u us rising = each us (sorted_head nat_cmp u us rising) where
+  each : (ws : List ℕ) → AllByRecursion (λ w. nat_cmp u w ≡ Less) ws → AllByRecursion (λ w. suc u ≤ w) ws
+  each [] all = tt
+  each (w ∷ ws) all = ((let less : u < w = ranked u w Less (sym all.0) in omega arith), each ws all.1)
+
+-- the lines of the first group, and of the others
+first_group : (g : ℕ × Vec (ℕ × ChoiceLine)) (groups : List (ℕ × Vec (ℕ × ChoiceLine))) → lines_at (g ∷ groups) g.0 ≡ g.1.items
+first_group g groups = ap (λ b. unwrap_or (option_map (λ (group : Vec (ℕ × ChoiceLine)). group.items) (cond b (Some g.1) (lookup (is_at (nat_cmp g.0)) groups))) []) (at_same g.0)
+
+other_group : (u : ℕ) (g : ℕ × Vec (ℕ × ChoiceLine)) (groups : List (ℕ × Vec (ℕ × ChoiceLine))) → u ≢ g.0 → lines_at (g ∷ groups) u ≡ lines_at groups u
+other_group u g groups apart = ap (λ b. unwrap_or (option_map (λ (group : Vec (ℕ × ChoiceLine)). group.items) (cond b (Some g.1) (lookup (is_at (nat_cmp u)) groups))) []) (at_other u g.0 apart)
+
+-- a unit below those of all groups has no lines
+none_below : (u : ℕ) (groups : List (ℕ × Vec (ℕ × ChoiceLine))) → AllByRecursion (λ w. suc u ≤ w) (keys_of groups) → lines_at groups u ≡ []
+none_below u [] all = refl
+none_below u (g ∷ groups) all =
+    let apart : u ≢ g.0 = (let more = all.0 in omega arith) in
+    other_group u g groups apart ∙ none_below u groups all.1
+
+module _ (tree : Tree) (values : List UnitValue) (lines : List (ℕ × ChoiceLine)) where
+  abbrev pub by_group : ℕ × Vec (ℕ × ChoiceLine) → Option (ℕ × ChoiceLine)
+  by_group g = line_from tree values g.0 (slice_get tree.units g.0) g.1.items
+
+  abbrev by_unit : ℕ → Option (ℕ × ChoiceLine)
+  by_unit u = other_line_of_unit tree values u (slice_get tree.units u) lines
+
+  same_line : (u : ℕ) (unit : Option TreeUnit) (group : List (ℕ × ChoiceLine)) → group ≡ lines_of u lines
+      → line_from tree values u unit group ≡ other_line_of_unit tree values u unit lines
+  same_line u None group e = refl
+  same_line u (Some (of_symbol s)) group e = refl
+  same_line u (Some (of_choice c)) group e =
+      ap (λ own. option_and_then (λ (choice : Choice). other_line tree values choice (slice_get values u) own) (slice_get tree.choices c)) e
+
+  -- groups past the last unit give no line
+  past_units : (a : ℕ) (groups : List (ℕ × Vec (ℕ × ChoiceLine))) → length tree.units ≤ a → AllByRecursion (λ u. a ≤ u) (keys_of groups)
+      → filter_map by_group groups ≡ []
+  past_units a [] h all = refl
+  past_units a (g ∷ groups) h all =
+      let past : slice_get tree.units g.0 ≡ None = slice_get_past tree.units g.0 (let more = all.0 in omega arith) in
+      ap (λ o. cons_option o (filter_map by_group groups)) (ap (λ unit. line_from tree values g.0 unit g.1.items) past)
+      ∙ past_units a groups h all.1
+
+  -- a unit without lines gives no line
+  skipped : (n a : ℕ) → lines_of a lines ≡ [] → filter_map by_unit (range_with_len a (suc n)) ≡ filter_map by_unit (range_with_len (a + 1) n)
+  skipped n a none =
+      ap (λ o. cons_option o (filter_map by_unit (range_with_len (a + 1) n))) (none_without_lines tree values a (slice_get tree.units a) lines none)
+
+  -- the groups are in order of units, from this one on, and have the lines of these units
+  abbrev FromUnit : ℕ → List (ℕ × Vec (ℕ × ChoiceLine)) → Type 0
+  FromUnit a groups = IsStrictlySortedBy nat_cmp (keys_of groups) × AllByRecursion (λ u. a ≤ u) (keys_of groups) × ((u : ℕ) → a ≤ u → lines_at groups u ≡ lines_of u lines)
+
+  -- one unit more before those that groups give the lines of
+  one_unit : (n a : ℕ) (groups : List (ℕ × Vec (ℕ × ChoiceLine))) → FromUnit a groups
+      → ((others : List (ℕ × Vec (ℕ × ChoiceLine))) → FromUnit (a + 1) others → filter_map by_group others ≡ filter_map by_unit (range_with_len (a + 1) n))
+      → filter_map by_group groups ≡ filter_map by_unit (range_with_len a (suc n))
+  one_unit n a [] from next = next [] (from.0, tt, λ u h. from.2 u (omega arith)) ∙ sym (skipped n a (sym (from.2 a (omega arith))))
+  one_unit n a (g ∷ groups) from next = elim (cases_eq a g.0) [
+    | inl here ↦
+        let further : AllByRecursion (λ u. suc g.0 ≤ u) (keys_of groups) = above_first g.0 (keys_of groups) from.0 in
+        let own_lines : g.1.items ≡ lines_of g.0 lines = sym (first_group g groups) ∙ from.2 g.0 (omega arith) in
+        ap (λ o. cons_option o (filter_map by_group groups)) (same_line g.0 (slice_get tree.units g.0) g.1.items own_lines ∙ ap by_unit (sym here))
+        ∙ ap (cons_option (by_unit a))
+        (next groups (
+          sorted_tail nat_cmp g.0 (keys_of groups) from.0,
+          from_less (a + 1) (suc g.0) (keys_of groups) (omega arith) further,
+          λ u h. let apart : u ≢ g.0 = omega arith in sym (other_group u g groups apart) ∙ from.2 u (omega arith),
+        ))
+    | inr apart ↦
+        let first : suc a ≤ g.0 = (let more = from.1.0 in omega arith) in
+        let further : AllByRecursion (λ u. suc a ≤ u) (keys_of (g ∷ groups)) =
+        (first, from_less (suc a) (suc g.0) (keys_of groups) (omega arith) (above_first g.0 (keys_of groups) from.0)) in
+        next (g ∷ groups) (from.0, from_less (a + 1) (suc a) (keys_of (g ∷ groups)) (omega arith) further, λ u h. from.2 u (omega arith))
+        ∙ sym (skipped n a (sym (from.2 a (omega arith)) ∙ none_below a (g ∷ groups) further))
+  ]
+
+  -- groups in order of units give the lines that all units give
+  by_groups : (n a : ℕ) (groups : List (ℕ × Vec (ℕ × ChoiceLine))) → FromUnit a groups → a + n ≡ length tree.units
+      → filter_map by_group groups ≡ filter_map by_unit (range_with_len a n)
+  by_groups zero a groups from count = past_units a groups (omega arith) from.1
+  by_groups (suc n) a groups from count = one_unit n a groups from (λ others further. by_groups n (a + 1) others further (omega arith))
+
+  pub places_of_groups : (groups : List (ℕ × Vec (ℕ × ChoiceLine))) (found : List (ℕ × ℕ)) → IsStrictlySortedBy nat_cmp (keys_of groups)
+      → ((u : ℕ) → lines_at groups u ≡ lines_of u lines) → found ≡ map place_of (filter_map by_group groups) → found ≡ other_places tree values lines
+  places_of_groups groups found rising own is =
+      is ∙ ap (map place_of) (by_groups (length tree.units) 0 groups (rising, from_zero (keys_of groups), λ u h. own u) (omega arith))
 
 taken_length : (files : List (Vec ChoiceLine)) (k : ℕ) → k < length files → length (map (λ (f : Vec ChoiceLine). f.items) (take k files)) ≡ k
 taken_length [] k h = absurd (omega arith)
@@ -142,17 +243,17 @@ placed_next files k own added lines new h is same before after =
     ∙ ap (map (λ (f : Vec ChoiceLine). f.items)) (sym (take_more files k own h)))
 
 -- the line with the notice on a unit that is a choice, from that of the choice
-pub line_of_choice : (tree : Tree) (values : List UnitValue) (u c : ℕ) (lines all : List (ℕ × ChoiceLine)) (r : Result (Option (ℕ × ChoiceLine)) AllocError)
-    → slice_get tree.units u ≡ Some (of_choice c) → c < length tree.choices → lines ≡ lines_of u all
+pub line_of_choice : (tree : Tree) (values : List UnitValue) (u c : ℕ) (lines : List (ℕ × ChoiceLine)) (r : Result (Option (ℕ × ChoiceLine)) AllocError)
+    → slice_get tree.units u ≡ Some (of_choice c) → c < length tree.choices
     → ((choice : Choice) → slice_get tree.choices c ≡ Some choice → IfOk r (λ line. line ≡ other_line tree values choice (slice_get values u) lines))
-    → IfOk r (λ line. line ≡ other_line_of_unit tree values u (slice_get tree.units u) all)
-line_of_choice tree values u c lines all r unit within own found =
+    → IfOk r (λ line. line ≡ line_from tree values u (slice_get tree.units u) lines)
+line_of_choice tree values u c lines r unit within found =
     let some = get-some tree.choices c within in
     IfOk-weaker r (λ line. line ≡ other_line tree values some.0 (slice_get values u) lines)
-    (λ line. line ≡ other_line_of_unit tree values u (slice_get tree.units u) all)
-    (λ line is. is ∙ ap (other_line tree values some.0 (slice_get values u)) own
-    ∙ sym (ap (λ o. other_line_of_unit tree values u o all) unit
-    ∙ ap (λ o. option_and_then (λ (choice : Choice). other_line tree values choice (slice_get values u) (lines_of u all)) o) some.1))
+    (λ line. line ≡ line_from tree values u (slice_get tree.units u) lines)
+    (λ line is. is
+    ∙ sym (ap (λ o. line_from tree values u o lines) unit
+    ∙ ap (λ o. option_and_then (λ (choice : Choice). other_line tree values choice (slice_get values u) lines) o) some.1))
     (found some.0 some.1)
 
 -- without lines there are no notices

@@ -35,11 +35,14 @@ one_given : {A : Type 0} (o : Option A) → option_to_list o ≡ cons_option o [
 one_given None = refl
 one_given (Some x) = refl
 
--- the list of what is found for the numbers below `n`, with what is found for `n` after it, is the list for the numbers below `n
--- + 1`
+-- the list of what is found for some items, with what is found for one more after it, is the list for the items and this one
+pub found_next : {A B C : Type 0} (t : B → C) (f : A → Option B) (xs : List A) (x : A) (found new : List C) → found ≡ map t (filter_map f xs)
+    → new ≡ found ++ map t (option_to_list (f x)) → new ≡ map t (filter_map f (xs ++ x ∷ []))
+found_next t f xs x found new is more =
+    more ∙ ap (λ l. l ++ map t (option_to_list (f x))) is ∙ ap (λ l. map t (filter_map f xs) ++ map t l) (one_given (f x))
+    ∙ sym (map-append t (filter_map f xs) (filter_map f (x ∷ []))) ∙ ap (map t) (sym (filter_map-append f xs (x ∷ [])))
+
+-- the same for the numbers below `n` and the number `n`
 pub found_more : {A B : Type 0} (t : A → B) (f : ℕ → Option A) (n : ℕ) (found new : List B) → found ≡ map t (filter_map f (range_with_len 0 n))
     → new ≡ found ++ map t (option_to_list (f n)) → new ≡ map t (filter_map f (range_with_len 0 (n + 1)))
-found_more t f n found new is more =
-    more ∙ ap (λ l. l ++ map t (option_to_list (f n))) is ∙ ap (λ l. map t (filter_map f (range_with_len 0 n)) ++ map t l) (one_given (f n))
-    ∙ sym (map-append t (filter_map f (range_with_len 0 n)) (filter_map f (n ∷ []))) ∙ ap (map t) (sym (filter_map-append f (range_with_len 0 n) (n ∷ [])))
-    ∙ ap (λ l. map t (filter_map f l)) (sym (range_next n))
+found_more t f n found new is more = found_next t f (range_with_len 0 n) n found new is more ∙ ap (λ l. map t (filter_map f l)) (sym (range_next n))

@@ -1,6 +1,9 @@
 //! Choices of which lines select another member by the rules of Linux from 6.10 on than by those before.
 ghost use Rattle.std.specs.Prelude.{◌≡◌, ◌<◌, ◌==◌, ◌∷◌, ◌++◌, [], ℕ, Some, None, length, map, option_to_list, slice_get, IfOk, OnOk, if◌then◌else◌};
 ghost use Rattle.std.specs.Global.{Vec};
+ghost use Rattle.std.specs.List.Sorted.{IsStrictlySortedBy};
+ghost use Rattle.std.specs.Map.{keys_of};
+ghost use Rattle.std.specs.Ordering.{nat_cmp};
 ghost use Rattle.kc_dotconfig_model.specs.declared.choice_line.ChoiceLine.{ChoiceLine as TheLine};
 ghost use Rattle.kc_tree_model.specs.Trees.{Choice as TheChoice};
 ghost use Rattle.kc_rules_model.specs.declared.values.UnitValue.TheVariants.{Member as MemberValue};
@@ -8,13 +11,14 @@ ghost use Rattle.kc_rules_model.specs.Equality.{value_is};
 ghost use Rattle.kc_rules_model.specs.SymbolValues.{member_of};
 ghost use Rattle.kc_rules.specs.between.SettledViews.{tree_of_settled};
 ghost use Rattle.kc_dotconfig_model.specs.OtherChoices.{has_no_version, placed_from, lines_of, given_by, last_line, last_n_line, noticed_line, other_member, other_line, other_line_of_unit, place_of, other_places, other_choices_of};
-ghost use Rattle.kc_minimal.specs.checker.LineGroups.{group_at};
+ghost use Rattle.kc_minimal.specs.checker.LineGroups.{group_in, group_more, lines_at, line_from};
 
 use kc_dotconfig::{ChoiceLine, last_lines};
 use kc_rules::{MemberLine, Settled, UnitValue};
 use kc_tokens::{Language, LinuxVersion};
 use kc_tree::{Sym, Unit};
 use std::alloc::{AllocError, Global};
+use std::collections::BTreeMap;
 
 /// Appends the lines of members in a file to those of the files before it, each with the number of the file.
 pub fn add_lines(
@@ -54,49 +58,65 @@ fn has_no_version(language: Language) -> bool
     }
 }
 
-/// A group without lines for each of so many units.
-fn empty_groups(alloc: Global, units: u32) -> Result<Vec<Vec<(usize, ChoiceLine)>>, AllocError>
-    ensures count { IfOk result (λ groups. length groups.items ≡ units) }
-    ensures empty { IfOk result (λ groups. (u : ℕ) → group_at groups.items u ≡ []) }
+/// One line.
+fn one_line(
+    alloc: Global,
+    line: (usize, ChoiceLine),
+) -> Result<Vec<(usize, ChoiceLine)>, AllocError>
+    ensures { IfOk result (λ lines. lines.items ≡ line ∷ []) }
 {
-    let mut groups = Vec::with_capacity(alloc, units as usize)?;
-    for _unit in 0..units {
-        groups.push(Vec::new(alloc))?;
-    }
-    Ok(groups)
+    let mut lines = Vec::with_capacity(alloc, 1)?;
+    lines.push(line)?;
+    Ok(lines)
 }
 
-/// Adds a line to the group of its choice's unit, if there is one.
+/// Adds a line to the group of a unit.
 fn group_line(
-    groups: &mut Vec<Vec<(usize, ChoiceLine)>>,
+    alloc: Global,
+    groups: &mut BTreeMap<u32, Vec<(usize, ChoiceLine)>>,
+    unit: u32,
     line: (usize, ChoiceLine),
 ) -> Result<(), AllocError>
-    ensures count { OnOk result (length groups.new.items ≡ length groups.old.items) }
-    ensures groups { OnOk result ((u : ℕ) → u < length groups.old.items → group_at groups.new.items u ≡ group_at groups.old.items u ++ (if line.1.unit == u then line ∷ [] else [])) }
+    ensures { OnOk result ((u : ℕ) → group_in groups.new.entries u ≡ (if u == unit then group_more (group_in groups.old.entries u) line else group_in groups.old.entries u)) }
 {
-    match groups.get_mut(line.1.unit as usize) {
-        Some(group) => {
-            group.push(line)?;
+    if let Some(group) = groups.get_mut(&unit) {
+        group.push(line)?;
+        return Ok(());
+    }
+    let group = one_line(alloc, line)?;
+    match groups.insert(unit, group) {
+        Ok(before) => {
+            drop(before);
             Ok(())
         }
-        None => Ok(()),
+        Err(_) => Err(AllocError),
     }
 }
 
-/// The lines of the choice of each unit.
+/// The lines of each choice that has lines, by its unit.
 fn grouped(
     alloc: Global,
-    units: u32,
     lines: &[(usize, ChoiceLine)],
-) -> Result<Vec<Vec<(usize, ChoiceLine)>>, AllocError>
-    ensures count { IfOk result (λ groups. length groups.items ≡ units) }
-    ensures groups { IfOk result (λ groups. (u : ℕ) → u < units → group_at groups.items u ≡ lines_of u lines.now) }
+) -> Result<BTreeMap<u32, Vec<(usize, ChoiceLine)>>, AllocError>
+    ensures { IfOk result (λ groups. (u : ℕ) → lines_at groups.entries u ≡ lines_of u lines.now) }
 {
-    let mut groups = empty_groups(alloc, units)?;
+    let mut groups = BTreeMap::new(alloc);
     for line in lines {
-        group_line(&mut groups, *line)?;
+        group_line(alloc, &mut groups, line.1.unit, *line)?;
     }
     Ok(groups)
+}
+
+/// The lines of each choice that has lines, in order of units.
+fn groups_of(
+    alloc: Global,
+    lines: &[(usize, ChoiceLine)],
+) -> Result<Vec<(u32, Vec<(usize, ChoiceLine)>)>, AllocError>
+    ensures groups { IfOk result (λ groups. (u : ℕ) → lines_at groups.items u ≡ lines_of u lines.now) }
+    ensures rising { IfOk result (λ groups. IsStrictlySortedBy nat_cmp (keys_of groups.items)) }
+{
+    let groups = grouped(alloc, lines)?;
+    groups.into_iter().collect(alloc)
 }
 
 /// The last line of a member.
@@ -211,27 +231,37 @@ fn other_line(
     Ok(noticed_line(member_of(values, u), other, lines))
 }
 
-/// The line with the notice on a unit, if it is a choice with a notice, from the lines of the choice.
+/// The line with the notice on a unit of the tree, if it is a choice with a notice, from the lines of the choice.
 fn line_of_unit(
     alloc: Global,
     settled: &Settled,
     values: &[UnitValue],
     u: u32,
     lines: &[(usize, ChoiceLine)],
-    all: &[(usize, ChoiceLine)],
 ) -> Result<Option<(usize, ChoiceLine)>, AllocError>
     requires there { u < length (tree_of_settled settled.now).units }
-    requires lines { lines.now ≡ lines_of u all.now }
-    ensures value { let tree = tree_of_settled settled.now in IfOk result (λ line. line ≡ other_line_of_unit tree values.now u (slice_get tree.units u) all.now) }
+    ensures value { let tree = tree_of_settled settled.now in IfOk result (λ line. line ≡ line_from tree values.now u (slice_get tree.units u) lines.now) }
 {
-    let _ = all;
-    if lines.is_empty() {
-        return Ok(None);
-    }
     match settled.tree().unit(u) {
         Unit::Symbol(_) => Ok(None),
         Unit::Choice(c) => other_line(alloc, settled, values, c, u, lines),
     }
+}
+
+/// The line with the notice on a unit, if the tree has it and it is a choice with a notice, from the lines of the choice.
+fn line_of_group(
+    alloc: Global,
+    settled: &Settled,
+    values: &[UnitValue],
+    u: u32,
+    lines: &[(usize, ChoiceLine)],
+) -> Result<Option<(usize, ChoiceLine)>, AllocError>
+    ensures value { let tree = tree_of_settled settled.now in IfOk result (λ line. line ≡ line_from tree values.now u (slice_get tree.units u) lines.now) }
+{
+    if u >= settled.tree().len() {
+        return Ok(None);
+    }
+    line_of_unit(alloc, settled, values, u, lines)
 }
 
 /// Appends the place of a line, if there is one.
@@ -276,12 +306,10 @@ fn other_places(
 ) -> Result<Vec<(usize, u32)>, AllocError>
     ensures { IfOk result (λ found. found.items ≡ other_places (tree_of_settled settled.now) values.now lines.now) }
 {
-    let units = settled.tree().len();
-    let groups = grouped(alloc, units, lines)?;
+    let groups = groups_of(alloc, lines)?;
     let mut found = Vec::new(alloc);
-    for u in 0..units {
-        let group = groups[u as usize].as_slice();
-        let line = line_of_unit(alloc, settled, values, u, group, lines)?;
+    for (u, group) in groups {
+        let line = line_of_group(alloc, settled, values, u, &group)?;
         push_place(&mut found, line)?;
     }
     Ok(found)

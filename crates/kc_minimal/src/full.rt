@@ -12,8 +12,7 @@ ghost use Rattle.kc_minimal_model.specs.FullFile.{has_second_space, heading, end
 ghost use Rattle.kc_minimal.specs.checker.Drafts.{IsDraft};
 
 use crate::symbol_line::{is_n, push_symbol};
-use kc_dotconfig::is_unset_text;
-use kc_dotconfig_model::{Format, Prefix};
+use kc_dotconfig_model::{Format, Prefix, is_unset_text};
 use kc_expr::ExprId;
 use kc_rules::{Settled, UnitValue};
 use kc_tree::{Entry, Sym};

@@ -10,14 +10,15 @@ use Rattle.kc_system.specs.LeastAssignments.{IsCutTo}
 use Rattle.kc_rules_model.specs.declared.profile.Profile.{Profile}
 use Rattle.kc_rules_model.specs.declared.values.UnitValue.{UnitValue}
 use Rattle.kc_rules_model.specs.declared.values.UserValue.{UserValue}
+use Rattle.kc_rules_model.specs.declared.values.UserValue.TheVariants.{Text as TextUser}
 use Rattle.kc_rules_model.specs.Shapes.{user_fits}
 use Rattle.kc_dotconfig_model.specs.Formats.{FileFormat}
-use Rattle.kc_dotconfig_model.specs.ConfigLines.{LineMeaning, assigns, unchosen, notice, silent}
+use Rattle.kc_dotconfig_model.specs.ConfigLines.{LineMeaning, assigns, assigns_escaped, unchosen, notice, silent}
 use Rattle.kc_dotconfig_model.specs.ConfigFiles.{file_assignment, over, assigned_over, empty_assignment}
 use Rattle.kc_dotconfig_model.proofs.FittingFiles.{file_fits}
 use Rattle.kc_minimal_model.specs.MinimalFile.{has_line, minimal_symbols}
 use Rattle.kc_rules_model.proofs.OrderedTrees.{IsOrderedTree, ordered_tree}
-use Rattle.kc_minimal_model.specs.CanonicalText.{HasUnitsOfLines, HasValuesOfLines, FilesAssignTheLines, assigned_units}
+use Rattle.kc_minimal_model.specs.CanonicalText.{HasUnitsOfLines, HasValuesOfLines, AssignsTheLines, FilesAssignTheLines, assigned_units}
 use Rattle.kc_minimal_model.specs.FileValues.{ReadsTo}
 use Rattle.std.specs.Cmp.{IsEquivalence}
 use Rattle.std.proofs.lemmas.Map.Made.{length-le_from_is_member}
@@ -49,6 +50,13 @@ eqb_laws = record {
 by_a_line : (meanings : List LineMeaning) (held : List (Option UserValue)) (u : ℕ) → is_some (user_of (assigned_over meanings held) u) ≡ true
     → (is_some (user_of held u) ≡ true) ⊎ (list_any (eqb u) (assigned_units meanings) ≡ true)
 by_a_line [] held u some = inl some
+by_a_line (assigns_escaped w text ∷ meanings) held u some = elim (by_a_line meanings (slice_set held w (Some (TextUser text))) u some) [
+  | inl before ↦ elim (cases_eq u w) [
+    | inl same ↦ inr (or_left (eqb u w) (list_any (eqb u) (assigned_units meanings)) (eq-eqb u w same))
+    | inr other ↦ inl (ap is_some (sym (get_or-set_other held w u (Some (TextUser text)) None other)) ∙ before)
+  ]
+  | inr later ↦ inr (or_right (eqb u w) (list_any (eqb u) (assigned_units meanings)) later)
+]
 by_a_line (unchosen w s ∷ meanings) held u some = by_a_line meanings held u some
 by_a_line (notice kind ∷ meanings) held u some = by_a_line meanings held u some
 by_a_line (silent ∷ meanings) held u some = by_a_line meanings held u some
@@ -110,18 +118,18 @@ module _ (format : FileFormat) (profile : Profile) (tree : Tree) (settled : IsOr
       (needs_units profile tree held values settled fitting reads.gives.solves held keeps cut).0 reads.gives s has
 
   -- a file that gives the values assigns to the unit of each line of their minimal file
-  pub assigns_each : HasUnitsOfLines profile tree values (λ u. list_any (eqb u) (assigned_units reads.meanings))
+  assigns_each : HasUnitsOfLines profile tree values (λ u. list_any (eqb u) (assigned_units reads.meanings))
   assigns_each s has = elim (by_a_line reads.meanings (empty_assignment tree) (unit_of tree s) (held_each s has)) [
     | inl before ↦ absurd (false≢true (sym (ap is_some (none_held (length tree.units) (unit_of tree s))) ∙ before))
     | inr line ↦ line
   ]
 
   -- a file that gives the values assigns the members, strings and numbers that the lines of their minimal file assign
-  pub assigns_values : HasValuesOfLines profile tree values (file_assignment tree reads.meanings)
+  assigns_values : HasValuesOfLines profile tree values (file_assignment tree reads.meanings)
   assigns_values = needs_values profile tree (file_assignment tree reads.meanings) values settled fitting reads.gives.solves
 
   -- a file that gives the values has at least as many lines that assign as their minimal file has lines
-  pub assigns_as_many : length (minimal_symbols profile tree values) ≤ length (assigned_units reads.meanings)
+  assigns_as_many : length (minimal_symbols profile tree values) ≤ length (assigned_units reads.meanings)
   assigns_as_many =
       let p = has_line profile tree values in
       let f = unit_of tree in
@@ -133,10 +141,8 @@ module _ (format : FileFormat) (profile : Profile) (tree : Tree) (settled : IsOr
       let same = length-map (filter p (symbol_numbers tree)) f in
       omega (arith, long, same)
 
+  pub assigns_lines : AssignsTheLines profile tree values (length (minimal_symbols profile tree values)) reads.meanings
+  assigns_lines = record { each = assigns_each; each_value = assigns_values; as_many = assigns_as_many }
+
 pub files_assign : FilesAssignTheLines
-files_assign format profile tree file values settled reads =
-    let ordered = ordered_tree tree settled in record {
-      each = assigns_each format profile tree ordered file values reads;
-      each_value = assigns_values format profile tree ordered file values reads;
-      as_many = assigns_as_many format profile tree ordered file values reads;
-    }
+files_assign format profile tree file values settled reads = assigns_lines format profile tree (ordered_tree tree settled) file values reads

@@ -34,7 +34,7 @@ use Rattle.kc_rules_model.specs.Shapes.{user_fits, unit_user_fits, symbol_user_f
 use Rattle.kc_rules_model.specs.Reports.{is_written, is_written_symbol, is_unselected, is_optional_choice, symbol_numbers}
 use Rattle.kc_rules_model.specs.checker.FrameLaw.{rules_frame}
 use Rattle.kc_tree_model.proofs.Lookups.{inside, place_is, unit_is}
-use Rattle.kc_dotconfig_model.specs.ConfigLines.{LineMeaning, assigns, unchosen, notice, silent}
+use Rattle.kc_dotconfig_model.specs.ConfigLines.{LineMeaning, assigns, assigns_escaped, unchosen, notice, silent}
 use Rattle.kc_dotconfig_model.specs.ConfigFiles.{over, assigned_over, file_assignment, empty_assignment}
 use Rattle.kc_dotconfig_model.proofs.Overlays.{over_none}
 use Rattle.kc_dotconfig_model.proofs.FittingFiles.{file_fits}
@@ -185,6 +185,7 @@ after_own : (language : Language) (values : List UnitValue) (u : ℕ) (meanings 
     → AllByRecursion (IsOwn language values) meanings → IsGiven language values u before (user_of held u)
     → IsGiven language values u (before || list_any (is_for u) meanings) (user_of (assigned_over meanings held) u)
 after_own language values u [] held before h own e = subst (λ b. IsGiven language values u b (user_of held u)) (sym (or_false before)) e
+after_own language values u (assigns_escaped w text ∷ meanings) held before h own e = absurd own.0
 after_own language values u (unchosen w s ∷ meanings) held before h own e = after_own language values u meanings held before h own.1 e
 after_own language values u (notice kind ∷ meanings) held before h own e = absurd own.0
 after_own language values u (silent ∷ meanings) held before h own e = after_own language values u meanings held before h own.1 e

@@ -20,7 +20,7 @@ use Rattle.kc_rules_model.specs.Shapes.{user_fits, value_fits, is_line}
 use Rattle.kc_rules_model.specs.Reports.{is_written, is_written_symbol}
 use Rattle.kc_value.specs.Lines.{has_no_byte, has_newline}
 use Rattle.kc_dotconfig_model.specs.PrefixGrammar.{is_name_prefix}
-use Rattle.kc_dotconfig_model.specs.ConfigLines.{LineMeaning, assigns, unchosen, notice, silent, Means}
+use Rattle.kc_dotconfig_model.specs.ConfigLines.{LineMeaning, assigns, assigns_escaped, unchosen, notice, silent, Means}
 use Rattle.kc_tree_model.specs.LogicalLines.{without_white_end}
 use Rattle.kc_dotconfig_model.specs.ConfigFiles.{FileMeans, file_lines, has_utf8_lines}
 use Rattle.kc_minimal_model.specs.SymbolLine.{symbol_line, ended_line}
@@ -38,6 +38,7 @@ use Rattle.kc_minimal_model.proofs.OwnLines.{IsOwn, own_line}
 -- whether a line of a configuration file gives the unit `u` a value; `n` of a member gives its choice none
 abbrev pub is_for : ℕ → LineMeaning → Bool
 is_for u (assigns w x) = nat_eq w u && gives x
+is_for u (assigns_escaped w text) = nat_eq w u
 is_for u (unchosen w s) = false
 is_for u (notice kind) = false
 is_for u silent = false

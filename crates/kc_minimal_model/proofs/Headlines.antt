@@ -1,9 +1,14 @@
 -- The headline, over the bytes of two files.
-use Rattle.std.proofs.Common.{◌≡◌, ℕ, true, List}
+use Rattle.std.proofs.Common.{◌≡◌, ℕ, true, List, length, subst, sym}
 use Rattle.kc_tree_model.specs.Trees.{Tree}
-use Rattle.kc_tree_model.specs.Contents.{tree_of_files}
+use Rattle.kc_tree_model.specs.TreeFiles.{Files}
+use Rattle.kc_tree_model.specs.TreeLookup.{IsConsistent}
+use Rattle.kc_tree_model.specs.TreesOfFiles.{IsTreeOfFiles}
 use Rattle.kc_tree_model.proofs.Consistency.Consistent.{tree_is_consistent}
+use Rattle.kc_tree_model.proofs.ReadingLaws.TreesOfRelation.{tree_related}
+use Rattle.kc_system.specs.Dependencies.{HasNoCycle}
 use Rattle.kc_rules_model.specs.declared.profile.Profile.{Profile}
+use Rattle.kc_rules_model.specs.Dependencies.{dependencies}
 use Rattle.kc_rules_model.specs.SettledTrees.{IsSettledTree}
 use Rattle.kc_rules_model.proofs.OrderedTrees.{ordered_tree}
 use Rattle.kc_rules_model.proofs.SolutionsFit.{solutions_fit}
@@ -48,7 +53,13 @@ differences_decide_files format profile tree a b left right valid settled fits_a
     let equal = same_files format valid profile tree ordered a b left right fits_a fits_b gives_a.solves gives_b.solves in
     (λ none. equal.0 (exact.0 none), λ files. exact.1 (equal.1 files))
 
+-- the tree of some files is settled if its units have no cycle
+pub settled_tree : (files : Files) (root : List ℕ) (tree : Tree) → IsTreeOfFiles files root tree → HasNoCycle (length tree.units) (dependencies tree)
+    → IsSettledTree tree
+settled_tree files root tree read acyclic =
+    let found = (tree_related files root tree).1 read in
+    record { consistent = subst IsConsistent (sym found.1) (tree_is_consistent files root found.0); acyclic = acyclic }
+
 pub headline : Headline
-headline files root format profile a b valid no_fault acyclic accepted_a accepted_b =
-    compared format profile (tree_of_files files root) a b valid (record { consistent = tree_is_consistent files root no_fault; acyclic = acyclic }) accepted_a
-    accepted_b
+headline files root tree format profile a b valid read acyclic accepted_a accepted_b =
+    compared format profile tree a b valid (settled_tree files root tree read acyclic) accepted_a accepted_b

@@ -26,16 +26,21 @@ use Rattle.kc_dotconfig_model.specs.Formats.{FileFormat}
 use Rattle.kc_dotconfig_model.specs.PrefixGrammar.{is_name_prefix}
 use Rattle.kc_dotconfig_model.specs.ConfigLines.{LineMeaning, Means}
 use Rattle.kc_tree_model.specs.LogicalLines.{without_white_end}
-use Rattle.kc_dotconfig_model.specs.ConfigFiles.{file_lines, over, assigned, assigned_over, file_assignment, empty_assignment}
+use Rattle.kc_dotconfig_model.specs.ConfigFiles.{FileMeans, file_lines, over, assigned, assigned_over, file_assignment, empty_assignment}
 use Rattle.kc_minimal_model.specs.SymbolLine.{symbol_line, ended_line}
-use Rattle.kc_minimal_model.specs.MinimalFile.{is_kept, has_line, may_have_line, is_line_of_its_unit, minimal_symbols}
-use Rattle.kc_minimal_model.specs.MinimalFileLaws.{IsReadAsLeast}
+use Rattle.kc_minimal_model.specs.MinimalFile.{is_kept, has_line, may_have_line, is_line_of_its_unit, minimal_symbols, minimal_file}
 use Rattle.kc_minimal_model.proofs.Bytes.{first_line}
 use Rattle.kc_tree_model.proofs.Lookups.{inside, place_is, unit_is}
 use Rattle.kc_minimal_model.proofs.KeptUnits.{KeptUnit, kept_unit, kept_passes, others_fail}
 use Rattle.kc_minimal_model.proofs.KeptLines.{line_reads, meant, user_meant, meaning_of_user}
 use Rattle.kc_minimal_model.proofs.MemberUsers.{chosen_member, meant_gives}
 use Rattle.kc_dotconfig_model.proofs.Overlays.{over_none}
+
+-- each line of the minimal file has a meaning, and what the lines assign is the least assignment of the values
+pub record IsReadAsLeast (format : FileFormat) (profile : Profile) (tree : Tree) (values : List UnitValue) : Type 0 where
+  pub meanings : List LineMeaning
+  pub has_meaning : FileMeans format tree (minimal_file format profile tree values) meanings
+  pub least : IsLeastAssignment (length tree.units) (rule profile tree) (as_user tree.language) values (file_assignment tree meanings)
 
 -- all numbers that are left of a list by a filter pass the test of the filter
 pub passes_filter : (p : ℕ → Bool) (xs : List ℕ) → list_all p (filter p xs) ≡ true

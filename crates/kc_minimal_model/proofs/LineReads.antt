@@ -21,7 +21,7 @@ use Rattle.kc_dotconfig_model.specs.declared.format.Strings.TheVariants.{Escaped
 use Rattle.kc_dotconfig_model.specs.Formats.{FileFormat, string_spelling, IsStringSpelling}
 use Rattle.kc_value.specs.Lines.{has_no_byte, has_newline}
 use Rattle.kc_dotconfig_model.specs.PrefixGrammar.{is_name_prefix}
-use Rattle.kc_dotconfig_model.specs.ConfigLines.{LineMeaning, BeginsWithHash, assigns, silent, Means, value, unset, unset_meaning, ValueMeans, tri as says_tri, chosen, quoted as says_quoted, number, tri_of_text}
+use Rattle.kc_dotconfig_model.specs.ConfigLines.{LineMeaning, BeginsWithHash, assigns, assigns_escaped, silent, text_meaning, Means, value, unset, unset_meaning, ValueMeans, tri as says_tri, chosen, quoted as says_quoted, number, tri_of_text}
 use Rattle.kc_tree_model.specs.LogicalLines.{without_white_end}
 use Rattle.kc_dotconfig_model.specs.ConfigFiles.{file_lines}
 use Rattle.kc_minimal_model.specs.MinimalFileLaws.{StringsAreReadBack}
@@ -32,6 +32,7 @@ use Rattle.std.proofs.lemmas.Str.{IsUtf8-append, IsUtf8-from_is_utf8}
 use Rattle.kc_value.proofs.UnquotedUtf8.{ascii_then, ascii_alone}
 use Rattle.kc_value.proofs.QuotedUtf8.{quoted_utf8}
 use Rattle.kc_dotconfig_model.proofs.LineForms.{named_no_hash}
+use Rattle.kc_dotconfig_model.proofs.Escapes.{spelling_unnoticed}
 use Rattle.kc_dotconfig_model.proofs.TrimmedLines.{low_utf8, name_utf8}
 use Rattle.kc_rules_model.proofs.Ink.{is_ink, all_weaker}
 use Rattle.kc_rules_model.proofs.Numbers.{IsInk, number_ink}
@@ -147,7 +148,11 @@ module _ (format : FileFormat) (valid : is_name_prefix format.prefix ≡ true) (
   string_line_means : (text : List ℕ) → symbol.kind ≡ Text
       → Means format tree (value_line format.prefix symbol.name (spelling text)) (assigns (unit_of tree s) (TextUser text))
   string_line_means text is =
-      value_line_means (spelling text) (assigns (unit_of tree s) (TextUser text)) (says_quoted (spelling text) text is (spelling_is format.strings text))
+      subst (Means format tree (value_line format.prefix symbol.name (spelling text)))
+      (ap (λ b. cond b (assigns_escaped (unit_of tree s) text) (assigns (unit_of tree s) (TextUser text)))
+      (spelling_unnoticed tree.language format.strings text))
+      (value_line_means (spelling text) (text_meaning tree.language format.strings (unit_of tree s) (spelling text) text)
+      (says_quoted (spelling text) text is (spelling_is format.strings text)))
 
   string_trimmed : (text : List ℕ)
       → without_white_end (value_line format.prefix symbol.name (spelling text)) ≡ value_line format.prefix symbol.name (spelling text)

@@ -136,12 +136,12 @@ module _ (format : FileFormat) (profile : Profile) (tree : Tree) (bytes : List �
         some_not_none : Some (TextUser text) ≡ None → ⊥
         some_not_none e = cc
 
-        on_line : HasAssigningLine format tree (file_lines bytes) (unit_of tree s) (TextUser text)
+        on_line : HasAssigningLine format tree (file_lines bytes) (unit_of tree s) text
             → (length format.prefix + length symbol.name + 1 + length (spelled format.strings symbol.kind text) ≤ MAX_LINE_BYTES)
             × IsUtf8 (spelled format.strings symbol.kind text)
         on_line l =
             let fits = accepted_line format tree bytes valid accepted l.number l.line l.at in
-            let t = text_line format tree (without_white_end l.line) (unit_of tree s) text l.has_meaning in
+            let t = text_line format tree (without_white_end l.line) l.meaning (unit_of tree s) text l.has_meaning l.assigned in
             let free : t.symbol.choice ≡ None = outside t.s t.symbol t.text t.at t.has_meaning t.symbol.choice refl in
             let same : t.s ≡ s = same_symbol tree settled.consistent t.s s t.symbol symbol t.at at free out t.unit in
             let one : t.symbol ≡ symbol = only (sym t.at ∙ ap (slice_get tree.symbols) same ∙ at) in

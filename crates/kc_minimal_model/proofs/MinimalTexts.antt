@@ -25,7 +25,7 @@ use Rattle.kc_dotconfig_model.specs.ConfigFiles.{file_lines, file_assignment}
 use Rattle.kc_rules_model.proofs.SolutionsFit.{solutions_fit}
 use Rattle.kc_minimal_model.proofs.DifferingSymbols.{same_values, differ_somewhere}
 use Rattle.kc_minimal_model.proofs.NeededUnits.{needs_units, needs_values}
-use Rattle.kc_minimal_model.proofs.FilesAssign.{assigns_each, assigns_values, assigns_as_many}
+use Rattle.kc_minimal_model.proofs.FilesAssign.{assigns_lines}
 use Rattle.kc_minimal_model.proofs.LineNumbers.{keeps_symbol, lines_kept, line_count, symbol_dropped}
 use Rattle.kc_minimal_model.proofs.FileAcceptance.{is_short, accepted_symbols, shorts_of_file, file_of_shorts, filter_shorter, flat_shorter}
 use Rattle.kc_minimal_model.proofs.MinimalFileLimits.{few_lines, lines_are_short}
@@ -124,12 +124,11 @@ module _ (format : FileFormat) (valid : is_name_prefix format.prefix ≡ true) (
     needed = line_needed;
     least = λ any fewer keeps fits solves cut. needs_units profile tree any values settled fits solves fewer keeps cut;
     least_values = λ any fits solves. needs_values profile tree any values settled fits solves;
-    assigns_each = λ file reads. assigns_each format profile tree settled file values reads;
-    assigns_values = λ file reads. assigns_values format profile tree settled file values reads;
-    assigns_as_many = λ file reads.
+    assigns = λ file reads.
         let count = line_count format valid profile tree settled.consistent users values fitting solved in
-        let many = assigns_as_many format profile tree settled file values reads in
-        omega (arith, count, many);
+        let assigned = assigns_lines format profile tree settled file values reads in
+        let many = assigned.as_many in
+        record { each = assigned.each; each_value = assigned.each_value; as_many = omega (arith, count, many) };
     accepted = λ small short. whole_accepted small (shorts short);
     part_accepted = kept_accepted;
     short = short_file;

@@ -29,7 +29,7 @@ use Rattle.kc_rules_model.specs.Shapes.{value_fits, unit_value_fits, symbol_valu
 use Rattle.kc_tree_model.proofs.Lookups.{inside, found_by_name, place_is, unit_is}
 use Rattle.kc_dotconfig_model.specs.Formats.{FileFormat}
 use Rattle.kc_dotconfig_model.specs.PrefixGrammar.{is_name_prefix}
-use Rattle.kc_dotconfig_model.specs.ConfigLines.{LineMeaning, assigns, unchosen, notice, silent, value, unchosen_meaning, unset_meaning, ValueMeans, no_int, no_hex}
+use Rattle.kc_dotconfig_model.specs.ConfigLines.{LineMeaning, assigns, assigns_escaped, unchosen, notice, silent, value, unchosen_meaning, unset_meaning, ValueMeans, no_int, no_hex}
 use Rattle.kc_tree_model.specs.LogicalLines.{without_white_end}
 use Rattle.kc_minimal_model.specs.SymbolLine.{symbol_line, line_of_value, line_with, value_line, unset_line}
 use Rattle.kc_minimal_model.proofs.Bytes.{name_lacks, all_of_both, ends_in_ink}
@@ -44,6 +44,7 @@ IsUnchosen values u x = (s : ℕ) × (x ≡ LinesUser (record { member = s; is_y
 -- a line of this meaning assigns a unit its own value, or `n` to a member that isn't selected, or assigns nothing without a notice
 abbrev pub IsOwn : Language → List UnitValue → LineMeaning → Type 0
 IsOwn language values (assigns u x) = (user_meant language values u ≡ Some x) ⊎ IsUnchosen values u x
+IsOwn language values (assigns_escaped u text) = ⊥
 IsOwn language values (unchosen u s) = Unit {0}
 IsOwn language values (notice kind) = ⊥
 IsOwn language values silent = Unit {0}

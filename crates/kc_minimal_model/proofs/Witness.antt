@@ -13,10 +13,10 @@ use Rattle.kc_tree_model.specs.Contents.{tree_of_groups, tree_of_files}
 use Rattle.kc_tree_model.specs.TreeFaults.{tree_faults, first_tree_fault}
 use Rattle.kc_tree_model.specs.TreeFiles.{Files, strict_files}
 use Rattle.kc_tree_model.specs.Trees.{Tree}
-use Rattle.kc_tree_model.proofs.Consistency.Consistent.{tree_is_consistent}
+use Rattle.kc_tree_model.specs.TreesOfFiles.{IsTreeOfFiles}
+use Rattle.kc_tree_model.proofs.ReadingLaws.TreesOfRelation.{tree_related}
 use Rattle.kc_system.specs.Dependencies.{HasNoCycle}
 use Rattle.kc_rules_model.specs.Dependencies.{dependencies}
-use Rattle.kc_rules_model.specs.SettledTrees.{IsSettledTree}
 use Rattle.kc_rules_model.specs.declared.profile.Profile.TheVariants.{Present}
 use Rattle.kc_rules_model.specs.declared.values.UserValue.TheVariants.{Tri as TriUser}
 use Rattle.kc_value.specs.declared.tri.Tri.TheVariants.{Y}
@@ -29,7 +29,7 @@ use Rattle.kc_dotconfig_model.specs.between.LineMeanings.{line_meaning, file_mea
 use Rattle.kc_dotconfig_model.proofs.LineLaws.{file_read}
 use Rattle.kc_minimal_model.specs.Headline.{AreComparedByMinimalFiles}
 use Rattle.kc_minimal_model.proofs.FileAcceptance.{accepted_within}
-use Rattle.kc_minimal_model.proofs.Headlines.{compared}
+use Rattle.kc_minimal_model.proofs.Headlines.{headline}
 
 abbrev files : Files
 files = strict_files ((codes "K", codes "config A\n\tbool \"a\"\n") ∷ [])
@@ -64,8 +64,8 @@ no_cycle cycle is =
     let zero_is : 0 ≡ last.0 = omega (arith, below, o) in
     empty_holds first.0 (dependencies tree last.0) (ap (dependencies tree) (sym zero_is) ∙ no_needs) (is.closes last.0 first.0 last.1 first.1)
 
-settled : IsSettledTree tree
-settled = record { consistent = tree_is_consistent files (codes "K") no_fault; acyclic = no_cycle }
+is_tree : IsTreeOfFiles files (codes "K") tree
+is_tree = (tree_related files (codes "K") tree).0 (no_fault, refl)
 
 -- a file, and its meaning
 abbrev plain : FileFormat
@@ -95,4 +95,4 @@ nothing_accepted = accepted_within plain tree [] [] refl tt (omega arith) (omega
 
 -- so the headline holds of them
 both : AreComparedByMinimalFiles plain Present tree file []
-both = compared plain Present tree file [] refl settled file_accepted nothing_accepted
+both = headline files (codes "K") tree plain Present file [] refl is_tree no_cycle file_accepted nothing_accepted

@@ -14,7 +14,7 @@ use Rattle.kc_rules_model.specs.RuleLaws.{is_tri_value, moves_user_values}
 use Rattle.kc_rules_model.specs.SettledTrees.{IsSettledTree}
 use Rattle.kc_dotconfig_model.specs.Formats.{FileFormat}
 use Rattle.kc_dotconfig_model.specs.PrefixGrammar.{is_name_prefix}
-use Rattle.kc_dotconfig_model.specs.ConfigLines.{LineMeaning, assigns, unchosen, notice, silent}
+use Rattle.kc_dotconfig_model.specs.ConfigLines.{LineMeaning, assigns, assigns_escaped, unchosen, notice, silent}
 use Rattle.kc_dotconfig_model.specs.ConfigFiles.{file_lines, file_assignment}
 use Rattle.kc_value.specs.declared.limits.TheConstants.{MAX_CONFIG_BYTES}
 use Rattle.kc_dotconfig_model.specs.LoadFaults.{IsAccepted}
@@ -50,22 +50,17 @@ HasValuesOfLines profile tree values users = (s : ℕ) (value : UnitValue) → h
 abbrev pub assigned_units : List LineMeaning → List ℕ
 assigned_units [] = []
 assigned_units (assigns u x ∷ meanings) = u ∷ assigned_units meanings
+assigned_units (assigns_escaped u text ∷ meanings) = u ∷ assigned_units meanings
 assigned_units (unchosen u s ∷ meanings) = assigned_units meanings
 assigned_units (notice kind ∷ meanings) = assigned_units meanings
 assigned_units (silent ∷ meanings) = assigned_units meanings
 
--- the lines of a configuration file assign no less than the minimal file of the values: to the unit of each of its
--- lines, with the same members, strings and numbers, by at least as many lines
-pub record AssignsTheLines (profile : Profile) (tree : Tree) (values : List UnitValue) (meanings : List LineMeaning) : Type 0 where
+-- the lines of a configuration file assign no less than the minimal file of the values, which has this many lines: to the unit
+-- of each of its lines, with the same members, strings and numbers, by at least as many lines
+pub record AssignsTheLines (profile : Profile) (tree : Tree) (values : List UnitValue) (lines : ℕ) (meanings : List LineMeaning) : Type 0 where
   pub each : HasUnitsOfLines profile tree values (λ u. list_any (eqb u) (assigned_units meanings))
   pub each_value : HasValuesOfLines profile tree values (file_assignment tree meanings)
-  pub as_many : length (minimal_symbols profile tree values) ≤ length (assigned_units meanings)
-
--- every configuration file that gives values assigns no less than their minimal file, with any bytes as its prefix
--- and in each form of strings
-abbrev pub FilesAssignTheLines : Type 0
-FilesAssignTheLines = (format : FileFormat) (profile : Profile) (tree : Tree) (file : List ℕ) (values : List UnitValue)
-    → IsSettledTree tree → (reads : ReadsTo format profile tree file values) → AssignsTheLines profile tree values reads.meanings
+  pub as_many : lines ≤ length (assigned_units meanings)
 
 -- A text is the canonical file of values, over one tree, in one profile and one format.
 pub record IsCanonicalText (format : FileFormat) (profile : Profile) (tree : Tree) (values : List UnitValue) (text : List ℕ) : Type 0 where
@@ -92,14 +87,9 @@ pub record IsCanonicalText (format : FileFormat) (profile : Profile) (tree : Tre
   pub least_values : (users : List (Option UserValue))
       → FitsUsers (length tree.units) (λ u x. IsTrue (user_fits tree u x)) users
       → Solves (length tree.units) (rule profile tree) users values → HasValuesOfLines profile tree values users
-  -- a file that gives the values assigns to the unit of each line of the text, with the same members, strings and
-  -- numbers, by at least as many lines
-  pub assigns_each : (file : List ℕ) → (reads : ReadsTo format profile tree file values)
-      → HasUnitsOfLines profile tree values (λ u. list_any (eqb u) (assigned_units reads.meanings))
-  pub assigns_values : (file : List ℕ) → (reads : ReadsTo format profile tree file values)
-      → HasValuesOfLines profile tree values (file_assignment tree reads.meanings)
-  pub assigns_as_many : (file : List ℕ) → (reads : ReadsTo format profile tree file values)
-      → length (file_lines text) ≤ length (assigned_units reads.meanings)
+  -- a file that gives the values assigns no less than the text
+  pub assigns : (file : List ℕ) → (reads : ReadsTo format profile tree file values)
+      → AssignsTheLines profile tree values (length (file_lines text)) reads.meanings
   -- if the text is within the limit of bytes and has no line that is too long, it is accepted, and so is any selection of its
   -- lines
   pub accepted : length text ≤ MAX_CONFIG_BYTES → has_short_lines text ≡ true → IsAccepted format tree text
@@ -115,3 +105,9 @@ MinimalTextsAreCanonical = (format : FileFormat) (profile : Profile) (tree : Tre
     → FitsUsers (length tree.units) (λ u x. IsTrue (user_fits tree u x)) users
     → Solves (length tree.units) (rule profile tree) users values
     → IsCanonicalText format profile tree values (minimal_file format profile tree values)
+
+-- with any bytes as the prefix of names, every configuration file that gives values assigns no less than their minimal file
+abbrev pub FilesAssignTheLines : Type 0
+FilesAssignTheLines = (format : FileFormat) (profile : Profile) (tree : Tree) (file : List ℕ) (values : List UnitValue)
+    → IsSettledTree tree → (reads : ReadsTo format profile tree file values)
+    → AssignsTheLines profile tree values (length (minimal_symbols profile tree values)) reads.meanings

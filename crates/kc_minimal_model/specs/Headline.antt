@@ -1,9 +1,8 @@
 -- Minimal files are canonical.
-use Rattle.std.specs.Prelude.{◌≡◌, ◌↔◌, ℕ, true, List, [], Option, None, length, IsTrue}
+use Rattle.std.specs.Prelude.{◌≡◌, ◌↔◌, ℕ, true, List, [], Option, length, IsTrue}
 use Rattle.kc_tree_model.specs.TreeFiles.{Files}
 use Rattle.kc_tree_model.specs.Trees.{Tree}
-use Rattle.kc_tree_model.specs.Contents.{tree_of_files}
-use Rattle.kc_tree_model.specs.TreeFaults.{first_tree_fault}
+use Rattle.kc_tree_model.specs.TreesOfFiles.{IsTreeOfFiles}
 use Rattle.kc_rules_model.specs.declared.profile.Profile.{Profile}
 use Rattle.kc_rules_model.specs.declared.values.UnitValue.{UnitValue}
 use Rattle.kc_system.specs.Solutions.{UniquelySolves, FitsUsers}
@@ -45,11 +44,9 @@ pub record AreComparedByMinimalFiles (format : FileFormat) (profile : Profile) (
 -- configuration files have canonical minimal files, and give every symbol the same value exactly if these are equal
 -- byte for byte.
 abbrev pub Headline : Type 0
-Headline = (files : Files) (root : List ℕ) (format : FileFormat) (profile : Profile) (a b : List ℕ) → is_name_prefix format.prefix ≡ true
-    → first_tree_fault files root ≡ None
-    → HasNoCycle (length (tree_of_files files root).units) (dependencies (tree_of_files files root))
-    → IsAccepted format (tree_of_files files root) a → IsAccepted format (tree_of_files files root) b
-    → AreComparedByMinimalFiles format profile (tree_of_files files root) a b
+Headline = (files : Files) (root : List ℕ) (tree : Tree) (format : FileFormat) (profile : Profile) (a b : List ℕ)
+    → is_name_prefix format.prefix ≡ true → IsTreeOfFiles files root tree → HasNoCycle (length tree.units) (dependencies tree)
+    → IsAccepted format tree a → IsAccepted format tree b → AreComparedByMinimalFiles format profile tree a b
 
 -- the values that two assignments of fitting user values give differ at no symbol exactly if their minimal files are equal byte
 -- for byte

@@ -1,11 +1,10 @@
--- The minimal file is read as the least assignment of its values.
+-- The lines of minimal files, and the differences of valuations.
 use Rattle.std.specs.Prelude.{◌≡◌, ◌↔◌, [], ◌∷◌, ◌++◌, ℕ, true, false, List, Option, Some, length, slice_get, IsTrue}
 use Rattle.kc_value.specs.declared.value.Kind.TheVariants.{Text}
 use Rattle.kc_tree_model.specs.Trees.{Tree, Symbol}
 use Rattle.kc_value.specs.Lines.{has_newline}
 use Rattle.kc_tree_model.specs.TreeLookup.{IsConsistent, unit_of}
 use Rattle.kc_system.specs.Solutions.{Solves, FitsUsers, FitsValues}
-use Rattle.kc_system.specs.LeastAssignments.{IsLeastAssignment}
 use Rattle.kc_rules_model.specs.declared.profile.Profile.{Profile}
 use Rattle.kc_rules_model.specs.declared.values.UnitValue.{UnitValue}
 use Rattle.kc_rules_model.specs.declared.values.UserValue.{UserValue}
@@ -14,18 +13,12 @@ use Rattle.kc_rules_model.specs.Rule.{rule, as_user}
 use Rattle.kc_rules_model.specs.Shapes.{user_fits, value_fits}
 use Rattle.kc_dotconfig_model.specs.Formats.{FileFormat, string_spelling}
 use Rattle.kc_dotconfig_model.specs.PrefixGrammar.{is_name_prefix}
-use Rattle.kc_dotconfig_model.specs.ConfigLines.{LineMeaning, assigns, Means}
+use Rattle.kc_dotconfig_model.specs.ConfigLines.{assigns, Means}
 use Rattle.kc_tree_model.specs.LogicalLines.{without_white_end}
-use Rattle.kc_dotconfig_model.specs.ConfigFiles.{FileMeans, file_assignment}
+use Rattle.kc_dotconfig_model.specs.ConfigFiles.{FileMeans}
 use Rattle.kc_minimal_model.specs.SymbolLine.{value_line, symbol_line}
 use Rattle.kc_minimal_model.specs.Differences.{differences}
-use Rattle.kc_minimal_model.specs.MinimalFile.{minimal_file, has_line}
-
--- each line of the minimal file has a meaning, and what the lines assign is the least assignment of the values
-pub record IsReadAsLeast (format : FileFormat) (profile : Profile) (tree : Tree) (values : List UnitValue) : Type 0 where
-  pub meanings : List LineMeaning
-  pub has_meaning : FileMeans format tree (minimal_file format profile tree values) meanings
-  pub least : IsLeastAssignment (length tree.units) (rule profile tree) (as_user tree.language) values (file_assignment tree meanings)
+use Rattle.kc_minimal_model.specs.MinimalFile.{has_line}
 
 -- a symbol's line is read as the assignment of its unit's value to its unit
 pub record IsReadAsItsAssignment (format : FileFormat) (tree : Tree) (values : List UnitValue) (s : ℕ) : Type 0 where
@@ -54,11 +47,6 @@ abbrev pub MinimalLinesDiffer : Type 0
 MinimalLinesDiffer =
     ForSolutions (λ profile tree values. (s t : ℕ) → has_line profile tree values s ≡ true
     → has_line profile tree values t ≡ true → unit_of tree s ≡ unit_of tree t → s ≡ t)
-
--- a minimal file is read as the least assignment that gives its values (`IsLeastAssignment`)
-abbrev pub MinimalFilesAssignLeast : Type 0
-MinimalFilesAssignLeast = (format : FileFormat) → is_name_prefix format.prefix ≡ true
-    → ForSolutions (λ profile tree values. IsReadAsLeast format profile tree values)
 
 -- in each format, the line that is written for a string symbol with a text without a newline is read as the
 -- assignment of this text

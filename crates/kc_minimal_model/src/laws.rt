@@ -3,7 +3,7 @@ ghost use Rattle.kc_minimal_model.specs.CanonicalText.{FilesAssignTheLines, Mini
 ghost use Rattle.kc_minimal_model.specs.FileLimits.{MinimalFileLines, MinimalFilesAreAccepted, ReadFilesAreAccepted};
 ghost use Rattle.kc_minimal_model.specs.FullFileLaws.{FullFilesLeadBack};
 ghost use Rattle.kc_minimal_model.specs.Headline.{DifferencesDecideMinimalFiles, Headline, MinimalFilesAreCanonical};
-ghost use Rattle.kc_minimal_model.specs.MinimalFileLaws.{DifferencesAreExact, MinimalFilesAssignLeast, MinimalLinesAreRead, MinimalLinesDiffer, StringsAreReadBack};
+ghost use Rattle.kc_minimal_model.specs.MinimalFileLaws.{DifferencesAreExact, MinimalLinesAreRead, MinimalLinesDiffer, StringsAreReadBack};
 
 /// Each line of a minimal file is read as the assignment that it represents.
 pub fn minimal_lines_are_read()
@@ -24,11 +24,6 @@ pub fn minimal_lines_differ()
 /// The lines of a minimal file are its symbols' lines, in order.
 pub fn minimal_file_has_its_lines()
     ensures { MinimalFileLines }
-{}
-
-/// A minimal file can be read, and its lines make the least assignment that gives its values (`IsLeastAssignment`).
-pub fn minimal_files_assign_least()
-    ensures { MinimalFilesAssignLeast }
 {}
 
 /// Every file that gives the values of a minimal file assigns to the unit of each of its lines, with the same member

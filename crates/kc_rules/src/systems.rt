@@ -1,5 +1,5 @@
 //! Kconfig as a system.
-ghost use Rattle.std.specs.Prelude.{◌≡◌, IsTrue};
+ghost use Rattle.std.specs.Prelude.{◌≡◌, IsTrue, None};
 ghost use Rattle.std.proofs.Common.{rules};
 ghost use Rattle.kc_rules.specs.between.Meters.{counted};
 ghost use Rattle.kc_rules_model.specs.Rule.{rule, as_user};
@@ -60,6 +60,8 @@ impl System for Settled {
     ghost same_user_value = { same_user };
 
     ghost count = { counted };
+
+    ghost recorded = { λ _. None };
 
     ghost equal_values = { values_decided };
 

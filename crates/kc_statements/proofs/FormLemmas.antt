@@ -7,7 +7,7 @@ use Rattle.std.proofs.lemmas.Bool.Decides.{nat_tests}
 use Rattle.kc_tokens.specs.Token.{Lexeme, lexeme_of, lexemes_of}
 use Rattle.kc_expr.specs.between.ParseResults.{RefusesExpr, expr_tokens, expr_end}
 use Rattle.kc_tokens.specs.declared.fault.ExprFault.{ExprFault}
-use Rattle.kc_tokens.specs.declared.fault.ExprKind.TheVariants as expr_kinds
+use Rattle.kc_tokens.specs.MemoryFaults.{IsOutOfMemory}
 use Rattle.kc_tokens.specs.declared.token.Token.{Token as CodeToken}
 use Rattle.kc_tokens.specs.declared.token.TokenKind.TheVariants.{Word}
 use Rattle.kc_expr.specs.Expr.{Expr, conditional}
@@ -69,10 +69,10 @@ reported_kind all (k, t ∷ ts) = refl
 
 -- a fault that the parser of expressions reports is the one that the definition of a form gives
 pub unread : {A : Type 0} (ps : List Lexeme) (at : ℕ) (e : ExprFault) (k : TreeKind) (given : Result A TreeKind)
-    → ((e.kind ≡ expr_kinds.OutOfMemory) ⊎ RefusesExpr ps at e) → k ≡ kind_of_fault e.kind
+    → (IsOutOfMemory e ⊎ RefusesExpr ps at e) → k ≡ kind_of_fault e.kind
     → ((x : ExprKind × List Lexeme) → read_expr (expr_tokens ps at) ≡ Err x → given ≡ Err (kind_of_fault x.0)) → (k ≡ OutOfMemory) ⊎ (given ≡ Err k)
 unread ps at e k given f q h = elim f [
-  | inl m ↦ inl (q ∙ ap kind_of_fault m)
+  | inl m ↦ inl (q ∙ ap kind_of_fault m.0)
   | inr n ↦
       let told : e.kind ≡ n.fault.0 = ap (λ (y : ExprFault). y.kind) n.placed ∙ reported_kind (take (expr_end ps at) ps) n.fault in
       inr (h n.fault (fault_read _ n.fault n.first) ∙ ap Err (sym (q ∙ ap kind_of_fault told)))

@@ -7,6 +7,7 @@ ghost use Rattle.kc_tree_model.specs.Keywords.{is_word_kind, is_quoted_kind, is_
 ghost use Rattle.kc_tree_model.specs.TreeLookup.{is_name_byte};
 
 use kc_tokens::{Token, TokenKind};
+use kc_tree_model::are_name_bytes;
 
 /// Whether a token is a bare word.
 pub(crate) fn is_word(token: &Token<'_>) -> bool
@@ -29,13 +30,6 @@ pub(crate) fn is_the_word(word: &str, token: &Token<'_>) -> bool
     is_word(token) && token.text == word
 }
 
-/// Whether a byte is a letter, a digit or `_`.
-fn is_name_byte(byte: u8) -> bool
-    ensures { result ≡ is_name_byte byte }
-{
-    matches!(byte, b'A'..=b'Z' | b'a'..=b'z' | b'0'..=b'9' | b'_')
-}
-
 /// Whether a token is the name of a symbol: a bare word of letters, digits and `_`, and none of the constants `n`, `m` and `y`.
 pub(crate) fn is_name(token: &Token<'_>) -> bool
     ensures { result ≡ is_name (lexeme_of token.now) }
@@ -50,18 +44,11 @@ fn has_name_bytes(word: &str) -> bool
     !word.is_empty() && are_name_bytes(word.as_bytes())
 }
 
-/// Whether each byte is a letter, a digit or `_`.
-fn are_name_bytes(bytes: &[u8]) -> bool
-    ensures { result ≡ list_all is_name_byte bytes.now }
-{
-    bytes.iter().all(|byte| is_name_byte(*byte))
-}
-
 /// Whether a word is one of the constants `n`, `m` and `y`.
 fn is_constant(word: &str) -> bool
     ensures { result ≡ (bytes_eq word.now (codes "n") || bytes_eq word.now (codes "m") || bytes_eq word.now (codes "y")) }
 {
-    word == "n" || word == "m" || word == "y"
+    matches!(word.as_bytes(), [b'n' | b'm' | b'y'])
 }
 
 /// Whether a token can be an operand: a bare word or a quoted text.

@@ -1,6 +1,7 @@
 //! The revision of a valuation, unit by unit.
-ghost use Rattle.std.specs.Prelude.{◌≡◌, ◌↔◌, ℕ, ◌+◌, ◌-◌, ◌^◌, ◌<◌, true, false, List, [], Some, length, min, slice_get, IfOk, OnOk};
-ghost use Rattle.kc_system.specs.Changes.{IsCountOf};
+ghost use Rattle.std.specs.Prelude.{◌≡◌, ◌↔◌, ℕ, ◌+◌, ◌-◌, ◌^◌, ◌<◌, true, false, List, [], ◌∷◌, Some, length, min, slice_get, IfOk, OnOk};
+ghost use Rattle.std.specs.Io.KnownBytes.{Appends};
+ghost use Rattle.kc_system.specs.Changes.{IsCountOf, RecordsEach};
 ghost use Rattle.kc_system.specs.checker.Plans.{IsPlan};
 ghost use Rattle.kc_system.specs.checker.Logs.{Undoes, logged_units};
 ghost use Rattle.kc_system.specs.checker.PendingPlaces.{IsDone, IsDue, is_pending};
@@ -43,6 +44,7 @@ fn revise_unit<S: System>(
     ensures fits { OnOk result (FitsValues (S.size plan.now.system.now) (S.fits_value plan.now.system.now) values.new) }
     ensures undo { (old : List S.Value) → Undoes log.old.items old values.old → Undoes log.new.items old values.new }
     ensures step { S.count meter.new ≡ min (S.count meter.old + 1) (2 ^ 64 - 1) }
+    ensures records { OnOk result (Appends (S.recorded meter.old) (S.recorded meter.new) (u ∷ [])) }
 {
     let value = evaluate(plan.alloc, plan.system, u, users, values, meter)?;
     if differs::<S>(&value, &values[u as usize]) {
@@ -78,6 +80,7 @@ pub(crate) fn revise<S: System>(
     ensures logged { OnOk result (LogsChanged values.old values.new (logged_units log.new.items)) }
     ensures evaluated { IfOk result (IsCountOf (S.size plan.now.system.now) (IsDue (S.dependencies plan.now.system.now) plan.now.order.now (is_pending pending.old) values.old values.new)) }
     ensures steps { IfOk result (λ evaluated. S.count meter.new ≡ min (S.count meter.old + evaluated) (2 ^ 64 - 1)) }
+    ensures recorded { OnOk result (RecordsEach (S.size plan.now.system.now) (IsDue (S.dependencies plan.now.system.now) plan.now.order.now (is_pending pending.old) values.old values.new) (S.recorded meter.old) (S.recorded meter.new)) }
 {
     let order = plan.order;
     let mut evaluated = 0;

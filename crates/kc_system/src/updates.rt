@@ -1,6 +1,6 @@
 //! Changes of an assignment, with its values brought up to date.
 ghost use Rattle.std.specs.Prelude.{◌≡◌, ℕ, ◌+◌, ◌-◌, ◌^◌, ◌<◌, true, false, [], Some, length, min, slice_get, IfOk, OnOk, OnErr};
-ghost use Rattle.kc_system.specs.Changes.{changed_users, FitsChanges, IsTouched, IsChanged, IsCountOf, IsListOf};
+ghost use Rattle.kc_system.specs.Changes.{changed_users, FitsChanges, IsTouched, IsChanged, IsCountOf, IsListOf, RecordsEach};
 ghost use Rattle.kc_system.specs.checker.Plans.{IsPlan};
 ghost use Rattle.kc_system.specs.checker.Logs.{Undoes};
 ghost use Rattle.kc_system.specs.checker.PendingPlaces.{FitsPlaces, IsDone, IsDue, ListsChanged, is_pending};
@@ -37,6 +37,7 @@ fn revalue<S: System>(
     ensures changed { IfOk result (λ report. IsListOf (S.size plan.now.system.now) (IsChanged values.old values.new) report.changed.items) }
     ensures evaluated { IfOk result (λ report. IsCountOf (S.size plan.now.system.now) (IsDue (S.dependencies plan.now.system.now) plan.now.order.now (is_pending pending.old) values.old values.new) report.evaluated) }
     ensures steps { IfOk result (λ report. S.count meter.new ≡ min (S.count meter.old + report.evaluated) (2 ^ 64 - 1)) }
+    ensures recorded { OnOk result (RecordsEach (S.size plan.now.system.now) (IsDue (S.dependencies plan.now.system.now) plan.now.order.now (is_pending pending.old) values.old values.new) (S.recorded meter.old) (S.recorded meter.new)) }
     ensures err { OnErr result (values.new ≡ values.old) }
 {
     let mut log = Vec::new(plan.alloc);
@@ -108,6 +109,7 @@ pub(crate) fn change<S: System>(
     ensures changed { IfOk result (λ report. IsListOf (S.size plan.now.system.now) (IsChanged values.old values.new) report.changed.items) }
     ensures evaluated { IfOk result (λ report. IsCountOf (S.size plan.now.system.now) (IsTouched (S.dependencies plan.now.system.now) users.old users.new values.old values.new) report.evaluated) }
     ensures steps { IfOk result (λ report. S.count meter.new ≡ min (S.count meter.old + report.evaluated) (2 ^ 64 - 1)) }
+    ensures recorded { OnOk result (RecordsEach (S.size plan.now.system.now) (IsTouched (S.dependencies plan.now.system.now) users.old users.new values.old values.new) (S.recorded meter.old) (S.recorded meter.new)) }
     ensures err_users { OnErr result (users.new ≡ users.old) }
     ensures err_values { OnErr result (values.new ≡ values.old) }
 {

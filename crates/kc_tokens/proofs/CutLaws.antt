@@ -1,7 +1,7 @@
 -- What is read of a line is its tokens or its first fault, and no other.
 use Rattle.std.proofs.Common.{◌≡◌, ℕ, zero, suc, ◌+◌, ◌≤◌, ◌<◌, ◌⊎◌, inl, inr, true, List, [], ◌∷◌, ◌++◌, length, Result, Ok, Err, refl, ap, sym, ◌∙◌, subst, length-append, arith}
 use Rattle.kc_tokens.specs.declared.fault.ExprFault.{ExprFault}
-use Rattle.kc_tokens.specs.declared.fault.ExprKind.TheVariants.{OutOfMemory}
+use Rattle.kc_tokens.specs.MemoryFaults.{IsOutOfMemory}
 use Rattle.kc_tokens.specs.declared.language.Language.{Language}
 use Rattle.kc_tokens.specs.declared.token.NextToken.{NextToken}
 use Rattle.kc_tokens.specs.declared.token.NextToken.TheVariants.{White, Comment, Token, Fault}
@@ -70,7 +70,7 @@ cut_of_call language line before ps e h =
     read_cut language (length line) 0 line ps (omega arith)
     (sym (with_front_none (lexemes_from language 0 0 line)) ∙ ap (λ x. with_front (lexemes_of x) (lexemes_from language 0 0 line)) (sym e) ∙ h)
 
-pub fault_of_call : (language : Language) (line : List ℕ) (fault : ExprFault) → (fault.kind ≡ OutOfMemory) ⊎ (lexemes_from language 0 0 line ≡ Err fault)
-    → (fault.kind ≡ OutOfMemory) ⊎ IsFirstTokenFault language 0 line fault
+pub fault_of_call : (language : Language) (line : List ℕ) (fault : ExprFault) → IsOutOfMemory fault ⊎ (lexemes_from language 0 0 line ≡ Err fault)
+    → IsOutOfMemory fault ⊎ IsFirstTokenFault language 0 line fault
 fault_of_call language line fault (inl m) = inl m
 fault_of_call language line fault (inr h) = inr (read_fault language (length line) 0 line fault (omega arith) h)

@@ -4,4 +4,4 @@ pub mod KeptLists
 pub mod TokenSteps
 pub mod TokenFronts
 pub mod TokenLaws
-pub mod WordBytes
+pub mod ByteTables

@@ -1,4 +1,5 @@
 pub mod FaultNames
+pub mod MemoryFaults
 pub mod Languages
 pub mod Token
 pub mod TokenGrammar

@@ -7,4 +7,4 @@ mod token;
 
 pub use fault::{ExprFault, ExprKind};
 pub use language::{Language, LinuxVersion};
-pub use token::{NextToken, Relop, Token, TokenKind, push_tokens, tokens};
+pub use token::{NextToken, Relop, Token, TokenKind, is_white, push_tokens, tokens};

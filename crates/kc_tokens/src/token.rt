@@ -1,6 +1,6 @@
 //! Words, quoted texts and operators of a line.
 ghost use Rattle.std.specs.Prelude.{◌≡◌, ◌<◌, ◌≤◌, ◌⊎◌, true, false, length, take, IfSome, IfOk, IfErr, OnOk, OnErr, position, take_while, ◌==◌, ◌-◌, slice_index, [], ◌∷◌};
-ghost use Rattle.kc_tokens.specs.declared.fault.ExprKind.TheVariants.{OutOfMemory};
+ghost use Rattle.kc_tokens.specs.MemoryFaults.{IsOutOfMemory};
 ghost use Rattle.kc_tokens.specs.Token.{is_white_byte, is_word_byte, bare_dollar, dollar_left_out, next_token, next_quoted, next_operator, lexemes_from, lexemes_of};
 ghost use Rattle.kc_tokens.specs.checker.TokenEnds.{Reaches};
 ghost use Rattle.kc_tokens.specs.TokenGrammar.{IsCut, IsFirstTokenFault};
@@ -65,7 +65,8 @@ static WORD_BYTES: [u8; 256] = *b"\
     !!!!!!!!!!!!!!!!!!!!!!!!!!!!!!!!\
     !!!!!!!!!!!!!!!!!!!!!!!!!!!!!!!!";
 
-fn is_white(byte: u8) -> bool
+/// Whether a byte is white: a tab, a vertical tab, a form feed, a carriage return or a space.
+pub fn is_white(byte: u8) -> bool
     ensures { result ≡ is_white_byte byte }
 {
     matches!(byte, 0x09 | 0x0B | 0x0C | 0x0D | 0x20)
@@ -193,7 +194,7 @@ fn token_at_front(language: Language, bytes: &[u8]) -> NextToken
 /// The tokens of a line, up to a comment, or its first fault.
 pub fn tokens(alloc: Global, language: Language, line: &str) -> Result<Vec<Token<'_>>, ExprFault>
     ensures ok { IfOk result (λ v. IsCut language 0 line.now (lexemes_of v.items)) }
-    ensures fault { IfErr result (λ e. (e.kind ≡ OutOfMemory) ⊎ IsFirstTokenFault language 0 line.now e) }
+    ensures fault { IfErr result (λ e. IsOutOfMemory e ⊎ IsFirstTokenFault language 0 line.now e) }
 {
     let mut found = Vec::new(alloc);
     push_tokens(language, line, &mut found)?;
@@ -208,7 +209,7 @@ pub fn push_tokens<'a>(
     found: &mut Vec<Token<'a>>,
 ) -> Result<(), ExprFault>
     ensures tokens { OnOk result (with_front (lexemes_of found.old.items) (lexemes_from language 0 0 line.now) ≡ Ok (lexemes_of found.new.items)) }
-    ensures fault { IfErr result (λ e. (e.kind ≡ OutOfMemory) ⊎ (lexemes_from language 0 0 line.now ≡ Err e)) }
+    ensures fault { IfErr result (λ e. IsOutOfMemory e ⊎ (lexemes_from language 0 0 line.now ≡ Err e)) }
     ensures err { OnErr result (found.new.items ≡ found.old.items) }
 {
     let kept = found.len();
@@ -228,7 +229,7 @@ fn scan_line<'a>(
     found: &mut Vec<Token<'a>>,
 ) -> Result<(), ExprFault>
     ensures tokens { OnOk result (with_front (lexemes_of found.old.items) (lexemes_from language 0 0 line.now) ≡ Ok (lexemes_of found.new.items)) }
-    ensures fault { IfErr result (λ e. (e.kind ≡ OutOfMemory) ⊎ (lexemes_from language 0 0 line.now ≡ Err e)) }
+    ensures fault { IfErr result (λ e. IsOutOfMemory e ⊎ (lexemes_from language 0 0 line.now ≡ Err e)) }
     ensures kept { take (length found.old.items) found.new.items ≡ found.old.items }
 {
     let bytes = line.as_bytes();

@@ -2,7 +2,7 @@
 ghost use Rattle.std.specs.Prelude.{None};
 
 use kc_value::{Failed, FromRead, Seed, Source};
-use kmin_run::Files;
+use kmin_run::{FileStop, Files};
 use std::alloc::{AllocError, Global};
 use std::env::VarError;
 use std::fs::{DirEntry, File};
@@ -63,20 +63,42 @@ fn size_now(file: &File) -> usize {
     }
 }
 
-/// Whether a path leads to a regular file. This opens nothing, so it doesn't wait at a pipe.
-fn is_regular(runtime: &HostRuntime, path: &str) -> bool {
-    match fs::metadata(runtime, path) {
-        Ok(metadata) => metadata.is_file(),
-        Err(_) => false,
+/// Whether an error of the system says that nothing is at a path: no such name, a name that no file can have, a file where
+/// a folder would have to be, or links that lead back to themselves. Any other error leaves open what is there.
+fn says_absent(kind: ErrorKind) -> bool {
+    match kind {
+        ErrorKind::NotFound
+        | ErrorKind::NotADirectory
+        | ErrorKind::FilesystemLoop
+        | ErrorKind::InvalidFilename
+        | ErrorKind::InvalidInput => true,
+        _ => false,
     }
 }
 
-/// The name of an entry of a folder; `None` for one that isn't UTF-8, or can't be read.
-fn name_of(alloc: Global, entry: io::Result<DirEntry>) -> Result<Option<Vec<u8>>, AllocError> {
+/// Whether a path leads to a regular file. This opens nothing, so it doesn't wait at a pipe.
+fn is_regular(runtime: &HostRuntime, path: &str) -> Result<bool, Failed> {
+    match fs::metadata(runtime, path) {
+        Ok(metadata) => Ok(metadata.is_file()),
+        Err(error) if says_absent(error.kind()) => Ok(false),
+        Err(_) => Err(Failed),
+    }
+}
+
+/// The stop for an error of the system while a folder is listed.
+fn stop_of(kind: ErrorKind) -> FileStop {
+    if kind == ErrorKind::OutOfMemory {
+        return FileStop::OutOfMemory;
+    }
+    FileStop::Failed
+}
+
+/// The name of an entry of a folder; `None` for one that isn't UTF-8.
+fn name_of(alloc: Global, entry: io::Result<DirEntry>) -> Result<Option<Vec<u8>>, FileStop> {
     match entry {
         Ok(entry) => Ok(Some(Vec::from_slice(alloc, entry.file_name().as_bytes())?)),
-        Err(error) if error.kind() == ErrorKind::OutOfMemory => Err(AllocError),
-        Err(_) => Ok(None),
+        Err(error) if error.kind() == ErrorKind::InvalidFilename => Ok(None),
+        Err(error) => Err(stop_of(error.kind())),
     }
 }
 
@@ -98,11 +120,14 @@ impl Files for Disk<'_> {
         })
     }
 
-    fn regular_reader_for(&mut self, path: &str) -> Option<OpenFile> {
-        if !is_regular(self.runtime, path) {
-            return None;
+    fn regular_reader_for(&mut self, path: &str) -> Result<Option<OpenFile>, Failed> {
+        if !is_regular(self.runtime, path)? {
+            return Ok(None);
         }
-        self.reader_for(path)
+        match self.reader_for(path) {
+            Some(file) => Ok(Some(file)),
+            None => Err(Failed),
+        }
     }
 
     fn names_in(
@@ -110,12 +135,12 @@ impl Files for Disk<'_> {
         alloc: Global,
         folder: &str,
         most: usize,
-    ) -> Result<Option<Vec<Vec<u8>>>, AllocError> {
+    ) -> Result<Option<Vec<Vec<u8>>>, FileStop> {
         let mut names = Vec::new(alloc);
         let entries = match fs::read_dir(self.runtime, folder) {
             Ok(entries) => entries,
-            Err(error) if error.kind() == ErrorKind::OutOfMemory => return Err(AllocError),
-            Err(_) => return Ok(Some(names)),
+            Err(error) if says_absent(error.kind()) => return Ok(Some(names)),
+            Err(error) => return Err(stop_of(error.kind())),
         };
         for entry in entries {
             let Some(name) = name_of(alloc, entry)? else {
@@ -124,7 +149,9 @@ impl Files for Disk<'_> {
             if names.len() == most {
                 return Ok(None);
             }
-            names.push(name)?;
+            if names.push(name).is_err() {
+                return Err(FileStop::OutOfMemory);
+            }
         }
         Ok(Some(names))
     }

@@ -20,9 +20,9 @@ fn session_of<'a>(
     requires order { IsOrder (length system.now.rows.items) (row_at system.now.rows.items) order.now }
     ensures system { IfOk result (λ s. s.system ≡ system.now) }
 {
-    match Session::new(alloc, system, order, &mut Tally::new()) {
+    match Session::new(alloc, system, order, &mut Tally::new(alloc)) {
         Ok(session) => Ok(session),
-        Err(_) => Session::new(alloc, system, order, &mut Tally::new()),
+        Err(_) => Session::new(alloc, system, order, &mut Tally::new(alloc)),
     }
 }
 
@@ -39,6 +39,7 @@ fn copied<'a>(session: &Session<'a, Sums>) -> Result<Session<'a, Sums>, AllocErr
 /// Makes changes, at the second try where the first is refused.
 fn change(
     rt: &impl Abort,
+    alloc: Global,
     system: &Sums,
     session: &mut Session<'_, Sums>,
     changes: &[(u32, Option<u32>)],
@@ -47,12 +48,13 @@ fn change(
     ensures system { session.new.system ≡ system.now }
 {
     assert!(rt; fit_changes(system, changes));
-    Ok(twice!(session.apply(changes, &mut Tally::new())))
+    Ok(twice!(session.apply(changes, &mut Tally::new(alloc))))
 }
 
 /// Whether a new user value of unit 1 changes these units, and so many are evaluated.
 fn changes_these(
     rt: &impl Abort,
+    alloc: Global,
     system: &Sums,
     session: &mut Session<'_, Sums>,
     value: u32,
@@ -62,7 +64,7 @@ fn changes_these(
     requires system { session.old.system ≡ system.now }
     ensures system { session.new.system ≡ system.now }
 {
-    let report = change(rt, system, session, &[(1, Some(value))])?;
+    let report = change(rt, alloc, system, session, &[(1, Some(value))])?;
     Ok(report.changed.as_slice() == changed && report.evaluated == evaluated)
 }
 
@@ -71,10 +73,10 @@ fn a_copy_changes_apart_from_its_session(rt: HostRuntime) -> Result<(), Fail> {
     let system = sums_of(rt.alloc(), &[&[], &[0], &[0, 1]])?;
     let order = order_of(rt.alloc(), &system)?;
     let mut session = session_of(rt.alloc(), &system, &order)?;
-    assert!(rt; changes_these(&rt, &system, &mut session, 2, &[], 1)?);
-    assert!(rt; changes_these(&rt, &system, &mut session, 7, &[1, 2], 2)?);
+    assert!(rt; changes_these(&rt, rt.alloc(), &system, &mut session, 2, &[], 1)?);
+    assert!(rt; changes_these(&rt, rt.alloc(), &system, &mut session, 7, &[1, 2], 2)?);
     let mut copy = copied(&session)?;
-    assert!(rt; changes_these(&rt, &system, &mut copy, 2, &[1, 2], 2)?);
+    assert!(rt; changes_these(&rt, rt.alloc(), &system, &mut copy, 2, &[1, 2], 2)?);
     assert_eq!(rt; session.values(), [1, 7, 9].as_slice());
     assert_eq!(rt; session.users(), [None, Some(7), None].as_slice());
     Ok(())
@@ -89,8 +91,8 @@ fn reports_of(
 ) -> Result<(Report, Report), Fail> {
     let order = order_of(alloc, system)?;
     let mut session = session_of(alloc, system, &order)?;
-    let first = change(rt, system, &mut session, changes)?;
-    let again = change(rt, system, &mut session, changes)?;
+    let first = change(rt, alloc, system, &mut session, changes)?;
+    let again = change(rt, alloc, system, &mut session, changes)?;
     Ok((first, again))
 }
 
@@ -112,6 +114,35 @@ fn a_change_evaluates_what_it_touches(rt: HostRuntime) -> Result<(), Fail> {
             "{changes:?}"
         );
     }
+    Ok(())
+}
+
+/// The units that changes evaluate, in the order in which they do.
+fn evaluated_units(
+    rt: &impl Abort,
+    alloc: Global,
+    system: &Sums,
+    session: &mut Session<'_, Sums>,
+    changes: &[(u32, Option<u32>)],
+) -> Result<Vec<u32>, AllocError>
+    requires system { session.old.system ≡ system.now }
+    ensures system { session.new.system ≡ system.now }
+{
+    assert!(rt; fit_changes(system, changes));
+    let mut tally = Tally::new(alloc);
+    let _ = session.apply(changes, &mut tally)?;
+    let Tally { evaluated, .. } = tally;
+    Ok(evaluated)
+}
+
+#[test]
+fn a_meter_records_what_a_change_evaluates(rt: HostRuntime) -> Result<(), Fail> {
+    let system = sums_of(rt.alloc(), &[&[], &[0], &[0], &[1, 2]])?;
+    let order = order_of(rt.alloc(), &system)?;
+    let mut session = session_of(rt.alloc(), &system, &order)?;
+    let changes = [(3, Some(4)), (1, Some(9))];
+    let units = twice!(evaluated_units(&rt, rt.alloc(), &system, &mut session, &changes));
+    assert_eq!(rt; units.as_slice(), [1, 3].as_slice());
     Ok(())
 }
 
@@ -147,7 +178,7 @@ fn more_than_65536_units_and_links_fit_in_memory(rt: HostRuntime) -> Result<(), 
     let mut session = session_of(rt.alloc(), &system, &order)?;
     assert_eq!(rt; session.values().last().copied(), Some(1_000));
     let changes = twice!(many_changes(rt.alloc()));
-    let report = change(&rt, &system, &mut session, &changes)?;
+    let report = change(&rt, rt.alloc(), &system, &mut session, &changes)?;
     assert_eq!(rt; report.changed.last().copied(), Some(MANY));
     assert_eq!(rt; report.evaluated, MANY as u64 + 1);
     assert_eq!(rt; session.values().last().copied(), Some(8));

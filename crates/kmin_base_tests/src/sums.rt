@@ -1,5 +1,5 @@
 //! A small system that keeps both laws, beside that of the rules of a tree.
-ghost use Rattle.std.specs.Prelude.{◌≡◌, ◌^◌, ◌<◌, Option, Some, length, nat_eq, IsTrue};
+ghost use Rattle.std.specs.Prelude.{◌≡◌, ◌^◌, ◌<◌, Option, Some, [], length, nat_eq, IsTrue};
 ghost use Rattle.kc_system.specs.Changes.{FitsChanges};
 ghost use Rattle.kc_system.specs.Dependencies.{IsGraph};
 ghost use Rattle.kc_system.specs.Solutions.{FitsUsers};
@@ -22,10 +22,11 @@ pub(crate) struct Sums {
     ghost few: { length rows.items < 2 ^ 32 },
 }
 
-/// A meter that counts the evaluations of units.
+/// A meter that counts the evaluations of units, and records which are evaluated.
 #[derive(Drop)]
 pub(crate) struct Tally {
     pub(crate) count: u64,
+    pub(crate) evaluated: Vec<u32>,
     ghost counts: { count < 2 ^ 64 },
 }
 
@@ -66,6 +67,8 @@ impl System for Sums {
 
     ghost count = { λ m. m.count };
 
+    ghost recorded = { λ m. Some m.evaluated.items };
+
     ghost equal_values = { λ a b. Prim.search rules };
 
     ghost equal_users = { λ a b. Prim.search rules };
@@ -85,6 +88,7 @@ impl System for Sums {
         meter: &mut Tally,
     ) -> Result<u32, AllocError> {
         meter.count = meter.count.saturating_add(1);
+        meter.evaluated.push(u)?;
         if let Some(number) = user {
             return Ok(*number);
         }
@@ -117,11 +121,15 @@ impl System for Sums {
 }
 
 impl Tally {
-    /// A meter with the count 0.
-    pub(crate) fn new() -> Tally
-        ensures { result.count ≡ 0 }
+    /// A meter with the count 0, which has recorded no unit.
+    pub(crate) fn new(alloc: Global) -> Tally
+        ensures count { result.count ≡ 0 }
+        ensures none { result.evaluated.items ≡ [] }
     {
-        Tally { count: 0 }
+        Tally {
+            count: 0,
+            evaluated: Vec::new(alloc),
+        }
     }
 }
 

@@ -63,7 +63,7 @@ fn solved(
     requires order { IsOrder (length system.now.rows.items) (row_at system.now.rows.items) order.now }
     requires users { FitsUsers (length system.now.rows.items) IsSmall users.now }
 {
-    solve(alloc, system, order, users, &mut Tally::new())
+    solve(alloc, system, order, users, &mut Tally::new(alloc))
 }
 
 #[test]

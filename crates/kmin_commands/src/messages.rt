@@ -46,6 +46,22 @@ macro_rules! tables {
                 "Cycle" "  Cycle             the named symbols depend on one another: take out a dependency"
                 "LeftOut" "  LeftOut           a form that kmin leaves out: for a macro give --expand, write another form anew"
             }
+            "Forms of LeftOut, by their word:" {
+                "rsource" "  rsource           a source below the folder of its own file: give --expand, or write `source`"
+                "osource" "  osource           a source of a file that may be missing: give --expand, or write `source`"
+                "orsource" "  orsource          both of these: give --expand, or write `source`"
+                "transitional" "  transitional      a symbol that is read from old files and not written: take the symbol out"
+                "optional" "  optional          an optional choice, in the strict language: give --language linux"
+                "def_string" "  def_string        a type and a default, in the strict language: give --language linux, or
+                    write `string` and `default`"
+                "def_int" "  def_int           a type and a default, in the strict language: give --language linux, or
+                    write `int` and `default`"
+                "def_hex" "  def_hex           a type and a default, in the strict language: give --language linux, or
+                    write `hex` and `default`"
+                "env" "  env               a default from the environment by `option`: give --expand, or write `default`"
+                "defconfig_list" "  defconfig_list    a list of files by `option`: give --expand, or take its symbol out"
+                "allnoconfig_y" "  allnoconfig_y     an `option` that concerns allnoconfig alone: give --expand, or take it out"
+            }
             "Kinds of an expansion, with --expand, --answers, --define or --env:" {
                 "Unterminated" "  Unterminated      a `$(` has no `)`: close it"
                 "Undefined" "  Undefined         TEXT is called and nobody defines it, or is no name: define it, correct it"
@@ -83,6 +99,8 @@ macro_rules! tables {
                 "Read" "  Read              the file can't be opened or read: check the path and the permissions"
                 "UnknownSymbol" "  UnknownSymbol     a notice, the tree has no such symbol, nothing is assigned: take the line out"
                 "NotOfType" "  NotOfType         a notice, the value isn't of the symbol's type and isn't assigned: correct it"
+                "Escape" "  Escape            a notice, a `\\` is before another byte than `\"` and `\\`, and is dropped: give
+                    --strings raw if it is part of the text, else take it out"
                 "OtherChoice" "  OtherChoice       a notice, by the line Linux since 6.10 selects another member of a choice: give
                     --language linux-6.12 for a Linux since 6.10, linux-6.1 for one before"
             }
@@ -142,7 +160,8 @@ Exit status:
 
 Without a word, kmin reads a bundle on standard input, a tree, a line `%%` and a configuration
 file, and writes its full file. Options come after the command: `kmin help COMMAND` lists them.
-`kmin help KIND` explains a kind of message, and share/doc/kmin/FAULTS.md all of them.
+`kmin help KIND` explains a kind of message, `kmin help FORM` a form that LeftOut leaves out, and
+share/doc/kmin/FAULTS.md all of them.
 
 ",
             $($text),*
@@ -180,6 +199,7 @@ macro_rules! table_at {
     (fourth: $a:literal $b:tt $($rest:tt)*) => { table_at!(third: $($rest)*) };
     (fifth: $a:literal $b:tt $($rest:tt)*) => { table_at!(fourth: $($rest)*) };
     (sixth: $a:literal $b:tt $($rest:tt)*) => { table_at!(fifth: $($rest)*) };
+    (seventh: $a:literal $b:tt $($rest:tt)*) => { table_at!(sixth: $($rest)*) };
 }
 
 pub(crate) const AFTER: &str = with_examples!(
@@ -190,21 +210,24 @@ pub(crate) const AFTER_LONG: &str = tables!(as_long_help);
 
 static OF_TREES: Table = tables!(table_at first);
 
-static OF_EXPANSIONS: Table = tables!(table_at second);
+static OF_FORMS: Table = tables!(table_at second);
 
-static OF_ANSWERS: Table = tables!(table_at third);
+static OF_EXPANSIONS: Table = tables!(table_at third);
 
-static OF_CONFIGURATIONS: Table = tables!(table_at fourth);
+static OF_ANSWERS: Table = tables!(table_at fourth);
 
-static OF_WRITING: Table = tables!(table_at fifth);
+static OF_CONFIGURATIONS: Table = tables!(table_at fifth);
 
-static WITHOUT_FILE: Table = tables!(table_at sixth);
+static OF_WRITING: Table = tables!(table_at sixth);
 
-/// All tables of help on kinds of messages.
-pub fn message_tables() -> [Table; 6] {
+static WITHOUT_FILE: Table = tables!(table_at seventh);
+
+/// All tables of help on kinds of messages, and on the forms that one of these leaves out.
+pub fn message_tables() -> [Table; 7] {
     // Each has a function of its own, since one that sees all of them takes the prover too many steps.
     [
         of_trees(),
+        of_forms(),
         of_expansions(),
         of_answers(),
         of_configurations(),
@@ -215,6 +238,10 @@ pub fn message_tables() -> [Table; 6] {
 
 fn of_trees() -> Table {
     OF_TREES
+}
+
+fn of_forms() -> Table {
+    OF_FORMS
 }
 
 fn of_expansions() -> Table {

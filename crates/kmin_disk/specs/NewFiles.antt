@@ -1,5 +1,5 @@
 -- New files: their names, their bytes, and the disk after they are made, renamed and removed.
-use Rattle.std.specs.Prelude.{◌≡◌, ◌≢◌, ◌+◌, ℕ, zero, suc, ◌/◌, ◌%◌, Bool, true, List, [], ◌∷◌, ◌++◌, Option, Some, None, codes, if◌then◌else◌, ◌⊎◌, nat_lt}
+use Rattle.std.specs.Prelude.{◌≡◌, ◌≢◌, ◌+◌, ℕ, zero, suc, ◌/◌, ◌%◌, Bool, true, false, List, [], ◌∷◌, ◌++◌, Option, Some, None, codes, if◌then◌else◌, ◌⊎◌, nat_lt}
 use Rattle.std.specs.Path.{path_with_file_name}
 use Rattle.kmin_disk.specs.Contents.{nothing, file, unfinished}
 use Rattle.kmin_disk.specs.Disks.{History, DiskState, newest, with_newest, content_at}
@@ -50,6 +50,7 @@ pub record Creates (old new : DiskState) (path new_path : List ℕ) (draft : Dra
   pub made : new.history draft.own ≡ with_newest unfinished (old.history draft.own)
   pub others : (place : List ℕ) → place ≢ draft.own → new.history place ≡ old.history place
   pub empty : newest (old.history draft.target) ≢ None → draft.bytes ≡ Some []
+  pub unsynced : draft.synced ≡ false
 
 -- No new file can be created at the second path to replace the file at the first: the second path isn't known to hold nothing, or
 -- both paths lead to the same name in a folder.

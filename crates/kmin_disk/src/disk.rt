@@ -1,5 +1,5 @@
 //! The traits of a disk: reading its files, and replacing them.
-ghost use Rattle.std.specs.Prelude.{◌≡◌, true, take, option_map, IfOk, OnOk, OnErr, IfErr, IsErrOf};
+ghost use Rattle.std.specs.Prelude.{◌≡◌, true, false, take, option_map, IfOk, OnOk, OnErr, IfErr, IsErrOf};
 ghost use Rattle.std.specs.Io.{WritesAtMost};
 ghost use Rattle.kc_value.specs.Streams.{failures_after_read, failures_after_write};
 ghost use Rattle.kmin_disk.specs.Contents.{IsOfKind, OpensAs, readable};
@@ -64,6 +64,7 @@ pub trait WriteDisk: ReadDisk {
     fn write_some(&mut self, new: &mut Self::NewFile, bytes: &[u8]) -> Result<usize, Failed>
         ensures bound { WritesAtMost result bytes.now }
         ensures taken { IfOk result (λ count. Takes (draft new.old) (draft new.new) (take count bytes.now)) }
+        ensures unsynced { (draft new.new).synced ≡ false }
         ensures err { OnErr result (IsSameDraft (draft new.old) (draft new.new)) }
         ensures same { (Self.disk self.new).state ≡ (Self.disk self.old).state }
         ensures failures { (Self.disk self.new).failures ≡ failures_after_write (Self.disk self.old).failures result bytes.now };

@@ -12,6 +12,8 @@ mod new_path;
 mod read_only_disk;
 mod replacement;
 mod system_disk;
+mod system_new_file;
+mod written_file;
 
 pub use disk::{ReadDisk, WriteDisk};
 pub use fault::{CreateFault, ReplaceFault, UpdateFault};
@@ -20,4 +22,5 @@ pub use kind::FileKind;
 pub use memory_reader::MemoryReader;
 pub use read_only_disk::ReadOnly;
 pub use replacement::replace;
-pub use system_disk::{SystemDisk, SystemFile, SystemNewFile, SystemRename};
+pub use system_disk::{SystemDisk, SystemFile};
+pub use system_new_file::{SystemNewFile, SystemRename};

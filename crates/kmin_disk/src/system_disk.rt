@@ -1,19 +1,18 @@
 //! The disk of the system.
-ghost use Rattle.std.specs.Prelude.{◌≡◌, string_bytes, IfOk};
+ghost use Rattle.std.specs.Prelude.{◌≡◌};
 ghost use Rattle.kc_value.specs.Streams.{one_failure_more};
-ghost use Rattle.kmin_disk.specs.SystemDisks.{unknown_state, unknown_draft};
+ghost use Rattle.kmin_disk.specs.SystemDisks.{unknown_state, system_draft};
 
 use crate::disk::{ReadDisk, WriteDisk};
 use crate::fault::CreateFault;
 use crate::kind::FileKind;
+use crate::system_new_file::{SystemNewFile, SystemRename};
 use kc_value::{Failed, FromRead, Seed, Source};
-use std::fs::{File, Metadata, OpenOptions};
-use std::io::{ErrorKind, Write};
-use std::os::unix::fs::{MetadataExt, OpenOptionsExt, fchown};
-use std::path::Path;
-use std::{fs, io};
+use std::fs;
+use std::fs::File;
+use std::io::ErrorKind;
 
-/// The disk of the system. Contracts know nothing of its files.
+/// The disk of the system. Contracts know nothing of its files but what the calls on a new one tell.
 #[derive(Drop)]
 pub struct SystemDisk<'a> {
     runtime: &'a HostRuntime,
@@ -26,20 +25,6 @@ pub struct SystemDisk<'a> {
 pub struct SystemFile {
     reader: FromRead<File>,
     size: usize,
-}
-
-/// A new file on the disk of the system, and the metadata of the file that it is to replace, if there is one.
-#[derive(Drop)]
-pub struct SystemNewFile {
-    file: File,
-    path: String,
-    target: String,
-    old: Option<Metadata>,
-}
-
-/// A rename on the disk of the system whose folder isn't synced yet.
-pub struct SystemRename {
-    target: String,
 }
 
 impl Source for SystemFile {
@@ -81,64 +66,6 @@ fn size_now(file: &File) -> usize {
     }
 }
 
-/// The metadata of the regular file at a path; `None` if there is no file, and an error for any other kind of file.
-fn regular_file(runtime: &HostRuntime, path: &str) -> io::Result<Option<Metadata>> {
-    match fs::symlink_metadata(runtime, path) {
-        Ok(old) if old.is_file() => Ok(Some(old)),
-        Ok(_) => Err(io::Error::from(ErrorKind::InvalidInput)),
-        Err(fault) if fault.kind() == ErrorKind::NotFound => Ok(None),
-        Err(fault) => Err(fault),
-    }
-}
-
-/// Makes an empty new file. If it is to replace another file, only this user can read it yet.
-fn new_file(runtime: &HostRuntime, path: &str, new_path: &str) -> io::Result<SystemNewFile>
-    ensures { IfOk result (λ new. (string_bytes new.path ≡ new_path.now) × (string_bytes new.target ≡ path.now)) }
-{
-    let old = regular_file(runtime, path)?;
-    let mode = if old.is_some() { 0o600 } else { 0o666 };
-    let target = String::from_str(runtime.alloc(), path)?;
-    let own = String::from_str(runtime.alloc(), new_path)?;
-    let file = OpenOptions::new()
-        .write(true)
-        .create_new(true)
-        .mode(mode)
-        .open(runtime, new_path)?;
-    Ok(SystemNewFile {
-        file,
-        path: own,
-        target,
-        old,
-    })
-}
-
-/// Gives a file the owner, group and mode of another.
-fn copy_rights(file: &File, old: &Metadata) -> io::Result<()> {
-    let new = file.metadata()?;
-    if new.uid() != old.uid() || new.gid() != old.gid() {
-        fchown(file, Some(old.uid()), Some(old.gid()))?;
-    }
-    file.set_permissions(old.permissions())
-}
-
-/// Gives a new file the owner and the mode of the file that it is to replace, if there is one, and syncs it.
-fn finish(new: &SystemNewFile) -> io::Result<()> {
-    if let Some(old) = &new.old {
-        copy_rights(&new.file, old)?;
-    }
-    new.file.sync_all()
-}
-
-/// Syncs the folder of a path, so that renames in it last.
-fn sync_folder_of(runtime: &HostRuntime, path: &str) -> io::Result<()> {
-    let folder = match Path::new(path).parent() {
-        Some(folder) => folder.as_str(),
-        None => "",
-    };
-    let folder = if folder.is_empty() { "." } else { folder };
-    File::open(runtime, folder)?.sync_all()
-}
-
 impl ReadDisk for SystemDisk<'_> {
     type File = SystemFile;
 
@@ -175,13 +102,13 @@ impl WriteDisk for SystemDisk<'_> {
 
     type Renamed = SystemRename;
 
-    ghost draft = { λ new. unknown_draft (string_bytes new.path) (string_bytes new.target) };
+    ghost draft = { system_draft };
 
     fn create(&mut self, path: &str, new_path: &str) -> Result<SystemNewFile, CreateFault> {
         if new_path == path {
             return Err(CreateFault::Taken);
         }
-        match new_file(self.runtime, path, new_path) {
+        match SystemNewFile::create(self.runtime, path, new_path) {
             Ok(new) => Ok(new),
             Err(fault) if fault.kind() == ErrorKind::AlreadyExists => Err(CreateFault::Taken),
             Err(_) => {
@@ -192,7 +119,7 @@ impl WriteDisk for SystemDisk<'_> {
     }
 
     fn write_some(&mut self, new: &mut SystemNewFile, bytes: &[u8]) -> Result<usize, Failed> {
-        match new.file.write(bytes) {
+        match new.write(bytes) {
             Ok(count) => {
                 if count == 0 && !bytes.is_empty() {
                     let _ = self.count_failure();
@@ -204,32 +131,31 @@ impl WriteDisk for SystemDisk<'_> {
     }
 
     fn sync(&mut self, new: &mut SystemNewFile) -> Result<(), Failed> {
-        match finish(new) {
+        match new.finish() {
             Ok(()) => Ok(()),
             Err(_) => Err(self.count_failure()),
         }
     }
 
     fn rename(&mut self, new: SystemNewFile) -> Result<SystemRename, SystemNewFile> {
-        match fs::rename(self.runtime, &new.path, &new.target) {
-            Ok(()) => Ok(SystemRename { target: new.target }),
-            Err(_) => {
+        match new.rename(self.runtime) {
+            Ok(renamed) => Ok(renamed),
+            Err(back) => {
                 let _ = self.count_failure();
-                Err(new)
+                Err(back)
             }
         }
     }
 
     fn sync_folder(&mut self, renamed: SystemRename) -> Result<(), Failed> {
-        let SystemRename { target } = renamed;
-        match sync_folder_of(self.runtime, &target) {
+        match renamed.sync_folder(self.runtime) {
             Ok(()) => Ok(()),
             Err(_) => Err(self.count_failure()),
         }
     }
 
     fn remove(&mut self, new: SystemNewFile) -> Result<(), Failed> {
-        match fs::remove_file(self.runtime, &new.path) {
+        match new.remove(self.runtime) {
             Ok(()) => Ok(()),
             Err(_) => Err(self.count_failure()),
         }

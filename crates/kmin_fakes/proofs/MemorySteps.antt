@@ -50,9 +50,9 @@ holds_elsewhere old new path content adds place other =
 
 -- a disk in memory whose log gets an unfinished file at a path that held nothing has created that new file
 pub creates_in_memory : (old new : List Event) (path new_path : List ℕ) (made : MemoryNewFile) → AppendsHolds old new new_path Unfinished
-    → string_bytes made.path ≡ new_path → string_bytes made.target ≡ path → made.bytes.items ≡ [] → new_path ≢ path
+    → string_bytes made.path ≡ new_path → string_bytes made.target ≡ path → made.bytes.items ≡ [] → made.synced ≡ false → new_path ≢ path
     → newest ((memory_state old).history new_path) ≡ Some nothing → Creates (memory_state old) (memory_state new) path new_path (memory_draft made)
-creates_in_memory old new path new_path made adds own target empty apart free = record {
+creates_in_memory old new path new_path made adds own target empty unsynced apart free = record {
   places = λ any. refl;
   own = own;
   target = target;
@@ -62,6 +62,7 @@ creates_in_memory old new path new_path made adds own target empty apart free = 
       (holds_there old new new_path Unfinished adds);
   others = λ place other. holds_elsewhere old new new_path Unfinished adds place (λ e. other (e ∙ sym own));
   empty = λ known. ap Some empty;
+  unsynced = unsynced;
 }
 
 -- a disk in memory whose log gets `Nothing` at the path of a new file has removed that file

@@ -1,5 +1,5 @@
 //! A disk in memory, for tests: its history is known, and chosen calls fail.
-ghost use Rattle.std.specs.Prelude.{◌≡◌, [], Some, ◌≢◌, OnOk, OnErr, IfOk, IfSome, OnSome, string_bytes};
+ghost use Rattle.std.specs.Prelude.{◌≡◌, [], Some, false, ◌≢◌, OnOk, OnErr, IfOk, IfSome, OnSome, string_bytes};
 ghost use Rattle.kc_value.specs.Streams.{one_failure_more};
 ghost use Rattle.kmin_disk.specs.Disks.{History, newest};
 ghost use Rattle.kmin_fakes.specs.MemoryDisks.{memory_state, memory_draft, content_view, history_after, AppendsHolds, AppendsRename};
@@ -218,7 +218,7 @@ impl<'a> MemoryDisk<'a> {
     /// Makes an empty new file at `new_path`, which is to replace the file at `path`.
     fn begin(&mut self, path: &str, new_path: &str) -> Result<MemoryNewFile, AllocError>
         ensures began { OnOk result (AppendsHolds self.old.log.items self.new.log.items new_path.now MemoryContent.Unfinished) }
-        ensures draft { IfOk result (λ new. (string_bytes new.path ≡ new_path.now) × (string_bytes new.target ≡ path.now) × (new.bytes.items ≡ [])) }
+        ensures draft { IfOk result (λ new. (string_bytes new.path ≡ new_path.now) × (string_bytes new.target ≡ path.now) × (new.bytes.items ≡ []) × (new.synced ≡ false)) }
         ensures err { OnErr result (self.new.log.items ≡ self.old.log.items) }
         ensures failed { self.new.failed ≡ self.old.failed }
     {

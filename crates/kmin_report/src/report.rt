@@ -38,8 +38,8 @@ pub enum Report<'a> {
         line: u32,
         kind: LoadKind,
     },
-    /// A notice of a configuration file: a line with an unknown symbol, or with a value that isn't of its symbol's type, or on whose
-    /// account Linux since 6.10 selects another member of a choice.
+    /// A notice of a configuration file: a line with an unknown symbol, with a value that isn't of its symbol's type, or with a string
+    /// that has other escapes than those of `"` and `\`, or on whose account Linux since 6.10 selects another member of a choice.
     Notice {
         path: &'a str,
         line: u32,

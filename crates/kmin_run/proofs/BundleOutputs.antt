@@ -1,9 +1,11 @@
 -- The outputs for bundles.
 use Rattle.std.proofs.Common.{◌≡◌, ℕ, false, List, [], ◌∷◌, ◌++◌, Option, Some, Result, Ok, Err, Vec, IfOk, IfErr, codes, cond, map, refl, sym, ap, ◌∙◌, subst, append-nil}
 use Rattle.std.proofs.lemmas.Bool.{false≢true}
+use Rattle.kc_tokens.specs.declared.language.Language.{Language}
 use Rattle.kc_tokens.specs.declared.language.Language.TheVariants.{Strict}
 use Rattle.kc_tree_model.specs.TreeFiles.{Files}
-use Rattle.kc_tree_model.specs.Contents.{tree_of_files, tree_of_groups}
+use Rattle.kc_tree_model.specs.Blocks.{Group}
+use Rattle.kc_tree_model.specs.Contents.{tree_of_groups}
 use Rattle.kc_dotconfig_model.specs.OtherChoices.{has_no_version, choice_lines_from, placed_from, other_places, other_choices}
 use Rattle.std.specs.declared.alloc.Global.{Global}
 use Rattle.kc_tree_model.specs.Trees.{Tree}
@@ -38,10 +40,10 @@ use Rattle.kmin_report.proofs.WriterLemmas.{lines_append}
 use Rattle.kmin_run.proofs.Sequences.{stopped_at, stopped_path, loaded_from, loaded_one}
 use Rattle.kmin_run.proofs.JobOutputs.{resolved}
 
--- a tree has the language of its files
-language_of_files : (files : Files) (root : List ℕ) → (tree_of_files files root).language ≡ files.language
-unfolding tree_of_files tree_of_groups
-language_of_files files root = refl
+-- a tree has the language of the files in which it was read
+language_of_groups : (language : Language) (groups : List Group) → (tree_of_groups language groups).language ≡ language
+unfolding tree_of_groups
+language_of_groups language groups = refl
 
 -- in the strict language there are no notices on choices
 strict_choices : (tree : Tree) (values : List UnitValue) (meanings : List (List LineMeaning)) → tree.language ≡ Strict → other_choices tree values meanings ≡ []
@@ -121,7 +123,7 @@ module _ (bundle tree configuration : List ℕ) (parts : IsBundle bundle tree co
             parts = parts;
             answers = of_files (tree_of_settled rules) Full (codes "config" ∷ []) h.0 h.1 refl accepted resolve h.3 refl (λ e. absurd (false≢true e))
                 (sym (ap (λ ps. notice_lines (codes "config" ∷ []) h.0 ++ choice_notice_lines (codes "config" ∷ []) ps)
-                (strict_choices (tree_of_settled rules) h.1 h.0 (ap (λ (t : Tree). t.language) accepted.tree_is ∙ language_of_files (bundle_files tree) (codes "Kconfig")))
+                (strict_choices (tree_of_settled rules) h.1 h.0 (ap (λ (t : Tree). t.language) accepted.read.3 ∙ language_of_groups Strict accepted.read.0))
                 ∙ append-nil (notice_lines (codes "config" ∷ []) h.0)));
           },
           lines_append taken middle failed failed_middle [] _ taken_after failed_after before h.4,

@@ -10,7 +10,7 @@ use Rattle.kc_rules_model.specs.declared.profile.Profile.{Profile}
 use Rattle.kc_rules.specs.declared.rules.Settled.{Settled}
 use Rattle.kc_rules.specs.between.SettledViews.{tree_of_settled, profile_of}
 use Rattle.kc_dotconfig_model.specs.Formats.{FileFormat}
-use Rattle.kc_dotconfig_model.specs.ConfigFiles.{empty_assignment}
+use Rattle.kc_dotconfig_model.specs.ConfigFiles.{empty_assignment, files_assignment}
 use Rattle.kc_dotconfig_model.specs.MissedAssignments.{missed}
 use Rattle.kc_rules_model.specs.declared.values.UnitValue.{UnitValue}
 use Rattle.kc_dotconfig.specs.ConfigStates.{Configured, IsSolved, tree_in}
@@ -32,7 +32,7 @@ use Rattle.kmin_run.specs.Strictness.{AllowsNotices, RefusesNotices}
 use Rattle.kmin_report.specs.StandardError.{TakesLines}
 use Rattle.kmin_trees.specs.AcceptedTrees.{AreAccepted}
 use Rattle.kmin_run.proofs.Sequences.{mean_append, notices_append}
-use Rattle.kmin_run.specs.Answers.{FilesMean, Resolve, Answer, files_assignment, of_files, of_comparison, IsTextOfVerb, difference_line}
+use Rattle.kmin_run.specs.Answers.{FilesMean, Resolve, Answer, of_files, of_comparison, IsTextOfVerb, difference_line}
 use Rattle.kmin_run.specs.Statuses.{status_of_list, status_of_verb}
 use Rattle.kmin_run.specs.Stops.{Stops, StopsAmongFiles, StopsAtChoices, StopsBefore, among_files, at_choices, NoticesOnChoices}
 use Rattle.kmin_run.specs.Stops as stops

@@ -9,7 +9,7 @@ use Rattle.kc_dotconfig_model.specs.Formats.{FileFormat}
 use Rattle.kc_dotconfig_model.specs.declared.fault.LoadKind.{LoadKind}
 use Rattle.kc_dotconfig_model.specs.declared.fault.LoadKind.TheVariants.{Malformed, NotUtf8, LineTooLong, TooManyLines, Read, OutOfMemory, TooLarge}
 use Rattle.kc_dotconfig_model.specs.ConfigLines.{LineMeaning}
-use Rattle.kc_dotconfig_model.specs.ConfigFiles.{file_assignment, overlay, notices_from}
+use Rattle.kc_dotconfig_model.specs.ConfigFiles.{file_assignment, overlay, overlaid_by, notices_from}
 use Rattle.kc_dotconfig_model.specs.LoadFaults.{IsFirstFault, complete}
 use Rattle.kc_dotconfig.specs.declared.fragment.Fragment.{Fragment}
 use Rattle.kc_dotconfig.specs.Fragments.{users_of, notice_pair}
@@ -20,7 +20,7 @@ use Rattle.kmin_disk.specs.Contents.{OpensAs}
 use Rattle.kmin_report.specs.Reports.{file_notices, notice_lines, notice_line, fault_line}
 use Rattle.kmin_report.specs.StandardError.{TakesLines}
 use Rattle.kmin_report.specs.StandardError as taking
-use Rattle.kmin_run.specs.Answers.{FilesMean, none, file, overlaid_by}
+use Rattle.kmin_run.specs.Answers.{FilesMean, none, file}
 use Rattle.kmin_run.specs.Stops as stops
 use Rattle.kmin_run.specs.Stops.{StopsAmongFiles, refused, unread, noticed}
 use Rattle.kmin_run.specs.Strictness.{AllowsNotices}

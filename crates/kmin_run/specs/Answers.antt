@@ -9,7 +9,7 @@ use Rattle.kc_rules_model.specs.Reports.{unmet}
 use Rattle.kc_rules_model.specs.declared.values.UnitValue.{UnitValue}
 use Rattle.kc_rules_model.specs.declared.values.UserValue.{UserValue}
 use Rattle.kc_dotconfig_model.specs.Formats.{FileFormat}
-use Rattle.kc_dotconfig_model.specs.ConfigFiles.{FileMeans, notices_from, file_assignment, overlay, empty_assignment}
+use Rattle.kc_dotconfig_model.specs.ConfigFiles.{FileMeans, notices_from, files_assignment}
 use Rattle.kc_dotconfig_model.specs.ConfigLines.{LineMeaning}
 use Rattle.kc_dotconfig_model.specs.LoadFaults.{IsAccepted}
 use Rattle.kc_dotconfig_model.specs.MissedAssignments.{missed}
@@ -37,15 +37,6 @@ pub data FilesMean (content_of : List ℕ → FileContent) (format : FileFormat)
       → AreKnownBytes (content_of path) bytes → IsAccepted format tree bytes → FileMeans format tree bytes meanings
       → AllowsNotices strict (notices_from 1 meanings)
       → FilesMean content_of format strict tree paths others → FilesMean content_of format strict tree (path ∷ paths) (meanings ∷ others)
-
--- an assignment, overridden by those of several configuration files, one after another
-abbrev pub overlaid_by : Tree → List (Option UserValue) → List (List LineMeaning) → List (Option UserValue)
-overlaid_by tree users [] = users
-overlaid_by tree users (meanings ∷ others) = overlaid_by tree (overlay (file_assignment tree meanings) users) others
-
--- the assignment of several configuration files, each of which overrides those before it
-abbrev pub files_assignment : Tree → List (List LineMeaning) → List (Option UserValue)
-files_assignment tree meanings = overlaid_by tree (empty_assignment tree) meanings
 
 -- The configuration files at these paths are accepted, their lines have these meanings, and `values` is the one solution of their
 -- assignment.

@@ -13,7 +13,7 @@ mod verb_texts;
 mod wants_command;
 
 pub use job_output::serve;
-pub use kmin_trees::Files;
+pub use kmin_trees::{FileStop, Files};
 pub use output_file::save;
 pub use program::run;
 pub use tidy_command::tidy;

@@ -7,3 +7,4 @@ pub mod ExpandedTexts
 pub mod FileNameLemmas
 pub mod JobTrees
 pub mod KnownTrees
+pub mod KnownExpansions

@@ -1,11 +1,11 @@
 -- The files and the folders of a tree below a root.
-use Rattle.std.proofs.Common.{◌≡◌, ℕ, Bool, true, false, List, [], Option, Some, None, Result, Ok, Err, IfOk, Vec, refl, subst}
-use Rattle.std.specs.Prelude.{option_map}
+use Rattle.std.proofs.Common.{◌≡◌, ℕ, Bool, true, false, List, [], Option, Some, None, Result, Ok, Err, IfOk, Vec, refl, sym, ap, ◌∙◌, subst}
+use Rattle.std.specs.Prelude.{option_map, if◌then◌else◌}
 use Rattle.std.specs.Str.{IsUtf8, is_utf8}
 use Rattle.std.proofs.lemmas.Str.{IsUtf8-from_is_utf8}
 use Rattle.std.specs.declared.alloc.Global.{Global}
-use Rattle.std.specs.declared.alloc.AllocError.{AllocError}
 use Rattle.kc_files.specs.TextViews.{texts_of}
+use Rattle.kc_files.specs.declared.files.FileStop.{FileStop}
 use Rattle.kc_macros_model.specs.AnswerFiles.{RecordedAnswers}
 use Rattle.kc_macros_model.specs.Programs.{Fault, Notice}
 use Rattle.kc_macros_model.specs.ReadingStates.{ExpandedFile}
@@ -39,8 +39,13 @@ pub unopened_below : (regular : List ℕ → FileContent) (root path : List ℕ)
     → tree.OpensAs (regular_below regular root path) reader
 unopened_below regular root path reader e h = rw e h
 
+-- a file of a tree whose opening failed isn't known to be missing
+pub there_below : (regular : List ℕ → FileContent) (root path place : List ℕ) → is_utf8 path ≡ true → place ≡ path_below root path
+    → (regular place ≡ Some None → ⊥) → regular_below regular root path ≡ Some None → ⊥
+there_below regular root path place e p h f = h (ap regular p ∙ sym (ap (λ b. if b then regular (path_below root path) else Some None) e) ∙ f)
+
 -- listing the folder at a path below the root agrees with what is known of the folder of the tree
-pub listed_below : (names : List ℕ → FolderContent) (root folder place : List ℕ) (most : ℕ) (r : Result (Option (Vec (Vec ℕ Global) Global)) AllocError)
+pub listed_below : (names : List ℕ → FolderContent) (root folder place : List ℕ) (most : ℕ) (r : Result (Option (Vec (Vec ℕ Global) Global)) FileStop)
     → is_utf8 folder ≡ true → place ≡ path_below root folder → IfOk r (λ found. ListsAs (names place) most (option_map texts_of found))
     → IfOk r (λ found. ListsAs (names_below names root folder) most (option_map texts_of found))
 listed_below names root folder place most (Err e) u p h = tt

@@ -6,5 +6,6 @@ pub mod JobTexts
 pub mod AnswerStops
 pub mod Stops
 pub mod KnownTrees
+pub mod KnownExpansions
 pub mod WantedQuestions
 pub mod between

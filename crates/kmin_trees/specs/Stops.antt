@@ -1,9 +1,8 @@
 -- Commands that end at their tree: the exit status, and the lines of standard error before those of `last_lines`.
-use Rattle.std.specs.Prelude.{◌≡◌, ℕ, List, [], ◌∷◌, ◌++◌, Some, None, Err, length, map}
+use Rattle.std.specs.Prelude.{◌≡◌, ℕ, List, [], ◌∷◌, ◌++◌, Some, Err, length, map}
 use Rattle.kc_tree_model.specs.TreeFiles.{Files}
 use Rattle.kc_tree_model.specs.Trees.{Tree}
-use Rattle.kc_tree_model.specs.TreeFaults.{first_tree_fault}
-use Rattle.kc_tree_model.specs.Contents.{tree_of_files}
+use Rattle.kc_tree_model.specs.TreesOfFiles.{IsTreeOfFiles, IsReportedFault}
 use Rattle.kc_tree_model.specs.declared.fault.TreeFault.{TreeFault}
 use Rattle.kc_system.specs.Dependencies.{IsCycle, IsNamedCycle}
 use Rattle.kc_rules_model.specs.Dependencies.{dependencies}
@@ -22,9 +21,9 @@ use Rattle.kmin_report.specs.Reports.{tree_fault_line, cycle_line}
 -- Texts are refused as a tree, with this line of standard error, in which files have their names in `names`: for their first
 -- fault, or for a cycle of symbols and choices.
 pub data RefusesTexts (texts names : Files) (first line : List ℕ) : Type 0 where
-  faulty : (fault : TreeFault) → first_tree_fault texts first ≡ Some fault → line ≡ tree_fault_line names first fault
+  faulty : (fault : TreeFault) → IsReportedFault texts first fault → line ≡ tree_fault_line names first fault
       → RefusesTexts texts names first line
-  cyclic : (tree : Tree) (units : List ℕ) → first_tree_fault texts first ≡ None → tree ≡ tree_of_files texts first
+  cyclic : (tree : Tree) (units : List ℕ) → IsTreeOfFiles texts first tree
       → IsNamedCycle (length tree.units) (dependencies tree) units → IsCycle (length tree.units) (dependencies tree) units
       → line ≡ cycle_line names first tree units → RefusesTexts texts names first line
 

@@ -1,11 +1,12 @@
 //! The files that a job names, the folders of its tree, and the environment.
-ghost use Rattle.std.specs.Prelude.{◌≡◌, IfOk, option_map, string_bytes};
+ghost use Rattle.std.specs.Prelude.{◌≡◌, ◌≢◌, Some, None, IfOk, OnErr, option_map, string_bytes};
 ghost use Rattle.kc_files.specs.TextViews.{texts_of};
 ghost use Rattle.kc_files.specs.TreeContents.{ListsAs};
 ghost use Rattle.kmin_trees.specs.FileContents.{Surroundings, MatchVariable};
 ghost use Rattle.kmin_disk.specs.Contents.{OpensAs};
 
-use kc_value::{Seed, Source};
+use kc_files::FileStop;
+use kc_value::{Failed, Seed, Source};
 use std::alloc::{AllocError, Global};
 
 /// The surroundings of a job that can be read: files by their paths, folders, and variables of the environment.
@@ -24,24 +25,29 @@ pub trait Files {
         ensures same { surroundings self.new ≡ surroundings self.old }
         ensures opens { OpensAs ((surroundings self.old).content path.now) (option_map Self.File.Source.left result) };
 
-    /// A reader of the bytes of the regular file at a path, or at the end of its links; `None` for a folder, a pipe or
-    /// a device, and if the file can't be opened.
-    fn regular_reader_for(&mut self, path: &str) -> Option<Self::File>
-        ensures same { surroundings self.new ≡ surroundings self.old }
-        ensures opens { OpensAs ((surroundings self.old).regular path.now) (option_map Self.File.Source.left result) };
-
-    /// The names in a folder in any order, without those that aren't UTF-8; `None` if there are more than `most`. A
-    /// folder that can't be listed has no names.
+    /// A reader of the bytes of the regular file at a path, or at the end of its links; `None` where nothing is there, and
+    /// for a folder, a pipe or a device.
     ///
     /// # Errors
     ///
-    /// Memory ran out.
+    /// A file is there, and can't be opened.
+    fn regular_reader_for(&mut self, path: &str) -> Result<Option<Self::File>, Failed>
+        ensures same { surroundings self.new ≡ surroundings self.old }
+        ensures opens { IfOk result (λ reader. OpensAs ((surroundings self.old).regular path.now) (option_map Self.File.Source.left reader)) }
+        ensures there { OnErr result ((surroundings self.old).regular path.now ≢ Some None) };
+
+    /// The names in a folder in any order, without those that aren't UTF-8; `None` if there are more than `most`. What
+    /// isn't there, or is no folder, has no names.
+    ///
+    /// # Errors
+    ///
+    /// A folder is there, and can't be listed; or memory ran out.
     fn names_in(
         &mut self,
         alloc: Global,
         folder: &str,
         most: usize,
-    ) -> Result<Option<Vec<Vec<u8>>>, AllocError>
+    ) -> Result<Option<Vec<Vec<u8>>>, FileStop>
         ensures same { surroundings self.new ≡ surroundings self.old }
         ensures lists { IfOk result (λ names. ListsAs ((surroundings self.old).names folder.now) most (option_map texts_of names)) };
 

@@ -16,6 +16,7 @@ mod trees;
 pub use file_names::FileNames;
 pub use files::Files;
 pub use job_trees::job_tree;
-pub use laws::known_files_determine_the_tree;
+pub use kc_files::FileStop;
+pub use laws::{known_files_determine_the_expanded_tree, known_files_determine_the_tree};
 pub use questions::wanted_of;
 pub use trees::{read_texts, settled_tree};

@@ -5,7 +5,7 @@ ghost use Rattle.kmin_trees.specs.FileContents.{path_below};
 ghost use Rattle.kmin_trees.specs.TreeFolders.{contents_through};
 
 use crate::files::Files;
-use kc_files::TreeFiles;
+use kc_files::{FileStop, TreeFiles};
 use kc_value::Seed;
 use std::alloc::{AllocError, Global};
 
@@ -46,12 +46,15 @@ impl<F: Files> TreeFiles for TreeFolder<'_, F> {
         self.files.seed()
     }
 
-    fn open(&mut self, alloc: Global, path: &[u8]) -> Result<Option<F::File>, AllocError> {
+    fn open(&mut self, alloc: Global, path: &[u8]) -> Result<Option<F::File>, FileStop> {
         let Some(path) = text_of(path) else {
             return Ok(None);
         };
         let place = path_in(alloc, self.root, path)?;
-        Ok(self.files.regular_reader_for(&place))
+        match self.files.regular_reader_for(&place) {
+            Ok(reader) => Ok(reader),
+            Err(_) => Err(FileStop::Failed),
+        }
     }
 
     fn size_of(&self, file: &F::File) -> usize {
@@ -63,7 +66,7 @@ impl<F: Files> TreeFiles for TreeFolder<'_, F> {
         alloc: Global,
         folder: &[u8],
         most: usize,
-    ) -> Result<Option<Vec<Vec<u8>>>, AllocError> {
+    ) -> Result<Option<Vec<Vec<u8>>>, FileStop> {
         let Some(folder) = text_of(folder) else {
             return Ok(Some(Vec::new(alloc)));
         };

@@ -4,7 +4,6 @@ ghost use Rattle.std.specs.List.{list_all, filter_map, suffix_len};
 ghost use Rattle.std.specs.Borrow.{Bor};
 ghost use Rattle.clap.specs.Words.{found_of};
 ghost use Rattle.kc_tokens.specs.Token.{is_white_byte};
-ghost use Rattle.kc_tree_model.specs.TreeLookup.{is_name_byte};
 ghost use Rattle.kc_macros_model.specs.Variables.{is_environment_name};
 ghost use Rattle.kc_tree_model.specs.LogicalLines.{without_white_end};
 ghost use Rattle.kmin_words.specs.Jobs.{definition_view, expansion_view};
@@ -15,15 +14,10 @@ use crate::job::{Definition, Expansion};
 use crate::refusal::Refusal;
 use crate::values::{has_values, is_given, value_of, values_of};
 use clap::ArgMatches;
+use kc_tokens::is_white;
+use kc_tree_model::are_name_bytes;
 use kc_value::{MAX_VARIABLE_BYTES, has_newline};
 use std::alloc::{AllocError, Global};
-
-/// A white byte: a tab, a vertical tab, a form feed, a carriage return or a space.
-fn is_white(byte: u8) -> bool
-    ensures { result ≡ is_white_byte byte }
-{
-    matches!(byte, 9 | 11 | 12 | 13 | 32)
-}
 
 /// Where the white bytes at the end of a text begin.
 fn white_end(bytes: &[u8]) -> usize
@@ -43,20 +37,6 @@ fn without_white_end(text: &str) -> &str
 {
     let end = white_end(text.as_bytes());
     &text[..end]
-}
-
-/// A letter, a digit or `_`.
-fn is_name_byte(byte: u8) -> bool
-    ensures { result ≡ is_name_byte byte }
-{
-    byte.is_ascii_alphanumeric() || byte == b'_'
-}
-
-/// Whether each byte is a letter, a digit or `_`.
-fn are_name_bytes(bytes: &[u8]) -> bool
-    ensures { result ≡ list_all is_name_byte bytes.now }
-{
-    bytes.iter().all(|&byte| is_name_byte(byte))
 }
 
 /// Whether an environment may have this name: a letter or `_`, then letters, digits and `_`.

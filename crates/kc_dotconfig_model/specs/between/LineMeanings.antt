@@ -17,7 +17,7 @@ use Rattle.kc_dotconfig_model.specs.declared.notice.NoticeKind.TheVariants.{Unkn
 use Rattle.kc_dotconfig_model.specs.declared.format.Strings.{Strings}
 use Rattle.kc_dotconfig_model.specs.declared.format.Strings.TheVariants.{Escaped, Raw}
 use Rattle.kc_dotconfig_model.specs.Formats.{FileFormat}
-use Rattle.kc_dotconfig_model.specs.ConfigLines.{LineMeaning, assigns, notice, silent, tri_of_text, unchosen_meaning, unset_meaning}
+use Rattle.kc_dotconfig_model.specs.ConfigLines.{LineMeaning, assigns, notice, silent, tri_of_text, unchosen_meaning, text_meaning, unset_meaning}
 use Rattle.kc_tree_model.specs.LogicalLines.{without_white_end}
 use Rattle.kc_dotconfig_model.specs.ConfigFiles.{file_lines}
 
@@ -64,11 +64,11 @@ tri_meaning language u s choice None = notice NotOfType
 tri_meaning language u s None (Some t) = assigns u (TriUser t)
 tri_meaning language u s (Some c) (Some t) = if is_y t then assigns u (member_user language s) else unchosen_meaning language u s
 
--- the meaning of a line for a string symbol, by its unit and the text between the quotes (None if what follows `=`
--- isn't a string)
-abbrev pub string_meaning : ℕ → Option (List ℕ) → LineMeaning
-string_meaning u None = notice NotOfType
-string_meaning u (Some text) = assigns u (TextUser text)
+-- the meaning of a line for a string symbol, by the tree's language, the form of strings, the symbol's unit, what follows `=`, and
+-- the text that this spells (None if it isn't a string)
+abbrev pub string_meaning : Language → Strings → ℕ → List ℕ → Option (List ℕ) → LineMeaning
+string_meaning language strings u spelling None = notice NotOfType
+string_meaning language strings u spelling (Some text) = text_meaning language strings u spelling text
 
 -- the meaning of a text after `=` that is no int or hex: it assigns nothing if it is empty, and gives a notice otherwise
 abbrev pub without_number : List ℕ → LineMeaning
@@ -86,7 +86,7 @@ number_meaning u kind text = if is_some (number_of_text kind text)
 abbrev pub meaning_of_kind : Language → Strings → Kind → ℕ → ℕ → Option ℕ → List ℕ → LineMeaning
 meaning_of_kind language strings Boolean u s choice text = tri_meaning language u s choice (tri_of_text Boolean text)
 meaning_of_kind language strings Tristate u s choice text = tri_meaning language u s choice (tri_of_text Tristate text)
-meaning_of_kind language strings Text u s choice text = string_meaning u (string_text strings text)
+meaning_of_kind language strings Text u s choice text = string_meaning language strings u text (string_text strings text)
 meaning_of_kind language strings Int u s choice text = number_meaning u Int text
 meaning_of_kind language strings Hex u s choice text = number_meaning u Hex text
 

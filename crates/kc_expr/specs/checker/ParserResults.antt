@@ -3,7 +3,8 @@ use Rattle.std.specs.Prelude.{◌≡◌, ℕ, ◌≤◌, Bool, true, false, ◌&
 use Rattle.kc_value.specs.declared.tri.Tri.TheVariants.{N, M, Y}
 use Rattle.kc_tokens.specs.declared.fault.ExprFault.{ExprFault}
 use Rattle.kc_tokens.specs.declared.fault.ExprKind.{ExprKind}
-use Rattle.kc_tokens.specs.declared.fault.ExprKind.TheVariants.{Malformed, OutOfMemory}
+use Rattle.kc_tokens.specs.declared.fault.ExprKind.TheVariants.{Malformed}
+use Rattle.kc_tokens.specs.MemoryFaults.{IsOutOfMemory}
 use Rattle.kc_expr.specs.declared.node.Leaf.{Leaf}
 use Rattle.kc_expr.specs.declared.node.Leaf.TheVariants.{Constant, Name, Quoted as Text}
 use Rattle.kc_expr.specs.declared.store.Store.{Store}
@@ -82,7 +83,7 @@ pub record IsParsed (s : Store) (all : List Lexeme) (condition : Bool) (at : ℕ
 
 -- a fault that the parser returns is out of memory, or the fault that reading the tokens gives
 abbrev pub IsRefused : List Lexeme → Read → ExprFault → Type 0
-IsRefused all read e = (e.kind ≡ OutOfMemory) ⊎ ((f : ExprKind × List Lexeme) × (read ≡ Err f) × (e ≡ fault_of all f))
+IsRefused all read e = IsOutOfMemory e ⊎ ((f : ExprKind × List Lexeme) × (read ≡ Err f) × (e ≡ fault_of all f))
 
 -- what the parser returns is right: a node of the expression that was read and the index after its last token, or a fault
 abbrev pub Parses : Store → List Lexeme → Bool → ℕ → Read → Result (ℕ × ℕ) ExprFault → Type 0
@@ -105,7 +106,7 @@ pub record IsParsedToEnd (s : Store) (condition : Bool) (read : Result Expr (Exp
 
 -- a fault of the parser that reads all tokens is out of memory, or the fault that reading the tokens to the end gives
 abbrev pub IsRefusedToEnd : List Lexeme → Result Expr (ExprKind × List Lexeme) → ExprFault → Type 0
-IsRefusedToEnd all read e = (e.kind ≡ OutOfMemory) ⊎ ((f : ExprKind × List Lexeme) × (read ≡ Err f) × (e ≡ fault_of all f))
+IsRefusedToEnd all read e = IsOutOfMemory e ⊎ ((f : ExprKind × List Lexeme) × (read ≡ Err f) × (e ≡ fault_of all f))
 
 -- a fault that the parser returns is the fault that reading the tokens gives
 abbrev pub MeetsFault : List Lexeme → Read → ExprFault → Type 0

@@ -5,16 +5,18 @@ use Rattle.kc_value.specs.declared.limits.TheConstants.{MAX_TREE_BYTES, MAX_LIST
 use Rattle.kc_macros_model.specs.Worlds.{World}
 use Rattle.kc_files.specs.TreeContents.{FileContent, FolderContent, TreeContents}
 
--- the result of reading a file: it is missing, has these bytes, or has more bytes than may be read
+-- the result of reading a file: it is missing, is there and can't be read, has these bytes, or has more bytes than may be read
 pub data FileRead : Type 0 where
   missing : FileRead
+  unreadable : FileRead
   whole : List ℕ → FileRead
   too_long : FileRead
 
--- the result of listing a folder: it has these names, or more than may be listed
+-- the result of listing a folder: it has these names, or more than may be listed, or it is there and can't be listed
 pub data FolderRead : Type 0 where
   names : List (List ℕ) → FolderRead
   too_many : FolderRead
+  unlisted : FolderRead
 
 -- the files that were read, by their paths, and the folders that were listed
 pub record KnownFiles : Type 0 where
@@ -24,24 +26,35 @@ pub record KnownFiles : Type 0 where
 -- the bytes of the file of a path, none where it can't be read, agree with the result of reading it
 abbrev pub AreBytes : FileRead → Option (List ℕ) → Type 0
 AreBytes missing bytes = bytes ≡ None
+AreBytes unreadable bytes = bytes ≡ None
 AreBytes (whole read) bytes = bytes ≡ Some read
 AreBytes too_long bytes = (more : List ℕ) × (bytes ≡ Some more) × (MAX_TREE_BYTES < length more)
 
--- the names in a folder agree with the result of listing it
-abbrev pub AreNames : FolderRead → List (List ℕ) → Type 0
-AreNames (names read) all = all ≡ read
-AreNames too_many all = MAX_LISTED_NAMES < length all
+-- whether a file is there that can't be read agrees with the result of reading it; for one that was read it may be either
+abbrev pub IsUnreadable : FileRead → Bool → Type 0
+IsUnreadable missing there = there ≡ false
+IsUnreadable unreadable there = there ≡ true
+IsUnreadable (whole read) there = Unit {0}
+IsUnreadable too_long there = Unit {0}
+
+-- the names in a folder, none where it can't be listed, agree with the result of listing it
+abbrev pub AreNames : FolderRead → Option (List (List ℕ)) → Type 0
+AreNames (names read) all = all ≡ Some read
+AreNames too_many all = (more : List (List ℕ)) × (all ≡ Some more) × (MAX_LISTED_NAMES < length more)
+AreNames unlisted all = all ≡ None
 
 -- a world has all files and folders that were read, as they were read
 pub record Agrees (w : World) (known : KnownFiles) : Type 0 where
   pub files : (path : List ℕ) (read : FileRead) → keyword_in_table known.files path ≡ Some read → AreBytes read (w.bytes path)
+  pub there : (path : List ℕ) (read : FileRead) → keyword_in_table known.files path ≡ Some read → IsUnreadable read (w.unreadable path)
   pub folders : (folder : List ℕ) (read : FolderRead) → keyword_in_table known.folders folder ≡ Some read → AreNames read (w.names folder)
 
--- the result of reading a file agrees with its known content; a known file may also be missing, since its reading may fail
+-- the result of reading a file agrees with its known content; a known file may also be unreadable, but not missing
 abbrev pub MatchFile : FileContent → FileRead → Type 0
 MatchFile None read = Unit {0}
 MatchFile (Some None) read = read ≡ missing
-MatchFile (Some (Some known)) missing = Unit {0}
+MatchFile (Some (Some known)) missing = ⊥
+MatchFile (Some (Some known)) unreadable = Unit {0}
 MatchFile (Some (Some known)) (whole bytes) = bytes ≡ known
 MatchFile (Some (Some known)) too_long = MAX_TREE_BYTES < length known
 
@@ -50,11 +63,12 @@ abbrev pub content_of_reader : Option (List ℕ) → FileContent
 content_of_reader None = None
 content_of_reader (Some bytes) = Some (Some bytes)
 
--- the result of listing a folder agrees with its known content
+-- the result of listing a folder agrees with its known content; a known folder may also fail to be listed
 abbrev pub MatchFolder : FolderContent → FolderRead → Type 0
 MatchFolder None read = Unit {0}
 MatchFolder (Some known) (names read) = read ≡ known
 MatchFolder (Some known) too_many = MAX_LISTED_NAMES < length known
+MatchFolder (Some known) unlisted = Unit {0}
 
 -- all files and folders that were read agree with the known contents of the tree
 pub record AreAsKnown (contents : TreeContents) (known : KnownFiles) : Type 0 where
@@ -67,8 +81,9 @@ pub record Grows (contents : TreeContents) (old new : KnownFiles) : Type 0 where
   pub worlds : (w : World) → Agrees w new → Agrees w old
   pub matched : AreAsKnown contents old → AreAsKnown contents new
 
--- whether a file was read and isn't missing, by the result of reading it
-abbrev pub is_read : FileRead → Bool
-is_read missing = false
-is_read (whole bytes) = true
-is_read too_long = true
+-- whether a file is there, by the result of reading it
+abbrev pub is_there : FileRead → Bool
+is_there missing = false
+is_there unreadable = true
+is_there (whole bytes) = true
+is_there too_long = true

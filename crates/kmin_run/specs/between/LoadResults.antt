@@ -5,7 +5,7 @@ use Rattle.kc_tree_model.specs.Trees.{Tree}
 use Rattle.kc_rules_model.specs.declared.values.UserValue.{UserValue}
 use Rattle.kc_dotconfig_model.specs.Formats.{FileFormat}
 use Rattle.kc_dotconfig_model.specs.ConfigLines.{LineMeaning}
-use Rattle.kc_dotconfig_model.specs.ConfigFiles.{FileMeans, notices_from, file_assignment}
+use Rattle.kc_dotconfig_model.specs.ConfigFiles.{FileMeans, notices_from, file_assignment, overlaid_by}
 use Rattle.kc_dotconfig_model.specs.LoadFaults.{IsAccepted}
 use Rattle.kc_dotconfig_model.specs.declared.choice_line.ChoiceLine.{ChoiceLine}
 use Rattle.kc_dotconfig_model.specs.OtherChoices.{choice_lines_from}
@@ -15,7 +15,7 @@ use Rattle.kc_files.specs.TreeContents.{FileContent}
 use Rattle.kmin_report.specs.KnownBytes.{AreKnownBytes}
 use Rattle.kmin_report.specs.Reports.{file_notices, notice_lines}
 use Rattle.kmin_report.specs.StandardError.{TakesLines}
-use Rattle.kmin_run.specs.Answers.{FilesMean, overlaid_by}
+use Rattle.kmin_run.specs.Answers.{FilesMean}
 
 -- a configuration file, whose bytes match what is known of it, is accepted, `fragment` has its assignments and notices, and its
 -- notices were reported on standard error

@@ -1,7 +1,7 @@
 use Rattle.std.proofs.Common.{◌+◌, refl, ap}
 use Rattle.kc_rules_model.specs.declared.values.UserValue.TheVariants.{Tri as TriUser, Text as TextUser, Member as MemberUser}
 use Rattle.kc_dotconfig.specs.checker.MeaningViews.{meaning_view}
-use Rattle.kc_dotconfig.proofs.LineAccumulation.{takes_user, none_chosen, takes_unchosen, takes_line, takes_notice, takes_nothing}
+use Rattle.kc_dotconfig.proofs.LineAccumulation.{takes_user, takes_escaped, none_chosen, takes_unchosen, takes_line, takes_notice, takes_nothing}
 use Rattle.kc_dotconfig.proofs.accumulate.take.Goals as goal
 
 pub returns-in-Tri-clause-ok : goal.returns-in-Tri-clause-ok
@@ -16,6 +16,12 @@ returns-in-Text-clause-ok c =
     (ap meaning_view c.in-Text.is) tt c.take_assignment-in-Text.ensures.entries c.take_assignment-in-Text.ensures.members c.take_assignment-in-Text.ensures.notices
     (none_chosen c.take_assignment-in-Text.result c.args.gathered.now c.take_assignment-in-Text.new.gathered c.take_assignment-in-Text.ensures.chosen)
     c.take_assignment-in-Text.ensures.lines
+
+pub returns-in-Escaped-clause-ok : goal.returns-in-Escaped-clause-ok
+returns-in-Escaped-clause-ok c =
+    takes_escaped c.take_escaped.result c.args.gathered.now c.take_escaped.new.gathered c.in-Escaped.unit c.in-Escaped.text c.args.meaning
+    c.in-Escaped.is c.take_escaped.ensures.entries c.take_escaped.ensures.members c.take_escaped.ensures.notices
+    c.take_escaped.ensures.chosen c.take_escaped.ensures.lines
 
 pub returns-in-Member-clause-ok : goal.returns-in-Member-clause-ok
 returns-in-Member-clause-ok c =

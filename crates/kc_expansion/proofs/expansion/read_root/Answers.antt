@@ -7,7 +7,7 @@ use Rattle.kc_macros_model.specs.Programs.{returns as returns_value, fails, ◌>
 use Rattle.kc_macros_model.specs.ReadingStates.{Progress, progress, counted}
 use Rattle.kc_macros_model.specs.TreeExpansion.{place, tree_read, lines_read}
 use Rattle.kc_macros.specs.Runs.{end_of, end_of_stop}
-use Rattle.kc_files.specs.between.KnownFiles.{missing, whole, too_long}
+use Rattle.kc_files.specs.between.KnownFiles.{missing, unreadable, whole, too_long}
 use Rattle.kc_files.specs.checker.FileViews.{file_of}
 use Rattle.kc_expansion.specs.checker.ExpansionViews.{with_root}
 use Rattle.kc_expansion.specs.checker.ReadingViews.{state_of, file_run_of, fault_at, reader_for}
@@ -34,6 +34,20 @@ returns-in-Missing g c = record {
       (root_leads a b root s missing (fails f) c.requires.initial c.file.ensures.same c.file.ensures.grows refl
       (c.in_ok-read.ensures.read ∙ ap (λ x. Some (file_of x)) c.in-Missing.is) (λ bytes e. root_missing root s bytes e))
       (reads_fails b (fails f) f c.fault.result refl c.fault.ensures);
+}
+
+pub returns-in-Unreadable : goal.returns-in-Unreadable
+returns-in-Unreadable g c = record {
+  reads = let r = c.args.reading.now in
+      let a = file_run_of (g.F.TreeFiles.contents c.args.files.now) r in
+      let b = file_run_of (g.F.TreeFiles.contents c.file.new.files) (record r { store = c.file.new.self }) in
+      let root = c.args.root.now in
+      let s = state_of r in
+      let f = fault_at (place root 0) MissingFile in
+      reads_on a b b (tree_read root) (fails f) (end_of_stop c.fault-in-Unreadable.result)
+      (root_leads a b root s unreadable (fails f) c.requires.initial c.file.ensures.same c.file.ensures.grows refl
+      (c.in_ok-read.ensures.read ∙ ap (λ x. Some (file_of x)) c.in-Unreadable.is) (λ bytes e. root_missing root s bytes e))
+      (reads_fails b (fails f) f c.fault-in-Unreadable.result refl c.fault-in-Unreadable.ensures);
 }
 
 pub returns-in-TooLong : goal.returns-in-TooLong

@@ -5,7 +5,7 @@ use Rattle.kc_tree_model.specs.Limits.{is_in_list}
 use Rattle.kc_files.specs.checker.FileViews.{file_of}
 use Rattle.kc_expansion.specs.checker.Sizes.{size_fault}
 use Rattle.kc_macros.specs.between.SliceTexts.{texts_of_slices}
-use Rattle.kc_expansion.proofs.SourceFaultLemmas.{open_by, refused_open, refused_missing, refused_whole, read_whole, refused_deep, refused_long}
+use Rattle.kc_expansion.proofs.SourceFaultLemmas.{open_by, refused_open, refused_missing, refused_unreadable, refused_whole, read_whole, refused_deep, refused_long}
 use Rattle.kc_expansion.proofs.source_faults.bytes_to_read.Goals as goal
 
 pub returns-then-is_open-clause-err : goal.returns-then-is_open-clause-err
@@ -17,6 +17,11 @@ pub returns-in-Missing-clause-err : goal.returns-in-Missing-clause-err
 returns-in-Missing-clause-err c =
     refused_missing (texts_of_slices c.args.open_files.now) c.args.counts c.args.path.now (file_of c.args.read)
     (sym (open_by c.args.path.now c.args.open_files.now) ∙ sym c.is_open.ensures ∙ c.if-is_open.false) (ap file_of c.in-Missing.is)
+
+pub returns-in-Unreadable-clause-err : goal.returns-in-Unreadable-clause-err
+returns-in-Unreadable-clause-err c =
+    refused_unreadable (texts_of_slices c.args.open_files.now) c.args.counts c.args.path.now (file_of c.args.read)
+    (sym (open_by c.args.path.now c.args.open_files.now) ∙ sym c.is_open.ensures ∙ c.if-is_open.false) (ap file_of c.in-Unreadable.is)
 
 pub returns-in-Some-clause-err : goal.returns-in-Some-clause-err
 returns-in-Some-clause-err c =

@@ -8,7 +8,7 @@ use Rattle.kc_macros_model.specs.declared.fault.MacroKind.TheVariants.{MissingFi
 use Rattle.kc_macros.specs.Runs.{place_of}
 use Rattle.kc_macro_forms.specs.between.LineFormViews.{source_sort_of}
 use Rattle.kc_files.specs.TextViews.{items_of}
-use Rattle.kc_files.specs.between.FileRuns.{too_many_at}
+use Rattle.kc_files.specs.between.FileRuns.{missing_at, too_many_at}
 use Rattle.kc_expansion.specs.between.Reads.{cut_short}
 use Rattle.kc_files.specs.checker.PatternRuns.{found_of, Finds}
 use Rattle.kc_files.specs.declared.patterns.PatternStop.{PatternStop}
@@ -64,6 +64,19 @@ returns-in-Err-TooMany g c = λ sub.
     (fails_by a b p (too_many_at at) c.fault-in-Err-TooMany.result c.fault-in-Err-TooMany.ensures
     (reads_by_files a b p (failed (too_many_at at)) c.files_of_pattern.ensures.same c.files_of_pattern.ensures.grows refl
     (subst (λ (e : PatternStop). Finds b.known at p (Err e)) c.in-Err-TooMany.field-0-is (c.in-Err-TooMany.ensures.finds at))))
+
+pub returns-in-Err-Unlisted : goal.returns-in-Err-Unlisted
+returns-in-Err-Unlisted g c = λ sub.
+    let a = file_run_of (g.F.TreeFiles.contents c.args.files.now) c.args.reading.now in
+    let b = file_run_of (g.F.TreeFiles.contents c.files_of_pattern.new.files) (record c.args.reading.now { store = c.files_of_pattern.new.store }) in
+    let at = place_of c.args.at in
+    let sort = source_sort_of c.args.sort in
+    let s = state_of c.args.reading.now in
+    let p = files_of_pattern at c.args.pattern.now s.listed in
+    reads_early a b p (pattern_read sub at sort s) c.fault-in-Err-Unlisted.result
+    (fails_by a b p (missing_at at) c.fault-in-Err-Unlisted.result c.fault-in-Err-Unlisted.ensures
+    (reads_by_files a b p (failed (missing_at at)) c.files_of_pattern.ensures.same c.files_of_pattern.ensures.grows refl
+    (subst (λ (e : PatternStop). Finds b.known at p (Err e)) c.in-Err-Unlisted.field-0-is (c.in-Err-Unlisted.ensures.finds at))))
 
 pub returns-in-Err-OutOfMemory : goal.returns-in-Err-OutOfMemory
 returns-in-Err-OutOfMemory g c = λ sub. record { same = c.files_of_pattern.ensures.same; grows = c.files_of_pattern.ensures.grows; reaches = cut_short }

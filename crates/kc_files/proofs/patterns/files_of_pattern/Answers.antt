@@ -3,7 +3,7 @@ use Rattle.std.specs.Prelude.{Vec}
 use Rattle.std.specs.declared.alloc.Global.{Global}
 use Rattle.kc_macros_model.specs.Programs.{returns, ◌>>=◌}
 use Rattle.kc_macros_model.specs.Worlds.{returned}
-use Rattle.kc_macros_model.specs.PathPatterns.{found, paths_below, path_pieces, readable_paths, files_of_pattern, sorted}
+use Rattle.kc_macros_model.specs.PathPatterns.{found, paths_below, path_pieces, paths_with_files, files_of_pattern, sorted}
 use Rattle.kc_files.specs.TextViews.{items_of, texts_of}
 use Rattle.kc_files.specs.between.FileRuns.{Comes}
 use Rattle.kc_files.specs.checker.FileViews.{known_of}
@@ -16,18 +16,18 @@ use Rattle.kc_files.proofs.patterns.files_of_pattern.Goals as goal
 pub returns-in-Err-clause-finds : goal.returns-in-Err-clause-finds
 returns-in-Err-clause-finds g c = λ at.
     stops_then at (known_of c.matching_paths.new.store) (paths_below at (path_pieces c.args.pattern.now) ([] ∷ []) c.args.listed)
-    (λ f. readable_paths f.paths >>= λ paths. returns (found (sorted paths) f.listed)) c.in-Err.stop (c.in-Err.ensures.finds at)
+    (λ f. paths_with_files f.paths >>= λ paths. returns (found (sorted paths) f.listed)) c.in-Err.stop (c.in-Err.ensures.finds at)
 
 pub returns-clause-finds : goal.returns-clause-finds
 returns-clause-finds g c = λ at.
     let old = known_of c.matching_paths.new.store in
-    let new = known_of c.readable_paths.new.store in
+    let new = known_of c.paths_with_files.new.store in
     let pattern = c.args.pattern.now in
     let found_paths = found_of c.in-Ok.found in
     let readable = texts_of c.in_ok-paths.paths in
     let in_order : texts_of c.sort.new.self ≡ sorted readable = sorted_by_sort c.in_ok-paths.paths.items c.sort.new.self.items c.in_ok-sort.ensures.permutation
     c.in_ok-sort.ensures.sorted in
-    let reads = subst (λ (vs : List (Vec ℕ Global)). Comes new (readable_paths (items_of vs)) (returned readable)) c.deref.ensures.value
+    let reads = subst (λ (vs : List (Vec ℕ Global)). Comes new (paths_with_files (items_of vs)) (returned readable)) c.deref.ensures.value
     c.in_ok-paths.ensures.reads in
     subst (λ ps. Comes new (files_of_pattern at pattern c.args.listed) (returned (found ps c.in-Ok.found.listed))) (sym in_order)
     (files_found new at pattern c.args.listed found_paths readable (comes_later (g.F.TreeFiles.contents c.matching_paths.new.files) old new

@@ -1,10 +1,7 @@
-use Rattle.std.proofs.Common.{◌≡◌, ◌<◌, ℕ, length, take}
+use Rattle.std.proofs.Common.{◌≡◌, ℕ, take}
 use Rattle.kc_dotconfig_model.specs.OtherChoices.{lines_of}
-use Rattle.kc_minimal.specs.checker.LineGroups.{group_at}
+use Rattle.kc_minimal.specs.checker.LineGroups.{lines_at}
 use Rattle.kc_minimal.proofs.choice_places.grouped.Given as goal
 
 abbrev pub invariant-loop-line : goal.invariant-loop-line
-invariant-loop-line l = record {
-  count : length l.groups.items ≡ l.units;
-  groups : (u : ℕ) → u < l.units → group_at l.groups.items u ≡ lines_of u (take l.line-index l.lines);
-}
+invariant-loop-line l = (u : ℕ) → lines_at l.groups.entries u ≡ lines_of u (take l.line-index l.lines)

@@ -5,7 +5,7 @@ use Rattle.kc_minimal.proofs.choice_places.line_of_unit.Goals as goal
 
 pub returns-in-Choice : goal.returns-in-Choice
 returns-in-Choice c = record {
-  value = line_of_choice (tree_of_settled c.args.settled.now) c.args.values.now c.args.u c.in-Choice.c c.args.lines.now c.args.all.now c.other_line.result
-      (rw c.tree.ensures.tree at c.in-Choice.ensures.unit) (rw c.tree.ensures.tree at c.in-Choice.ensures.choice c.in-Choice.c refl) c.requires.lines
+  value = line_of_choice (tree_of_settled c.args.settled.now) c.args.values.now c.args.u c.in-Choice.c c.args.lines.now c.other_line.result
+      (rw c.tree.ensures.tree at c.in-Choice.ensures.unit) (rw c.tree.ensures.tree at c.in-Choice.ensures.choice c.in-Choice.c refl)
       c.other_line.ensures.value;
 }

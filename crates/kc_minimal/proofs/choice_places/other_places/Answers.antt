@@ -1,11 +1,25 @@
-use Rattle.std.specs.Prelude.{slice_get}
+use Rattle.std.proofs.Common.{rules, ◌≡◌, ap, sym, ◌∙◌, map}
+use Rattle.std.proofs.lemmas.List.{map-id}
+use Rattle.std.proofs.lemmas.Iterator.Consumers.{YieldsList-end}
+use Rattle.std.proofs.lemmas.Iterator.Adapters.{YieldsList-from_vec}
+use Rattle.std.specs.List.{filter_map}
 use Rattle.kc_rules.specs.between.SettledViews.{tree_of_settled}
-use Rattle.kc_dotconfig_model.specs.OtherChoices.{other_line_of_unit, place_of}
-use Rattle.kc_minimal.proofs.RangeLines.{found_more}
+use Rattle.kc_dotconfig_model.specs.OtherChoices.{place_of}
+use Rattle.kc_minimal.proofs.RangeLines.{found_next}
+use Rattle.kc_minimal.proofs.ChoiceGroups.{by_group, places_of_groups}
 use Rattle.kc_minimal.proofs.choice_places.other_places.Goals as goal
 
 pub loop-u-preserved : goal.loop-u-preserved
 loop-u-preserved c =
-    let tree = tree_of_settled c.args.settled.now in
-    found_more place_of (λ u. other_line_of_unit tree c.args.values.now u (slice_get tree.units u) c.args.lines.now) c.loop-u.u
-    c.loop-u.found.items _ c.loop-u.invariant (rw c.in_ok-line.ensures.value at c.in_ok-push_place.ensures)
+    let own : c.deref.result.now ≡ c.in-Some.group.items = search rules in
+    found_next place_of (by_group (tree_of_settled c.args.settled.now) c.args.values.now c.args.lines.now) c.loop-u.yielded (c.in-Some.u, c.in-Some.group)
+    c.loop-u.found.items c.push_place.new.found.items c.loop-u.invariant (rw own at (rw c.in_ok-line.ensures.value at c.in_ok-push_place.ensures))
+
+pub returns : goal.returns
+returns c =
+    let end = YieldsList-end (YieldsList-from_vec {s = c.into_iter-u-iterator.result} c.in_ok-groups.groups.items (search rules) (search rules))
+    c.loop-u.yielded c.loop-u.u-iterator c.loop-u.yielded_by c.next.result c.next.new.self c.in-None.is c.next.ensures.steps in
+    let all : c.loop-u.yielded ≡ c.in_ok-groups.groups.items = sym (map-id c.loop-u.yielded) ∙ end.0 in
+    places_of_groups (tree_of_settled c.args.settled.now) c.args.values.now c.args.lines.now c.in_ok-groups.groups.items c.loop-u.found.items
+    c.in_ok-groups.ensures.rising c.in_ok-groups.ensures.groups
+    (c.loop-u.invariant ∙ ap (λ es. map place_of (filter_map (by_group (tree_of_settled c.args.settled.now) c.args.values.now c.args.lines.now) es)) all)

@@ -6,22 +6,25 @@ use Rattle.kc_system.specs.checker.PendingPlaces.{is_pending}
 use Rattle.kc_system.proofs.Lists.{decided}
 use Rattle.kc_system.proofs.Sets.{emptied}
 use Rattle.kc_system.proofs.Undo.{undoes_none}
+use Rattle.kc_system.proofs.Records.{recorded_none, recorded_more, recorded_each}
 use Rattle.kc_system.proofs.Revisions.{begun_with, revised_one, room, ended}
 use Rattle.kc_system.proofs.revision.revise.Goals as goal
 
 pub loop-place-init : goal.loop-place-init
-loop-place-init g c = record {
-  fits = c.requires.fits;
-  undo = undoes_none c.args.log.now.items c.args.values.now c.requires.nothing;
-  steps = omega (arith, g.met.S.System.counts c.args.meter.now);
-  size = refl;
-  revising =
-      begun_with (g.S.Graph.size c.args.plan.now.system.now) (g.S.Graph.dependencies c.args.plan.now.system.now) (g.S.System.rule c.args.plan.now.system.now)
-      (g.S.System.fits_user c.args.plan.now.system.now) c.args.plan.now.order.now c.args.plan.now.places.items
-      c.requires.plan.ordered c.requires.plan.places_are (g.met.S.System.frame c.args.plan.now.system.now) (decided _ g.met.S.System.equal_values)
-      c.args.users.now c.requires.users.1 (is_pending c.args.pending.now) c.args.values.now
-      (logged_units c.args.log.now.items) (ap logged_units c.requires.nothing) c.requires.fits.0 c.requires.places;
-}
+loop-place-init g c =
+    let begun = begun_with (g.S.Graph.size c.args.plan.now.system.now) (g.S.Graph.dependencies c.args.plan.now.system.now) (g.S.System.rule c.args.plan.now.system.now)
+    (g.S.System.fits_user c.args.plan.now.system.now) c.args.plan.now.order.now c.args.plan.now.places.items
+    c.requires.plan.ordered c.requires.plan.places_are (g.met.S.System.frame c.args.plan.now.system.now) (decided _ g.met.S.System.equal_values)
+    c.args.users.now c.requires.users.1 (is_pending c.args.pending.now) c.args.values.now
+    (logged_units c.args.log.now.items) (ap logged_units c.requires.nothing) c.requires.fits.0 c.requires.places in
+    record {
+      fits = c.requires.fits;
+      undo = undoes_none c.args.log.now.items c.args.values.now c.requires.nothing;
+      steps = omega (arith, g.met.S.System.counts c.args.meter.now);
+      size = refl;
+      revising = begun.0;
+      recorded = recorded_none (g.S.System.recorded c.args.meter.now) begun.0.done begun.1;
+    }
 
 pub revise_unit-requires-clause-unit : goal.revise_unit-requires-clause-unit
 revise_unit-requires-clause-unit g c =
@@ -63,20 +66,22 @@ loop-place-preserved g c =
     let now = c.in_ok-revise_unit.ensures in
     let least = c.in-Some.ensures.takes in
     let at = slice_get-get_or c.args.plan.now.order.now place 0 (was.revising.ahead place least.member).1 in
+    let revised = revised_one (g.S.Graph.size c.args.plan.now.system.now) (g.S.Graph.dependencies c.args.plan.now.system.now)
+    (g.S.System.rule c.args.plan.now.system.now) (g.S.System.fits_user c.args.plan.now.system.now) c.args.plan.now.order.now
+    c.args.plan.now.places.items
+    c.requires.plan.ordered c.requires.plan.places_are (g.met.S.System.frame c.args.plan.now.system.now) (decided _ g.met.S.System.equal_values)
+    c.args.users.now c.requires.users.1 (is_pending c.args.pending.now) c.args.values.now
+    c.loop-place.values c.revise_unit.new.values (is_pending c.loop-place.pending) (is_pending c.pop_first.new.self)
+    (is_pending c.revise_unit.new.pending) c.loop-place.log.items c.revise_unit.new.log.items c.loop-place.evaluated place _
+    least.member least.least least.gone least.others at now.revises was.revising in
     record {
       fits = now.fits;
       undo = now.undo c.args.values.now was.undo;
       steps = omega (arith, now.step, was.steps);
       size = now.size ∙ c.pop_first.ensures.size ∙ was.size;
-      revising =
-          revised_one (g.S.Graph.size c.args.plan.now.system.now) (g.S.Graph.dependencies c.args.plan.now.system.now)
-          (g.S.System.rule c.args.plan.now.system.now) (g.S.System.fits_user c.args.plan.now.system.now) c.args.plan.now.order.now
-          c.args.plan.now.places.items
-          c.requires.plan.ordered c.requires.plan.places_are (g.met.S.System.frame c.args.plan.now.system.now) (decided _ g.met.S.System.equal_values)
-          c.args.users.now c.requires.users.1 (is_pending c.args.pending.now) c.args.values.now
-          c.loop-place.values c.revise_unit.new.values (is_pending c.loop-place.pending) (is_pending c.pop_first.new.self)
-          (is_pending c.revise_unit.new.pending) c.loop-place.log.items c.revise_unit.new.log.items c.loop-place.evaluated place _
-          least.member least.least least.gone least.others at now.revises was.revising;
+      revising = revised.0;
+      recorded = recorded_more (g.S.System.recorded c.args.meter.now) (g.S.System.recorded c.loop-place.meter) (g.S.System.recorded c.revise_unit.new.meter)
+          was.revising.done _ revised.0.done revised.1 was.recorded now.records;
     }
 
 pub returns-clause-solves : goal.returns-clause-solves
@@ -98,6 +103,17 @@ returns-clause-evaluated g c =
     c.args.users.now c.requires.users.1 (is_pending c.args.pending.now) c.args.values.now
     c.loop-place.values (is_pending c.loop-place.pending) (logged_units c.loop-place.log.items) c.loop-place.evaluated c.requires.fits.0 none c.requires.holds
     c.loop-place.invariant.revising).1
+
+pub returns-clause-recorded : goal.returns-clause-recorded
+returns-clause-recorded g c =
+    let none = emptied (is_pending c.loop-place.pending) (λ k. (c.in_default.ensures.takes k).0) in
+    let end = ended (g.S.Graph.size c.args.plan.now.system.now) (g.S.Graph.dependencies c.args.plan.now.system.now) (g.S.System.rule c.args.plan.now.system.now)
+    (g.S.System.fits_user c.args.plan.now.system.now) c.args.plan.now.order.now c.args.plan.now.places.items
+    c.requires.plan.ordered c.requires.plan.places_are (g.met.S.System.frame c.args.plan.now.system.now) (decided _ g.met.S.System.equal_values)
+    c.args.users.now c.requires.users.1 (is_pending c.args.pending.now) c.args.values.now
+    c.loop-place.values (is_pending c.loop-place.pending) (logged_units c.loop-place.log.items) c.loop-place.evaluated c.requires.fits.0 none c.requires.holds
+    c.loop-place.invariant.revising in
+    recorded_each _ _ _ _ _ _ end.1 end.2 c.loop-place.invariant.recorded
 
 pub bounds-order-place : goal.bounds-order-place
 bounds-order-place g c = (c.loop-place.invariant.revising.ahead c.in-Some.place c.in-Some.ensures.takes.member).1

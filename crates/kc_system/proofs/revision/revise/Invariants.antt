@@ -1,4 +1,6 @@
 use Rattle.std.proofs.Common.{◌≡◌, ◌+◌, ◌-◌, ◌^◌, min}
+use Rattle.std.specs.Prelude.{reverse}
+use Rattle.std.specs.Io.KnownBytes.{Appends}
 use Rattle.kc_system.specs.checker.Logs.{Undoes, logged_units}
 use Rattle.kc_system.specs.checker.PendingPlaces.{is_pending}
 use Rattle.kc_system.specs.checker.Revision.{Revising}
@@ -13,6 +15,7 @@ invariant-loop-place g l = record {
   size : l.pending.size ≡ l.initial.pending.size;
   revising : Revising (g.S.Graph.size l.plan.system.now) (g.S.Graph.dependencies l.plan.system.now) (g.S.System.rule l.plan.system.now) l.plan.order.now l.users
       (is_pending l.initial.pending) l.initial.values l.values (is_pending l.pending) (logged_units l.log.items) l.evaluated;
+  recorded : Appends (g.S.System.recorded l.initial.meter) (g.S.System.recorded l.meter) (reverse revising.done);
 }
 
 abbrev pub decreases-loop-place : goal.decreases-loop-place

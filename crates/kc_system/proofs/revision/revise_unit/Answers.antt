@@ -108,6 +108,9 @@ returns-in_ok-write_logged-clause-undo g c = c.write_logged.ensures.undo
 pub returns-in_ok-write_logged-clause-step : goal.returns-in_ok-write_logged-clause-step
 returns-in_ok-write_logged-clause-step g c = c.evaluate.ensures.step
 
+pub returns-in_ok-write_logged-clause-records : goal.returns-in_ok-write_logged-clause-records
+returns-in_ok-write_logged-clause-records g c = c.in_ok-value.ensures.records
+
 pub returns-else-differs-clause-size : goal.returns-else-differs-clause-size
 returns-else-differs-clause-size g c = refl
 
@@ -119,6 +122,9 @@ returns-else-differs-clause-undo g c = λ old undoes. undoes
 
 pub returns-else-differs-clause-step : goal.returns-else-differs-clause-step
 returns-else-differs-clause-step g c = c.evaluate.ensures.step
+
+pub returns-else-differs-clause-records : goal.returns-else-differs-clause-records
+returns-else-differs-clause-records g c = c.in_ok-value.ensures.records
 
 pub offset_bounds-values-u : goal.offset_bounds-values-u
 offset_bounds-values-u g c = grind (arith, common_steps)

@@ -26,3 +26,6 @@ returns-clause-fits g c = c.eval.ensures.fits
 
 pub returns-clause-step : goal.returns-clause-step
 returns-clause-step g c = c.eval.ensures.step
+
+pub returns-clause-records : goal.returns-clause-records
+returns-clause-records g c = c.eval.ensures.records

@@ -2,6 +2,7 @@ use Rattle.std.proofs.Common.{refl, sym, ◌∙◌, arith}
 use Rattle.kc_system.specs.Changes.{IsTouched}
 use Rattle.kc_system.specs.checker.PendingPlaces.{is_pending, IsDue}
 use Rattle.kc_system.proofs.Lists.{decided}
+use Rattle.kc_system.proofs.Records.{recorded_same}
 use Rattle.kc_system.proofs.UserChanges.{place_inside, changed_fits, count_same, one_place, within, due_touched, still_holds}
 use Rattle.kc_system.proofs.updates.change.Goals as goal
 
@@ -53,6 +54,21 @@ returns-in-Ok-revalue-clause-evaluated g c =
     c.in-Ok.ensures.lists old new)
     c.in-Ok-revalue.ensures.evaluated
 
+pub returns-in-Ok-revalue-clause-recorded : goal.returns-in-Ok-revalue-clause-recorded
+returns-in-Ok-revalue-clause-recorded g c =
+    let size = g.S.Graph.size c.args.plan.now.system.now in
+    let dependencies = g.S.Graph.dependencies c.args.plan.now.system.now in
+    let order = c.args.plan.now.order.now in
+    let pending = is_pending c.write_changes.new.pending in
+    let before = c.args.users.now in
+    let after = c.write_changes.new.users in
+    let old = c.args.values.now in
+    let new = c.revalue.new.values in
+    recorded_same size (IsDue dependencies order pending old new) (IsTouched dependencies before after old new) _ _
+    (due_touched size dependencies order c.args.plan.now.places.items c.requires.plan.ordered c.requires.plan.places_are before after pending
+    c.in-Ok.ensures.lists old new)
+    c.in-Ok-revalue.ensures.recorded
+
 pub returns-in-Ok-revalue-clause-fits_users : goal.returns-in-Ok-revalue-clause-fits_users
 returns-in-Ok-revalue-clause-fits_users g c =
     let size = g.S.Graph.size c.args.plan.now.system.now in
@@ -97,6 +113,9 @@ returns-in-Err-clause-evaluated g c = tt
 
 pub returns-in-Err-clause-steps : goal.returns-in-Err-clause-steps
 returns-in-Err-clause-steps g c = tt
+
+pub returns-in-Err-clause-recorded : goal.returns-in-Err-clause-recorded
+returns-in-Err-clause-recorded g c = tt
 
 pub returns-in-Err-clause-err_users : goal.returns-in-Err-clause-err_users
 returns-in-Err-clause-err_users g c = c.restore_logged.ensures.restored ∙ c.write_changes.ensures.undo.back
@@ -171,6 +190,9 @@ returns-clause-evaluated g c = tt
 
 pub returns-clause-steps : goal.returns-clause-steps
 returns-clause-steps g c = tt
+
+pub returns-clause-recorded : goal.returns-clause-recorded
+returns-clause-recorded g c = tt
 
 pub returns-clause-err_users : goal.returns-clause-err_users
 returns-clause-err_users g c = c.restore_logged-in-Err-revalue.ensures.restored ∙ c.write_changes.ensures.undo.back

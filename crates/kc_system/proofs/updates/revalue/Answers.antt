@@ -75,6 +75,9 @@ returns-in-Err-clause-evaluated g c = tt
 pub returns-in-Err-clause-steps : goal.returns-in-Err-clause-steps
 returns-in-Err-clause-steps g c = tt
 
+pub returns-in-Err-clause-recorded : goal.returns-in-Err-clause-recorded
+returns-in-Err-clause-recorded g c = tt
+
 pub returns-in-Err-clause-err : goal.returns-in-Err-clause-err
 returns-in-Err-clause-err g c = c.restore_logged.ensures.restored ∙ c.revise.ensures.undo.back
 
@@ -99,6 +102,9 @@ returns-in-Err-ascending_units-clause-evaluated g c = tt
 pub returns-in-Err-ascending_units-clause-steps : goal.returns-in-Err-ascending_units-clause-steps
 returns-in-Err-ascending_units-clause-steps g c = tt
 
+pub returns-in-Err-ascending_units-clause-recorded : goal.returns-in-Err-ascending_units-clause-recorded
+returns-in-Err-ascending_units-clause-recorded g c = tt
+
 pub returns-in-Err-ascending_units-clause-err : goal.returns-in-Err-ascending_units-clause-err
 returns-in-Err-ascending_units-clause-err g c = c.restore_logged-in-Err-ascending_units.ensures.restored ∙ c.revise.ensures.undo.back
 
@@ -119,6 +125,9 @@ returns-clause-evaluated g c = c.in-Ok.ensures.evaluated
 
 pub returns-clause-steps : goal.returns-clause-steps
 returns-clause-steps g c = c.in-Ok.ensures.steps
+
+pub returns-clause-recorded : goal.returns-clause-recorded
+returns-clause-recorded g c = c.in-Ok.ensures.recorded
 
 pub returns-clause-err : goal.returns-clause-err
 returns-clause-err g c = tt

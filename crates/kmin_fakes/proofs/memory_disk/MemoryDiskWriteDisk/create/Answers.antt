@@ -18,4 +18,4 @@ returns-in-Ok-clause-made c =
     let apart : new_path ≢ path = search rules in
     let free : newest ((memory_state old).history new_path) ≡ Some nothing =
     subst (λ (es : List Event). newest ((memory_state es).history new_path) ≡ Some nothing) (ap (λ l. l.items) log) c.in-Nothing.ensures in
-    creates_in_memory old c.begin.new.self.log.items path new_path made began c.in-Ok.ensures.draft.0 c.in-Ok.ensures.draft.1 c.in-Ok.ensures.draft.2 apart free
+    creates_in_memory old c.begin.new.self.log.items path new_path made began c.in-Ok.ensures.draft.0 c.in-Ok.ensures.draft.1 c.in-Ok.ensures.draft.2 c.in-Ok.ensures.draft.3 apart free

@@ -1,0 +1,4 @@
+pub mod Marks
+pub mod UnitCases
+pub mod Ranges
+pub mod UnitHindrances

@@ -1,0 +1,19 @@
+pub mod Tables
+pub mod CaseLaws
+pub mod ConjunctLaws
+pub mod BlameLaws
+pub mod DecisiveLaws
+pub mod AssigningLaws
+pub mod MemberLaws
+pub mod HindranceLaws
+pub mod PromptLaws
+pub mod ClaimLaws
+pub mod WhatIfLaws
+pub mod SpellingLaws
+pub mod PlaceLaws
+pub mod DependencyLaws
+pub mod SymbolLineLaws
+pub mod ReasonLaws
+pub mod TextLaws
+pub mod CaseRows
+mod HindranceRows

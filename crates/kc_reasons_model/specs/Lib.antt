@@ -1,0 +1,14 @@
+pub mod Conjuncts
+pub mod Blame
+pub mod DecisiveLimits
+pub mod Cases
+pub mod Claims
+pub mod Hindrances
+pub mod Assignable
+pub mod AssigningLines
+pub mod Spelling
+pub mod Places
+pub mod Laws
+pub mod SymbolLines
+pub mod Reasons
+pub mod ReasonLaws
