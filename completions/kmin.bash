@@ -68,7 +68,7 @@ _kmin() {
     done
     COMPREPLY=()
     if [[ -z $command || $command == help ]]; then
-        # options come after the command, and one word after `help`
+        # options are completed after the command, and one word after `help`
         [[ ${COMP_WORDS[COMP_CWORD-1]} == "${command:-${COMP_WORDS[0]}}" ]] || return
         mapfile -t COMPREPLY < <(compgen -W "$(_kmin_words "$command")" -- "$word")
         return
