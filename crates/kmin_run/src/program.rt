@@ -38,9 +38,9 @@ pub fn run<F: Files, D: WriteDisk, I: Source, O: Sink, E: Sink>(
 ) -> u8
     ensures status { result ≤ 6 }
 
-    // Without words the run is on a bundle. Else the words are parsed, the command first of them, and the run ends as what
-    // they are parsed as does: a command by the clauses of its own, a help, or a message that refuses them, with status 2;
-    // or memory runs out before. Standard error takes just these lines.
+    // Without words the run is on a bundle. Else the words are parsed, the command first of them, and the run ends as
+    // what they are parsed as does: a command by the clauses of its own, a help, or a message that refuses them, with
+    // status 2; or memory runs out before. Standard error takes just these lines.
     ensures ends { (lines : List (List ℕ)) × Ends (F.surroundings files.old) (map (λ (word : Bor (List ℕ)). word.now) words.now)
         (input_of (I.left input.old) (I.failures input.old)) (input_of (I.left input.new) (I.failures input.new))
         (outputs_of (D.disk disk.old) (O.taken out.old) (O.failures out.old))
