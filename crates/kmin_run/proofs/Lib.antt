@@ -1,5 +1,6 @@
 pub mod LoadLines
 pub mod Sequences
+pub mod ReadFailures
 pub mod BundleCuts
 pub mod NamedLines
 pub mod QuestionEnds

@@ -83,6 +83,12 @@ pub record Input : Type 0 where
 abbrev pub input_of : (left : Option (List ℕ)) → (failures : ℕ) → Input
 input_of left failures = record { left = left; failures = failures }
 
+-- a count of failures rose: that of the files, which counts those that can't be opened and reads that fail, that of standard input
+-- or that of standard output
+abbrev pub HasFailed : (failed failed_after : ℕ) → (input input_after : Input) → (old new : Outputs) → Type 0
+HasFailed failed failed_after input input_after old new =
+    HasRisen failed failed_after ⊎ (HasRisen input.failures input_after.failures ⊎ HasRisen old.failures new.failures)
+
 -- A run on a bundle ends: it was read to its end, has an allowed size, its full file is written, and no read or write failed; or
 -- the run ended without the whole file, on status 5 since a read or a write failed. The disk is unchanged.
 pub data BundleEnds (input input_after : Input) (old new : Outputs) (lines : List (List ℕ)) (status : ℕ) : Type 0 where

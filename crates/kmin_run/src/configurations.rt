@@ -1,5 +1,5 @@
 //! Configurations of a settled tree, read from files.
-ghost use Rattle.std.specs.Prelude.{◌≡◌, ◌∷◌, [], List, ℕ, true, false, map, unwrap_or, slice_get, IfOk, IfErr, OnOk};
+ghost use Rattle.std.specs.Prelude.{◌≡◌, ◌≢◌, ◌≤◌, ◌∷◌, [], List, ℕ, true, false, map, unwrap_or, slice_get, IfOk, IfErr, OnOk};
 ghost use Rattle.std.specs.Borrow.{Bor};
 ghost use Rattle.kc_rules.specs.between.SettledViews.{tree_of_settled};
 ghost use Rattle.kc_dotconfig_model.specs.ConfigFiles.{empty_assignment};
@@ -9,7 +9,7 @@ ghost use Rattle.kc_dotconfig.specs.ConfigStates.{IsSolved, tree_in};
 ghost use Rattle.kc_dotconfig.specs.Fragments.{FitsTree, notice_pair};
 ghost use Rattle.kc_dotconfig.specs.ReadResults.{IsReadAs};
 ghost use Rattle.kmin_report.specs.Reports.{notice_line, choice_notice_lines};
-ghost use Rattle.kmin_report.specs.StandardError.{TakesLines};
+ghost use Rattle.kmin_report.specs.StandardError.{HasRisen, TakesLines};
 ghost use Rattle.kmin_run.specs.Stops.{StopsAmongFiles};
 ghost use Rattle.kmin_run.specs.Strictness.{AllowsNotices, RefusesNotices};
 ghost use Rattle.kmin_run.specs.between.LoadResults.{IsLoaded, AreLoaded, AreRead, lists_of};
@@ -86,6 +86,18 @@ fn report_notices<E: Sink>(path: &str, notices: &[Notice], err: &mut E)
     }
 }
 
+/// The assignments of a configuration file, unless it has a notice and `strict` is set.
+fn allowed(strict: bool, fragment: Fragment) -> Result<Fragment, RunError>
+    ensures ok { IfOk result (λ f. (f ≡ fragment) × AllowsNotices strict (map notice_pair fragment.notices.items)) }
+    ensures refused { IfErr result (λ stop. (status_of stop ≡ 4) × (strict ≡ true) × (fragment.notices.items ≢ [])) }
+{
+    if strict && !fragment.notices.is_empty() {
+        Err(RunError::Configuration)
+    } else {
+        Ok(fragment)
+    }
+}
+
 /// Reads the assignments of a configuration file by its path. Reports the file's notices, or its fault. Under `strict` a file that
 /// has a notice is refused.
 fn load_path<F: Files, E: Sink>(
@@ -101,14 +113,17 @@ fn load_path<F: Files, E: Sink>(
     ensures loaded { IfOk result (λ f. IsLoaded ((F.surroundings files.old).content path.now) (file_format settings.now.format) (tree_of_settled settled.now) path.now f (E.taken err.old) (E.failures err.old) (E.taken err.new) (E.failures err.new)) }
     ensures allowed { IfOk result (λ f. AllowsNotices settings.now.strict (map notice_pair f.notices.items)) }
     ensures stopped { IfErr result (λ stop. (lines : List (List ℕ)) × StopsAtPath ((F.surroundings files.old).content path.now) (file_format settings.now.format) settings.now.strict (tree_of_settled settled.now) path.now (status_of stop) lines × TakesLines (E.taken err.old) (E.failures err.old) lines (E.taken err.new) (E.failures err.new)) }
+    ensures rising { F.failures files.old ≤ F.failures files.new }
+    ensures failed { IfErr result (λ stop. status_of stop ≡ 5 → HasRisen (F.failures files.old) (F.failures files.new)) }
 {
     match files.reader_for(path) {
         Some(mut reader) => {
-            let fragment = load(alloc, settled, &settings.format, path, &mut reader, err)?;
-            if settings.strict && !fragment.notices.is_empty() {
-                return Err(RunError::Configuration);
+            let loaded = load(alloc, settled, &settings.format, path, &mut reader, err);
+            files.close(reader);
+            match loaded {
+                Ok(fragment) => allowed(settings.strict, fragment),
+                Err(stop) => Err(stop),
             }
-            Ok(fragment)
         }
         None => {
             let kind = LoadKind::Read;
@@ -139,6 +154,8 @@ pub(crate) fn configured_by<'a, F: Files, E: Sink>(
     ensures solved { IfOk result (λ read. IsSolved read.config) }
     ensures loaded { IfOk result (λ read. AreRead (F.surroundings files.old).content (file_format settings.now.format) settings.now.strict (tree_of_settled settled.now) (path.now ∷ []) (empty_assignment (tree_of_settled settled.now)) read.config.users [] (lists_of read.chosen.items) (E.taken err.old) (E.failures err.old) (E.taken err.new) (E.failures err.new)) }
     ensures stopped { IfErr result (λ stop. (lines : List (List ℕ)) × StopsAmongFiles (F.surroundings files.old).content (file_format settings.now.format) settings.now.strict (tree_of_settled settled.now) (path.now ∷ []) (status_of stop) lines × TakesLines (E.taken err.old) (E.failures err.old) lines (E.taken err.new) (E.failures err.new)) }
+    ensures rising { F.failures files.old ≤ F.failures files.new }
+    ensures failed { IfErr result (λ stop. status_of stop ≡ 5 → HasRisen (F.failures files.old) (F.failures files.new)) }
 {
     let fragment = load_path(alloc, settled, settings, path, files, err)?;
     let config = Config::of(alloc, settled, &fragment);
@@ -174,6 +191,8 @@ fn overlaid<'a, F: Files, E: Sink>(
     ensures solved { IfOk result (λ read. IsSolved read.config) }
     ensures loaded { IfOk result (λ read. AreRead (F.surroundings files.old).content (file_format settings.now.format) settings.now.strict (tree_of_settled settled.now) (map (λ (path : Bor (List ℕ)). path.now) paths.now) begun.entry.config.users read.config.users (lists_of begun.entry.chosen.items) (lists_of read.chosen.items) (E.taken err.old) (E.failures err.old) (E.taken err.new) (E.failures err.new)) }
     ensures stopped { IfErr result (λ stop. (lines : List (List ℕ)) × StopsAmongFiles (F.surroundings files.old).content (file_format settings.now.format) settings.now.strict (tree_of_settled settled.now) (map (λ (path : Bor (List ℕ)). path.now) paths.now) (status_of stop) lines × TakesLines (E.taken err.old) (E.failures err.old) lines (E.taken err.new) (E.failures err.new)) }
+    ensures rising { F.failures files.old ≤ F.failures files.new }
+    ensures failed { IfErr result (λ stop. status_of stop ≡ 5 → HasRisen (F.failures files.old) (F.failures files.new)) }
 {
     let ReadFiles {
         mut config,
@@ -202,6 +221,8 @@ pub(crate) fn configured<'a, F: Files, E: Sink>(
     ensures solved { IfOk result (λ read. IsSolved read.config) }
     ensures loaded { IfOk result (λ read. AreRead (F.surroundings files.old).content (file_format settings.now.format) settings.now.strict (tree_of_settled settled.now) (map (λ (path : Bor (List ℕ)). path.now) paths.now) (empty_assignment (tree_of_settled settled.now)) read.config.users [] (lists_of read.chosen.items) (E.taken err.old) (E.failures err.old) (E.taken err.new) (E.failures err.new)) }
     ensures stopped { IfErr result (λ stop. (lines : List (List ℕ)) × StopsAmongFiles (F.surroundings files.old).content (file_format settings.now.format) settings.now.strict (tree_of_settled settled.now) (map (λ (path : Bor (List ℕ)). path.now) paths.now) (status_of stop) lines × TakesLines (E.taken err.old) (E.failures err.old) lines (E.taken err.new) (E.failures err.new)) }
+    ensures rising { F.failures files.old ≤ F.failures files.new }
+    ensures failed { IfErr result (λ stop. status_of stop ≡ 5 → HasRisen (F.failures files.old) (F.failures files.new)) }
 {
     let Some((first, others)) = paths.split_first() else {
         return Ok(ReadFiles {

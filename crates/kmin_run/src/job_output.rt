@@ -10,7 +10,7 @@ ghost use Rattle.kmin_trees.specs.AcceptedTrees.{AreAccepted};
 ghost use Rattle.kmin_trees.specs.JobTexts.{TreeTexts, AreTextsOfJob};
 ghost use Rattle.kmin_run.specs.PartialAnswers.{AnswersInPart};
 ghost use Rattle.kmin_report.specs.Reports.{last_lines};
-ghost use Rattle.kmin_report.specs.StandardError.{TakesLines};
+ghost use Rattle.kmin_report.specs.StandardError.{HasRisen, TakesLines};
 ghost use Rattle.kmin_run.specs.Stops.{Stops, StopsBefore};
 ghost use Rattle.kmin_run.specs.between.LoadStops.{StopsOverTree};
 ghost use Rattle.kmin_report.specs.between.RunErrors.{status_of};
@@ -57,6 +57,9 @@ pub fn serve<F: Files, O: Sink, E: Sink>(
     ensures part { result ≡ 5 → (O.taken out.new ≡ O.taken out.old) ⊎ AnswersInPart (F.surroundings files.old) (settings_view job.now.settings) (task_view job.now.task) (O.taken out.old) (O.taken out.new) }
 
     ensures unwritten { result ≢ 0 → result ≢ 1 → result ≢ 5 → O.taken out.new ≡ O.taken out.old }
+
+    // On status 5 a file couldn't be opened, or a read of a file or a write of the output failed.
+    ensures failed { result ≡ 5 → HasRisen (F.failures files.old) (F.failures files.new) ⊎ HasRisen (O.failures out.old) (O.failures out.new) }
 {
     match answer_job(alloc, job, files, err) {
         Ok(answer) => match write_answer(&answer.text, out, err) {
@@ -77,6 +80,7 @@ pub(crate) fn answer_job<F: Files, E: Sink>(
     ensures status { IfOk result (λ answer. answer.status ≤ 1) }
     ensures answer { IfOk result (λ answer. (t : TreeTexts) × (notices : List (List ℕ)) × AreTextsOfJob (F.surroundings files.old) (settings_view job.now.settings) t × Answer (F.surroundings files.old).content (settings_view job.now.settings) t.texts (task_view job.now.task) answer.text.items answer.status notices × TakesLines (E.taken err.old) (E.failures err.old) (t.lines ++ notices) (E.taken err.new) (E.failures err.new)) }
     ensures stopped { IfErr result (λ stop. (lines : List (List ℕ)) × StopsBefore (F.surroundings files.old) (settings_view job.now.settings) (task_view job.now.task) (status_of stop) lines × TakesLines (E.taken err.old) (E.failures err.old) lines (E.taken err.new) (E.failures err.new)) }
+    ensures failed { IfErr result (λ stop. status_of stop ≡ 5 → HasRisen (F.failures files.old) (F.failures files.new)) }
 {
     let settled = job_tree(alloc, &job.settings, files, err)?;
     let answer = answer_over(alloc, &job.settings, &job.task, &settled, files, err);
@@ -97,6 +101,8 @@ fn answer_over<F: Files, E: Sink>(
     ensures status { IfOk result (λ answer. answer.status ≤ 1) }
     ensures answer { IfOk result (λ answer. (notices : List (List ℕ)) × ((texts : trees.Files) → AreAccepted texts settings.now.tree.now (tree_of_settled settled.now) → Answer (F.surroundings files.old).content (settings_view settings.now) texts (task_view task.now) answer.text.items answer.status notices) × TakesLines (E.taken err.old) (E.failures err.old) notices (E.taken err.new) (E.failures err.new)) }
     ensures stopped { IfErr result (λ stop. (lines : List (List ℕ)) × StopsOverTree (F.surroundings files.old).content (settings_view settings.now) (tree_of_settled settled.now) (task_view task.now) (status_of stop) lines × TakesLines (E.taken err.old) (E.failures err.old) lines (E.taken err.new) (E.failures err.new)) }
+    ensures failed { IfErr result (λ stop. status_of stop ≡ 5 → HasRisen (F.failures files.old) (F.failures files.new)) }
+    ensures rising { F.failures files.old ≤ F.failures files.new }
 {
     match task {
         Task::Over { verb, files: paths } => {
@@ -123,6 +129,8 @@ fn answer_files<F: Files, E: Sink>(
     ensures status { IfOk result (λ answer. answer.status ≤ 1) }
     ensures answer { IfOk result (λ answer. (notices : List (List ℕ)) × ((texts : trees.Files) → AreAccepted texts settings.now.tree.now (tree_of_settled settled.now) → Answer (F.surroundings files.old).content (settings_view settings.now) texts (over verb (map (λ (path : Bor (List ℕ)). path.now) paths.now)) answer.text.items answer.status notices) × TakesLines (E.taken err.old) (E.failures err.old) notices (E.taken err.new) (E.failures err.new)) }
     ensures stopped { IfErr result (λ stop. (lines : List (List ℕ)) × StopsOverTree (F.surroundings files.old).content (settings_view settings.now) (tree_of_settled settled.now) (over verb (map (λ (path : Bor (List ℕ)). path.now) paths.now)) (status_of stop) lines × TakesLines (E.taken err.old) (E.failures err.old) lines (E.taken err.new) (E.failures err.new)) }
+    ensures failed { IfErr result (λ stop. status_of stop ≡ 5 → HasRisen (F.failures files.old) (F.failures files.new)) }
+    ensures rising { F.failures files.old ≤ F.failures files.new }
 {
     let read = configured(alloc, settled, settings, paths, files, err)?;
     notice_choices(alloc, settings, paths, &read, err)?;
@@ -146,6 +154,8 @@ fn answer_comparison<F: Files, E: Sink>(
     ensures status { IfOk result (λ answer. answer.status ≤ 1) }
     ensures answer { IfOk result (λ answer. (notices : List (List ℕ)) × ((texts : trees.Files) → AreAccepted texts settings.now.tree.now (tree_of_settled settled.now) → Answer (F.surroundings files.old).content (settings_view settings.now) texts (compare left.now right.now) answer.text.items answer.status notices) × TakesLines (E.taken err.old) (E.failures err.old) notices (E.taken err.new) (E.failures err.new)) }
     ensures stopped { IfErr result (λ stop. (lines : List (List ℕ)) × StopsOverTree (F.surroundings files.old).content (settings_view settings.now) (tree_of_settled settled.now) (compare left.now right.now) (status_of stop) lines × TakesLines (E.taken err.old) (E.failures err.old) lines (E.taken err.new) (E.failures err.new)) }
+    ensures failed { IfErr result (λ stop. status_of stop ≡ 5 → HasRisen (F.failures files.old) (F.failures files.new)) }
+    ensures rising { F.failures files.old ≤ F.failures files.new }
 {
     let before = configured_by(alloc, settled, settings, left, files, err)?;
     let after = configured_by(alloc, settled, settings, right, files, err)?;

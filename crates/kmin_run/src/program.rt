@@ -3,7 +3,7 @@ ghost use Rattle.std.specs.Prelude.{◌≡◌, ◌≢◌, ◌≤◌, ◌⊎◌, 
 ghost use Rattle.std.specs.Borrow.{Bor};
 ghost use Rattle.kmin_report.specs.StandardError.{TakesLine, TakesLines};
 ghost use Rattle.kmin_disk.specs.Disks.{Disk};
-ghost use Rattle.kmin_run.specs.Runs.{AskForChanges, AskForTidying, BundleEnds, Ends, HelpEnds, IsTidying, MayChangeFiles, ParsedEnds, input_of};
+ghost use Rattle.kmin_run.specs.Runs.{AskForChanges, AskForTidying, BundleEnds, Ends, HasFailed, HelpEnds, IsTidying, MayChangeFiles, ParsedEnds, input_of};
 ghost use Rattle.kmin_run.specs.TidyRuns.{outputs_of};
 
 use crate::bundle_answer::run_bundle;
@@ -52,6 +52,14 @@ pub fn run<F: Files, D: WriteDisk, I: Source, O: Sink, E: Sink>(
     // On status 4 something was written only if the words are parsed as `tidy`, of which a file is refused.
     ensures refused { result ≡ 4 → (O.taken out.new ≡ O.taken out.old) ⊎ AskForTidying (map (λ (word : Bor (List ℕ)). word.now) words.now) }
     ensures unwritten { result ≢ 0 → result ≢ 1 → result ≢ 4 → result ≢ 5 → O.taken out.new ≡ O.taken out.old }
+
+    // On status 5 a file couldn't be opened, or a read or a write failed; or the words are parsed as `tidy`, or have an output
+    // file, whose own clauses say more.
+    ensures failed { result ≡ 5 → HasFailed (F.failures files.old) (F.failures files.new)
+        (input_of (I.left input.old) (I.failures input.old)) (input_of (I.left input.new) (I.failures input.new))
+        (outputs_of (D.disk disk.old) (O.taken out.old) (O.failures out.old))
+        (outputs_of (D.disk disk.new) (O.taken out.new) (O.failures out.new))
+        ⊎ (AskForTidying (map (λ (word : Bor (List ℕ)). word.now) words.now) ⊎ AskForChanges (map (λ (word : Bor (List ℕ)). word.now) words.now)) }
 {
     if words.is_empty() {
         return answer_bundle(alloc, files.seed(), input, out, err);
@@ -99,6 +107,10 @@ fn run_parsed<F: Files, D: WriteDisk, I: Source, O: Sink, E: Sink>(
     ensures unasked { ((D.disk disk.new).state ≡ (D.disk disk.old).state) ⊎ MayChangeFiles parsed.now }
     ensures refused { result ≡ 4 → (O.taken out.new ≡ O.taken out.old) ⊎ IsTidying parsed.now }
     ensures unwritten { result ≢ 0 → result ≢ 1 → result ≢ 4 → result ≢ 5 → O.taken out.new ≡ O.taken out.old }
+    ensures failed { result ≡ 5 → HasFailed (F.failures files.old) (F.failures files.new)
+        (input_of (I.left input.old) (I.failures input.old)) (input_of (I.left input.new) (I.failures input.new))
+        (outputs_of (D.disk disk.old) (O.taken out.old) (O.failures out.old))
+        (outputs_of (D.disk disk.new) (O.taken out.new) (O.failures out.new)) ⊎ (IsTidying parsed.now ⊎ MayChangeFiles parsed.now) }
 {
     match parsed {
         ParsedWords::Job(job) => serve(alloc, job, files, out, err),

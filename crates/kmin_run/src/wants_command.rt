@@ -6,7 +6,7 @@ ghost use Rattle.std.specs.Io.KnownBytes.{Appends};
 ghost use Rattle.kc_files.specs.TextViews.{items_of};
 ghost use Rattle.kmin_words.specs.Jobs.{questions_view};
 ghost use Rattle.kmin_report.specs.Reports.{last_lines};
-ghost use Rattle.kmin_report.specs.StandardError.{TakesLines};
+ghost use Rattle.kmin_report.specs.StandardError.{HasRisen, TakesLines};
 ghost use Rattle.kmin_trees.specs.WantedQuestions.{AreAsked, AsksInPart, StopsWanting, question_line, questions_text};
 ghost use Rattle.kmin_run.specs.Statuses.{status_of_list};
 ghost use Rattle.kmin_report.specs.between.RunErrors.{status_of};
@@ -45,6 +45,9 @@ pub fn list_questions<F: Files, O: Sink, E: Sink>(
     ensures part { result ≡ 5 → (O.taken out.new ≡ O.taken out.old) ⊎ AsksInPart (F.surroundings files.old) (questions_view questions.now) (O.taken out.old) (O.taken out.new) }
 
     ensures unwritten { result ≢ 0 → result ≢ 1 → result ≢ 5 → O.taken out.new ≡ O.taken out.old }
+
+    // On status 5 an answer file couldn't be opened, or a read of one or a write of the output failed.
+    ensures failed { result ≡ 5 → HasRisen (F.failures files.old) (F.failures files.new) ⊎ HasRisen (O.failures out.old) (O.failures out.new) }
 {
     match answer_questions(alloc, questions, files, err) {
         Ok(answer) => match write_answer(&answer.text, out, err) {
@@ -66,6 +69,7 @@ fn answer_questions<F: Files, E: Sink>(
     ensures answer { IfOk result (λ answer. (asked : List (List ℕ)) × AreAsked (F.surroundings files.old) (questions_view questions.now) (Ok asked) × (answer.text.items ≡ questions_text asked) × (answer.status ≡ status_of_list true asked)) }
     ensures unreported { IfOk result (λ answer. TakesLines (E.taken err.old) (E.failures err.old) [] (E.taken err.new) (E.failures err.new)) }
     ensures stopped { IfErr result (λ stop. (lines : List (List ℕ)) × StopsWanting (F.surroundings files.old) (questions_view questions.now) (status_of stop) lines × TakesLines (E.taken err.old) (E.failures err.old) lines (E.taken err.new) (E.failures err.new)) }
+    ensures failed { IfErr result (λ stop. status_of stop ≡ 5 → HasRisen (F.failures files.old) (F.failures files.new)) }
 {
     let wanted = wanted_of(alloc, questions, files, err)?;
     match wanted {

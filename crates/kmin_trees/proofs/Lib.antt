@@ -1,9 +1,11 @@
 pub mod TreeResults
 pub mod TextGrowth
+pub mod AnswerReads
 pub mod AnswerFileLists
 pub mod LentAnswers
 pub mod TreeFolders
 pub mod ExpandedTexts
+pub mod FailureCounts
 pub mod FileNameLemmas
 pub mod JobTrees
 pub mod KnownTrees

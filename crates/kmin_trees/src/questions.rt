@@ -1,9 +1,9 @@
 //! The open questions of the macros of a job's tree.
-ghost use Rattle.std.specs.Prelude.{[], ℕ, List, IfOk, IfErr};
+ghost use Rattle.std.specs.Prelude.{◌≡◌, [], ℕ, List, IfOk, IfErr};
 ghost use Rattle.kc_expansion.specs.Expansions.{questions_of};
 ghost use Rattle.kmin_words.specs.Jobs.{questions_view};
 ghost use Rattle.kmin_trees.specs.WantedQuestions.{AreAsked, StopsWanting};
-ghost use Rattle.kmin_report.specs.StandardError.{TakesLines};
+ghost use Rattle.kmin_report.specs.StandardError.{HasRisen, TakesLines};
 ghost use Rattle.kmin_report.specs.between.RunErrors.{status_of};
 
 use crate::expanded_trees::wanted_below;
@@ -25,6 +25,7 @@ pub fn wanted_of<F: Files, E: Sink>(
     ensures asked { IfOk result (λ wanted. AreAsked (F.surroundings files.old) (questions_view questions.now) (questions_of wanted)) }
     ensures unreported { IfOk result (λ wanted. TakesLines (E.taken err.old) (E.failures err.old) [] (E.taken err.new) (E.failures err.new)) }
     ensures stopped { IfErr result (λ stop. (lines : List (List ℕ)) × StopsWanting (F.surroundings files.old) (questions_view questions.now) (status_of stop) lines × TakesLines (E.taken err.old) (E.failures err.old) lines (E.taken err.new) (E.failures err.new)) }
+    ensures failed { IfErr result (λ stop. status_of stop ≡ 5 → HasRisen (F.failures files.old) (F.failures files.new)) }
 {
     let answers = job_answers(alloc, &questions.expansion, files, err)?;
     let wanted = wanted_below(alloc, questions.root, questions.tree, &answers, files);

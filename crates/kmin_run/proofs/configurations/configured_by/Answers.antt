@@ -1,4 +1,4 @@
-use Rattle.std.proofs.Common.{[], ◌∷◌, refl, ◌∙◌, rules}
+use Rattle.std.proofs.Common.{[], ◌∷◌, refl, ◌∙◌, arith, rules}
 use Rattle.kc_rules.specs.between.SettledViews.{tree_of_settled}
 use Rattle.kc_dotconfig_model.specs.ConfigFiles.{empty_assignment}
 use Rattle.kc_dotconfig.proofs.UserValueUnits.{lies_alone}
@@ -36,3 +36,12 @@ returns-in_err-chosen-clause-stopped g c =
     stopped_for_memory content_of _ _ tree _ _ _ _ _ (c.args.path.now ∷ []) [] _ (empty_assignment tree) _ refl status
     (loaded_one content_of _ _ tree c.args.path.now (empty_assignment tree) _ c.in_ok-fragment.fragment _ _ _ _ c.in_ok-fragment.ensures.loaded
     c.in_ok-fragment.ensures.allowed refl))
+
+pub returns-in_err-fragment-clause-failed : goal.returns-in_err-fragment-clause-failed
+returns-in_err-fragment-clause-failed g c = if_err c.from_residual.result c.in_err-fragment.field-0.0 _ (search rules) c.in_err-fragment.ensures.failed
+
+pub returns-in_err-config-clause-failed : goal.returns-in_err-config-clause-failed
+returns-in_err-config-clause-failed g c = memory_err _ _ c.from_residual-in_err-config.ensures (λ stop status. λ five. absurd (omega arith))
+
+pub returns-in_err-chosen-clause-failed : goal.returns-in_err-chosen-clause-failed
+returns-in_err-chosen-clause-failed g c = memory_err _ _ c.from_residual-in_err-chosen.ensures (λ stop status. λ five. absurd (omega arith))

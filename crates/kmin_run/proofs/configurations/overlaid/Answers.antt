@@ -3,6 +3,7 @@ use Rattle.std.specs.Borrow.{Bor}
 use Rattle.std.proofs.lemmas.List.{take_all}
 use Rattle.kc_rules.specs.between.SettledViews.{tree_of_settled}
 use Rattle.kmin_report.proofs.Results.{if_err, memory_err}
+use Rattle.kmin_trees.proofs.FailureCounts.{rises_later}
 use Rattle.kmin_run.proofs.Sequences.{loaded_one, loaded_append, lists_pushed, read_one, read_none, read_append, stopped_path, stopped_more, stopped_later, stopped_for_memory}
 use Rattle.kmin_report.proofs.Lists.{paths_next, paths_at}
 use Rattle.kmin_run.proofs.configurations.overlaid.Goals as goal
@@ -10,6 +11,7 @@ use Rattle.kmin_run.proofs.configurations.overlaid.Goals as goal
 pub loop-path-init : goal.loop-path-init
 loop-path-init g c = record {
   same = refl;
+  rising = omega arith;
   settled = c.requires.settled;
   solved = c.requires.solved;
   loaded = read_none _ _ _ _ [] c.args.begun.config.users c.args.begun.config.users _ _ _ _ refl refl refl;
@@ -24,6 +26,7 @@ loop-path-preserved g c =
     let path = get_or c.args.paths.now c.loop-path.path-index absent in
     record {
       same = c.load_path.ensures.same ∙ c.loop-path.invariant.same;
+      rising = omega (arith, c.load_path.ensures.rising, c.loop-path.invariant.rising);
       settled = search rules;
       solved = search rules;
       loaded = rw (paths_next c.args.paths.now c.loop-path.path-index absent (search rules))
@@ -94,3 +97,24 @@ pub returns-clause-loaded : goal.returns-clause-loaded
 returns-clause-loaded g c =
     let all : take c.loop-path.path-index c.args.paths.now ≡ c.args.paths.now = take_all c.loop-path.path-index c.args.paths.now (omega arith) in
     rw all at c.loop-path.invariant.loaded
+
+pub returns-in_err-fragment-clause-rising : goal.returns-in_err-fragment-clause-rising
+returns-in_err-fragment-clause-rising g c = omega (arith, c.load_path.ensures.rising, c.loop-path.invariant.rising)
+
+pub returns-in_err-merge-clause-rising : goal.returns-in_err-merge-clause-rising
+returns-in_err-merge-clause-rising g c = omega (arith, c.load_path.ensures.rising, c.loop-path.invariant.rising)
+
+pub returns-in_err-push-clause-rising : goal.returns-in_err-push-clause-rising
+returns-in_err-push-clause-rising g c = omega (arith, c.load_path.ensures.rising, c.loop-path.invariant.rising)
+
+pub returns-in_err-fragment-clause-failed : goal.returns-in_err-fragment-clause-failed
+returns-in_err-fragment-clause-failed g c =
+    if_err c.from_residual.result c.in_err-fragment.field-0.0 _ (search rules)
+    (λ five. rises_later (g.F.Files.failures c.args.files.now) (g.F.Files.failures c.loop-path.files) (g.F.Files.failures c.load_path.new.files)
+    c.loop-path.invariant.rising c.load_path.ensures.rising (c.in_err-fragment.ensures.failed five))
+
+pub returns-in_err-merge-clause-failed : goal.returns-in_err-merge-clause-failed
+returns-in_err-merge-clause-failed g c = memory_err _ _ c.from_residual-in_err-merge.ensures (λ stop status. λ five. absurd (omega arith))
+
+pub returns-in_err-push-clause-failed : goal.returns-in_err-push-clause-failed
+returns-in_err-push-clause-failed g c = memory_err _ _ c.from_residual-in_err-push.ensures (λ stop status. λ five. absurd (omega arith))

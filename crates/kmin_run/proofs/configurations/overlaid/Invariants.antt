@@ -1,4 +1,4 @@
-use Rattle.std.proofs.Common.{◌≡◌, ℕ, List, map, take}
+use Rattle.std.proofs.Common.{◌≡◌, ◌≤◌, ℕ, List, map, take}
 use Rattle.std.specs.Borrow.{Bor}
 use Rattle.kc_rules.specs.between.SettledViews.{tree_of_settled}
 use Rattle.kc_dotconfig.specs.ConfigStates.{IsSolved}
@@ -9,6 +9,7 @@ use Rattle.kmin_run.proofs.configurations.overlaid.Given as goal
 abbrev pub invariant-loop-path : goal.invariant-loop-path
 invariant-loop-path g l = record {
   same : g.F.Files.surroundings l.files ≡ g.F.Files.surroundings l.fn.files;
+  rising : g.F.Files.failures l.fn.files ≤ g.F.Files.failures l.files;
   settled : l.config.system ≡ l.settled;
   solved : IsSolved l.config;
   loaded : AreRead (g.F.Files.surroundings l.fn.files).content (file_format l.settings.format) l.settings.strict (tree_of_settled l.settled)

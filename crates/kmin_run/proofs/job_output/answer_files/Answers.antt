@@ -1,9 +1,10 @@
-use Rattle.std.proofs.Common.{◌≤◌, inl, List, ℕ, map, refl, subst, sym, ap, ◌∙◌, rules}
+use Rattle.std.proofs.Common.{◌≤◌, inl, List, ℕ, map, refl, subst, sym, ap, ◌∙◌, arith, rules}
 use Rattle.std.specs.Borrow.{Bor}
 use Rattle.kc_rules.specs.between.SettledViews.{profile_of}
 use Rattle.kc_dotconfig.specs.ConfigStates.{tree_in}
 use Rattle.kmin_words.specs.Jobs.{settings_view}
 use Rattle.kmin_report.proofs.Results.{if_err, memory_err}
+use Rattle.kmin_run.proofs.ReadFailures.{noticing_unfailed}
 use Rattle.kmin_run.proofs.JobOutputs.{answers_files, stopped_noticing, stopped_after, status_of_verb_at_most_one}
 use Rattle.kmin_run.proofs.job_output.answer_files.Goals as goal
 
@@ -42,3 +43,14 @@ pub returns-clause-status : goal.returns-clause-status
 returns-clause-status g c =
     let config = c.in_ok-read.read.config in
     subst (λ n. n ≤ 1) (sym c.in_ok-answer.ensures.status) (status_of_verb_at_most_one (tree_in config) config.users config.values c.args.verb)
+
+pub returns-in_err-read-clause-failed : goal.returns-in_err-read-clause-failed
+returns-in_err-read-clause-failed g c = if_err c.from_residual.result c.in_err-read.field-0.0 _ (search rules) c.in_err-read.ensures.failed
+
+pub returns-in_err-notice_choices-clause-failed : goal.returns-in_err-notice_choices-clause-failed
+returns-in_err-notice_choices-clause-failed g c =
+    if_err c.from_residual-in_err-notice_choices.result c.in_err-notice_choices.field-0.0 _ (search rules)
+    (λ five. absurd (noticing_unfailed _ _ _ _ _ _ _ _ _ _ c.in_err-notice_choices.ensures.stopped five))
+
+pub returns-in_err-answer-clause-failed : goal.returns-in_err-answer-clause-failed
+returns-in_err-answer-clause-failed g c = memory_err _ _ c.from_residual-in_err-answer.ensures (λ stop status. λ five. absurd (omega arith))

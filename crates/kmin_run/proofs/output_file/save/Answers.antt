@@ -1,4 +1,4 @@
-use Rattle.std.proofs.Common.{refl, ◌++◌}
+use Rattle.std.proofs.Common.{inl, inr, refl, sym, ◌∙◌, arith, ◌++◌}
 use Rattle.kmin_run.specs.Saves.{saved}
 use Rattle.kmin_words.specs.Jobs.{settings_view, task_view}
 use Rattle.kmin_run.proofs.JobOutputs.{lines_kept}
@@ -29,3 +29,13 @@ returns-clause-ends g c =
     (settings_view c.args.output_job.now.job.settings) (task_view c.args.output_job.now.job.task) c.args.output_job.now.output.now _ _
     c.in-Err.stop c.exit_status-in-Err.result c.exit_status-in-Err.ensures.status _ _ _ _ _ _ refl c.in-Err.ensures.stopped
     c.exit_status-in-Err.ensures.reported
+
+pub returns-in-Ok-save_text-clause-failed : goal.returns-in-Ok-save_text-clause-failed
+returns-in-Ok-save_text-clause-failed g c = λ five. absurd (omega (arith, five, c.in-Ok.ensures.status))
+
+pub returns-in-Ok-clause-failed : goal.returns-in-Ok-clause-failed
+returns-in-Ok-clause-failed g c = λ five.
+    let unsaved = c.in-Err-save_text.ensures.unsaved in inr (_, unsaved.0, unsaved.1)
+
+pub returns-clause-failed : goal.returns-clause-failed
+returns-clause-failed g c = λ five. inl (c.in-Err.ensures.failed (sym c.exit_status-in-Err.ensures.status ∙ five))

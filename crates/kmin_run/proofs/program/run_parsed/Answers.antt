@@ -1,8 +1,9 @@
-use Rattle.std.proofs.Common.{[], ◌∷◌, inr, refl}
+use Rattle.std.proofs.Common.{[], ◌∷◌, inl, inr, refl, arith}
 use Rattle.kmin_words.specs.Jobs.{settings_view, questions_view, task_view}
 use Rattle.kmin_report.proofs.WriterLemmas.{lines_one}
 use Rattle.kmin_run.specs.TidyRuns.{outputs_of}
 use Rattle.kmin_run.proofs.RunEnds.{job_ended, questions_ended}
+use Rattle.kmin_run.proofs.ReadFailures.{help_rises}
 use Rattle.kmin_run.proofs.TidyLemmas.{by_asking}
 use Rattle.kmin_run.proofs.program.run_parsed.Goals as goal
 
@@ -59,3 +60,22 @@ returns-in-Refused-clause-ends g c =
       (c.refuse_words.ensures.status, refl, rw c.deref-in-Refused.ensures refl),
       lines_one _ _ _ _ _ c.refuse_words.ensures.reported,
     )
+
+pub returns-in-Job-clause-failed : goal.returns-in-Job-clause-failed
+returns-in-Job-clause-failed g c = λ five. inl (elim (c.serve.ensures.failed five) [ inl files ↦ inl files | inr out ↦ inr (inr out) ])
+
+pub returns-in-Questions-clause-failed : goal.returns-in-Questions-clause-failed
+returns-in-Questions-clause-failed g c = λ five. inl (elim (c.list_questions.ensures.failed five) [ inl files ↦ inl files | inr out ↦ inr (inr out) ])
+
+pub returns-in-Save-clause-failed : goal.returns-in-Save-clause-failed
+returns-in-Save-clause-failed g c = λ five. rw c.in-Save.is (inr (inr tt))
+
+pub returns-in-Tidy-clause-failed : goal.returns-in-Tidy-clause-failed
+returns-in-Tidy-clause-failed g c = λ five. rw c.in-Tidy.is (inr (inl tt))
+
+pub returns-in-Help-clause-failed : goal.returns-in-Help-clause-failed
+returns-in-Help-clause-failed g c = λ five.
+    inl (inr (inr (help_rises _ _ _ _ _ (c.write_help.ensures.ends (g.D.ReadDisk.disk c.args.disk.now)).1 five)))
+
+pub returns-in-Refused-clause-failed : goal.returns-in-Refused-clause-failed
+returns-in-Refused-clause-failed g c = λ five. absurd (omega (arith, five, c.refuse_words.ensures.status))

@@ -1,4 +1,6 @@
+use Rattle.std.proofs.Common.{inl, inr, sym, ◌∙◌}
 use Rattle.kmin_words.specs.Jobs.{tidy_job_view}
+use Rattle.kmin_trees.proofs.FailureCounts.{rises_later}
 use Rattle.kmin_run.proofs.TidyLemmas.{list_ends, read_before}
 use Rattle.kmin_run.proofs.tidy_command.tidy.Goals as goal
 
@@ -14,3 +16,14 @@ returns-in-Err-clause-ends g c =
     list_ends _ _ _ _ _ _ c.exit_status.result (g.F.Files.surroundings c.args.files.now)
     (g.I.Source.left c.args.input.now) (tidy_job_view c.args.tidy_job.now) _ c.in-Err.stop c.exit_status.ensures.status c.in-Err.ensures.stopped
     c.exit_status.ensures.reported
+
+pub returns-in-Ok-clause-failed : goal.returns-in-Ok-clause-failed
+returns-in-Ok-clause-failed g c = λ five. elim (c.tidy_listed.ensures.failed five) [
+  | inl rose ↦
+      inl (inl (rises_later (g.F.Files.failures c.args.files.now) (g.F.Files.failures c.list_bytes.new.files) (g.F.Files.failures c.tidy_listed.new.files)
+      c.list_bytes.ensures.rising c.tidy_listed.ensures.rising rose))
+  | inr over ↦ inr over
+]
+
+pub returns-in-Err-clause-failed : goal.returns-in-Err-clause-failed
+returns-in-Err-clause-failed g c = λ five. inl (c.in-Err.ensures.failed (sym c.exit_status.ensures.status ∙ five))

@@ -1,4 +1,4 @@
-use Rattle.std.proofs.Common.{ℕ, List, [], map, inl, inr, refl, rules}
+use Rattle.std.proofs.Common.{ℕ, List, [], map, inl, inr, refl, arith, rules}
 use Rattle.std.specs.Borrow.{Bor}
 use Rattle.kmin_words.specs.Jobs.{tidy_job_view}
 use Rattle.kmin_report.specs.Reports.{last_lines}
@@ -34,3 +34,12 @@ returns-in-Err-HasNewline-clause-ends g c = λ left bytes.
     (g.F.Files.surroundings c.args.files.now)
     left (tidy_job_view c.args.tidy_job.now) c.args.list.now _ bytes (inr (search rules)) c.refuse_list-in-Err-HasNewline.ensures.status
     c.refuse_list-in-Err-HasNewline.ensures.reported
+
+pub returns-in-Err-OutOfMemory-clause-failed : goal.returns-in-Err-OutOfMemory-clause-failed
+returns-in-Err-OutOfMemory-clause-failed g c = λ five. absurd (omega (arith, five, c.exit_status.ensures.status))
+
+pub returns-in-Err-NotUtf8-clause-failed : goal.returns-in-Err-NotUtf8-clause-failed
+returns-in-Err-NotUtf8-clause-failed g c = λ five. absurd (omega (arith, five, c.refuse_list.ensures.status))
+
+pub returns-in-Err-HasNewline-clause-failed : goal.returns-in-Err-HasNewline-clause-failed
+returns-in-Err-HasNewline-clause-failed g c = λ five. absurd (omega (arith, five, c.refuse_list-in-Err-HasNewline.ensures.status))

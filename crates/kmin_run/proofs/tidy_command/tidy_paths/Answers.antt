@@ -1,4 +1,4 @@
-use Rattle.std.proofs.Common.{refl}
+use Rattle.std.proofs.Common.{inl, inr, refl, sym, ◌∙◌}
 use Rattle.kmin_words.specs.Jobs.{settings_view}
 use Rattle.kmin_run.proofs.TidyLemmas.{ends_small, ends_unwritten, went_over, tree_ends}
 use Rattle.kmin_run.proofs.tidy_command.tidy_paths.Goals as goal
@@ -23,3 +23,11 @@ returns-in-Err-clause-ends g c =
     (g.F.Files.surroundings c.args.files.now)
     (settings_view c.args.tidy_job.now.settings) c.args.tidy_job.now.flags _ _ c.in-Err.stop c.exit_status.ensures.status c.in-Err.ensures.stopped
     c.exit_status.ensures.reported
+
+pub returns-in-Ok-clause-failed : goal.returns-in-Ok-clause-failed
+returns-in-Ok-clause-failed g c = λ five.
+    let run = c.tidy_files-status.ensures in
+    inr (_, _, run.ends.0, record { ends = run.ends.1; became = run.became; again = run.again; silent = run.silent })
+
+pub returns-in-Err-clause-failed : goal.returns-in-Err-clause-failed
+returns-in-Err-clause-failed g c = λ five. inl (c.in-Err.ensures.failed (sym c.exit_status.ensures.status ∙ five))

@@ -12,3 +12,6 @@ pub returns-in-Err-clause-stopped : goal.returns-in-Err-clause-stopped
 returns-in-Err-clause-stopped g c =
     let asked = rw c.in-Err.is at c.in_ok-wanted.ensures.asked in
     (_, at_fault _ asked refl refl, lines_append _ _ _ _ [] (_ ∷ []) _ _ c.in_ok-wanted.ensures.unreported (lines_one _ _ _ _ _ c.write_report.ensures))
+
+pub returns-in_err-wanted-clause-failed : goal.returns-in_err-wanted-clause-failed
+returns-in_err-wanted-clause-failed g c = if_err c.from_residual.result c.in_err-wanted.field-0.0 _ (search rules) c.in_err-wanted.ensures.failed

@@ -1,4 +1,4 @@
-use Rattle.std.proofs.Common.{inr, rules}
+use Rattle.std.proofs.Common.{inl, inr, sym, ◌∙◌, arith, rules}
 use Rattle.kmin_words.specs.Jobs.{questions_view}
 use Rattle.kmin_run.proofs.JobOutputs.{lines_kept, no_other_status}
 use Rattle.kmin_run.proofs.QuestionEnds.{write_stops, questions_end}
@@ -32,3 +32,12 @@ pub returns-clause-stopped : goal.returns-clause-stopped
 returns-clause-stopped g c = λ e.
     questions_end (g.F.Files.surroundings c.args.files.now) (questions_view c.args.questions.now) c.in-Err.stop c.exit_status.result
     _ _ _ _ _ _ c.exit_status.ensures.status c.in-Err.ensures.stopped c.exit_status.ensures.reported
+
+pub returns-in-Ok-write_answer-clause-failed : goal.returns-in-Ok-write_answer-clause-failed
+returns-in-Ok-write_answer-clause-failed g c = λ e. absurd (omega (arith, e, c.in-Ok.ensures.status))
+
+pub returns-in-Ok-clause-failed : goal.returns-in-Ok-clause-failed
+returns-in-Ok-clause-failed g c = λ e. inr c.in-Err-write_answer.ensures.failures
+
+pub returns-clause-failed : goal.returns-clause-failed
+returns-clause-failed g c = λ e. inl (c.in-Err.ensures.failed (sym c.exit_status.ensures.status ∙ e))

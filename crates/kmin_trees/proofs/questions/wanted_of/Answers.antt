@@ -1,4 +1,4 @@
-use Rattle.std.proofs.Common.{[], refl, rules}
+use Rattle.std.proofs.Common.{[], refl, arith, rules}
 use Rattle.kmin_trees.specs.WantedQuestions.{among_answers, for_memory}
 use Rattle.kmin_report.proofs.Results.{if_err, memory_err}
 use Rattle.kmin_trees.proofs.questions.wanted_of.Goals as goal
@@ -15,3 +15,9 @@ returns-in_err-wanted-clause-stopped g c =
 pub returns-clause-asked : goal.returns-clause-asked
 returns-clause-asked g c =
     record { answers = _; answered = c.in_ok-answers.ensures.answers; wanted = rw c.job_answers.ensures.same at c.in_ok-wanted.ensures }
+
+pub returns-in_err-answers-clause-failed : goal.returns-in_err-answers-clause-failed
+returns-in_err-answers-clause-failed g c = if_err c.from_residual.result c.in_err-answers.field-0.0 _ (search rules) c.in_err-answers.ensures.failed
+
+pub returns-in_err-wanted-clause-failed : goal.returns-in_err-wanted-clause-failed
+returns-in_err-wanted-clause-failed g c = memory_err _ _ c.from_residual-in_err-wanted.ensures (λ stop status. λ five. absurd (omega arith))
