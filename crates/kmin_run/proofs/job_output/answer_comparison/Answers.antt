@@ -68,8 +68,8 @@ returns-in_err-before-clause-failed g c = if_err c.from_residual.result c.in_err
 pub returns-in_err-after-clause-failed : goal.returns-in_err-after-clause-failed
 returns-in_err-after-clause-failed g c =
     if_err c.from_residual-in_err-after.result c.in_err-after.field-0.0 _ (search rules)
-    (λ five. rises_later (g.F.Files.failures c.args.files.now) (g.F.Files.failures c.configured_by.new.files) (g.F.Files.failures c.configured_by-after.new.files)
-    c.configured_by.ensures.rising c.configured_by-after.ensures.rising (c.in_err-after.ensures.failed five))
+    (λ five. rises_later (g.F.Files.failures c.args.files.now) (g.F.Files.failures c.configured_by.new.files) (g.F.Files.failures c.configured_by-2.new.files)
+    c.configured_by.ensures.rising c.configured_by-2.ensures.rising (c.in_err-after.ensures.failed five))
 
 pub returns-in_err-notice_choices-clause-failed : goal.returns-in_err-notice_choices-clause-failed
 returns-in_err-notice_choices-clause-failed g c =
