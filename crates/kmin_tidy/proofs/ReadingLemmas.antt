@@ -7,7 +7,7 @@ use Rattle.kc_dotconfig_model.specs.Formats.{FileFormat}
 use Rattle.kc_dotconfig_model.specs.declared.fault.LoadKind.{LoadKind}
 use Rattle.kc_dotconfig_model.specs.declared.fault.LoadKind.TheVariants.{Malformed, NotUtf8, LineTooLong, TooManyLines, Read, OutOfMemory, TooLarge}
 use Rattle.kc_dotconfig_model.specs.ConfigFiles.{FileMeans}
-use Rattle.kc_dotconfig_model.specs.LoadFaults.{IsAccepted, IsConsideredAt, IsFirstFault, complete, cut_short, rank_of}
+use Rattle.kc_dotconfig_model.specs.LoadFaults.{IsAccepted, IsConsideredAt, IsFirstFault, complete, cut_short}
 use Rattle.kc_dotconfig.specs.declared.fragment.Fragment.{Fragment}
 use Rattle.kc_dotconfig.specs.Fragments.{FitsTree}
 use Rattle.kc_dotconfig.specs.ReadResults.{IsReadAs, IsRefused, ReportsFault}
