@@ -29,6 +29,9 @@ _kmin_words() {
     case $1 in
         tidy) echo "--write --drop --from -z" ;;
     esac
+    case $1 in
+        wants) echo "--unused" ;;
+    esac
 }
 
 # what is after an option: a kind of word, or `one of` some; nothing where it has no value

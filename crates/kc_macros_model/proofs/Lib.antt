@@ -1,5 +1,6 @@
 mod Rows
 mod PlainRows
+pub mod OpenQuestions
 pub mod Outcomes
 pub mod AnsweredPrograms
 pub mod KnownTexts

@@ -1,4 +1,4 @@
-//! The command `wants`, which lists the open questions of a tree's macros.
+//! The command `wants`, which lists the open questions of a tree's macros, or the answers that they don't use.
 ghost use Rattle.std.specs.Prelude.{◌≡◌, ◌≢◌, ◌≤◌, ◌⊎◌, ◌++◌, [], List, ℕ, true, Ok, Vec, IfOk, IfErr};
 ghost use Rattle.std.specs.declared.alloc.Global.{Global};
 ghost use Rattle.std.specs.List.{flat_map};
@@ -18,9 +18,10 @@ use kmin_trees::{Files, wanted_of};
 use kmin_words::Questions;
 use std::alloc::{AllocError, Global};
 
-/// Lists the open questions of a tree's macros, a line each, in the order in which the expansion asks them, and returns
-/// the exit status: 0 no question, 1 some questions, 3 no question but a fault of the expansion, 4 answer file refused,
-/// 5 a read or write failed, 6 out of memory.
+/// Lists the open questions of a tree's macros, a line each, in the order in which the expansion asks them; with `--unused`, where
+/// none is open, those that the answer files answer and the expansion doesn't ask, in their order. Returns the exit status: 0 no
+/// question, 1 some questions, 3 no question but a fault of the expansion, 4 answer file refused, 5 a read or write failed, 6 out of
+/// memory.
 ///
 /// The output is complete before the first write. Standard error gets a line `FILE:LINE: KIND` or
 /// `FILE:LINE: KIND TEXT` for the fault, and no notices; a failed write there has no influence.
@@ -34,7 +35,7 @@ pub fn list_questions<F: Files, O: Sink, E: Sink>(
     ensures status { result ≤ 6 }
     ensures accepted_words { result ≢ 2 }
 
-    // The answer files are accepted, exactly the open questions are written, and no write failed.
+    // The answer files are accepted, exactly these questions are written, and no write failed.
     ensures done { (result ≡ 0) ⊎ (result ≡ 1) → (asked : List (List ℕ)) × AreAsked (F.surroundings files.old) (questions_view questions.now) (Ok asked) × (result ≡ status_of_list true asked) × Appends (O.taken out.old) (O.taken out.new) (questions_text asked) × TakesLines (E.taken err.old) (E.failures err.old) [] (E.taken err.new) (E.failures err.new) }
     ensures unfailed { (result ≡ 0) ⊎ (result ≡ 1) → O.failures out.new ≡ O.failures out.old }
 
@@ -55,7 +56,7 @@ pub fn list_questions<F: Files, O: Sink, E: Sink>(
     }
 }
 
-/// The complete list of open questions, and its status. Reports why there is none.
+/// The complete list of questions, and its status. Reports why there is none.
 fn answer_questions<F: Files, E: Sink>(
     alloc: Global,
     questions: &Questions<'_>,

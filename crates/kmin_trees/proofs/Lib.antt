@@ -5,6 +5,7 @@ pub mod LentAnswers
 pub mod TreeFolders
 pub mod ExpandedTexts
 pub mod FileNameLemmas
+pub mod ListedQuestions
 pub mod JobTrees
 pub mod KnownTrees
 pub mod KnownExpansions

@@ -10,7 +10,7 @@ use Rattle.kc_macros_model.specs.AnswerFiles.{RecordedAnswers}
 use Rattle.kc_macros_model.specs.Programs.{Fault, Notice}
 use Rattle.kc_macros_model.specs.ReadingStates.{ExpandedFile}
 use Rattle.kc_macros_model.specs.Worlds.{World}
-use Rattle.kc_expansion.specs.Expansions.{IsExpansion, AreWanted}
+use Rattle.kc_expansion.specs.Expansions.{IsExpansion, AreWanted, AreUnused}
 use Rattle.kc_files.specs.TreeContents.{FileContent, FolderContent, ListsAs, IsWorldOf}
 use Rattle.kc_files.specs.TreeContents as tree
 use Rattle.kmin_trees.specs.FileContents.{Surroundings, path_below}
@@ -92,3 +92,19 @@ pub wanted_below : (reference : ℕ) (known : Surroundings) (root first path : L
     → AreWanted (contents_through reference known root) answers path asked → AreWanted (contents_below known root) answers first asked
 wanted_below reference known root first path answers asked e h =
     subst (λ p. AreWanted (contents_below known root) answers p asked) e (wanted_any reference known root path answers asked h)
+
+unused_any : (reference : ℕ) (known : Surroundings) (root first : List ℕ) (answers : RecordedAnswers) (answered : List (List ℕ))
+    (listed : Result (List (List ℕ)) Fault)
+    → AreUnused (contents_through reference known root) answers first answered listed → AreUnused (contents_below known root) answers first answered listed
+unused_any reference known root first answers answered listed h = record {
+  world = h.world;
+  of_contents = world_below reference known root h.world h.of_contents;
+  answered_so = h.answered_so;
+  are_unused = h.are_unused;
+}
+
+pub unused_below : (reference : ℕ) (known : Surroundings) (root first path : List ℕ) (answers : RecordedAnswers) (answered : List (List ℕ))
+    (listed : Result (List (List ℕ)) Fault) → path ≡ first
+    → AreUnused (contents_through reference known root) answers path answered listed → AreUnused (contents_below known root) answers first answered listed
+unused_below reference known root first path answers answered listed e h =
+    subst (λ p. AreUnused (contents_below known root) answers p answered listed) e (unused_any reference known root path answers answered listed h)

@@ -8,7 +8,8 @@ ghost use Rattle.kmin_trees.specs.JobAnswers.{FilesRecord, AreJobAnswers, define
 ghost use Rattle.kc_answers.specs.ReadAnswers.{AreRecorded};
 ghost use Rattle.kmin_trees.specs.AnswerStops.{StopsAmongAnswers, answers_status};
 ghost use Rattle.kmin_report.specs.StandardError.{TakesLines};
-ghost use Rattle.kmin_trees.specs.between.AnswerSteps.{StopsReading, StopsAtAnswersPath, AreLent, answers_lines};
+ghost use Rattle.kmin_trees.specs.between.AnswerSteps.{StopsReading, StopsAtAnswersPath, AreLent, AnswersAndQuestions, answers_lines};
+ghost use Rattle.kc_files.specs.TextViews.{texts_of};
 ghost use Rattle.kmin_report.specs.between.RunErrors.{status_of};
 
 use crate::files::Files;
@@ -36,6 +37,25 @@ pub(crate) fn job_answers<F: Files, E: Sink>(
     define(&expansion.definitions, &mut answers)?;
     lend(alloc, &expansion.environment, files, &mut answers)?;
     Ok(answers)
+}
+
+/// The answers that `job_answers` makes, and the questions that the answer files answer, in order of their first answers.
+pub(crate) fn answers_and_questions<F: Files, E: Sink>(
+    alloc: Global,
+    expansion: &Expansion<'_>,
+    files: &mut F,
+    err: &mut E,
+) -> Result<(Answers, Vec<Vec<u8>>), RunError>
+    ensures same { F.surroundings files.new ≡ F.surroundings files.old }
+    ensures answers { IfOk result (λ r. AnswersAndQuestions (F.surroundings files.old).content (F.surroundings files.old).variable (expansion_view expansion.now) r.0 (texts_of r.1)) }
+    ensures unreported { OnOk result (TakesLines (E.taken err.old) (E.failures err.old) [] (E.taken err.new) (E.failures err.new)) }
+    ensures stopped { IfErr result (λ stop. (lines : List (List ℕ)) × StopsAmongAnswers (F.surroundings files.old).content (expansion_view expansion.now).answers (status_of stop) lines × TakesLines (E.taken err.old) (E.failures err.old) lines (E.taken err.new) (E.failures err.new)) }
+{
+    let mut answers = file_answers(alloc, &expansion.answers, files, err)?;
+    let answered = answers.questions()?;
+    define(&expansion.definitions, &mut answers)?;
+    lend(alloc, &expansion.environment, files, &mut answers)?;
+    Ok((answers, answered))
 }
 
 /// Reads answer files, one after another. Reports why one is refused.

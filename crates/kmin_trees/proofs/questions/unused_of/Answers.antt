@@ -1,7 +1,9 @@
 use Rattle.std.proofs.Common.{[], refl, rules}
+use Rattle.kmin_words.specs.Jobs.{questions_view}
 use Rattle.kmin_trees.specs.WantedQuestions.{among_answers, for_memory}
+use Rattle.kmin_trees.proofs.ListedQuestions.{asked_unused}
 use Rattle.kmin_report.proofs.Results.{if_err, memory_err}
-use Rattle.kmin_trees.proofs.questions.wanted_of.Goals as goal
+use Rattle.kmin_trees.proofs.questions.unused_of.Goals as goal
 
 pub returns-in_err-answers-clause-stopped : goal.returns-in_err-answers-clause-stopped
 returns-in_err-answers-clause-stopped g c =
@@ -14,4 +16,5 @@ returns-in_err-wanted-clause-stopped g c =
 
 pub returns-clause-asked : goal.returns-clause-asked
 returns-clause-asked g c =
-    record { answers = _; answered = c.in_ok-answers.ensures.answers; wanted = rw c.job_answers.ensures.same at c.in_ok-wanted.ensures }
+    asked_unused _ (questions_view c.args.questions.now) _ _ _ c.requires.unused c.in_ok-answers.ensures.answers
+    (rw c.answers_and_questions.ensures.same at c.in_ok-wanted.ensures)
