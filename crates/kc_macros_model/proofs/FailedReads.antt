@@ -3,8 +3,7 @@ use Rattle.std.proofs.Common.{◌≡◌, ℕ, Bool, true, false, cond, List, [],
 use Rattle.std.specs.Prelude.{nat_lt, ◌-◌}
 use Rattle.kc_macros_model.specs.declared.fault.MacroKind.TheVariants.{TooMany}
 use Rattle.kc_value.specs.declared.limits.TheConstants.{MAX_WORK}
-use Rattle.kc_macros_model.specs.Programs.{Place, Fault, Answer, spend, report, ask, read_file, find_file, list_folder, Program, returns, fails, stops, does}
-use Rattle.kc_macros_model.specs.ReadingStates.{ExpandedFile}
+use Rattle.kc_macros_model.specs.Programs.{Place, Answer, spend, report, ask, read_file, find_file, list_folder, Program, returns, fails, stops, does}
 use Rattle.kc_macros_model.specs.TreeExpansion.{tree_read}
 use Rattle.kc_macros_model.specs.Worlds.{World, has_file, unless_unanswered, returned, failed, Outcome, after_event, unless_fault, outcome, expansion}
 use Rattle.kc_macros_model.proofs.OpenQuestions.{if_unanswered}

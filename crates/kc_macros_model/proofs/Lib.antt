@@ -19,6 +19,7 @@ pub mod LineMatches
 pub mod FormMatches
 pub mod TreeMatches
 pub mod WantedQuestions
+pub mod UnusedAnswers
 pub mod CleanTexts
 pub mod CleanLines
 pub mod EnvironmentLines

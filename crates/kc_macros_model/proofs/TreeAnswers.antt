@@ -1,5 +1,5 @@
 -- Laws on the answers to the questions of a tree.
-use Rattle.std.proofs.Common.{◌≡◌, ℕ, Bool, true, false, cond, List, [], ◌∷◌, ◌++◌, Ok, Err, refl, sym, ap, ◌∙◌}
+use Rattle.std.proofs.Common.{◌≡◌, ℕ, false, List, [], ◌∷◌, Ok, Err, refl, sym, ap, ◌∙◌}
 use Rattle.std.specs.Prelude.{is_none, reverse}
 use Rattle.kc_value.specs.declared.limits.TheConstants.{MAX_WORK}
 use Rattle.kc_macros_model.specs.Programs.{Fault}
