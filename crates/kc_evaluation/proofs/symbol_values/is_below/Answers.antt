@@ -1,6 +1,6 @@
 use Rattle.std.proofs.Common.{arith}
 use Rattle.std.proofs.lemmas.Grind.{common_steps, elements}
-use Rattle.kc_rules.proofs.reports.is_below.Goals as goal
+use Rattle.kc_evaluation.proofs.symbol_values.is_below.Goals as goal
 
 pub returns-in-M-M : goal.returns-in-M-M
 returns-in-M-M c = grind (arith, elements)

@@ -1,0 +1,4 @@
+//! The text that explains a symbol's value.
+#![tactic(auto)]
+
+mod spelling;
