@@ -10,7 +10,7 @@ ghost use Rattle.kc_reasons_model.specs.PlainReasons.{wanted_by, prompts_lack, d
 ghost use Rattle.kc_reasons.specs.between.Parts.{alternatives_view};
 ghost use Rattle.kc_reasons.specs.checker.EmptyLists.{is_empty_vec};
 
-use super::lacking::{LowPart, lacking_of_each};
+use super::low_parts::{LowPart, lacking_of_each};
 use super::tristates::is_without_m;
 use kc_evaluation::{Valuation, assigned_tri, is_from_environment, is_symbol_unmet, reverse_limit};
 use kc_rules_model::UserValue;
@@ -39,12 +39,19 @@ pub fn wanted_by(under: &Valuation<'_>, symbol: &Symbol<'_>, user: Option<&UserV
     }
 }
 
+/// Whether a list is empty.
+fn is_empty(list: &Vec<LowPart>) -> bool
+    ensures { result ≡ is_empty_vec list.now }
+{
+    list.len() == 0
+}
+
 /// Whether one of some lists is empty.
 fn has_empty(lists: &[Vec<LowPart>]) -> bool
     ensures { result ≡ list_any is_empty_vec lists.now }
 {
     for list in lists {
-        if list.len() == 0 {
+        if is_empty(list) {
             return true;
         }
     }

@@ -13,8 +13,8 @@ ghost use Rattle.kc_reasons_model.specs.PlainReasons.{other_than, chosen_in, is_
 ghost use Rattle.kc_reasons.specs.between.ReasonsView.{reasons_view};
 
 use super::cases::case_of;
-use super::decisive::decisive;
-use super::lacking::LowPart;
+use super::decisive_limits::decisive;
+use super::low_parts::LowPart;
 use super::needs::{dependencies_lack, prompts_lack, wanted_by};
 use super::search::hindrance_to;
 use kc_evaluation::{Rules, Valuation, is_symbol_unmet};

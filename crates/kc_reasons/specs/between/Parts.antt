@@ -3,7 +3,7 @@ use Rattle.std.specs.Prelude.{List, map, vec_items}
 use Rattle.std.specs.Global.{Vec}
 use Rattle.kc_expr.specs.between.Arena.{Exprs, node_expr}
 use Rattle.kc_reasons_model.specs.Conjuncts.{Part}
-use Rattle.kc_reasons.specs.declared.lacking.LowPart.{LowPart}
+use Rattle.kc_reasons.specs.declared.low_parts.LowPart.{LowPart}
 
 -- the part that one of the code represents
 abbrev pub part_view : Exprs → LowPart → Part

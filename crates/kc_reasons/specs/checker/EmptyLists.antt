@@ -2,7 +2,7 @@
 use Rattle.std.specs.Prelude.{Bool}
 use Rattle.std.specs.Global.{Vec}
 use Rattle.kc_reasons_model.specs.Reasons.{is_empty}
-use Rattle.kc_reasons.specs.declared.lacking.LowPart.{LowPart}
+use Rattle.kc_reasons.specs.declared.low_parts.LowPart.{LowPart}
 
 -- whether a vector is empty
 abbrev pub is_empty_vec : Vec LowPart → Bool

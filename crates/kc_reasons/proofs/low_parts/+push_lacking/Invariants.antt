@@ -4,16 +4,16 @@ use Rattle.kc_evaluation.specs.checker.ValuationView.{valuation_tree, valuation_
 use Rattle.kc_rules_model.specs.SymbolValues.{environment}
 use Rattle.kc_reasons.specs.between.Parts.{parts_view}
 use Rattle.kc_reasons.specs.checker.LackingWalk.{lacking_in_reverse}
-use Rattle.kc_reasons.proofs.lacking.+push_lacking.Given as goal
+use Rattle.kc_reasons.proofs.low_parts.+push_lacking.Given as goal
 
 abbrev pub decreases-push_lacking : goal.decreases-push_lacking
 decreases-push_lacking l = l.id
 
 abbrev pub invariant-down : goal.invariant-down
 invariant-down l = record {
-  below : l.at ≤ l.id;
+  below : l.at ≤ l.fn.id;
   parts : parts_view (valuation_exprs l.under) l.found.items ++ lacking_in_reverse (environment (valuation_tree l.under) (valuation_values l.under)) l.least (node_expr (valuation_exprs l.under) l.at)
-      ≡ parts_view (valuation_exprs l.under) l.fn.found.items ++ lacking_in_reverse (environment (valuation_tree l.under) (valuation_values l.under)) l.fn.wanted (node_expr (valuation_exprs l.under) l.id);
+      ≡ parts_view (valuation_exprs l.under) l.fn.found.items ++ lacking_in_reverse (environment (valuation_tree l.under) (valuation_values l.under)) l.fn.wanted (node_expr (valuation_exprs l.under) l.fn.id);
 }
 
 abbrev pub decreases-down : goal.decreases-down
