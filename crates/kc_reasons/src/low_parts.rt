@@ -1,12 +1,12 @@
 //! What keeps conditions too low.
-ghost use Rattle.std.specs.Prelude.{◌≡◌, ◌<◌, ◌∷◌, ◌++◌, [], length, map, IfOk, OnOk, if◌then◌else◌};
+ghost use Rattle.std.specs.Prelude.{◌≡◌, ◌<◌, ◌∷◌, ◌++◌, [], length, map, All, IfOk, OnOk, if◌then◌else◌};
 ghost use Rattle.kc_expr.specs.between.Arena.{node_expr};
 ghost use Rattle.kc_expr.specs.between.ExprParts.{expr_of_parts, ArePartsOf};
 ghost use Rattle.kc_dependencies.specs.checker.StoredRules.{AreNodes};
 ghost use Rattle.kc_evaluation.specs.checker.ValuationView.{valuation_tree, valuation_exprs, valuation_values};
 ghost use Rattle.kc_rules_model.specs.SymbolValues.{environment, condition};
 ghost use Rattle.kc_reasons_model.specs.Conjuncts.{below, lacking};
-ghost use Rattle.kc_reasons.specs.between.Parts.{parts_view, alternatives_view};
+ghost use Rattle.kc_reasons.specs.between.Parts.{parts_view, alternatives_view, IsThere, AreThere};
 ghost use Rattle.kc_reasons.specs.checker.LackingWalk.{lacking_in_reverse};
 
 use kc_evaluation::{Valuation, is_below, is_n};
@@ -39,6 +39,7 @@ fn push_if_low(
 ) -> Result<(), AllocError>
     requires there { id < length (valuation_exprs under.now).nodes }
     ensures parts { OnOk result (found.new.items ≡ found.old.items ++ (if below (condition (valuation_tree under.now) (valuation_values under.now) (node_expr (valuation_exprs under.now) id)) wanted then record { expr = id; wanted = wanted } ∷ [] else [])) }
+    ensures there { OnOk result (All (IsThere (valuation_exprs under.now)) found.old.items → All (IsThere (valuation_exprs under.now)) found.new.items) }
 {
     if is_below(under.condition(id), wanted) {
         found.push(LowPart { expr: id, wanted })?;
@@ -58,6 +59,7 @@ fn push_lacking(
     requires there { id < length (valuation_exprs under.now).nodes }
     ensures parts { OnOk result (parts_view (valuation_exprs under.now) found.new.items
         ≡ parts_view (valuation_exprs under.now) found.old.items ++ lacking_in_reverse (environment (valuation_tree under.now) (valuation_values under.now)) wanted (node_expr (valuation_exprs under.now) id)) }
+    ensures there { OnOk result (All (IsThere (valuation_exprs under.now)) found.old.items → All (IsThere (valuation_exprs under.now)) found.new.items) }
 {
     let mut at = id;
     let mut least = wanted;
@@ -92,6 +94,7 @@ pub fn lacking(
 ) -> Result<Vec<LowPart>, AllocError>
     requires there { id < length (valuation_exprs under.now).nodes }
     ensures ok { IfOk result (λ found. parts_view (valuation_exprs under.now) found.items ≡ lacking (environment (valuation_tree under.now) (valuation_values under.now)) wanted (node_expr (valuation_exprs under.now) id)) }
+    ensures there { IfOk result (λ found. All (IsThere (valuation_exprs under.now)) found.items) }
 {
     let mut found = Vec::new(alloc);
     push_lacking(under, id, wanted, &mut found)?;
@@ -108,6 +111,7 @@ pub fn lacking_of_each(
 ) -> Result<Vec<Vec<LowPart>>, AllocError>
     requires fits { AreNodes (valuation_exprs under.now) ids.now }
     ensures ok { IfOk result (λ found. alternatives_view (valuation_exprs under.now) found.items ≡ map (lacking (environment (valuation_tree under.now) (valuation_values under.now)) wanted) (map (node_expr (valuation_exprs under.now)) ids.now)) }
+    ensures there { IfOk result (λ found. AreThere (valuation_exprs under.now) found.items) }
 {
     let mut found = Vec::new(alloc);
     for id in ids {

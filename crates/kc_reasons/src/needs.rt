@@ -7,7 +7,7 @@ ghost use Rattle.kc_evaluation.specs.checker.ValuationView.{valuation_tree, valu
 ghost use Rattle.kc_rules_model.specs.SymbolValues.{environment};
 ghost use Rattle.kc_reasons_model.specs.Hindrances.{wanted_for};
 ghost use Rattle.kc_reasons_model.specs.PlainReasons.{wanted_by, prompts_lack, dependencies_lack};
-ghost use Rattle.kc_reasons.specs.between.Parts.{alternatives_view};
+ghost use Rattle.kc_reasons.specs.between.Parts.{alternatives_view, AreThere};
 ghost use Rattle.kc_reasons.specs.checker.EmptyLists.{is_empty_vec};
 
 use super::low_parts::{LowPart, lacking_of_each};
@@ -68,6 +68,7 @@ pub fn prompts_lack(
 ) -> Result<Vec<Vec<LowPart>>, AllocError>
     requires fits { SymbolFits (valuation_exprs under.now) (length (valuation_tree under.now).symbols) symbol.now }
     ensures ok { IfOk result (λ found. alternatives_view (valuation_exprs under.now) found.items ≡ prompts_lack (environment (valuation_tree under.now) (valuation_values under.now)) wanted (symbol_view (valuation_exprs under.now) symbol.now)) }
+    ensures there { IfOk result (λ found. AreThere (valuation_exprs under.now) found.items) }
 {
     if is_from_environment(symbol) {
         return Ok(Vec::new(alloc));
@@ -88,6 +89,7 @@ pub fn dependencies_lack(
 ) -> Result<Vec<Vec<LowPart>>, AllocError>
     requires fits { SymbolFits (valuation_exprs under.now) (length (valuation_tree under.now).symbols) symbol.now }
     ensures ok { IfOk result (λ found. alternatives_view (valuation_exprs under.now) found.items ≡ dependencies_lack (valuation_tree under.now) (valuation_values under.now) (symbol_view (valuation_exprs under.now) symbol.now)) }
+    ensures there { IfOk result (λ found. AreThere (valuation_exprs under.now) found.items) }
 {
     if is_symbol_unmet(under, symbol) {
         let selected = reverse_limit(under, symbol.selectors);

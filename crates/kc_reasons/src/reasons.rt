@@ -10,6 +10,7 @@ ghost use Rattle.kc_reasons_model.specs.DecisiveLimits.{decisive_numbers};
 ghost use Rattle.kc_reasons_model.specs.Hindrances.{hindrance_to};
 ghost use Rattle.kc_reasons_model.specs.Reasons.{is_by_imply};
 ghost use Rattle.kc_reasons_model.specs.PlainReasons.{other_than, chosen_in, is_by_select, plain_reasons_at};
+ghost use Rattle.kc_reasons.specs.between.Parts.{AreThere};
 ghost use Rattle.kc_reasons.specs.between.ReasonsView.{reasons_view};
 
 use super::cases::case_of;
@@ -145,6 +146,8 @@ pub fn reasons_of(
     requires there { s < length rules.now.tree.tree.symbols }
     requires user { IfSome (option_copied user) (λ x. IsTrue (user_fits rules.now.tree.tree (unit_of rules.now.tree.tree s) x)) }
     ensures ok { IfOk result (λ r. plain_reasons_at rules.now.profile rules.now.tree.tree s (option_copied user.entry) values.now ≡ Some (reasons_view rules.now.tree.exprs r)) }
+    ensures needs { IfOk result (λ r. AreThere rules.now.tree.exprs r.needs.items) }
+    ensures unmet { IfOk result (λ r. AreThere rules.now.tree.exprs r.unmet.items) }
 {
     let under = &Valuation { rules, values };
     let symbol = &rules.tree.symbol(s);

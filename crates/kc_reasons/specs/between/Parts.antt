@@ -1,5 +1,5 @@
 -- The parts of a condition as the code has them.
-use Rattle.std.specs.Prelude.{List, map, vec_items}
+use Rattle.std.specs.Prelude.{◌<◌, List, length, map, All}
 use Rattle.std.specs.Global.{Vec}
 use Rattle.kc_expr.specs.between.Arena.{Exprs, node_expr}
 use Rattle.kc_reasons_model.specs.Conjuncts.{Part}
@@ -15,3 +15,10 @@ parts_view exprs ps = map (part_view exprs) ps
 -- several lists of parts, one for each prompt or definition
 abbrev pub alternatives_view : Exprs → List (Vec LowPart) → List (List Part)
 alternatives_view exprs vs = map (λ (v : Vec LowPart). parts_view exprs v.items) vs
+
+-- a part is an expression of the arena
+abbrev pub IsThere : Exprs → LowPart → Type 0
+IsThere exprs p = p.expr < length exprs.nodes
+
+abbrev pub AreThere : Exprs → List (Vec LowPart) → Type 0
+AreThere exprs vs = All (λ (v : Vec LowPart). All (IsThere exprs) v.items) vs
