@@ -15,7 +15,7 @@ use std::alloc::{AllocError, Global};
 /// A token of a spelled expression. An operand is the left or the right one of the expression with a number: the only one of an
 /// operand alone is its left one.
 #[derive(Clone, Copy)]
-pub(crate) enum SpelledToken {
+pub enum SpelledToken {
     Left(ExprId),
     Right(ExprId),
     Relation(Relop),
@@ -148,7 +148,7 @@ fn push_spelling(
 }
 
 /// The tokens of an expression. An `Err` means out of memory.
-pub(crate) fn spelling(
+pub fn spelled_tokens(
     alloc: Global,
     arena: &Arena,
     id: ExprId,

@@ -1,6 +1,6 @@
 use Rattle.kc_expr.specs.between.Arena.{node_expr}
 use Rattle.kc_explanation.proofs.SpellingLemmas.{found_turned}
-use Rattle.kc_explanation.proofs.spelling.spelling.Goals as goal
+use Rattle.kc_explanation.proofs.spelling.spelled_tokens.Goals as goal
 
 pub returns-clause-ok : goal.returns-clause-ok
 returns-clause-ok c =
