@@ -84,10 +84,7 @@ fn push_first_line(
 }
 
 /// Appends a line that says that a user value isn't taken, and why; nothing without a hindrance.
-fn push_hindrance_line(
-    out: &mut Vec<u8>,
-    hindrance: Option<Hindrance>,
-) -> Result<(), AllocError>
+fn push_hindrance_line(out: &mut Vec<u8>, hindrance: Option<Hindrance>) -> Result<(), AllocError>
     ensures { OnOk result (out.new.items ≡ out.old.items ++ hindrance_line hindrance) }
 {
     match hindrance {
@@ -200,8 +197,29 @@ pub fn push_explanation(
     let symbol = &under.rules.tree.symbol(s);
     push_first_line(out, under, strings, s, reasons.chosen, reasons.case)?;
     push_hindrance_line(out, reasons.hindrance)?;
-    push_needs(alloc, out, under, strings, reasons.hindrance, &reasons.needs)?;
-    push_forcing_lines(out, under, strings, "selected by ", symbol.selectors, &reasons.selected_by)?;
-    push_forcing_lines(out, under, strings, "implied by ", symbol.impliers, &reasons.implied_by)?;
+    push_needs(
+        alloc,
+        out,
+        under,
+        strings,
+        reasons.hindrance,
+        &reasons.needs,
+    )?;
+    push_forcing_lines(
+        out,
+        under,
+        strings,
+        "selected by ",
+        symbol.selectors,
+        &reasons.selected_by,
+    )?;
+    push_forcing_lines(
+        out,
+        under,
+        strings,
+        "implied by ",
+        symbol.impliers,
+        &reasons.implied_by,
+    )?;
     push_alternatives(alloc, out, under, strings, b"unmet: ", &reasons.unmet)
 }

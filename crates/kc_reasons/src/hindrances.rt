@@ -9,8 +9,8 @@ ghost use Rattle.kc_reasons_model.specs.Hindrances.{hinders_symbol, hinders_tri,
 
 use super::tristates::{is_without_m, leaves_no_m};
 use kc_evaluation::{
-    Valuation, active_range, is_below, is_from_environment, is_n, is_upside_down, is_visible, is_within,
-    number_of, reverse_limit, visibility,
+    Valuation, active_range, is_below, is_from_environment, is_n, is_upside_down, is_visible,
+    is_within, number_of, reverse_limit, visibility,
 };
 use kc_reasons_model::Hindrance;
 use kc_rules_model::{Profile, UserValue};

@@ -14,8 +14,8 @@ pub use laws::{
     lines_are_of_symbol, lines_assign, lines_fit_units, lines_give_one,
     member_next_are_dependencies, members_have_one_line, missed_are_hindered,
     next_are_dependencies, next_names_hide, nothing_is_needed_if_visible, nothing_lacks_if_high,
-    numbers_are_decisive, operands_are_read_back,
-    printed_expressions_are_read_back, prompt_parts_are_located, prompts_let_in_what_is_wanted,
-    raising_suffices, rules_give_what_if, selectable_are_taken, spelled_is_read_back,
-    spelling_is_read_as_tokens, unmet_dependencies_lack, unmet_parts_are_given, weaker_force_less,
+    numbers_are_decisive, operands_are_read_back, printed_expressions_are_read_back,
+    prompt_parts_are_located, prompts_let_in_what_is_wanted, raising_suffices, rules_give_what_if,
+    selectable_are_taken, spelled_is_read_back, spelling_is_read_as_tokens,
+    unmet_dependencies_lack, unmet_parts_are_given, weaker_force_less,
 };

@@ -19,13 +19,13 @@ returns c =
     let r = c.args.reasons.now in
     let symbol = symbol_view exprs c.symbol.result in
     let needs = c.in_ok-push_needs.ensures
-        ∙ ap (λ ns. c.push_hindrance_line.new.out.items ++ needs_lines c.args.strings names r.hindrance (alternatives_view exprs ns)) c.deref.ensures.value in
+    ∙ ap (λ ns. c.push_hindrance_line.new.out.items ++ needs_lines c.args.strings names r.hindrance (alternatives_view exprs ns)) c.deref.ensures.value in
     let selects = c.in_ok-push_forcing_lines.ensures
-        ∙ ap (λ ns. c.push_needs.new.out.items ++ forcing_lines c.args.strings tree values (codes "selected by ") symbol.selectors ns) c.deref-2.ensures.value in
+    ∙ ap (λ ns. c.push_needs.new.out.items ++ forcing_lines c.args.strings tree values (codes "selected by ") symbol.selectors ns) c.deref-2.ensures.value in
     let implies = c.in_ok-push_forcing_lines-2.ensures
-        ∙ ap (λ ns. c.push_forcing_lines.new.out.items ++ forcing_lines c.args.strings tree values (codes "implied by ") symbol.impliers ns) c.deref-3.ensures.value in
+    ∙ ap (λ ns. c.push_forcing_lines.new.out.items ++ forcing_lines c.args.strings tree values (codes "implied by ") symbol.impliers ns) c.deref-3.ensures.value in
     on_ok_weaker c.push_alternatives.result
     (λ w. joined c.args.out.now.items _ _ _ _ _ _ _ _ _ _ _ _ c.in_ok-push_first_line.ensures c.in_ok-push_hindrance_line.ensures needs selects implies
-        (w ∙ ap (λ ns. c.push_forcing_lines-2.new.out.items ++ alternative_lines c.args.strings names (codes "unmet: ") (alternatives_view exprs ns)) c.deref-4.ensures.value)
+    (w ∙ ap (λ ns. c.push_forcing_lines-2.new.out.items ++ alternative_lines c.args.strings names (codes "unmet: ") (alternatives_view exprs ns)) c.deref-4.ensures.value)
     ∙ ap (λ x. c.args.out.now.items ++ x) (sym (explained_is c.args.strings tree values c.args.s symbol (reasons_view exprs r) c.symbol.ensures.symbol)))
     c.push_alternatives.ensures
