@@ -7,8 +7,9 @@ ghost use Rattle.kmin_trees.specs.between.Readings.{IsRead};
 use crate::files::Files;
 use crate::prefetch::absent_paths_of_file;
 use crate::trees::read_texts;
+use kc_builder::wanted;
 use kc_tokens::Language;
-use kc_tree::{Texts, Tree, TreeFault, TreeKind, wanted};
+use kc_tree::{Texts, Tree, TreeFault, TreeKind};
 use kc_value::{MAX_FILE_BYTES, MAX_FILES, MAX_ROUNDS, ReadBytes, ReadEnd, Source, read_up_to};
 use std::alloc::{AllocError, Global};
 
