@@ -8,6 +8,7 @@ pub mod Growth
 pub mod ItemLaw
 pub mod ItemSteps
 pub mod ItemViews
+pub mod RepresentedGroups
 pub mod RowSteps
 pub mod SymbolItems
 pub mod UnitSteps

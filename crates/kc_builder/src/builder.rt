@@ -1,13 +1,12 @@
 //! Builds the tree of a listing.
-ghost use Rattle.std.specs.Prelude.{◌≡◌, ◌<◌, ℕ, List, None, IfOk};
+ghost use Rattle.std.specs.Prelude.{◌≡◌, ◌<◌, ◌^◌, ℕ, List, None, IfOk, length};
 ghost use Rattle.kc_tree_model.specs.TreeFiles.{Files};
-ghost use Rattle.kc_tree_model.specs.Blocks.{Group as ModelGroup};
 ghost use Rattle.kc_tree_model.specs.Contents.{tree_of_files};
 ghost use Rattle.kc_tree_model.specs.TreeReading.{reading};
 ghost use Rattle.kc_tree_model.specs.TreeFaults.{first_tree_fault};
 ghost use Rattle.kc_listing.specs.between.ListingView.{RepresentsListing};
 ghost use Rattle.kc_builder.specs.checker.Assembly.{IsWalk, AreFew, AreSymbolParts, AreChoiceParts, AreAllParts, IsGathering};
-ghost use Rattle.kc_checks.specs.between.Summaries.{IsSummary};
+ghost use Rattle.kc_checks.specs.between.Summaries.{IsSummed};
 ghost use Rattle.kc_checks.specs.between.Surface.{IsOfTree};
 
 use super::choice_defaults::member_defaults;
@@ -52,7 +51,7 @@ fn symbol_parts(
 ) -> Result<SymbolParts, AllocError>
     requires few { AreFew walked.now }
     requires walk { (files : Files) × (root : List ℕ) × IsWalk walked.now files root }
-    requires summary { (read : List ModelGroup) → RepresentsListing walked.now.listing read → IsSummary read summary.now }
+    requires summary { IsSummed walked.now.listing summary.now }
     ensures ok { (files : Files) (root : List ℕ) → IsWalk walked.now files root → IfOk result (AreSymbolParts files.language walked.now.listing.names.arena (reading files root).read) }
 {
     let listing = &walked.listing;
@@ -89,15 +88,20 @@ struct AllParts {
 }
 
 /// Collects the symbols, the choices and their members of a walked listing. An `Err` means out of memory.
-fn all_parts(alloc: Global, walked: &WalkedListing) -> Result<AllParts, AllocError>
+fn all_parts(
+    alloc: Global,
+    walked: &WalkedListing,
+    summary: &Summary,
+) -> Result<AllParts, AllocError>
+    requires few { AreFew walked.now }
     requires walk { (files : Files) × (root : List ℕ) × IsWalk walked.now files root }
+    requires summary { IsSummed walked.now.listing summary.now }
     ensures ok { (files : Files) (root : List ℕ) → IsWalk walked.now files root → IfOk result (AreAllParts walked.now.listing files.language (reading files root).read) }
 {
-    let summary = Summary::new(alloc, &walked.listing)?;
     Ok(AllParts {
         choices: choice_parts(alloc, walked)?,
-        symbols: symbol_parts(alloc, walked, &summary)?,
-        members: own_members(alloc, &walked.listing, &summary)?,
+        symbols: symbol_parts(alloc, walked, summary)?,
+        members: own_members(alloc, &walked.listing, summary)?,
     })
 }
 
@@ -161,28 +165,37 @@ fn gathered(walked: WalkedListing, parts: AllParts) -> TreeLists
 }
 
 /// Collects the lists of a tree from a walked listing. An `Err` means out of memory.
-fn gathered_of(alloc: Global, walked: WalkedListing) -> Result<TreeLists, AllocError>
+fn gathered_of(
+    alloc: Global,
+    walked: WalkedListing,
+    summary: &Summary,
+) -> Result<TreeLists, AllocError>
+    requires few { AreFew walked }
     requires walk { (files : Files) × (root : List ℕ) × IsWalk walked files root }
+    requires summary { IsSummed walked.listing summary.now }
     ensures ok { (files : Files) (root : List ℕ) → IsWalk walked files root → IfOk result (IsGathering files.language (reading files root).read) }
 {
-    let parts = all_parts(alloc, &walked)?;
+    let parts = all_parts(alloc, &walked, summary)?;
     Ok(gathered(walked, parts))
 }
 
-/// The tree of a listing of files in `language` without a fault. An `Err` means out of memory.
+/// The tree of a listing of files in `language` without a fault, which has this summary. An `Err` means out of memory.
 pub(crate) fn tree_of(
     alloc: Global,
     language: Language,
     listing: Listing,
+    summary: &Summary,
 ) -> Result<Tree, AllocError>
     requires of_tree { IsOfTree language listing }
+    requires summary { IsSummed listing summary.now }
+    requires few { length listing.groups.items < 2 ^ 32 }
     ensures ok { (files : Files) (root : List ℕ) → language ≡ files.language → first_tree_fault files root ≡ None → RepresentsListing listing (reading files root).read
         → IfOk result (λ t. t.tree ≡ tree_of_files files root) }
 {
     let Ok(walked) = walk_all(alloc, language, listing) else {
         return Err(AllocError);
     };
-    let gathered = gathered_of(alloc, walked)?;
+    let gathered = gathered_of(alloc, walked, summary)?;
     let _count = gathered.arena.name_count();
     gathered.into_tree(alloc)
 }

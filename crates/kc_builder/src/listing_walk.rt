@@ -62,6 +62,7 @@ pub(crate) fn walk_all(
 ) -> Result<WalkedListing, ExprFault>
     requires shown { IsRepresented listing }
     ensures language { IfOk result (λ w. w.language ≡ language) }
+    ensures groups { IfOk result (λ w. w.listing.groups ≡ listing.groups) }
     ensures shows { (read : List ModelGroup) → RepresentsListing listing read → IfOk result (λ w. RepresentsListing w.listing read) }
     ensures walked { (read : List ModelGroup) → RepresentsListing listing read
         → IfOk result (λ w. RepresentsAllConditions language w.listing.names.arena w.listing.texts.items w.conditions.items (length w.conditions.items) (reverse w.groups.items) read) }

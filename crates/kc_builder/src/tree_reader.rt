@@ -4,7 +4,7 @@ ghost use Rattle.kc_tree_model.specs.TreesOfFiles.{IsTreeOfFiles, IsReportedFaul
 ghost use Rattle.kc_listing.specs.between.MemoryFaults.{no_memory};
 
 use super::builder::tree_of;
-use kc_checks::{first_fault, out_of_memory};
+use kc_checks::{check, out_of_memory};
 use kc_listing::read_files;
 use kc_tree::Tree;
 use kc_tree_model::{Texts, TreeFault};
@@ -30,12 +30,8 @@ pub fn read_tree(alloc: Global, texts: &Texts, root: &str) -> Result<Tree, TreeF
         None => {}
     }
     let language = texts.language();
-    match first_fault(alloc, language, &listing) {
-        Ok(None) => {}
-        Ok(Some(fault)) => return Err(fault),
-        Err(_) => return Err(out_of_memory()),
-    }
-    match tree_of(alloc, language, listing) {
+    let summary = check(alloc, language, &listing)?;
+    match tree_of(alloc, language, listing, &summary) {
         Ok(tree) => Ok(tree),
         Err(_) => Err(out_of_memory()),
     }

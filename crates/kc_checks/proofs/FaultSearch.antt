@@ -25,14 +25,13 @@ use Rattle.kc_listing.specs.declared.listing.GroupHead.{GroupHead as CodeHead}
 use Rattle.kc_listing.specs.declared.listing.GroupHead.TheVariants as codes
 use Rattle.kc_listing.specs.between.SymbolTable.{HasNames, text_of_name}
 use Rattle.kc_listing.specs.between.ListingView.{RepresentsGroups, RepresentsHead, line_in}
-use Rattle.kc_tree.specs.between.GroupedItems.{items_at, items_of}
+use Rattle.kc_tree.specs.between.GroupedItems.{items_at, IsGrouped}
 use Rattle.kc_tree_model.proofs.Consistency.Units.{first_of_choice}
 use Rattle.kc_checks.specs.checker.Kinds.{choice_around, definition_kind}
 use Rattle.kc_checks.specs.checker.Marks.{AreMarked, WereMarked}
-use Rattle.kc_checks.specs.between.FaultSearch.{AreSmall, HasMembers, choices_before}
-use Rattle.kc_checks.specs.between.Summaries.{IsSummaryOf, summary_in, attributes_end, enclosing_choice, first_is, first_in_definitions, group_at, member_keys_at, number_at, read_before}
+use Rattle.kc_checks.specs.between.FaultSearch.{AreMembersByChoice, AreSmall, choices_before}
+use Rattle.kc_checks.specs.between.Summaries.{summary_in, attributes_end, enclosing_choice, first_is, first_in_definitions, group_at, member_keys_at, members_at, number_at, read_before}
 use Rattle.kc_checks.specs.declared.summary.SymbolSummary.{SymbolSummary}
-use Rattle.kc_checks.specs.declared.summary.Summary.{Summary}
 use Rattle.kc_checks.proofs.SymbolSummaries.{first_of_both, first_number_is}
 use Rattle.kc_checks.proofs.GroupPlaces.{all_before, are_numbers, count_is, none_before, numbers_before, place_numbered, placed_before, placed_count, shown_at}
 use Rattle.kc_checks.proofs.FaultKinds.{definition_is, fault_of, first_mapped}
@@ -226,16 +225,11 @@ module _ (e : Exprs) (texts : List (List ℕ)) (lines : List CodeLine) (groups :
       get_below (contents_of read).choices choices p.group.number (number-get p.group.number (contents_of read).choices choices
       (choice_counted i choices p l w found c))
 
-  pub members_kept : (s : Summary) (starts items : List ℕ) (i choices : ℕ) (p : GroupInContext) → IsSummaryOf (contents_of read) s → HasMembers s starts items
+  pub members_kept : (starts items : List ℕ) (i choices : ℕ) (p : GroupInContext) → AreMembersByChoice (contents_of read) starts items
       → i < length groups → (group_at groups i).head ≡ codes.Choice → slice_get (groups_in_context read) i ≡ Some p → choices ≡ choices_before i read
       → items_at starts items choices ≡ filter_map (λ x. index_of_name x (names_defined read)) (member_names (contents_of read) p.group.number)
-  members_kept s starts items i choices p known m l w at c =
-      let below = choice_below i choices l w c in
-      let count = known.choices in
-      m.of_key choices (omega arith)
-      ∙ ap (λ ks. items_of choices ks s.members.items.items) known.member_keys
-      ∙ ap (items_of choices (flat_map (member_keys_at (enclosing_choice (contents_of read)) (contents_of read)) (groups_in_context read))) known.members
-      ∙ members_are (contents_of read) choices p.group.number (choice_counted i choices p l w at c)
+  members_kept starts items i choices p m l w at c =
+      m.of_key choices (choice_below i choices l w c) ∙ members_are (contents_of read) choices p.group.number (choice_counted i choices p l w at c)
 
 pub are_marked_in : (read : List Group) (p : GroupInContext) (members old new : List ℕ) (choices : ℕ)
     → members ≡ filter_map (λ x. index_of_name x (names_defined read)) (member_names (contents_of read) p.group.number)
@@ -332,13 +326,20 @@ pub zeros_small : (n : ℕ) → AreSmall (replicate n 0) 0
 zeros_small n = λ s. let e = zero_at n s in omega arith
 
 -- the choice number of each collected member is below the number of choices
-pub keys_fit : (read : List Group) (s : Summary) → IsSummaryOf (contents_of read) s → (i : ℕ) → i < length s.members.keys.items
-    → slice_index s.members.keys.items i < s.choices
-keys_fit read s known i h =
-    let small = subst (All (λ k. k < length (contents_of read).choices)) (sym known.member_keys) (keys_small (contents_of read) (groups_in_context read)) i 0
-    h in
-    let n = known.choices in
+pub keys_fit : (read : List Group) (keys : List ℕ) (choices : ℕ)
+    → keys ≡ flat_map (member_keys_at (enclosing_choice (contents_of read)) (contents_of read)) (groups_in_context read)
+    → choices ≡ length (contents_of read).choices → (i : ℕ) → i < length keys → slice_index keys i < choices
+keys_fit read keys choices known n i h =
+    let small = subst (All (λ k. k < length (contents_of read).choices)) (sym known) (keys_small (contents_of read) (groups_in_context read)) i 0 h in
     omega arith
+
+-- what is grouped by the keys of members are the members of each choice
+pub grouped_are : (c : Contents) (count : ℕ) (keys items starts together : List ℕ) → count ≡ length c.choices
+    → keys ≡ flat_map (member_keys_at (enclosing_choice c) c) c.places → items ≡ flat_map (members_at (enclosing_choice c) c) c.places
+    → IsGrouped count keys items starts together → AreMembersByChoice c starts together
+grouped_are c count keys items starts together n k m g =
+    subst (λ xs. IsGrouped (length c.choices) (flat_map (member_keys_at (enclosing_choice c) c) c.places) xs starts together) m
+    (subst (λ ks. IsGrouped (length c.choices) ks items starts together) k (subst (λ x. IsGrouped x keys items starts together) n g))
 
 -- there are at most as many choices as groups
 small_by : {A : Type 0} (b : Bool) (x : A) (xs : List A) (n : ℕ) → length xs ≤ n → length (cond b (x ∷ xs) xs) ≤ suc n

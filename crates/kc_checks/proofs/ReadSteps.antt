@@ -61,6 +61,13 @@ module _ (files : Files) (root : List ℕ) (l : Listing) (given : Option TreeFau
   unfolding first_tree_fault
   reported_tree_fault o e h = after_none files.language (reading files root) (unfailed_of e) ∙ sym h
 
+  -- a fault of the checks after reading without a fault is out of memory, or the first fault of the files
+  pub reported_of_checks : (f : TreeFault) → given ≡ None
+      → (f ≡ no_memory) ⊎ (Some f ≡ slice_get (tree_faults files.language (reading files root).read) 0)
+      → (f ≡ no_memory) ⊎ (first_tree_fault files root ≡ Some f)
+  reported_of_checks f e (inl m) = inl m
+  reported_of_checks f e (inr h) = inr (reported_tree_fault (Some f) e h)
+
   pub of_tree : given ≡ None → None ≡ slice_get (tree_faults files.language (reading files root).read) 0 → IsOfTree files.language l
   of_tree e h = record { files = files; root = root; written = refl; untold = reported_tree_fault None e h; shows = shown_of_reading e }
 

@@ -62,13 +62,15 @@ fn push_enclosing(
     push_or_pop(inside, head, choices)
 }
 
-/// For each group of a listing, the number of the choice that encloses it, or `None`. An `Err` means out of memory.
+/// For each group of a listing, the number of the choice that encloses it, or `None`; and the number of all choices. An `Err`
+/// means out of memory.
 pub(crate) fn choices_enclosing(
     alloc: Global,
     listing: &Listing,
-) -> Result<Vec<Option<u32>>, AllocError>
+) -> Result<(Vec<Option<u32>>, u32), AllocError>
     requires few { length listing.now.groups.items < 2 ^ 32 }
-    ensures ok { (read : List ModelGroup) → RepresentsListing listing.now read → IfOk result (λ a. a.items ≡ map (enclosing_choice (contents_of read)) (groups_in_context read)) }
+    ensures enclosing { (read : List ModelGroup) → RepresentsListing listing.now read → IfOk result (λ a. a.0.items ≡ map (enclosing_choice (contents_of read)) (groups_in_context read)) }
+    ensures choices { (read : List ModelGroup) → RepresentsListing listing.now read → IfOk result (λ a. a.1 ≡ length (contents_of read).choices) }
 {
     let mut enclosing = Vec::with_capacity(alloc, listing.groups.len())?;
     let mut inside = Vec::new(alloc);
@@ -79,18 +81,5 @@ pub(crate) fn choices_enclosing(
             choices += 1;
         }
     }
-    Ok(enclosing)
-}
-
-/// The number of choices in a listing.
-pub(crate) fn choice_count(listing: &Listing) -> usize
-    ensures { (read : List ModelGroup) → RepresentsListing listing.now read → result ≡ length (contents_of read).choices }
-{
-    let mut choices = 0;
-    for group in &listing.groups {
-        if begins_choice(&group.head) {
-            choices += 1;
-        }
-    }
-    choices
+    Ok((enclosing, choices))
 }

@@ -1,5 +1,5 @@
 //! The first fault of the checks on a listing that was read without a fault.
-ghost use Rattle.std.specs.Prelude.{◌≡◌, ◌<◌, ◌+◌, ◌^◌, ◌&&◌, ℕ, List, IfOk, Some, bytes_eq, length, slice_get, if◌then◌else◌};
+ghost use Rattle.std.specs.Prelude.{◌≡◌, ◌⊎◌, ◌<◌, ◌+◌, ◌^◌, ◌&&◌, ℕ, List, IfErr, IfOk, None, Some, bytes_eq, length, slice_get, if◌then◌else◌};
 ghost use Rattle.kc_expr.specs.Expr.{modules as modules_name};
 ghost use Rattle.kc_tokens.specs.declared.language.Language.{Language as AnyLanguage};
 ghost use Rattle.std.specs.List.{list_all};
@@ -9,6 +9,7 @@ ghost use Rattle.kc_tree_model.specs.Contents.{contents_of, member_names};
 ghost use Rattle.kc_tree_model.specs.Limits.{names_defined};
 ghost use Rattle.kc_tree_model.specs.TreeFaults.{faults_of_group, is_no_member_kind, is_same_choice, tree_faults};
 ghost use Rattle.kc_listing.specs.between.ListingView.{RepresentsListing};
+ghost use Rattle.kc_listing.specs.between.MemoryFaults.{no_memory};
 ghost use Rattle.kc_listing.specs.declared.listing.GroupHead.TheVariants as codes;
 ghost use Rattle.kc_checks.specs.checker.Marks.{AreMarked};
 ghost use Rattle.kc_checks.specs.between.FaultSearch.{AreSmall, CountsChoices, HasMembers};
@@ -21,7 +22,8 @@ use super::enclosing_choices::begins_choice;
 use super::fault_kinds::definition_fault;
 use super::group_lines::lines_of;
 use super::marks::mark_members;
-use super::summary::{Summary, is_first};
+use super::missing_files::out_of_memory;
+use super::summary::{Summary, is_first, members_of};
 use kc_listing::{GroupHead, Line, Listing};
 use kc_tokens::Language;
 use kc_tree::{ItemsByNumber, is_no_member_kind};
@@ -153,7 +155,7 @@ fn group_fault(
     requires shown { IsRepresented listing.now }
     requires summary { IsSummed listing.now summary.now }
     requires here { i < length listing.now.groups.items }
-    requires members { HasMembers summary.now members.now.starts.items members.now.items.items }
+    requires members { HasMembers listing.now members.now.starts.items members.now.items.items }
     requires many { length marks.old.items ≡ length listing.now.names.symbols.items }
     requires small { AreSmall marks.old.items choices }
     requires counted { CountsChoices listing.now i choices }
@@ -172,23 +174,25 @@ fn group_fault(
     }
 }
 
-/// The first fault of the checks on all statements of a listing, in reading order, or `None`. An `Err` means out of memory.
-pub fn first_fault(
+/// The first fault of the checks on all statements of a listing, which has this summary, in reading order, or `None`. An `Err`
+/// means out of memory.
+fn first_fault(
     alloc: Global,
     language: Language,
     listing: &Listing,
+    summary: &Summary,
 ) -> Result<Option<TreeFault>, AllocError>
     requires shown { IsRepresented listing.now }
+    requires summary { IsSummed listing.now summary.now }
+    requires few { length listing.now.groups.items < 2 ^ 32 }
     ensures fault { (read : List ModelGroup) → RepresentsListing listing.now read → IfOk result (λ f. f ≡ slice_get (tree_faults language read) 0) }
 {
-    let summary = Summary::new(alloc, listing)?;
-    let members = summary.members.grouped(alloc, summary.choices)?;
+    let collected = members_of(alloc, listing, &summary.enclosing)?;
+    let members = collected.grouped(alloc, summary.choices)?;
     let mut marks = vec![in alloc; 0; listing.names.symbols.len()]?;
     let mut choices = 0;
     for i in 0..listing.groups.len() {
-        let fault = group_fault(
-            listing, language, &summary, &members, &mut marks, choices, i,
-        );
+        let fault = group_fault(listing, language, summary, &members, &mut marks, choices, i);
         if fault.is_some() {
             return Ok(fault);
         }
@@ -197,4 +201,26 @@ pub fn first_fault(
         }
     }
     Ok(None)
+}
+
+/// The summary of a listing whose statements pass the checks on the whole tree.
+///
+/// # Errors
+///
+/// The first fault of these checks, in reading order; if memory runs out, `OutOfMemory` with no file.
+pub fn check(alloc: Global, language: Language, listing: &Listing) -> Result<Summary, TreeFault>
+    requires shown { IsRepresented listing.now }
+    ensures summary { IfOk result (IsSummed listing.now) }
+    ensures few { IfOk result (λ s. length listing.now.groups.items < 2 ^ 32) }
+    ensures faultless { (read : List ModelGroup) → RepresentsListing listing.now read → IfOk result (λ s. None ≡ slice_get (tree_faults language read) 0) }
+    ensures fault { (read : List ModelGroup) → RepresentsListing listing.now read → IfErr result (λ f. (f ≡ no_memory) ⊎ (Some f ≡ slice_get (tree_faults language read) 0)) }
+{
+    let Ok(summary) = Summary::new(alloc, listing) else {
+        return Err(out_of_memory());
+    };
+    match first_fault(alloc, language, listing, &summary) {
+        Ok(None) => Ok(summary),
+        Ok(Some(fault)) => Err(fault),
+        Err(_) => Err(out_of_memory()),
+    }
 }

@@ -9,7 +9,7 @@ ghost use Rattle.kc_listing.specs.between.ListingView.{RepresentsListing};
 ghost use Rattle.kc_checks.specs.between.Summaries.{first_is, first_summary, symbol_summaries, enclosing_choice, member_keys_at, members_at, type_in, AreOwnMembers, IsRepresented, IsSummary, IsSummed};
 
 use super::attribute::type_given;
-use super::enclosing_choices::{choice_count, choices_enclosing};
+use super::enclosing_choices::choices_enclosing;
 use super::group_lines::lines_of;
 use kc_listing::{GroupHead, Line, Listing};
 use kc_tree::ItemsWithKeys;
@@ -52,14 +52,12 @@ impl SymbolSummary {
     }
 }
 
-/// A summary of a listing: the summary of each symbol, the number of the enclosing choice of each group, the number of choices,
-/// and the members of each choice.
+/// A summary of a listing: the summary of each symbol, the number of the enclosing choice of each group, and the number of choices.
 #[derive(Drop)]
 pub struct Summary {
     pub symbols: Vec<SymbolSummary>,
     pub enclosing: Vec<Option<u32>>,
     pub choices: usize,
-    pub members: ItemsWithKeys<Sym>,
 }
 
 /// The first type that attribute lines give, or `None`.
@@ -107,7 +105,7 @@ fn symbols_of(
 }
 
 /// The members of choices in order of definition, each under the number of its choice. An `Err` means out of memory.
-fn members_of(
+pub(crate) fn members_of(
     alloc: Global,
     listing: &Listing,
     enclosing: &[Option<u32>],
@@ -174,7 +172,7 @@ pub fn own_members(
 
 impl Summary {
     /// The summary of a listing. An `Err` means out of memory, or 2^32 statements or more.
-    pub fn new(alloc: Global, listing: &Listing) -> Result<Summary, AllocError>
+    pub(crate) fn new(alloc: Global, listing: &Listing) -> Result<Summary, AllocError>
         requires shown { IsRepresented listing.now }
         ensures summary { (read : List ModelGroup) → RepresentsListing listing.now read → IfOk result (IsSummary read) }
         ensures few { IfOk result (λ s. length listing.now.groups.items < 2 ^ 32) }
@@ -182,14 +180,11 @@ impl Summary {
         if listing.groups.len() > u32::MAX as usize {
             return Err(AllocError);
         }
-        let enclosing = choices_enclosing(alloc, listing)?;
-        let symbols = symbols_of(alloc, listing, &enclosing)?;
-        let members = members_of(alloc, listing, &enclosing)?;
+        let (enclosing, choices) = choices_enclosing(alloc, listing)?;
         Ok(Summary {
-            symbols,
+            symbols: symbols_of(alloc, listing, &enclosing)?,
             enclosing,
-            choices: choice_count(listing),
-            members,
+            choices: choices as usize,
         })
     }
 }

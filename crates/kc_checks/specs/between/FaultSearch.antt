@@ -3,13 +3,12 @@ use Rattle.std.specs.Prelude.{◌≡◌, ℕ, ◌≤◌, List, [], flat_map, len
 use Rattle.kc_tokens.specs.declared.language.Language.{Language}
 use Rattle.kc_tree_model.specs.Blocks.{Group}
 use Rattle.kc_tree_model.specs.Conditions.{groups_in_context}
-use Rattle.kc_tree_model.specs.Contents.{contents_of}
+use Rattle.kc_tree_model.specs.Contents.{Contents, contents_of}
 use Rattle.kc_tree_model.specs.TreeFaults.{faults_of_group, tree_faults}
 use Rattle.kc_listing.specs.declared.listing.Listing.{Listing}
 use Rattle.kc_listing.specs.between.ListingView.{RepresentsListing}
 use Rattle.kc_tree.specs.between.GroupedItems.{IsGrouped}
-use Rattle.kc_checks.specs.between.Summaries.{read_before}
-use Rattle.kc_checks.specs.declared.summary.Summary.{Summary}
+use Rattle.kc_checks.specs.between.Summaries.{read_before, enclosing_choice, member_keys_at, members_at}
 
 -- the number of choices that begin before the group of this number
 abbrev pub choices_before : ℕ → List Group → ℕ
@@ -19,9 +18,15 @@ choices_before i read = length (contents_of (read_before i read)).choices
 abbrev pub CountsChoices : Listing → ℕ → ℕ → Type 0
 CountsChoices l i choices = (read : List Group) → RepresentsListing l read → choices ≡ choices_before i read
 
--- the members of a summary are grouped by choice: the first list has where each choice's members begin, the second the members
-abbrev pub HasMembers : Summary → List ℕ → List ℕ → Type 0
-HasMembers s starts items = IsGrouped s.choices s.members.keys.items s.members.items.items starts items
+-- the members of the choices that were read are grouped by choice: the first list has where each choice's members begin, the
+-- second the members
+abbrev pub AreMembersByChoice : Contents → List ℕ → List ℕ → Type 0
+AreMembersByChoice c starts items =
+    IsGrouped (length c.choices) (flat_map (member_keys_at (enclosing_choice c) c) c.places) (flat_map (members_at (enclosing_choice c) c) c.places) starts items
+
+-- the members of the choices of a listing are grouped by choice
+abbrev pub HasMembers : Listing → List ℕ → List ℕ → Type 0
+HasMembers l starts items = (read : List Group) → RepresentsListing l read → AreMembersByChoice (contents_of read) starts items
 
 -- no mark of a list is greater than a number
 abbrev pub AreSmall : List ℕ → ℕ → Type 0

@@ -137,15 +137,13 @@ pub record AreOwnMembers (c : Contents) (m : ItemsWithKeys ℕ) : Type 0 where
   pub member_keys : m.keys.items ≡ flat_map (member_keys_at (own_choice c) c) c.places
   pub members : m.items.items ≡ flat_map (members_at (own_choice c) c) c.places
 
--- a summary has the symbol summaries, enclosing choices, number of choices and choice members of the statements read
+-- a summary has the symbol summaries, enclosing choices and number of choices of the statements read
 pub record IsSummaryOf (c : Contents) (s : Summary) : Type 0 where
   pub symbols : s.symbols.items ≡ map (summary_in c c.places) c.names
   pub enclosing : s.enclosing.items ≡ map (enclosing_choice c) c.places
   pub choices : s.choices ≡ length c.choices
-  pub member_keys : s.members.keys.items ≡ flat_map (member_keys_at (enclosing_choice c) c) c.places
-  pub members : s.members.items.items ≡ flat_map (members_at (enclosing_choice c) c) c.places
 
--- a summary has the symbol summaries, enclosing choices, number of choices and choice members of these groups
+-- a summary has the symbol summaries, enclosing choices and number of choices of these groups
 unfoldable pub IsSummary : List Group → Summary → Type 0
 IsSummary read s = IsSummaryOf (contents_of read) s
 

@@ -1,4 +1,4 @@
-use Rattle.std.proofs.Common.{◌≡◌, ◌∙◌, length, reverse, subst, arith}
+use Rattle.std.proofs.Common.{◌≡◌, ◌<◌, ◌^◌, ◌∙◌, length, reverse, subst, sym, arith}
 use Rattle.std.proofs.lemmas.Grind.{elements}
 use Rattle.std.proofs.lemmas.Result.{IfOk-weaker}
 use Rattle.kc_tree_model.specs.Contents.{tree_of_files}
@@ -7,7 +7,17 @@ use Rattle.kc_builder.specs.checker.Walks.{RepresentsAllConditions}
 use Rattle.kc_tree.specs.TreeModel.{TreeModel}
 use Rattle.kc_tree.specs.between.GatheredView.{gathered_tree}
 use Rattle.kc_builder.proofs.AssemblySteps.{consistent_of, whole_is}
+use Rattle.kc_builder.proofs.RepresentedGroups.{summed_of}
 use Rattle.kc_builder.proofs.builder.tree_of.Goals as goal
+
+pub gathered_of-requires-clause-summary : goal.gathered_of-requires-clause-summary
+gathered_of-requires-clause-summary c =
+    let r = c.requires.of_tree in
+    let read = (reading r.files r.root).read in
+    summed_of c.args.listing c.in-Ok.walked.listing read c.args.summary.now r.shows (c.in-Ok.ensures.shows read r.shows) c.requires.summary
+
+pub gathered_of-requires-clause-few : goal.gathered_of-requires-clause-few
+gathered_of-requires-clause-few c = subst (λ gs. length gs.items < 2 ^ 32) (sym c.in-Ok.ensures.groups) c.requires.few
 
 pub into_tree-requires-clause-fits : goal.into_tree-requires-clause-fits
 into_tree-requires-clause-fits c =

@@ -4,7 +4,7 @@ use Rattle.std.proofs.lemmas.List.{get_or_read}
 use Rattle.kc_listing.specs.between.ListingView.{RepresentsListing}
 use Rattle.kc_checks.specs.between.Summaries.{is_choice_code, no_group}
 use Rattle.kc_checks.proofs.GroupPlaces.{count_is}
-use Rattle.kc_checks.proofs.Rounds.{all_round, enclosing_more}
+use Rattle.kc_checks.proofs.Rounds.{all_counted, all_round, enclosing_more}
 use Rattle.kc_checks.proofs.enclosing_choices.choices_enclosing.Goals as goal
 use Rattle.kc_checks.proofs.enclosing_choices.choices_enclosing.Goals.{then-begins_choice, else-begins_choice}
 
@@ -34,12 +34,18 @@ loop-group-preserved c = record {
 pub returns : goal.returns
 unfolding RepresentsListing
 returns c = record {
-  ok = λ read h.
+  enclosing = λ read h.
       let l = c.args.listing.now in
       let n = count_is l.names.arena _ l.texts.items l.lines.items l.groups.items read h.groups_are in
       let past : length l.groups.items ≤ c.loop-group.group-index = rw (← c.deref-group-items.ensures.value) c.loop-group-test.false in
       let end : c.loop-group.group-index ≤ length l.groups.items = rw (← c.deref-group-items.ensures.value) c.loop-group.auto.group-index-end in
       all_round read c.loop-group.group-index _ _ _ (omega arith) (c.loop-group.invariant.round read h);
+  choices = λ read h.
+      let l = c.args.listing.now in
+      let n = count_is l.names.arena _ l.texts.items l.lines.items l.groups.items read h.groups_are in
+      let past : length l.groups.items ≤ c.loop-group.group-index = rw (← c.deref-group-items.ensures.value) c.loop-group-test.false in
+      let end : c.loop-group.group-index ≤ length l.groups.items = rw (← c.deref-group-items.ensures.value) c.loop-group.auto.group-index-end in
+      (c.loop-group.invariant.round read h).choices_are ∙ all_counted read c.loop-group.group-index (omega arith);
 }
 
 pub offset_bounds-group-items-group-index : goal.offset_bounds-group-items-group-index

@@ -1,6 +1,7 @@
 use Rattle.std.proofs.Common.{◌≡◌, ◌<◌, ◌+◌, cond, length, sym, subst, ap, ◌∙◌, arith}
 use Rattle.std.proofs.lemmas.Grind.{common_steps, elements}
 use Rattle.std.proofs.lemmas.List.{get_or_read}
+use Rattle.kc_tree_model.specs.Contents.{contents_of}
 use Rattle.kc_tree_model.specs.Limits.{names_defined}
 use Rattle.kc_tree_model.specs.TreeFaults.{tree_faults}
 use Rattle.kc_listing.specs.between.ListingView.{RepresentsListing}
@@ -8,14 +9,16 @@ use Rattle.kc_checks.specs.between.FaultSearch.{AreSmall}
 use Rattle.kc_checks.specs.between.Summaries.{IsSummary, is_choice_code, no_group}
 use Rattle.kc_checks.proofs.GroupPlaces.{count_is}
 use Rattle.kc_checks.proofs.Rounds.{one_counted}
-use Rattle.kc_checks.proofs.FaultSearch.{fault_all, fault_here, fault_none, few_choices, keys_fit, reported_none, reported_some}
+use Rattle.kc_checks.proofs.FaultSearch.{fault_all, fault_here, fault_none, few_choices, grouped_are, keys_fit, reported_none, reported_some}
 use Rattle.kc_checks.proofs.search.first_fault.Goals as goal
 use Rattle.kc_checks.proofs.search.first_fault.Goals.{then-begins_choice, else-begins_choice}
 
 pub grouped-requires-clause-keys : goal.grouped-requires-clause-keys
 unfolding IsSummary
 grouped-requires-clause-keys c =
-    keys_fit c.requires.shown.read c.in_ok-summary.summary (c.in_ok-summary.ensures.summary c.requires.shown.read c.requires.shown.shows)
+    let read = c.requires.shown.read in
+    let h = c.requires.shown.shows in
+    keys_fit read _ _ (c.in_ok-collected.ensures.keys read h) (c.requires.summary read h).choices
 
 pub grouped-requires-clause-few : goal.grouped-requires-clause-few
 unfolding IsSummary RepresentsListing
@@ -23,11 +26,20 @@ grouped-requires-clause-few c =
     let l = c.args.listing.now in
     let read = c.requires.shown.read in
     let h = c.requires.shown.shows in
-    let known = (c.in_ok-summary.ensures.summary read h).choices in
-    let few = c.in_ok-summary.ensures.few in
+    let known = (c.requires.summary read h).choices in
     let n = count_is l.names.arena (names_defined read) l.texts.items l.lines.items l.groups.items read h.groups_are in
     let k = few_choices read in
     omega arith
+
+pub members_of-requires-clause-enclosing : goal.members_of-requires-clause-enclosing
+unfolding IsSummary
+members_of-requires-clause-enclosing c = λ read h. c.deref.ensures.value ∙ (c.requires.summary read h).enclosing
+
+pub group_fault-fault-requires-clause-members : goal.group_fault-fault-requires-clause-members
+unfolding IsSummary
+group_fault-fault-requires-clause-members c = λ read h.
+    grouped_are (contents_of read) _ _ _ _ _ (c.requires.summary read h).choices (c.in_ok-collected.ensures.keys read h) (c.in_ok-collected.ensures.members read h)
+    c.in_ok-members.ensures.ok
 
 pub returns-then-is_some : goal.returns-then-is_some
 unfolding RepresentsListing tree_faults

@@ -8,13 +8,13 @@ use Rattle.kc_listing.specs.between.ListingView.{RepresentsListing}
 use Rattle.kc_listing.specs.declared.listing.GroupHead.TheVariants as codes
 use Rattle.kc_listing.proofs.NameLemmas.{as_many_names}
 use Rattle.kc_checks.specs.checker.Marks.{AreMarked}
-use Rattle.kc_checks.specs.between.Summaries.{IsSummary, group_at, is_choice_code, no_group}
+use Rattle.kc_checks.specs.between.Summaries.{group_at, is_choice_code, no_group}
 use Rattle.kc_checks.proofs.MemberMarks.{members_small}
 use Rattle.kc_checks.proofs.FaultSearch.{are_marked_in, at_most_choice, at_most_more, choice_below, marks_small, members_kept, nothing_reported, place_at, place_there}
 use Rattle.kc_checks.proofs.search.group_fault.Goals as goal
 
 pub get-requires : goal.get-requires
-unfolding RepresentsListing IsSummary
+unfolding RepresentsListing
 get-requires c = record {
   there = let l = c.args.listing.now in
       let read = c.requires.shown.read in
@@ -23,13 +23,12 @@ get-requires c = record {
       (ap (λ g. g.head) (get_or_read l.groups.items _ _ c.requires.here c.index.ensures no_group)) ∙ c.in-Choice.is in
       let below = choice_below l.names.arena l.texts.items l.lines.items l.groups.items read h.groups_are c.args.i c.args.choices c.requires.here what
       (c.requires.counted read h) in
-      let count = (c.requires.summary read h).choices in
-      let starts = c.requires.members.places in
+      let starts = (c.requires.members read h).places in
       omega arith;
 }
 
 pub mark_members-requires : goal.mark_members-requires
-unfolding RepresentsListing IsSummary
+unfolding RepresentsListing
 mark_members-requires c = record {
   there = let l = c.args.listing.now in
       let read = c.requires.shown.read in
@@ -38,8 +37,8 @@ mark_members-requires c = record {
       let what : (group_at l.groups.items c.args.i).head ≡ codes.Choice = sym
       (ap (λ g. g.head) (get_or_read l.groups.items _ _ c.requires.here c.index.ensures no_group)) ∙ c.in-Choice.is in
       let p = place_there e (names_defined read) l.texts.items l.lines.items l.groups.items read h.groups_are c.args.i c.requires.here in
-      let members = c.get.ensures.value ∙ members_kept e l.texts.items l.lines.items l.groups.items read h.groups_are c.args.summary.now _ _ c.args.i
-      c.args.choices p.0 (c.requires.summary read h) c.requires.members c.requires.here what p.1 (c.requires.counted read h) in
+      let members = c.get.ensures.value ∙ members_kept e l.texts.items l.lines.items l.groups.items read h.groups_are _ _ c.args.i
+      c.args.choices p.0 (c.requires.members read h) c.requires.here what p.1 (c.requires.counted read h) in
       let many = as_many_names e l.names.symbols.items l.names.numbers.items (names_defined read) h.names in
       let n : length (names_defined read) ≡ length c.args.marks.now.items = omega arith in
       subst (λ k. All (λ s. s < k) c.get.result.now) n (subst (All (λ s. s < length (names_defined read))) (sym members)
@@ -47,14 +46,14 @@ mark_members-requires c = record {
 }
 
 pub returns-in-Choice-clause-fault : goal.returns-in-Choice-clause-fault
-unfolding RepresentsListing IsSummary
+unfolding RepresentsListing
 returns-in-Choice-clause-fault c = λ read p h at.
     let l = c.args.listing.now in
     let e = l.names.arena in
     let what : (group_at l.groups.items c.args.i).head ≡ codes.Choice = sym
     (ap (λ g. g.head) (get_or_read l.groups.items _ _ c.requires.here c.index.ensures no_group)) ∙ c.in-Choice.is in
-    let members = c.get.ensures.value ∙ members_kept e l.texts.items l.lines.items l.groups.items read h.groups_are c.args.summary.now _ _ c.args.i
-    c.args.choices p (c.requires.summary read h) c.requires.members c.requires.here what at (c.requires.counted read h) in
+    let members = c.get.ensures.value ∙ members_kept e l.texts.items l.lines.items l.groups.items read h.groups_are _ _ c.args.i
+    c.args.choices p (c.requires.members read h) c.requires.here what at (c.requires.counted read h) in
     let many = as_many_names e l.names.symbols.items l.names.numbers.items (names_defined read) h.names in
     c.choice_fault.ensures.fault read p h at (subst (λ ms. AreMarked (names_defined read) (member_names (contents_of read) p.group.number) ms
     (c.args.choices + 1)) (sym c.deref.ensures.value) (are_marked_in read p c.get.result.now c.args.marks.now.items c.mark_members.new.marks.items

@@ -6,15 +6,10 @@ use Rattle.kc_checks.proofs.summary.Summary.new.Goals as goal
 pub returns-clause-summary : goal.returns-clause-summary
 unfolding IsSummary
 returns-clause-summary c = λ read h. record {
-  symbols = c.in_ok-symbols.ensures.ok read h;
-  enclosing = c.in_ok-enclosing.ensures.ok read h;
-  choices = c.choice_count.ensures read h;
-  member_keys = c.in_ok-members.ensures.keys read h;
-  members = c.in_ok-members.ensures.members read h;
+  symbols = c.in_ok-symbols_of.ensures.ok read h;
+  enclosing = c.in_ok-enclosing.ensures.enclosing read h;
+  choices = c.in_ok-enclosing.ensures.choices read h;
 }
 
 pub returns-clause-few : goal.returns-clause-few
 returns-clause-few c = grind (arith, common_steps)
-
-pub members_of-requires-clause-enclosing : goal.members_of-requires-clause-enclosing
-members_of-requires-clause-enclosing c = grind (arith, common_steps)
