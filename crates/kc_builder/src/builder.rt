@@ -5,7 +5,7 @@ ghost use Rattle.kc_tree_model.specs.Contents.{tree_of_files};
 ghost use Rattle.kc_tree_model.specs.TreeReading.{reading};
 ghost use Rattle.kc_tree_model.specs.TreeFaults.{first_tree_fault};
 ghost use Rattle.kc_listing.specs.between.ListingView.{RepresentsListing};
-ghost use Rattle.kc_builder.specs.checker.Assembly.{IsWalk, AreFew, AreSymbolParts, AreChoiceParts, AreAllParts, IsGathering};
+ghost use Rattle.kc_builder.specs.checker.Assembly.{IsWalk, AreFew, AreSymbolParts, AreChoiceParts, IsGathering};
 ghost use Rattle.kc_checks.specs.between.Summaries.{IsSummed};
 ghost use Rattle.kc_checks.specs.between.Surface.{IsOfTree};
 
@@ -79,32 +79,6 @@ fn choice_parts(alloc: Global, walked: &WalkedListing) -> Result<ChoiceParts, Al
     })
 }
 
-/// The parts of a tree that are collected from a walked listing.
-#[derive(Drop)]
-struct AllParts {
-    members: ItemsWithKeys<Sym>,
-    symbols: SymbolParts,
-    choices: ChoiceParts,
-}
-
-/// Collects the symbols, the choices and their members of a walked listing. An `Err` means out of memory.
-fn all_parts(
-    alloc: Global,
-    walked: &WalkedListing,
-    summary: &Summary,
-) -> Result<AllParts, AllocError>
-    requires few { AreFew walked.now }
-    requires walk { (files : Files) × (root : List ℕ) × IsWalk walked.now files root }
-    requires summary { IsSummed walked.now.listing summary.now }
-    ensures ok { (files : Files) (root : List ℕ) → IsWalk walked.now files root → IfOk result (AreAllParts walked.now.listing files.language (reading files root).read) }
-{
-    Ok(AllParts {
-        choices: choice_parts(alloc, walked)?,
-        symbols: symbol_parts(alloc, walked, summary)?,
-        members: own_members(alloc, &walked.listing, summary)?,
-    })
-}
-
 /// The arena and the titles of a walked listing.
 fn arena_and_titles(walked: WalkedListing) -> (Arena, Vec<Text>)
     ensures arena { result.0 ≡ walked.listing.names.arena }
@@ -130,26 +104,26 @@ fn arena_and_titles(walked: WalkedListing) -> (Arena, Vec<Text>)
     (arena, texts)
 }
 
-/// The collected lists of a tree, from a walked listing and its parts.
-fn gathered(walked: WalkedListing, parts: AllParts) -> TreeLists
+/// The collected lists of a tree, from a walked listing and what was collected of it.
+fn gathered(
+    walked: WalkedListing,
+    symbols: SymbolParts,
+    choices: ChoiceParts,
+    members: ItemsWithKeys<Sym>,
+) -> TreeLists
     ensures arena { result.arena ≡ walked.listing.names.arena }
-    ensures symbols { result.symbols ≡ parts.symbols.rows }
-    ensures attributes { result.attributes ≡ parts.symbols.attributes }
-    ensures choices { result.choices ≡ parts.choices.rows }
-    ensures members { result.members ≡ parts.members }
-    ensures member_defaults { result.member_defaults ≡ parts.choices.defaults }
-    ensures entries { result.entries ≡ parts.choices.entries }
+    ensures symbols { result.symbols ≡ symbols.rows }
+    ensures attributes { result.attributes ≡ symbols.attributes }
+    ensures choices { result.choices ≡ choices.rows }
+    ensures members { result.members ≡ members }
+    ensures member_defaults { result.member_defaults ≡ choices.defaults }
+    ensures entries { result.entries ≡ choices.entries }
     ensures titles { result.titles ≡ walked.listing.texts }
-    ensures units { result.units ≡ parts.symbols.units }
+    ensures units { result.units ≡ symbols.units }
     ensures language { result.language ≡ walked.language }
 {
     let language = walked.language;
     let (arena, titles) = arena_and_titles(walked);
-    let AllParts {
-        members,
-        symbols,
-        choices,
-    } = parts;
     TreeLists {
         arena,
         symbols: symbols.rows,
@@ -164,7 +138,7 @@ fn gathered(walked: WalkedListing, parts: AllParts) -> TreeLists
     }
 }
 
-/// Collects the lists of a tree from a walked listing. An `Err` means out of memory.
+/// Collects the symbols, the choices and their members of a walked listing. An `Err` means out of memory.
 fn gathered_of(
     alloc: Global,
     walked: WalkedListing,
@@ -175,8 +149,10 @@ fn gathered_of(
     requires summary { IsSummed walked.listing summary.now }
     ensures ok { (files : Files) (root : List ℕ) → IsWalk walked files root → IfOk result (IsGathering files.language (reading files root).read) }
 {
-    let parts = all_parts(alloc, &walked, summary)?;
-    Ok(gathered(walked, parts))
+    let choices = choice_parts(alloc, &walked)?;
+    let symbols = symbol_parts(alloc, &walked, summary)?;
+    let members = own_members(alloc, &walked.listing, summary)?;
+    Ok(gathered(walked, symbols, choices, members))
 }
 
 /// The tree of a listing of files in `language` without a fault, which has this summary. An `Err` means out of memory.

@@ -18,9 +18,7 @@ use Rattle.kc_tree.specs.between.GatheredView.{gathered_tree}
 use Rattle.kc_tree.specs.between.StoredParts.{EntryRowFits}
 use Rattle.kc_tree.specs.between.PartsView.{entry_from_row}
 use Rattle.kc_builder.specs.checker.Rows.{AreRowsOf}
-use Rattle.kc_checks.specs.between.Summaries.{AreOwnMembers}
 use Rattle.kc_builder.specs.checker.UnitList.{units_read}
-use Rattle.kc_builder.specs.declared.builder.AllParts.{AllParts}
 use Rattle.kc_builder.specs.declared.builder.ChoiceParts.{ChoiceParts}
 use Rattle.kc_builder.specs.declared.builder.SymbolParts.{SymbolParts}
 use Rattle.kc_tree.specs.declared.tree_lists.TreeLists.{TreeLists}
@@ -48,13 +46,6 @@ pub record AreChoiceParts (l : Listing) (language : Language) (read : List Group
   pub defaults : AreDefaultsOf language l (contents_of read) (groups_in_context read) (length (contents_of read).choices) p.defaults
   pub entries : map (entry_from_row l.names.arena l.texts.items) p.entries.items ≡ (tree_of_groups language read).entries
   pub entries_fit : All (EntryRowFits (length l.names.arena.nodes) (length l.names.symbols.items) (length (contents_of read).choices) (length l.texts.items)) p.entries.items
-
--- the collected members, symbol parts and choice parts are those of the statements read, which are fewer than 2^32
-pub record AreAllParts (l : Listing) (language : Language) (read : List Group) (p : AllParts) : Type 0 where
-  pub few : length l.groups.items < 2 ^ 32
-  pub members : AreOwnMembers (contents_of read) p.members
-  pub symbols : AreSymbolParts language l.names.arena read p.symbols
-  pub choices : AreChoiceParts l language read p.choices
 
 -- the collected lists represent the tree of the statements read in a language, and all numbers in them are in range
 pub record IsGathering (language : Language) (read : List Group) (g : TreeLists) : Type 0 where
