@@ -1,0 +1,3 @@
+pub mod CycleTexts
+pub mod ChangeBounds
+pub mod NearSteps

@@ -1,0 +1,4 @@
+pub mod NearNames
+pub mod Texts
+pub mod LineTexts
+pub mod between

@@ -1,0 +1,3 @@
+pub mod FewestChanges
+pub mod CycleSteps
+pub mod NamedSymbols
