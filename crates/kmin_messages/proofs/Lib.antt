@@ -1,4 +1,5 @@
 pub mod FittingSteps
+pub mod WholeTexts
 pub mod PlainTexts
 pub mod SafeBytes
 pub mod WriterSteps

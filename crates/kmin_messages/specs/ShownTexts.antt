@@ -35,3 +35,7 @@ fitting room (piece ∷ pieces) = if nat_le (length piece) room then piece ++ fi
 -- a text as a message shows it: its characters, as many as are whole within 200 bytes
 abbrev pub shown : List ℕ → List ℕ
 shown text = fitting MAX_SHOWN_BYTES (map shown_char (chars text))
+
+-- whether a text has neither control characters nor backslashes
+abbrev pub is_plain : List ℕ → Bool
+is_plain text = list_all (λ c. not (is_control c || (c == 92))) (chars text)

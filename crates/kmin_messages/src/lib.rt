@@ -8,5 +8,5 @@ mod text_line;
 
 pub use message::{Message, Severity};
 pub use object_line::{json_line, json_lines_read_back};
-pub use shown_text::{MAX_SHOWN_BYTES, shown};
+pub use shown_text::{MAX_SHOWN_BYTES, plain_texts_are_shown_whole, shown};
 pub use text_line::long_line;

@@ -1,7 +1,7 @@
 //! Texts that a message shows.
-ghost use Rattle.std.specs.Prelude.{◌≡◌, ◌≤◌, ◌<◌, true, IfOk, string_bytes, string_len};
+ghost use Rattle.std.specs.Prelude.{◌≡◌, ◌≤◌, ◌<◌, ℕ, List, true, length, IfOk, IsUtf8, string_bytes, string_len};
 ghost use Rattle.std.specs.Char.{is_control, digit_char};
-ghost use Rattle.kmin_messages.specs.ShownTexts.{shown, shown_char, code_text, has_no_control_byte};
+ghost use Rattle.kmin_messages.specs.ShownTexts.{shown, shown_char, code_text, has_no_control_byte, is_plain};
 ghost use Rattle.kmin_messages.specs.between.Pieces.{PushesFitting};
 ghost use Rattle.kmin_messages.specs.declared.shown_text.TheConstants.{MAX_SHOWN_BYTES};
 
@@ -78,3 +78,8 @@ fn hex_digit(number: u32) -> char
         None => '0',
     }
 }
+
+/// A text without control characters and backslashes is shown as it is, if it has at most `MAX_SHOWN_BYTES` bytes.
+pub fn plain_texts_are_shown_whole()
+    ensures { (text : List ℕ) → IsUtf8 text → length text ≤ MAX_SHOWN_BYTES → is_plain text ≡ true → shown text ≡ text }
+{}
