@@ -1,3 +1,4 @@
 pub mod FewestChanges
 pub mod CycleSteps
 pub mod NamedSymbols
+pub mod Sayings
