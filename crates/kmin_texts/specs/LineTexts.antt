@@ -6,6 +6,10 @@ use Rattle.std.specs.Str.Lossy.{utf8_lossy}
 use Rattle.kc_tokens.specs.Token.{Lexeme, is_white_byte}
 use Rattle.kc_tokens.specs.declared.fault.ExprFault.{ExprFault}
 use Rattle.kc_tree_model.specs.Keywords.{keyword_of}
+use Rattle.kc_tree_model.specs.declared.fault.TreeKind.{TreeKind}
+use Rattle.kc_tree_model.specs.declared.fault.TreeKind.TheVariants as kinds
+use Rattle.kc_dotconfig_model.specs.declared.fault.LoadKind.{LoadKind}
+use Rattle.kc_dotconfig_model.specs.declared.fault.LoadKind.TheVariants.{Malformed}
 use Rattle.kc_tree_model.specs.declared.keyword.Keyword.{Keyword}
 use Rattle.kc_tree_model.specs.declared.keyword.Keyword.TheVariants as words
 
@@ -70,3 +74,17 @@ abbrev pub first_run : (line : List ℕ) → List ℕ
 first_run line =
     if starts_with nat_eq line byte_order_mark then codes "a byte order mark"
     else utf8_lossy (up_to_white (after_white line))
+
+-- what the message of a fault says of the line of a tree that has it, by its kind
+abbrev pub tree_line_text : TreeKind → (line : List ℕ) → Result (List Lexeme) ExprFault → List ℕ
+tree_line_text kinds.UnknownStatement line ts = first_token ts
+tree_line_text kinds.StrayEnd line ts = first_token ts
+tree_line_text kinds.Malformed line ts = first_token ts
+tree_line_text kinds.LeftOut line ts = left_out_text ts
+tree_line_text kinds.BadToken line ts = bad_token_text line ts
+tree_line_text kind line ts = []
+
+-- what the message of a fault says of the line of a configuration file that has it, by its kind
+abbrev pub file_line_text : LoadKind → (line : List ℕ) → List ℕ
+file_line_text Malformed line = first_run line
+file_line_text kind line = []

@@ -1,5 +1,5 @@
 -- What messages of the code say.
-use Rattle.std.specs.Prelude.{ℕ, List, [], ◌∷◌, Option, Some, None, map, option_map}
+use Rattle.std.specs.Prelude.{ℕ, List, [], ◌∷◌, Some, None, map, option_map}
 use Rattle.std.specs.Borrow.{Bor}
 use Rattle.kmin_texts.specs.declared.sayings.Saying.{Saying}
 use Rattle.kmin_texts.specs.declared.sayings.Saying.TheVariants.{Nothing, Unknown, Value, Missing, Unread, Words, First, Limit, Cycle}
