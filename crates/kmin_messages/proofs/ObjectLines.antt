@@ -81,7 +81,7 @@ digits_safe (d ∷ ds) h =
     let first : 48 ≤ d = h 0 (omega arith) in
     rw (ne_eqb d 10 (λ e. omega arith)) (digits_safe ds (λ i l. h (suc i) (omega arith)))
 
-decimal_safe : (n : ℕ) → n < 2 ^ 64 → has_no_byte 10 (decimal n) ≡ true
+pub decimal_safe : (n : ℕ) → n < 2 ^ 64 → has_no_byte 10 (decimal n) ≡ true
 decimal_safe n h = digits_safe (decimal n) (λ i l. (digit_at _ i (decimal_is_IsNumeral n h).0.1 l).0)
 
 -- none of these tokens is written with a newline

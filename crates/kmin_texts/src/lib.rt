@@ -20,5 +20,5 @@ pub use names::{unknown_text, value_text};
 pub use near_names::nearest;
 pub use places::{Unreadable, first_place_text, missing_text};
 pub use sayings::{Saying, outside, said_names, said_text};
-pub use told_lines::{Form, Told, told_line};
+pub use told_lines::{Form, Told, told_line, told_lines_are_one_line};
 pub use tree_lines::{bad_token_text, first_token, left_out_text};

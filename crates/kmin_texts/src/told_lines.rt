@@ -1,5 +1,8 @@
 //! The line of a message in each form.
-ghost use Rattle.std.specs.Prelude.{◌≡◌, IfOk};
+ghost use Rattle.std.specs.Prelude.{◌≡◌, ◌<◌, ◌^◌, true, IfOk};
+ghost use Rattle.kmin_messages.specs.ShownTexts.{has_no_byte};
+ghost use Rattle.kmin_messages.specs.between.MessageViews.{bytes_of};
+ghost use Rattle.kmin_texts.specs.OneLines.{IsOneLine, HasNoNewline};
 ghost use Rattle.kmin_texts.specs.between.ToldLines.{told_message, form_line};
 
 use crate::sayings::{Saying, said_names, said_text};
@@ -45,3 +48,9 @@ pub fn told_line(alloc: Global, form: Form, told: &Told<'_>) -> Result<Vec<u8>, 
         Form::Json => json_line(alloc, &message),
     }
 }
+
+/// A message is one line in each form, whatever is said, where neither the name of its kind nor its path has a newline.
+pub fn told_lines_are_one_line()
+    ensures { (form : Form) (told : Told) → told.line < 2 ^ 32 → has_no_byte 10 told.kind.now ≡ true → HasNoNewline (bytes_of told.file)
+        → IsOneLine (form_line form (told_message told)) }
+{}
