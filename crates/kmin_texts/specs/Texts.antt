@@ -1,7 +1,8 @@
 -- What messages say of names, files, places, limits and cycles.
-use Rattle.std.specs.Prelude.{ℕ, List, [], ◌∷◌, ◌++◌, Option, Some, None, codes, decimal}
-use Rattle.std.specs.List.{flat_map}
+use Rattle.std.specs.Prelude.{ℕ, List, [], ◌∷◌, ◌++◌, Option, Some, None, codes, decimal, if◌then◌else◌}
+use Rattle.std.specs.List.{flat_map, list_all}
 use Rattle.std.specs.Str.Lossy.{utf8_lossy}
+use Rattle.kc_tree_model.specs.TreeLookup.{is_name_byte}
 use Rattle.kc_value.specs.declared.limits.TheConstants.{MAX_CHOICES, MAX_FILES, MAX_LISTED_NAMES, MAX_NAME_BYTES, MAX_SYMBOLS, MAX_TREE_BYTES, MAX_WORK}
 use Rattle.kmin_texts.specs.declared.places.Unreadable.{Unreadable}
 use Rattle.kmin_texts.specs.declared.places.Unreadable.TheVariants.{NotThere, NoPermission, Folder, FailedRead}
@@ -10,10 +11,14 @@ use Rattle.kmin_texts.specs.declared.limits.Limit.TheVariants.{Symbols, Choices,
 use Rattle.kmin_texts.specs.declared.cycle_steps.Cause.{Cause}
 use Rattle.kmin_texts.specs.declared.cycle_steps.Cause.TheVariants.{DependsOn, Prompt, Default, Range, Select, Imply, Member}
 
+-- a name as a message says it: in quotes where it has a byte that names of symbols don't have, as a space
+abbrev pub name_word : (name : List ℕ) → List ℕ
+name_word name = if list_all is_name_byte name then name else 34 ∷ (name ++ 34 ∷ [])
+
 -- of a symbol that the tree lacks: its name, and the name nearest to it, if one is near
 abbrev pub unknown_text : (name : List ℕ) (near : Option (List ℕ)) → List ℕ
-unknown_text name None = name
-unknown_text name (Some near) = name ++ (codes ", perhaps " ++ near)
+unknown_text name None = name_word name
+unknown_text name (Some near) = name_word name ++ (codes ", perhaps " ++ near)
 
 -- of a value that isn't of its symbol's type: `NAME=VALUE`
 abbrev pub value_text : (name value : List ℕ) → List ℕ

@@ -4,7 +4,7 @@ use Rattle.kc_tree_model.specs.LogicalLines.{without_white_end}
 use Rattle.kc_dotconfig_model.specs.between.LineMeanings.{value_parts, unset_name}
 use Rattle.kc_dotconfig_model.specs.declared.notice.NoticeKind.{NoticeKind}
 use Rattle.kc_dotconfig_model.specs.declared.notice.NoticeKind.TheVariants.{UnknownSymbol, NotOfType}
-use Rattle.kmin_texts.specs.Texts.{value_text}
+use Rattle.kmin_texts.specs.Texts.{unknown_text, value_text}
 
 -- the name on a line `CONFIG_NAME=value` or `# CONFIG_NAME is not set` with this prefix, without the prefix; None on any other line
 abbrev pub named_on : (prefix line : List ℕ) → Option (List ℕ)
@@ -13,10 +13,10 @@ named_on prefix line = elim (value_parts prefix (without_white_end line)) [
   | None ↦ unset_name prefix (without_white_end line)
 ]
 
--- a name, if there is one
+-- a name that the tree lacks, if there is one
 abbrev pub name_text : Option (List ℕ) → List ℕ
 name_text None = []
-name_text (Some name) = name
+name_text (Some name) = unknown_text name None
 
 -- a name and its value, if there are any
 abbrev pub parts_text : Option (List ℕ × List ℕ) → List ℕ
