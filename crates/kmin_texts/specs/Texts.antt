@@ -9,7 +9,7 @@ use Rattle.kmin_texts.specs.declared.places.Unreadable.TheVariants.{NotThere, No
 use Rattle.kmin_texts.specs.declared.limits.Limit.{Limit}
 use Rattle.kmin_texts.specs.declared.limits.Limit.TheVariants.{Symbols, Choices, Files, TreeBytes, NameBytes, ListedNames, Work}
 use Rattle.kmin_texts.specs.declared.cycle_steps.Cause.{Cause}
-use Rattle.kmin_texts.specs.declared.cycle_steps.Cause.TheVariants.{DependsOn, Prompt, Default, Range, Select, Imply, Member}
+use Rattle.kmin_texts.specs.declared.cycle_steps.Cause.TheVariants.{DependsOn, Prompt, Default, Range, Select, Imply, Member, Tristate}
 
 -- a name as a message says it: in quotes where it has a byte that names of symbols don't have, as a space
 abbrev pub name_word : (name : List ℕ) → List ℕ
@@ -34,6 +34,10 @@ unreadable_text FailedRead = codes "a failed read"
 -- of a sourced file that can't be read: its path, and why; U+FFFD stands for what isn't UTF-8 in it
 abbrev pub missing_text : (path : List ℕ) → Unreadable → List ℕ
 missing_text path why = utf8_lossy path ++ (codes ": " ++ unreadable_text why)
+
+-- of an expansion: the text of its message; U+FFFD stands for what isn't UTF-8 in it
+abbrev pub expansion_text : (text : List ℕ) → List ℕ
+expansion_text text = utf8_lossy text
 
 -- of a second definition or another type: the place of the first, `first at FILE:LINE`
 abbrev pub first_place_text : (path : List ℕ) (line : ℕ) → List ℕ
@@ -72,6 +76,7 @@ cause_text Range = codes "has a range by"
 cause_text Select = codes "is selected by"
 cause_text Imply = codes "is implied by"
 cause_text Member = codes "has the member"
+cause_text Tristate = codes "is a tristate by"
 
 -- a step of a cycle: the name of a symbol or a choice, what makes it depend on another, and the name of that
 pub record Step : Type 0 where

@@ -15,6 +15,8 @@ pub enum Cause {
     Select,
     Imply,
     Member,
+    /// A tristate depends on `MODULES`.
+    Tristate,
 }
 
 impl Cause {
@@ -30,6 +32,7 @@ impl Cause {
             Cause::Select => "is selected by",
             Cause::Imply => "is implied by",
             Cause::Member => "has the member",
+            Cause::Tristate => "is a tristate by",
         }
     }
 }

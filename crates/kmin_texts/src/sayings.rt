@@ -35,6 +35,8 @@ pub enum Saying<'a> {
     Unread(Unreadable),
     /// Words of the line at fault, or of its form.
     Words(&'a str),
+    /// Of an expansion: the text of its message.
+    Expansion(&'a [u8]),
     /// Of a second definition or another type: the place of the first.
     First {
         path: &'a [u8],
@@ -67,6 +69,7 @@ fn whole_text(alloc: Global, saying: &Saying<'_>) -> Result<String, AllocError>
         Saying::Missing { path, why } => missing_text(alloc, path, *why),
         Saying::Unread(why) => String::from_str(alloc, why.text()),
         Saying::Words(words) => String::from_str(alloc, words),
+        Saying::Expansion(text) => String::from_utf8_lossy(alloc, text),
         Saying::First { path, line } => first_place_text(alloc, path, *line),
         Saying::Limit(limit) => limit_text(alloc, *limit),
         Saying::Cycle(steps) => cycle_text(alloc, steps),
@@ -108,7 +111,7 @@ pub fn outside(saying: Saying<'_>) -> Saying<'_>
         Saying::Unknown { name, .. } | Saying::Value { name, .. } => {
             Saying::Unknown { name, near: None }
         }
-        Saying::Words(_) => Saying::Nothing,
+        Saying::Words(_) | Saying::Expansion(_) => Saying::Nothing,
         other => other,
     }
 }

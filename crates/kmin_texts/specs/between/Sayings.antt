@@ -2,8 +2,8 @@
 use Rattle.std.specs.Prelude.{ℕ, List, [], ◌∷◌, Some, None, map, option_map}
 use Rattle.std.specs.Borrow.{Bor}
 use Rattle.kmin_texts.specs.declared.sayings.Saying.{Saying}
-use Rattle.kmin_texts.specs.declared.sayings.Saying.TheVariants.{Nothing, Unknown, Value, Missing, Unread, Words, First, Limit, Cycle}
-use Rattle.kmin_texts.specs.Texts.{unknown_text, value_text, missing_text, unreadable_text, first_place_text, limit_text, cycle_text}
+use Rattle.kmin_texts.specs.declared.sayings.Saying.TheVariants.{Nothing, Unknown, Value, Missing, Unread, Words, Expansion, First, Limit, Cycle}
+use Rattle.kmin_texts.specs.Texts.{unknown_text, value_text, missing_text, unreadable_text, expansion_text, first_place_text, limit_text, cycle_text}
 use Rattle.kmin_texts.specs.between.CycleSteps.{step_of}
 
 -- what a message says beside its kind; the message shows it by `shown`
@@ -14,6 +14,7 @@ said (Value name value) = value_text name.now value.now
 said (Missing path why) = missing_text path.now why
 said (Unread why) = unreadable_text why
 said (Words words) = words.now
+said (Expansion text) = expansion_text text.now
 said (First path line) = first_place_text path.now line
 said (Limit limit) = limit_text limit
 said (Cycle steps) = cycle_text (map step_of steps.now)
@@ -31,4 +32,5 @@ abbrev pub outside : Saying → Saying
 outside (Unknown name near) = Unknown name None
 outside (Value name value) = Unknown name None
 outside (Words words) = Nothing
+outside (Expansion text) = Nothing
 outside other = other
