@@ -103,7 +103,8 @@ fn step_names<'a>(alloc: Global, steps: &[Step<'a>]) -> Result<Vec<&'a str>, All
     Ok(names)
 }
 
-/// What is said where the line at fault is in a file of which no words are told: of its words the name of a symbol alone.
+/// What is said where the line at fault is in a file of which no words are told: of its words the name of a symbol alone, and so of
+/// a path only why it can't be read.
 pub fn outside(saying: Saying<'_>) -> Saying<'_>
     ensures { result ≡ outside saying.entry }
 {
@@ -111,6 +112,7 @@ pub fn outside(saying: Saying<'_>) -> Saying<'_>
         Saying::Unknown { name, .. } | Saying::Value { name, .. } => {
             Saying::Unknown { name, near: None }
         }
+        Saying::Missing { why, .. } => Saying::Unread(why),
         Saying::Words(_) | Saying::Expansion(_) => Saying::Nothing,
         other => other,
     }

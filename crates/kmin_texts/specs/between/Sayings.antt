@@ -27,10 +27,12 @@ said_names (Value name value) = name.now ∷ []
 said_names (Cycle steps) = map (λ step. step.name.now) steps.now
 said_names other = []
 
--- what is said where the line at fault is in a file of which no words are told: of its words the name of a symbol alone
+-- what is said where the line at fault is in a file of which no words are told: of its words the name of a symbol alone, and so of
+-- a path only why it can't be read
 abbrev pub outside : Saying → Saying
 outside (Unknown name near) = Unknown name None
 outside (Value name value) = Unknown name None
+outside (Missing path why) = Unread why
 outside (Words words) = Nothing
 outside (Expansion text) = Nothing
 outside other = other
