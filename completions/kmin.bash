@@ -29,6 +29,9 @@ _kmin_words() {
     case $1 in
         tidy) echo "--write --drop --from -z" ;;
     esac
+    case $1 in
+        wants) echo "--unused" ;;
+    esac
 }
 
 # what is after an option: a kind of word, or `one of` some; nothing where it has no value
@@ -68,7 +71,7 @@ _kmin() {
     done
     COMPREPLY=()
     if [[ -z $command || $command == help ]]; then
-        # options come after the command, and one word after `help`
+        # options are completed after the command, and one word after `help`
         [[ ${COMP_WORDS[COMP_CWORD-1]} == "${command:-${COMP_WORDS[0]}}" ]] || return
         mapfile -t COMPREPLY < <(compgen -W "$(_kmin_words "$command")" -- "$word")
         return

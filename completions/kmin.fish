@@ -61,6 +61,7 @@ complete -c kmin -n "__fish_seen_subcommand_from tidy" -l write -d "Replaces eac
 complete -c kmin -n "__fish_seen_subcommand_from tidy" -l drop -d "Writes files without the lines that the tree can't read; with --write"
 complete -c kmin -n "__fish_seen_subcommand_from tidy" -l from -d "File of further paths, a line each; - is standard input" -r
 complete -c kmin -n "__fish_seen_subcommand_from tidy" -s z -d "Each path in LIST ends with NUL, not with a newline"
+complete -c kmin -n "__fish_seen_subcommand_from wants" -l unused -d "Lists questions in files that nothing asks, once none is open"
 complete -c kmin -n "__fish_is_first_arg" -s h -l help -d "Print help"
 complete -c kmin -n "__fish_is_first_arg" -s V -l version -d "Print version"
 # made by make docs up to here

@@ -81,6 +81,11 @@ _kmin_specs() {
         ) ;;
     esac
     case $1 in
+        wants) specs+=(
+            '--unused[Lists questions in files that nothing asks, once none is open]'
+        ) ;;
+    esac
+    case $1 in
         min|full|missed|check|tidy) specs+=('*:FILE:_files') ;;
         compare) specs+=('1:LEFT:_files' '2:RIGHT:_files') ;;
     esac

@@ -1,6 +1,6 @@
 -- Questions and answers, through the map that holds them.
 use Rattle.std.proofs.Common.{◌≡◌, ℕ, zero, suc, Bool, true, false, cond, List, [], ◌∷◌, ◌++◌, length, take, map, Option, Some, None, refl, sym, ap, ◌∙◌}
-use Rattle.std.specs.Prelude.{Vec, bytes_eq, option_map, is_some, IfOk, Result, Ok, Err, ◌||◌}
+use Rattle.std.specs.Prelude.{Vec, bytes_eq, filter, not, option_map, is_none, is_some, IfOk, Result, Ok, Err, ◌||◌}
 use Rattle.kc_tree_model.specs.Limits.{is_in_list}
 use Rattle.kc_macros_model.specs.AnswerFiles.{RecordedAnswers}
 use Rattle.kc_answers.specs.RunStates.{questions_of, with_question}
@@ -10,6 +10,7 @@ use Rattle.indexmap.specs.IndexMap.{insert_entry}
 use Rattle.std.specs.Map.{keys_of, lookup}
 use Rattle.kc_tree_model.specs.Keywords.{keyword_in_table}
 use Rattle.kc_macros_model.specs.Programs.{Answer}
+use Rattle.kc_macros_model.specs.Worlds.{not_in}
 use Rattle.kc_answers.specs.checker.TableView.{answer_of_entry}
 
 pub bytes_eq_turned : (x y : List ℕ) → bytes_eq x y ≡ bytes_eq y x
@@ -93,7 +94,7 @@ pub questions_of_append : (es fs : RecordedAnswers) → questions_of (es ++ fs) 
 questions_of_append [] fs = refl
 questions_of_append (e ∷ es) fs = ap (λ qs. e.0 ∷ qs) (questions_of_append es fs)
 
-questions_of_keys : (es : List Entry) → map (λ (q : Vec ℕ Global). q.items) (keys_of es) ≡ questions_of (map answer_of_entry es)
+pub questions_of_keys : (es : List Entry) → map (λ (q : Vec ℕ Global). q.items) (keys_of es) ≡ questions_of (map answer_of_entry es)
 questions_of_keys [] = refl
 questions_of_keys (e ∷ es) = ap (λ xs. e.0.items ∷ xs) (questions_of_keys es)
 
@@ -103,3 +104,28 @@ pub questions_collected : {E : Type 0} (r : Result (Vec (Vec ℕ Global) Global)
     → IfOk r (λ qs. map (λ (q : Vec ℕ Global). q.items) qs.items ≡ questions_of table)
 questions_collected (Ok qs) es table e h = ap (λ ks. map (λ (q : Vec ℕ Global). q.items) ks) h ∙ questions_of_keys es ∙ ap questions_of e
 questions_collected (Err x) es table e h = tt
+
+-- the bytes of the vectors that pass a test of their bytes are the texts that pass it
+pub filtered_items : (p : List ℕ → Bool) (vs : List (Vec ℕ Global))
+    → map (λ (v : Vec ℕ Global). v.items) (filter (λ (v : Vec ℕ Global). p v.items) vs) ≡ filter p (map (λ (v : Vec ℕ Global). v.items) vs)
+filtered_items p [] = refl
+filtered_items p (v ∷ vs) = by_test (p v.items) (filtered_items p vs)
+  where
+    by_test : (b : Bool) → map (λ (u : Vec ℕ Global). u.items) (filter (λ (u : Vec ℕ Global). p u.items) vs) ≡ filter p (map (λ (u : Vec ℕ Global). u.items) vs)
+        → map (λ (u : Vec ℕ Global). u.items) (cond b (v ∷ filter (λ (u : Vec ℕ Global). p u.items) vs) (filter (λ (u : Vec ℕ Global). p u.items) vs))
+        ≡ cond b (v.items ∷ filter p (map (λ (u : Vec ℕ Global). u.items) vs)) (filter p (map (λ (u : Vec ℕ Global). u.items) vs))
+    by_test true ih = ap (λ xs. v.items ∷ xs) ih
+    by_test false ih = ih
+
+-- the texts that a table of answers doesn't have are those that aren't among its questions
+pub missing_are_not_in : (es : RecordedAnswers) (questions : List (List ℕ))
+    → filter (λ question. is_none (keyword_in_table es question)) questions ≡ not_in (questions_of es) questions
+missing_are_not_in es [] = refl
+missing_are_not_in es (q ∷ qs) =
+    ap (λ rest. cond (is_none (keyword_in_table es q)) (q ∷ rest) rest) (missing_are_not_in es qs)
+    ∙ ap (λ b. cond b (q ∷ not_in (questions_of es) qs) (not_in (questions_of es) qs))
+    (none_or_some (keyword_in_table es q) ∙ ap not (sym (listed_is_found es q)))
+  where
+    none_or_some : (a : Option Answer) → is_none a ≡ not (is_some a)
+    none_or_some None = refl
+    none_or_some (Some a) = refl

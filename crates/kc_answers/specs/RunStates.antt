@@ -1,5 +1,6 @@
 -- The state of a run of an expansion.
-use Rattle.std.specs.Prelude.{ℕ, Bool, List, [], ◌∷◌, ◌++◌, map, if◌then◌else◌}
+use Rattle.std.specs.Prelude.{ℕ, Bool, List, [], ◌∷◌, ◌++◌, filter, is_none, map, if◌then◌else◌}
+use Rattle.kc_tree_model.specs.Keywords.{keyword_in_table}
 use Rattle.kc_tree_model.specs.Limits.{is_in_list}
 use Rattle.kc_value.specs.declared.limits.TheConstants.{MAX_WORK}
 use Rattle.kc_macros_model.specs.Programs.{Notice, Answer}
@@ -7,7 +8,7 @@ use Rattle.kc_macros_model.specs.AnswerFiles.{RecordedAnswers}
 use Rattle.kc_macros_model.specs.Worlds.{Outcome}
 
 -- the state of a run of the expansion: the answers, whether each question must have an answer, the work that is left, the notices
--- so far, and the questions without an answer so far
+-- so far, and the questions asked so far, each once in order of first sight
 pub record RunState : Type 0 where
   pub answers : RecordedAnswers
   pub all_answered : Bool
@@ -19,7 +20,11 @@ pub record RunState : Type 0 where
 abbrev pub questions_of : RecordedAnswers → List (List ℕ)
 questions_of es = map (λ (e : List ℕ × Answer). e.0) es
 
--- the state of a run of the expansion at its start: no work is spent, and there are no notices and no open questions
+-- the questions of a run that its answers don't answer, in their order
+abbrev pub open_questions : RunState → List (List ℕ)
+open_questions s = filter (λ question. is_none (keyword_in_table s.answers question)) s.questions
+
+-- the state of a run of the expansion at its start: no work is spent, and there are no notices and no questions
 abbrev pub run_at_start : RecordedAnswers → Bool → RunState
 run_at_start answers all_answered = record { answers = answers; all_answered = all_answered; left = MAX_WORK; notices = []; questions = [] }
 

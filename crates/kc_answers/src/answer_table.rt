@@ -1,5 +1,5 @@
 //! A table of questions with their answers.
-ghost use Rattle.std.specs.Prelude.{◌≡◌, ℕ, List, [], ◌∷◌, ◌++◌, length, take, Some, None, OnOk, OnErr, IfOk, Vec, bytes_eq, map, option_map, if◌then◌else◌};
+ghost use Rattle.std.specs.Prelude.{◌≡◌, ℕ, List, [], ◌∷◌, ◌++◌, length, take, Some, None, OnOk, OnErr, IfOk, Vec, bytes_eq, filter, is_none, map, option_map, if◌then◌else◌};
 ghost use Rattle.std.specs.declared.alloc.Global.{Global};
 ghost use Rattle.kc_tree_model.specs.Keywords.{keyword_in_table};
 ghost use Rattle.kc_answers.specs.RunStates.{questions_of, with_question};
@@ -101,6 +101,24 @@ impl AnswerTable {
             self.insert(question, None)?;
         }
         Ok(())
+    }
+
+    /// Keeps those of some questions that the table doesn't have.
+    pub fn keep_missing(&self, questions: &mut Vec<Vec<u8>>)
+        ensures { map (λ (q : Vec ℕ Global). q.items) questions.new.items ≡ filter (λ q. is_none (keyword_in_table self.now q)) (map (λ (q : Vec ℕ Global). q.items) questions.old.items) }
+    {
+        questions.retain(|question| self.get(question).is_none());
+    }
+
+    /// Copies of the questions of the table, in order of insertion.
+    pub(crate) fn questions(&self) -> Result<Vec<Vec<u8>>, AllocError>
+        ensures { IfOk result (λ qs. map (λ (q : Vec ℕ Global). q.items) qs.items ≡ questions_of self.now) }
+    {
+        let mut questions = Vec::new(self.alloc);
+        for question in self.entries.keys() {
+            questions.push(Vec::from_slice(self.alloc, question)?)?;
+        }
+        Ok(questions)
     }
 
     /// The questions of the table, in order of insertion.

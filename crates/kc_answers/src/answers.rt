@@ -1,7 +1,9 @@
 //! The answers that files of answers give to the questions of macros.
-ghost use Rattle.std.specs.Prelude.{◌≡◌, ◌⊎◌, ◌+◌, ◌<◌, ℕ, List, [], take, Some, None, Ok, OnOk, OnErr, IfOk, IfErr, bytes_eq, is_some, option_map, if◌then◌else◌};
+ghost use Rattle.std.specs.Prelude.{◌≡◌, ◌⊎◌, ◌+◌, ◌<◌, ℕ, List, [], take, Some, None, Ok, OnOk, OnErr, IfOk, IfErr, Vec, bytes_eq, filter, is_none, is_some, map, option_map, if◌then◌else◌};
+ghost use Rattle.std.specs.declared.alloc.Global.{Global};
 ghost use Rattle.std.specs.Io.KnownBytes.{Consumes};
 ghost use Rattle.kc_tree_model.specs.Keywords.{keyword_in_table};
+ghost use Rattle.kc_answers.specs.RunStates.{questions_of};
 ghost use Rattle.kc_answers.specs.ReadAnswers.{ReadsToEnd, AreRecorded, IsRefused};
 
 use super::answer_table::AnswerTable;
@@ -81,6 +83,24 @@ impl Answers {
         ensures { result ≡ is_some (keyword_in_table self.now question.now) }
     {
         self.answer(question).is_some()
+    }
+
+    /// Copies of the questions that have answers, in order of their first answers.
+    ///
+    /// # Errors
+    ///
+    /// Memory ran out.
+    pub fn questions(&self) -> Result<Vec<Vec<u8>>, AllocError>
+        ensures { IfOk result (λ qs. map (λ (q : Vec ℕ Global). q.items) qs.items ≡ questions_of self.now) }
+    {
+        self.table.questions()
+    }
+
+    /// Keeps those of some questions that have no answer.
+    pub fn keep_open(&self, questions: &mut Vec<Vec<u8>>)
+        ensures { map (λ (q : Vec ℕ Global). q.items) questions.new.items ≡ filter (λ q. is_none (keyword_in_table self.now q)) (map (λ (q : Vec ℕ Global). q.items) questions.old.items) }
+    {
+        self.table.keep_missing(questions);
     }
 
     /// Gives a question this answer, in place of an earlier one: a text, or `None` for a name that isn't set. Both are copied.

@@ -4,10 +4,11 @@ ghost use Rattle.kc_dotconfig.specs.ConfigStates.{tree_in};
 ghost use Rattle.kc_dotconfig.specs.Fragments.{FitsTree};
 ghost use Rattle.kc_rules.specs.between.SettledViews.{tree_of_settled};
 
+use kc_builder::read_tree;
 use kc_dotconfig::{Config, Format, Fragment, read_config};
 use kc_rules::{Profile, Settled, UnitValue, UserValue, settle};
 use kc_system::{Report, System};
-use kc_tree::{Texts, Tree, read_tree};
+use kc_tree::{Texts, Tree};
 use kc_value::FromRead;
 use kmin_fakes::{twice, twice_on};
 use std::alloc::{AllocError, Global};

@@ -1,6 +1,7 @@
 //! Values of symbols and expressions.
-ghost use Rattle.std.specs.Prelude.{◌≡◌, ◌<◌, length, Some, is_none};
+ghost use Rattle.std.specs.Prelude.{◌≡◌, ◌<◌, length, Some, is_none, nat_lt};
 ghost use Rattle.std.specs.Option.{option_copied};
+ghost use Rattle.kc_value.specs.Tri.{rank};
 ghost use Rattle.kc_expr.specs.between.Arena.{node_expr};
 ghost use Rattle.kc_expr.specs.Expr.{letter, symbol_tri};
 ghost use Rattle.kc_expr.specs.Lookup.{symbol_value_of};
@@ -34,6 +35,23 @@ pub fn is_n(value: Tri) -> bool
     match value {
         Tri::N => true,
         Tri::M | Tri::Y => false,
+    }
+}
+
+/// Whether the first is below the second.
+pub fn is_below(a: Tri, b: Tri) -> bool
+    ensures { result ≡ nat_lt (rank a) (rank b) }
+{
+    match (a, b) {
+        (Tri::N, Tri::N) => false,
+        (Tri::N, Tri::M) => true,
+        (Tri::N, Tri::Y) => true,
+        (Tri::M, Tri::N) => false,
+        (Tri::M, Tri::M) => false,
+        (Tri::M, Tri::Y) => true,
+        (Tri::Y, Tri::N) => false,
+        (Tri::Y, Tri::M) => false,
+        (Tri::Y, Tri::Y) => false,
     }
 }
 

@@ -7,13 +7,15 @@ ghost use Rattle.kc_dependencies.specs.checker.StoredRules.{AreNodes, AreReverse
 ghost use Rattle.kc_rules_model.specs.Kinds.{is_n, largest};
 ghost use Rattle.kc_value.specs.Tri.{y_for_m};
 ghost use Rattle.kc_rules_model.specs.Rule.{conditions, reverse_dependency_value, reverse_dependency_limit, promoted, is_from_environment, counted_prompts, visibility, is_visible, default_tri, implied_effect, unassigned_value, base, leaves_no_m};
+ghost use Rattle.kc_rules_model.specs.Reports.{allowed, is_unmet_symbol};
 ghost use Rattle.kc_evaluation.specs.checker.RuleParts.{active_default_of, tri_rule_of};
 ghost use Rattle.kc_evaluation.specs.checker.ValuationView.{valuation_tree, valuation_exprs, valuation_values};
 
-use super::symbol_values::is_n;
+use super::symbol_values::{is_below, is_n};
 use super::valuation::Valuation;
 use kc_expr::ExprId;
 use kc_rules_model::Profile;
+use kc_tokens::Language;
 use kc_tree::{Default, ReverseDependency, Symbol};
 use kc_value::{Kind, Tri};
 
@@ -32,7 +34,7 @@ pub fn largest(under: &Valuation<'_>, ids: &[ExprId]) -> Tri
 
 /// The least value that a select or imply demands.
 #[inline(never)]
-fn reverse_value(under: &Valuation<'_>, force: ReverseDependency) -> Tri
+pub fn reverse_value(under: &Valuation<'_>, force: ReverseDependency) -> Tri
     requires by { force.by < length (valuation_tree under.now).symbols }
     requires condition { force.condition < length (valuation_exprs under.now).nodes }
     ensures value { result ≡ reverse_dependency_value (valuation_tree under.now) (valuation_values under.now) (kept_force (valuation_exprs under.now) force) }
@@ -221,4 +223,30 @@ pub fn tri_rule(
     let selected = reverse_limit(under, symbol.selectors);
     let value = promoted(under, symbol.kind, base.or(selected));
     without_m(under, profile, symbol, value)
+}
+
+/// The direct dependency of a symbol, up to which it may be selected: in the languages of Linux `m` counts as `y` for a bool.
+fn allowed(under: &Valuation<'_>, symbol: &Symbol<'_>) -> Tri
+    requires fits { SymbolFits (valuation_exprs under.now) (length (valuation_tree under.now).symbols) symbol.now }
+    ensures value { result ≡ allowed (valuation_tree under.now) (valuation_values under.now) (symbol_view (valuation_exprs under.now) symbol.now) }
+{
+    let direct = largest(under, symbol.direct);
+    match (under.rules.tree.language(), symbol.kind) {
+        (Language::Linux(_), Kind::Bool) => y_for_m(direct),
+        _ => direct,
+    }
+}
+
+/// Whether a symbol outside choices is selected above its direct dependency.
+pub fn is_symbol_unmet(under: &Valuation<'_>, symbol: &Symbol<'_>) -> bool
+    requires fits { SymbolFits (valuation_exprs under.now) (length (valuation_tree under.now).symbols) symbol.now }
+    ensures value { result ≡ is_unmet_symbol (valuation_tree under.now) (valuation_values under.now) (symbol_view (valuation_exprs under.now) symbol.now) }
+{
+    if symbol.choice.is_some() {
+        return false;
+    }
+    is_below(
+        allowed(under, symbol),
+        reverse_limit(under, symbol.selectors),
+    )
 }

@@ -42,7 +42,7 @@ use Rattle.kc_macros_model.specs.PathPatterns.{files_of_pattern}
 use Rattle.kc_macros_model.specs.PlainLines.{tokens_as_they_are}
 use Rattle.kc_macros_model.specs.ReadingStates.{ExpandedFile, ReadingState, initial_state, Progress, progress, WrittenLine, written_line, counted, has_key, is_taken, free_key, key_of, stored_file}
 use Rattle.kc_macros_model.specs.TreeExpansion.{place, one_file, SourceReader, source_line, pattern_read, path_read, source_followed, short_line, content_written, line_written, bytes_of_lines, lines_written, help_after, lines_read, source_fault, contents_read, sourced_read, source_read, root_read, tree_read}
-use Rattle.kc_macros_model.specs.Worlds.{World, returned, Outcome, outcome, expansion, questions_or_fault, wanted}
+use Rattle.kc_macros_model.specs.Worlds.{World, returned, Outcome, outcome, expansion, questions_or_fault, without_answer, wanted}
 use Rattle.kc_macros_model.proofs.Keys.{same_text}
 use Rattle.kc_macros_model.proofs.LineCounts.{split_bytes}
 use Rattle.kc_macros_model.proofs.PlainLines.{own_tokens, own_bytes, line_by_form, short_stays, plain_line_stays, whole_lines, one_source, BeginsWithSource, source_word_stays, IsSource, source_of_path}
@@ -776,5 +776,5 @@ unfolding wanted
 accepted_trees_want_nothing w files root h among =
     let r = origin w files root among in
     let q = quiet_outcome w (IsTree w r among (reading files root).read) false MAX_WORK (tree_read root) (tree_read_gives w files root among h) in
-    ap (λ qs. questions_or_fault (without_repeats (reverse qs)) (outcome false w MAX_WORK (tree_read root)).ending) q.questions
+    ap (λ qs. questions_or_fault (without_answer w (without_repeats (reverse qs))) (outcome false w MAX_WORK (tree_read root)).ending) q.questions
     ∙ ap (questions_or_fault []) q.ending

@@ -10,15 +10,16 @@ use Rattle.kc_value.specs.declared.limits.TheConstants.{MAX_FILES, MAX_TREE_BYTE
 use Rattle.kc_macros_model.specs.Programs.{Fault, Notice, Program, returns, fails, ◌>>=◌}
 use Rattle.kc_macros_model.specs.ReadingStates.{ExpandedFile, ReadingState, initial_state, Progress, progress, counted}
 use Rattle.kc_macros_model.specs.TreeExpansion.{place, lines_read, root_read, tree_read}
-use Rattle.kc_macros_model.specs.Worlds.{World, Ending, returned, failed, stopped, outcome, questions_or_fault, expansion, wanted}
-use Rattle.kc_answers.specs.RunStates.{RunState, run_at_start}
+use Rattle.kc_macros_model.specs.Worlds.{World, Ending, returned, failed, stopped, Outcome, outcome, questions_or_fault, without_answer, not_in, questions_once, expansion, wanted, if_all_answered, unused}
+use Rattle.kc_answers.specs.RunStates.{RunState, open_questions, run_at_start}
 use Rattle.kc_macros.specs.declared.stop.MacroFault.{MacroFault}
 use Rattle.kc_macros.specs.declared.stop.Stop.{Stop}
 use Rattle.kc_macros.specs.declared.stop.Stop.TheVariants as kinds
 use Rattle.kc_macros.specs.Runs.{RunEnd, ends, end_of, fault_of}
+use Rattle.kc_macros.proofs.RunLemmas.{RunsIn}
 use Rattle.kc_macros_model.proofs.BoundedReadings.{files_are_bounded}
 use Rattle.kc_macros_model.proofs.KnownTrees.{expansion_never_stops}
-use Rattle.kc_expansion.specs.Expansions.{ending_of, tree_of, IsExpansion, AreWanted}
+use Rattle.kc_expansion.specs.Expansions.{ending_of, tree_of, IsExpansion, AreWanted, AreUnused}
 use Rattle.kc_files.specs.TreeContents.{TreeContents}
 use Rattle.kc_files.specs.between.KnownFiles.{FileRead, missing, KnownFiles, AreBytes, AreAsKnown, Grows}
 use Rattle.kc_expansion.specs.between.Reads.{FileRun, Reaches, Reads}
@@ -54,22 +55,48 @@ module _ (contents : TreeContents) (b : FileRun) (answers : RecordedAnswers) (ro
           ends_so = run.ending;
         }
 
-    -- a run of the code that reads a tree to an end gives the wanted answers of the tree: the questions of the run, or its fault
-    -- where there are none
-    pub wanted_read : (questions : List (List ℕ)) (e : Ending (List ExpandedFile)) → questions ≡ b.run.questions
-        → Reaches b.known (run_at_start answers false) b.run (tree_read root) (ends e) → AreWanted contents answers root (questions_or_fault questions e)
-    unfolding wanted
-    wanted_read questions e h r =
-        let run = reaches_in here b.known (run_at_start answers false) b.run (tree_read root) e (world_agrees contents b.known answers as_known)
-        (world_answers contents b.known answers as_known) r in
-        let o = outcome false here MAX_WORK (tree_read root) in
-        record {
-          world = here;
-          of_contents = world_allowed contents b.known answers as_known;
-          answered = world_answers contents b.known answers as_known;
-          are_wanted = ap (λ qs. questions_or_fault qs o.ending) (sym (first_sight o.questions) ∙ sym (ap (λ (t : RunState). t.questions) run.state) ∙ sym h)
-              ∙ ap (questions_or_fault questions) run.ending;
-        }
+    module _ (questions : List (List ℕ)) (e : Ending (List ExpandedFile)) (open_are : questions ≡ open_questions b.run)
+        (r : Reaches b.known (run_at_start answers false) b.run (tree_read root) (ends e)) where
+      abbrev reading_here : Outcome (List ExpandedFile)
+      reading_here = outcome false here MAX_WORK (tree_read root)
+
+      run_here : RunsIn here (run_at_start answers false) b.run (tree_read root) e
+      run_here = reaches_in here b.known (run_at_start answers false) b.run (tree_read root) e (world_agrees contents b.known answers as_known)
+          (world_answers contents b.known answers as_known) r
+
+      -- the questions of the run are those of the reading
+      questions_here : b.run.questions ≡ questions_once reading_here
+      questions_here = ap (λ (t : RunState). t.questions) run_here.state ∙ first_sight reading_here.questions
+
+      open_here : without_answer here (questions_once reading_here) ≡ questions
+      open_here =
+          ap (without_answer here) (sym (first_sight reading_here.questions)) ∙ sym (ap open_questions run_here.state) ∙ sym open_are
+
+      wanted_here : wanted here root ≡ questions_or_fault questions e
+      unfolding wanted
+      wanted_here = ap (λ qs. questions_or_fault qs reading_here.ending) open_here ∙ ap (questions_or_fault questions) run_here.ending
+
+      -- a run of the code that reads a tree to an end gives the wanted answers of the tree: the open questions of the run, or its
+      -- fault where there are none
+      pub wanted_read : AreWanted contents answers root (questions_or_fault questions e)
+      wanted_read = record {
+        world = here;
+        of_contents = world_allowed contents b.known answers as_known;
+        answered = world_answers contents b.known answers as_known;
+        are_wanted = wanted_here;
+      }
+
+      -- and what it doesn't ask of some questions is unused
+      pub unused_read : (answered rest : List (List ℕ)) → rest ≡ not_in b.run.questions answered
+          → AreUnused contents answers root answered (if_all_answered (questions_or_fault questions e) rest)
+      unfolding unused
+      unused_read answered rest h = record {
+        world = here;
+        of_contents = world_allowed contents b.known answers as_known;
+        answered_so = world_answers contents b.known answers as_known;
+        are_unused = ap (λ w. if_all_answered w (not_in (questions_once reading_here) answered)) wanted_here
+            ∙ ap (if_all_answered (questions_or_fault questions e)) (ap (λ qs. not_in qs answered) (sym questions_here) ∙ sym h);
+      }
 
     -- the reading of a tree for its expansion doesn't stop at a question without an answer
     pub never_stopped : Reaches b.known (run_at_start answers true) b.run (tree_read root) (ends stopped) → ⊥
@@ -106,7 +133,7 @@ end_there view (Err kinds.OutOfMemory) h = absurd h
 pub wanted_of : {X V E : Type 0} (contents : TreeContents) (b : FileRun) (answers : RecordedAnswers) (root : List ℕ)
     (grows : Grows contents nothing_known b.known)
     (view : X → List ExpandedFile) (r : Result X Stop) (of : V → Result (List (List ℕ)) Fault) (result : Result V E) (questions : List (List ℕ))
-    → questions ≡ b.run.questions → Reaches b.known (run_at_start answers false) b.run (tree_read root) (end_of view r) → OnOk result (HasEnded r)
+    → questions ≡ open_questions b.run → Reaches b.known (run_at_start answers false) b.run (tree_read root) (end_of view r) → OnOk result (HasEnded r)
     → IfOk result (λ w. (e : Ending (List ExpandedFile)) → end_of view r ≡ ends e → of w ≡ questions_or_fault questions e)
     → IfOk result (λ w. AreWanted contents answers root (of w))
 wanted_of contents b answers root grows view r of (Ok w) questions q h ended k =
@@ -114,6 +141,20 @@ wanted_of contents b answers root grows view r of (Ok w) questions q h ended k =
     subst (AreWanted contents answers root) (sym (k e i)) (wanted_read contents b answers root grows questions e q
     (subst (Reaches b.known (run_at_start answers false) b.run (tree_read root)) i h))
 wanted_of contents b answers root grows view r of (Err x) questions q h ended k = tt
+
+-- and where it has them or the rest of some questions that the run didn't ask, it is what is unused of these
+pub unused_of : {X V E : Type 0} (contents : TreeContents) (b : FileRun) (answers : RecordedAnswers) (root : List ℕ)
+    (grows : Grows contents nothing_known b.known)
+    (view : X → List ExpandedFile) (r : Result X Stop) (of : V → Result (List (List ℕ)) Fault) (result : Result V E)
+    (questions answered rest : List (List ℕ)) → questions ≡ open_questions b.run → rest ≡ not_in b.run.questions answered
+    → Reaches b.known (run_at_start answers false) b.run (tree_read root) (end_of view r) → OnOk result (HasEnded r)
+    → IfOk result (λ w. (e : Ending (List ExpandedFile)) → end_of view r ≡ ends e → of w ≡ if_all_answered (questions_or_fault questions e) rest)
+    → IfOk result (λ w. AreUnused contents answers root answered (of w))
+unused_of contents b answers root grows view r of (Ok w) questions answered rest q n h ended k =
+    let (e, i) = end_there view r ended in
+    subst (AreUnused contents answers root answered) (sym (k e i)) (unused_read contents b answers root grows questions e q
+    (subst (Reaches b.known (run_at_start answers false) b.run (tree_read root)) i h) answered rest n)
+unused_of contents b answers root grows view r of (Err x) questions answered rest q n h ended k = tt
 
 -- where the lines of the first file are read, the expanded files are those that were sourced with the first file after them
 pub root_ends : {X : Type 0} (b c : FileRun) (p : Program Progress) (root : List ℕ) (s : ReadingState) (view : X → List ℕ) (r : Result X Stop)

@@ -5,7 +5,7 @@ use Rattle.kc_tree_model.specs.Keywords.{keyword_in_table}
 use Rattle.kc_macros_model.specs.AnswerFiles.{RecordedAnswers}
 use Rattle.kc_macros_model.specs.Programs.{Fault, Notice}
 use Rattle.kc_macros_model.specs.ReadingStates.{ExpandedFile}
-use Rattle.kc_macros_model.specs.Worlds.{World, Ending, returned, failed, expansion, wanted}
+use Rattle.kc_macros_model.specs.Worlds.{World, Ending, returned, failed, expansion, wanted, unused}
 use Rattle.kc_macros.specs.declared.stop.MacroFault.{MacroFault}
 use Rattle.kc_macros.specs.Runs.{HasAnswers, fault_of}
 use Rattle.kc_files.specs.TextViews.{texts_of}
@@ -16,7 +16,7 @@ abbrev pub tree_of : Result (List ExpandedFile) MacroFault → Result (List Expa
 tree_of (Ok files) = Ok files
 tree_of (Err fault) = Err (fault_of fault)
 
--- what the code's `wants` returns: the questions without an answer as texts, or the fault as one of `kc_macros_model`
+-- what the code's `wants` and `unused` return: questions as texts, or the fault as one of `kc_macros_model`
 abbrev pub questions_of : Result (Vec (Vec ℕ Global) Global) MacroFault → Result (List (List ℕ)) Fault
 questions_of (Ok questions) = Ok (texts_of questions)
 questions_of (Err fault) = Err (fault_of fault)
@@ -52,6 +52,14 @@ pub record AreWanted (contents : TreeContents) (answers : RecordedAnswers) (root
   pub of_contents : IsWorldOf contents world
   pub answered : HasAnswers world answers
   pub are_wanted : wanted world root ≡ questions
+
+-- what is unused of the questions `answered` by the tree with the first file `root`, or else its open questions or its fault, in
+-- some `World` whose files and folders agree with `contents`, and that has just these answers
+pub record AreUnused (contents : TreeContents) (answers : RecordedAnswers) (root : List ℕ) (answered : List (List ℕ)) (questions : Result (List (List ℕ)) Fault) : Type 0 where
+  pub world : World
+  pub of_contents : IsWorldOf contents world
+  pub answered_so : HasAnswers world answers
+  pub are_unused : unused world root answered ≡ questions
 
 -- Where each file and each folder of a tree is known, each expansion that returns files returns those of the known tree, with its
 -- notices: what can't be read is a fault, and is never passed over.

@@ -3,10 +3,10 @@ ghost use Rattle.std.specs.Prelude.{◌≡◌, ◌≤◌, ℕ, List, Vec, IfOk, 
 ghost use Rattle.std.specs.declared.alloc.Global.{Global};
 ghost use Rattle.kc_macros_model.specs.ReadingStates.{ExpandedFile, initial_state};
 ghost use Rattle.kc_macros_model.specs.TreeExpansion.{tree_read};
-ghost use Rattle.kc_macros_model.specs.Worlds.{Ending, questions_or_fault};
+ghost use Rattle.kc_macros_model.specs.Worlds.{Ending, questions_or_fault, if_all_answered};
 ghost use Rattle.kc_answers.specs.RunStates.{run_at_start};
 ghost use Rattle.kc_macros.specs.Runs.{end_of, ends, notice_of};
-ghost use Rattle.kc_expansion.specs.Expansions.{ending_of, tree_of, questions_of, IsExpansion, AreWanted};
+ghost use Rattle.kc_expansion.specs.Expansions.{ending_of, tree_of, questions_of, IsExpansion, AreWanted, AreUnused};
 ghost use Rattle.kc_files.specs.TextViews.{texts_of};
 ghost use Rattle.kc_expansion.specs.between.Reads.{Reads};
 ghost use Rattle.kc_files.specs.checker.FileViews.{known_of};
@@ -176,6 +176,54 @@ pub fn wants<F: TreeFiles>(
     let mut reading = new_reading(alloc, files.seed(), answers, false);
     let read = read_root(&mut reading, files, root);
     let Reading { lines, .. } = reading;
-    let questions = lines.run.into_questions()?;
+    let questions = lines.run.into_open_questions()?;
     wanted_by(read, questions)
+}
+
+/// The questions of a reading, or its fault where it asked none, and where it has neither these unused ones.
+fn unused_by(
+    read: Result<Rc<Vec<u8>>, Stop>,
+    questions: Vec<Vec<u8>>,
+    unused: Vec<Vec<u8>>,
+) -> Result<Result<Vec<Vec<u8>>, MacroFault>, AllocError>
+    ensures ended { OnOk result (HasEnded read) }
+    ensures unused { IfOk result (λ w. (view : Rc (Vec ℕ Global) Global → List ExpandedFile) (e : Ending (List ExpandedFile)) → end_of view read ≡ ends e → questions_of w ≡ if_all_answered (questions_or_fault (texts_of questions) e) (texts_of unused)) }
+{
+    match wanted_by(read, questions)? {
+        Ok(questions) => {
+            let listed = if questions.is_empty() {
+                unused
+            } else {
+                questions
+            };
+            Ok(Ok(listed))
+        }
+        Err(fault) => Ok(Err(fault)),
+    }
+}
+
+/// The questions of `answered` that the macros of a tree don't ask, in their order. Where macros ask questions without an answer,
+/// it is these, as `wants` returns them, and else the fault of the tree, if it has one.
+///
+/// # Errors
+///
+/// Memory ran out.
+pub fn unused<F: TreeFiles>(
+    alloc: Global,
+    files: &mut F,
+    root: &[u8],
+    answers: &Answers,
+    answered: Vec<Vec<u8>>,
+) -> Result<Result<Vec<Vec<u8>>, MacroFault>, AllocError>
+    ensures same { F.contents files.new ≡ F.contents files.old }
+    ensures unused { IfOk result (λ w. AreUnused (F.contents files.old) answers.now root.now (texts_of answered) (questions_of w)) }
+{
+    let seed = files.seed();
+    let mut reading = new_reading(alloc, seed, answers, false);
+    let read = read_root(&mut reading, files, root);
+    let Reading { lines, .. } = reading;
+    let mut rest = answered;
+    lines.run.keep_not_asked(&mut rest);
+    let questions = lines.run.into_open_questions()?;
+    unused_by(read, questions, rest)
 }

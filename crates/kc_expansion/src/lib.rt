@@ -22,6 +22,6 @@ mod tree_reading;
 mod written_file;
 
 pub use expanded_tree::{ExpandedText, ExpandedTree};
-pub use expansion::{Expansion, expand, wants};
+pub use expansion::{Expansion, expand, unused, wants};
 pub use kc_value::{MAX_FILES, MAX_LINE_BYTES, MAX_LISTED_NAMES, MAX_OPEN_FILES, MAX_TREE_BYTES};
 pub use laws::{accepted_lines_stay, accepted_trees_stay, expanded_trees_stay};

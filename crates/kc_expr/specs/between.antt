@@ -1,4 +1,5 @@
 pub mod Arena
+pub mod ExprParts
 pub mod Names
 pub mod Operand
 pub mod ParseResults

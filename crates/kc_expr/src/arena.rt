@@ -5,6 +5,7 @@ ghost use Rattle.kc_tokens.specs.declared.fault.ExprKind.TheVariants.{OutOfMemor
 ghost use Rattle.kc_tokens.specs.MemoryFaults.{IsOutOfMemory};
 
 use super::evaluate::value_of;
+use super::expr_parts::{ExprParts, parts_of};
 use super::ids::{ExprId, NameId};
 use super::lookup::Lookup;
 use super::names::{push_names, push_unvisited};
@@ -46,6 +47,7 @@ impl Arena {
     ghost use Rattle.kc_expr.specs.Lookup.{AreDistinct, environment_of, index_of_name};
     ghost use Rattle.kc_expr.specs.ExpressionNames.{names_in};
     ghost use Rattle.kc_expr.specs.between.Names.{name_alone, with_name, with_names};
+    ghost use Rattle.kc_expr.specs.between.ExprParts.{expr_of_parts, ArePartsOf};
     ghost use Rattle.kc_expr.specs.between.Operand.{operand_alone, operand_of_ref, HasKnownName};
     ghost use Rattle.kc_expr.specs.between.ParseResults.{expr_tokens, expr_end, ReadsExpr, RefusesExpr};
     ghost use Rattle.kc_tokens.specs.Token.{lexemes_of};
@@ -206,6 +208,15 @@ impl Arena {
     {
         let index = self.store.find(name)?;
         Some(NameId::at(index))
+    }
+
+    /// What an expression is made of.
+    pub fn parts(&self, id: ExprId) -> ExprParts<'_>
+        requires there { id < length self.now.nodes }
+        ensures expr { node_expr self.now id ≡ expr_of_parts self.now result }
+        ensures within { ArePartsOf self.now id result }
+    {
+        parts_of(&self.store, id.index())
     }
 
     /// The operand that an expression consists of; `None` where the expression isn't just one operand.

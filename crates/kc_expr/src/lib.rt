@@ -3,6 +3,7 @@
 
 mod arena;
 mod evaluate;
+mod expr_parts;
 mod ids;
 mod laws;
 mod leaf;
@@ -16,6 +17,7 @@ mod store;
 mod visited_set;
 
 pub use arena::Arena;
+pub use expr_parts::ExprParts;
 pub use ids::{ExprId, NameId};
 pub use laws::{
     each_line_has_one_reading, linux_reads_strict_lines, reading_is_the_grammar,

@@ -35,12 +35,14 @@ abbrev pub IsFolderRead : FolderContent → Option (List (List ℕ)) → Type 0
 IsFolderRead None names = Unit {0}
 IsFolderRead (Some known) names = (names ≡ Some known) ⊎ (names ≡ None)
 
--- what is known of a tree and doesn't change while it is read: the contents of its files and folders, and of the paths beside the
--- tree, which an expansion doesn't read; and the number of the reference through which files are read, if there is one
+-- what is known of a tree and doesn't change while it is read: the contents of its files and folders; and of the paths beside the
+-- tree, which an expansion doesn't read, their contents and the count of calls on them that failed; and the number of the reference
+-- through which files are read, if there is one
 pub record TreeContents : Type 0 where
   pub file : List ℕ → FileContent
   pub folder : List ℕ → FolderContent
   pub beside : List ℕ → FileContent
+  pub failures : ℕ
   pub reference : ℕ
 
 -- the files and folders of a world agree with the known contents of a tree

@@ -84,7 +84,7 @@ impl TreeFiles for MemoryTree {
 
     type File = Script;
 
-    ghost contents = { λ _. record { file = λ _. None; folder = λ _. None; beside = λ _. None; reference = 0 } };
+    ghost contents = { λ _. record { file = λ _. None; folder = λ _. None; beside = λ _. None; failures = 0; reference = 0 } };
 
     fn seed(&self) -> Seed {
         Seed::fixed()

@@ -9,7 +9,7 @@ use Rattle.kc_macros_model.specs.declared.fault.MacroNoticeKind.{MacroNoticeKind
 use Rattle.kc_macros_model.specs.Programs.{Place, Fault, Notice, Answer, spend, Program, returns, fails}
 use Rattle.kc_macros_model.specs.Variables.{Value, value_of_answer}
 use Rattle.kc_macros_model.specs.Expansion.{asked_value, reported}
-use Rattle.kc_macros_model.specs.Worlds.{World, if_unanswered, unless_unanswered, unless_fault, Ending, returned, failed, Outcome, outcome, after_event}
+use Rattle.kc_macros_model.specs.Worlds.{World, unless_unanswered, unless_fault, Ending, returned, failed, Outcome, outcome, after_event}
 use Rattle.kc_macros.specs.declared.stop.Stop.{Stop}
 use Rattle.kc_macros.specs.declared.stop.Stop.TheVariants as kinds
 use Rattle.kc_answers.specs.RunStates.{RunState, with_question, after_outcome}
@@ -39,13 +39,13 @@ module _ (s : RunState) (at : Place) (work : ℕ) where
 
   abbrev spent_by : World → Bool → Outcome (Unit {0})
   spent_by w b = unless_fault s.left (cond b (Err too_much) (Ok (s.left - work)))
-      (λ more. after_event w (spend at work) (outcome s.all_answered w more (returns (tt {0}))))
+      (λ more. after_event (spend at work) (outcome s.all_answered w more (returns (tt {0}))))
 
   all_spends : (w : World) → outcome s.all_answered w s.left (spent at work) ≡ spent_by w (nat_lt s.left work)
   all_spends w = by_test s.all_answered
     where
       by_test : (b : Bool) → outcome b w s.left (spent at work) ≡ unless_fault s.left (cond (nat_lt s.left work) (Err too_much) (Ok (s.left - work)))
-          (λ more. after_event w (spend at work) (outcome b w more (returns (tt {0}))))
+          (λ more. after_event (spend at work) (outcome b w more (returns (tt {0}))))
       by_test true = refl
       by_test false = refl
 
@@ -81,8 +81,8 @@ reports s at kind text =
 module _ (s : RunState) (at : Place) (question : List ℕ) where
   abbrev asked_by : Bool → Option Answer → Outcome Value
   asked_by true a = unless_fault s.left (unless_unanswered at question s.left a)
-      (λ more. record { notices = []; questions = if_unanswered question a ++ []; left = more; ending = returned (value_of_answer a) })
-  asked_by false a = record { notices = []; questions = if_unanswered question a ++ []; left = s.left; ending = returned (value_of_answer a) }
+      (λ more. record { notices = []; questions = question ∷ []; left = more; ending = returned (value_of_answer a) })
+  asked_by false a = record { notices = []; questions = question ∷ []; left = s.left; ending = returned (value_of_answer a) }
 
   all_ask : (w : World) (b : Bool) → outcome b w s.left (asked_value at question) ≡ asked_by b (w.answer question)
   all_ask w true = refl
@@ -95,14 +95,19 @@ module _ (s : RunState) (at : Place) (question : List ℕ) where
       all_ask w s.all_answered ∙ ap (λ c. asked_by c (w.answer question)) all ∙ ap (asked_by b) (answers question ∙ h) in
       record { state = state ∙ ap (after_outcome s) (sym whole); ending = ap (λ (o : Outcome Value). o.ending) whole ∙ ending }
 
-  pub asks_answered : (a : Answer) → keyword_in_table s.answers question ≡ Some a → Runs s s (asked_value at question)
+  -- the state of the run after it asked the question
+  abbrev pub noted : RunState
+  noted = record s { questions = with_question s.questions question }
+
+  pub asks_answered : (a : Answer) → keyword_in_table s.answers question ≡ Some a → Runs s noted (asked_value at question)
       (ends (returned (value_of_answer (Some a))))
-  asks_answered a h = in_each_world s s (asked_value at question) (returned (value_of_answer (Some a))) (λ w answers. by_test w answers s.all_answered refl)
+  asks_answered a h = in_each_world s noted (asked_value at question) (returned (value_of_answer (Some a)))
+      (λ w answers. by_test w answers s.all_answered refl)
     where
-      by_test : (w : World) → HasAnswers w s.answers → (b : Bool) → s.all_answered ≡ b → RunsIn w s s (asked_value at question)
+      by_test : (w : World) → HasAnswers w s.answers → (b : Bool) → s.all_answered ≡ b → RunsIn w s noted (asked_value at question)
           (returned (value_of_answer (Some a)))
-      by_test w answers true all = in_world_asked w true (Some a) answers all h s (returned (value_of_answer (Some a))) (stays s) refl
-      by_test w answers false all = in_world_asked w false (Some a) answers all h s (returned (value_of_answer (Some a))) (stays s) refl
+      by_test w answers true all = in_world_asked w true (Some a) answers all h noted (returned (value_of_answer (Some a))) (stays noted) refl
+      by_test w answers false all = in_world_asked w false (Some a) answers all h noted (returned (value_of_answer (Some a))) (stays noted) refl
 
   abbrev no_answer : Fault
   no_answer = record { at = at; kind = Unanswered; text = question }
@@ -114,7 +119,7 @@ module _ (s : RunState) (at : Place) (question : List ℕ) where
       (λ w answers. in_world_asked w true None answers all h s (failed no_answer) (stays s) refl))
 
   pub asks_later : keyword_in_table s.answers question ≡ None → s.all_answered ≡ false
-      → Runs s (record s { questions = with_question s.questions question }) (asked_value at question) (ends (returned None))
+      → Runs s noted (asked_value at question) (ends (returned None))
   asks_later h all =
-      let t : RunState = record s { questions = with_question s.questions question } in
-      in_each_world s t (asked_value at question) (returned None) (λ w answers. in_world_asked w false None answers all h t (returned None) (stays t) refl)
+      in_each_world s noted (asked_value at question) (returned None) (λ w answers. in_world_asked w false None answers all h noted (returned None)
+      (stays noted) refl)

@@ -114,7 +114,11 @@ pub(crate) fn ask(run: &mut Run<'_>, at: Place<'_>, question: &[u8]) -> Result<O
     ensures { Runs run.old run.new (asked_value (place_of at.entry) question.now) (end_of (λ v. v) result) }
 {
     match run.answer(question) {
-        Some(answer) => Ok(Some(answered_value(run.alloc(), answer)?)),
+        Some(answer) => {
+            let value = answered_value(run.alloc(), answer)?;
+            run.note_question(question)?;
+            Ok(Some(value))
+        }
         None => unanswered_value(run, at, question),
     }
 }

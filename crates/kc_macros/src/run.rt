@@ -1,8 +1,9 @@
-//! The state of a run of an expansion: its answers, the work that is left, its notices and its open questions.
+//! The state of a run of an expansion: its answers, the work that is left, its notices and its questions.
 ghost use Rattle.std.specs.Prelude.{◌≡◌, ℕ, ◌-◌, ◌≤◌, [], ◌∷◌, ◌++◌, IfOk, OnOk, Vec, map, option_map};
 ghost use Rattle.std.specs.declared.alloc.Global.{Global};
 ghost use Rattle.kc_tree_model.specs.Keywords.{keyword_in_table};
-ghost use Rattle.kc_answers.specs.RunStates.{run_at_start, with_question};
+ghost use Rattle.kc_macros_model.specs.Worlds.{not_in};
+ghost use Rattle.kc_answers.specs.RunStates.{run_at_start, open_questions, with_question};
 ghost use Rattle.kc_macros.specs.Runs.{notice_of};
 
 use super::stop::MacroNotice;
@@ -12,7 +13,7 @@ use std::alloc::{AllocError, Global};
 use std::marker::Model;
 
 /// The state of a run of the expansion: the answers, whether each question must have an answer, the work that is left, the
-/// notices so far, and the questions without an answer so far, each once in order of first sight.
+/// notices so far, and the questions asked so far, each once in order of first sight.
 #[derive(Drop)]
 pub struct Run<'a> {
     alloc: Global,
@@ -79,10 +80,20 @@ impl<'a> Run<'a> {
     /// # Errors
     ///
     /// Memory ran out.
-    pub fn into_questions(self) -> Result<Vec<Vec<u8>>, AllocError>
-        ensures { IfOk result (λ qs. map (λ (q : Vec ℕ Global). q.items) qs.items ≡ self.entry.questions) }
+    pub fn into_open_questions(self) -> Result<Vec<Vec<u8>>, AllocError>
+        ensures { IfOk result (λ qs. map (λ (q : Vec ℕ Global). q.items) qs.items ≡ open_questions self.entry) }
     {
-        self.questions.into_questions()
+        let answers = self.answers;
+        let mut questions = self.questions.into_questions()?;
+        answers.keep_open(&mut questions);
+        Ok(questions)
+    }
+
+    /// Keeps those of some questions that the run hasn't asked.
+    pub fn keep_not_asked(&self, questions: &mut Vec<Vec<u8>>)
+        ensures { map (λ (q : Vec ℕ Global). q.items) questions.new.items ≡ not_in self.now.questions (map (λ (q : Vec ℕ Global). q.items) questions.old.items) }
+    {
+        self.questions.keep_missing(questions);
     }
 
     /// The work that the run may still spend.
@@ -115,7 +126,7 @@ impl<'a> Run<'a> {
         Ok(())
     }
 
-    /// Appends a question without an answer to those of the run, unless it is among them.
+    /// Appends a question to those of the run, unless it is among them.
     pub(crate) fn note_question(&mut self, question: &[u8]) -> Result<(), AllocError>
         ensures { OnOk result (self.new ≡ record self.old { questions = with_question self.old.questions question.now }) }
     {

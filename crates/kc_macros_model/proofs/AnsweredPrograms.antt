@@ -3,7 +3,8 @@ use Rattle.std.proofs.Common.{◌≡◌, ℕ, Bool, true, false, cond, List, [],
 use Rattle.std.specs.Prelude.{nat_lt, ◌-◌}
 use Rattle.kc_macros_model.specs.declared.fault.MacroKind.TheVariants.{TooMany}
 use Rattle.kc_macros_model.specs.Programs.{Place, Fault, Answer, Event, Reply, spend, report, ask, read_file, find_file, list_folder, Program, returns, fails, stops, does, ◌>>=◌}
-use Rattle.kc_macros_model.specs.Worlds.{World, has_file, reply, open_question, if_unanswered, unless_unanswered, stopped, Outcome, after_event, unless_fault, outcome}
+use Rattle.kc_macros_model.specs.Worlds.{World, has_file, reply, unless_unanswered, stopped, Outcome, after_event, unless_fault, outcome}
+use Rattle.kc_macros_model.proofs.OpenQuestions.{open_question, if_unanswered}
 
 -- the rest of a program after an event fails where it gets no bytes of a file, or no names of a folder
 abbrev pub FailsUnread : {A : Type 0} → (event : Event) → (Reply event → Program A) → Type 0
@@ -55,7 +56,7 @@ module _ {A : Type 0} (w : World) (P : A → Type 0) where
   spent_never left at work k ih = by_test (nat_lt left work)
     where
       by_test : (b : Bool) → Stopped (unless_fault left (cond b (Err (record { at = at; kind = TooMany; text = [] })) (Ok (left - work)))
-          (λ n. after_event w (spend at work) (outcome true w n (k (tt {0}))))) → ⊥
+          (λ n. after_event (spend at work) (outcome true w n (k (tt {0}))))) → ⊥
       by_test true e = let z : ⊥ = cc in z
       by_test false e = ih (left - work) e
 
@@ -67,7 +68,7 @@ module _ {A : Type 0} (w : World) (P : A → Type 0) where
     where
       by_answer : (a : Option Answer) → (if_unanswered question a ≡ [] → NeverStops w P (k a))
           → Stopped (unless_fault left (unless_unanswered at question left a)
-          (λ n. after_event (record w { answer = λ q. a }) (ask at question) (outcome true w n (k a)))) → ⊥
+          (λ n. after_event (ask at question) (outcome true w n (k a)))) → ⊥
       by_answer None h e = let z : ⊥ = cc in z
       by_answer (Some a) h e = ih (Some a) (h refl) e
 

@@ -241,7 +241,7 @@ module _ {A : Type 0} (w : World) (y : A) where
     where
       by_test : (b : Bool) → nat_lt left work ≡ b
           → Adds left (work + more) (unless_fault left (cond b (Err (record { at = at; kind = TooMany; text = [] })) (Ok (left - work)))
-          (λ n. after_event w (spend at work) (outcome true w n (k (tt {0})))))
+          (λ n. after_event (spend at work) (outcome true w n (k (tt {0})))))
       by_test true t e = absurd (let z : ⊥ = cc in z)
       by_test false t e = let rest = ih (left - work) e in omega (arith, rest, ltb-false left work t)
 
@@ -251,7 +251,7 @@ module _ {A : Type 0} (w : World) (y : A) where
   asked_adds left at question work k ih = by_answer (w.answer question)
     where
       by_answer : (a : Option Answer) → Adds left (work a) (unless_fault left (unless_unanswered at question left a)
-          (λ n. after_event (record w { answer = λ q. a }) (ask at question) (outcome true w n (k a))))
+          (λ n. after_event (ask at question) (outcome true w n (k a))))
       by_answer None e = absurd (let z : ⊥ = cc in z)
       by_answer (Some a) e = ih (Some a) e
 

@@ -3,10 +3,10 @@ use Rattle.std.proofs.Common.{◌≡◌, ℕ, Bool, true, false, cond, List, [],
 use Rattle.std.specs.Prelude.{nat_lt, ◌-◌}
 use Rattle.kc_macros_model.specs.declared.fault.MacroKind.TheVariants.{TooMany}
 use Rattle.kc_value.specs.declared.limits.TheConstants.{MAX_WORK}
-use Rattle.kc_macros_model.specs.Programs.{Place, Fault, Answer, spend, report, ask, read_file, find_file, list_folder, Program, returns, fails, stops, does}
-use Rattle.kc_macros_model.specs.ReadingStates.{ExpandedFile}
+use Rattle.kc_macros_model.specs.Programs.{Place, Answer, spend, report, ask, read_file, find_file, list_folder, Program, returns, fails, stops, does}
 use Rattle.kc_macros_model.specs.TreeExpansion.{tree_read}
-use Rattle.kc_macros_model.specs.Worlds.{World, has_file, if_unanswered, unless_unanswered, returned, failed, Outcome, after_event, unless_fault, outcome, expansion}
+use Rattle.kc_macros_model.specs.Worlds.{World, has_file, unless_unanswered, returned, failed, Outcome, after_event, unless_fault, outcome, expansion}
+use Rattle.kc_macros_model.proofs.OpenQuestions.{if_unanswered}
 use Rattle.kc_macros_model.specs.ProgramLaws.{IsReadInPart}
 use Rattle.kc_macros_model.specs.TreeLaws.{FailedReadsChangeNothing}
 use Rattle.kc_macros_model.proofs.AnsweredPrograms.{NeverStops, FailsUnread}
@@ -25,11 +25,11 @@ module _ {A : Type 0} (known w : World) (part : IsReadInPart known w) (P : A →
     where
       spent : World → Bool → Outcome A
       spent v b = unless_fault left (cond b (Err (record { at = at; kind = TooMany; text = [] })) (Ok (left - work)))
-          (λ n. after_event v (spend at work) (outcome true v n (k (tt {0}))))
+          (λ n. after_event (spend at work) (outcome true v n (k (tt {0}))))
 
       by_test : (b : Bool) → Returned (spent w b) → spent known b ≡ spent w b
       by_test true e = refl
-      by_test false e = ap (after_event w (spend at work)) (ih (left - work) e)
+      by_test false e = ap (after_event (spend at work)) (ih (left - work) e)
 
   asked_same : (left : ℕ) (at : Place) (question : List ℕ) (k : Option Answer → Program A)
       → ((r : Option Answer) → NeverStops w P (k r) → Returned (outcome true w left (k r)) → outcome true known left (k r) ≡ outcome true w left (k r))
@@ -40,12 +40,12 @@ module _ {A : Type 0} (known w : World) (part : IsReadInPart known w) (P : A →
     where
       asked : World → Option Answer → Outcome A
       asked v a = unless_fault left (unless_unanswered at question left a)
-          (λ n. after_event (record v { answer = λ q. a }) (ask at question) (outcome true v n (k a)))
+          (λ n. after_event (ask at question) (outcome true v n (k a)))
 
       by_answer : (a : Option Answer) → w.answer question ≡ a → (if_unanswered question a ≡ [] → NeverStops w P (k a)) → Returned (asked w a)
           → asked known (known.answer question) ≡ asked w a
       by_answer None e h r = absurd (let z : ⊥ = cc in z)
-      by_answer (Some a) e h r = ap (asked known) (sym (part.answers question) ∙ e) ∙ ap (after_event (record w { answer = λ q. Some a }) (ask at question))
+      by_answer (Some a) e h r = ap (asked known) (sym (part.answers question) ∙ e) ∙ ap (after_event (ask at question))
           (ih (Some a) (h refl) r)
 
   read_same : (left : ℕ) (path : List ℕ) (k : Option (List ℕ) → Program A) → FailsUnread (read_file path) k
@@ -55,7 +55,7 @@ module _ {A : Type 0} (known w : World) (part : IsReadInPart known w) (P : A →
     where
       by_file : (w.bytes path ≡ known.bytes path) ⊎ (w.bytes path ≡ None) → outcome true known left (does (read_file path) k)
           ≡ outcome true w left (does (read_file path) k)
-      by_file (inl same) = ap (λ r. after_event w (read_file path) (outcome true known left (k r))) (sym same) ∙ ap (after_event w (read_file path)) (ih e)
+      by_file (inl same) = ap (λ r. after_event (read_file path) (outcome true known left (k r))) (sym same) ∙ ap (after_event (read_file path)) (ih e)
       by_file (inr none) =
           let z : failed f ≡ returned x = sym (ap (λ r. (outcome true w left (k r)).ending) none ∙ ap (λ p. (outcome true w left p).ending) fault) ∙ e in
           absurd (let y : ⊥ = cc in y)
@@ -68,8 +68,8 @@ module _ {A : Type 0} (known w : World) (part : IsReadInPart known w) (P : A →
     where
       by_folder : (w.names folder ≡ known.names folder) ⊎ (w.names folder ≡ None) → outcome true known left (does (list_folder folder) k)
           ≡ outcome true w left (does (list_folder folder) k)
-      by_folder (inl same) = ap (λ r. after_event w (list_folder folder) (outcome true known left (k r))) (sym same)
-          ∙ ap (after_event w (list_folder folder)) (ih e)
+      by_folder (inl same) = ap (λ r. after_event (list_folder folder) (outcome true known left (k r))) (sym same)
+          ∙ ap (after_event (list_folder folder)) (ih e)
       by_folder (inr none) =
           let z : failed f ≡ returned x = sym (ap (λ r. (outcome true w left (k r)).ending) none ∙ ap (λ p. (outcome true w left p).ending) fault) ∙ e in
           absurd (let y : ⊥ = cc in y)
@@ -79,10 +79,10 @@ module _ {A : Type 0} (known w : World) (part : IsReadInPart known w) (P : A →
   same_if_returned left (returns y) h e = refl
   same_if_returned left (fails f) h e = refl
   same_if_returned left stops h e = refl
-  same_if_returned left (does (report n) k) h e = ap (after_event w (report n)) (same_if_returned left (k (tt {0})) (h.0 refl) e)
+  same_if_returned left (does (report n) k) h e = ap (after_event (report n)) (same_if_returned left (k (tt {0})) (h.0 refl) e)
   same_if_returned left (does (read_file path) k) h e = read_same left path k h.1 (same_if_returned left (k (w.bytes path)) (h.0 refl)) e
   same_if_returned left (does (find_file path) k) h e =
-      ap (λ r. after_event w (find_file path) (outcome true known left (k r))) (sym (part.there path)) ∙ ap (after_event w (find_file path))
+      ap (λ r. after_event (find_file path) (outcome true known left (k r))) (sym (part.there path)) ∙ ap (after_event (find_file path))
       (same_if_returned left (k (has_file w path)) (h.0 refl) e)
   same_if_returned left (does (list_folder folder) k) h e = listed_same left folder k h.1 (same_if_returned left (k (w.names folder)) (h.0 refl)) e
   same_if_returned left (does (spend at work) k) h e = spent_same left at work k (λ n. same_if_returned n (k (tt {0})) (h.0 refl)) e

@@ -12,7 +12,8 @@ use Rattle.kc_macros_model.specs.declared.built_in.BuiltIn.{BuiltIn}
 use Rattle.kc_macros_model.specs.declared.built_in.BuiltIn.TheVariants as functions
 use Rattle.kc_macros_model.specs.Variables.{Value, value_length, joined_values, Variable, simple, recursive, Bindings, is_number, is_environment_name, command_question, argument_of, built_ins, value_of_answer}
 use Rattle.kc_macros_model.specs.Expansion.{fault, spends, asked_value, reported, message_if, shell_value, built_in_value, other_value, unbound_value, is_recursion, Expander, named_value, piece_values, call_value, reference_value, item_value, unless_too_long, item_values, expanded, text_value}
-use Rattle.kc_macros_model.specs.Worlds.{World, if_unanswered}
+use Rattle.kc_macros_model.specs.Worlds.{World}
+use Rattle.kc_macros_model.proofs.OpenQuestions.{if_unanswered}
 use Rattle.kc_macros_model.proofs.AnsweredPrograms.{NeverStops, never_then}
 
 -- a value is known: it depends on no open question

@@ -1,5 +1,6 @@
 mod Rows
 mod PlainRows
+pub mod OpenQuestions
 pub mod Outcomes
 pub mod AnsweredPrograms
 pub mod KnownTexts
@@ -18,6 +19,7 @@ pub mod LineMatches
 pub mod FormMatches
 pub mod TreeMatches
 pub mod WantedQuestions
+pub mod UnusedAnswers
 pub mod CleanTexts
 pub mod CleanLines
 pub mod EnvironmentLines

@@ -100,7 +100,7 @@ module _ {A : Type 0} (w : World) (P : A → Type 0) where
   same_outcome answer left (returns x) h = refl
   same_outcome answer left (fails g) h = refl
   same_outcome answer left stops h = refl
-  same_outcome answer left (does (read_file path) k) h = ap (after_event w (read_file path)) (same_outcome answer left (k (w.bytes path)) h)
+  same_outcome answer left (does (read_file path) k) h = ap (after_event (read_file path)) (same_outcome answer left (k (w.bytes path)) h)
   same_outcome answer left (does (spend at work) k) h = absurd h
   same_outcome answer left (does (report notice) k) h = absurd h
   same_outcome answer left (does (ask at question) k) h = absurd h

@@ -5,7 +5,8 @@ use Rattle.kc_macros_model.specs.declared.fault.MacroKind.TheVariants.{LineTooLo
 use Rattle.kc_value.specs.declared.limits.TheConstants.{MAX_TEXT_BYTES}
 use Rattle.kc_macros_model.specs.Programs.{Place, Fault, Notice, Answer, Event, spend, report, ask, read_file, find_file, list_folder, Program, returns, fails, stops, does, ◌>>=◌}
 use Rattle.kc_macros_model.specs.Expansion.{fault, spends, unless_too_long}
-use Rattle.kc_macros_model.specs.Worlds.{World, has_file, if_unanswered}
+use Rattle.kc_macros_model.specs.Worlds.{World, has_file}
+use Rattle.kc_macros_model.proofs.OpenQuestions.{if_unanswered}
 use Rattle.kc_macros_model.specs.ProgramLaws.{Extends}
 use Rattle.kc_macros_model.proofs.Outcomes.{same_files}
 use Rattle.kc_macros_model.proofs.RunInvariants.{Along, along_then, Succeeds, success_of_both}

@@ -1,7 +1,8 @@
 -- Facts that hold along the run of a program in a world.
 use Rattle.std.proofs.Common.{◌≡◌, [], refl, subst}
 use Rattle.kc_macros_model.specs.Programs.{Event, Program, returns, fails, stops, does, ◌>>=◌}
-use Rattle.kc_macros_model.specs.Worlds.{World, reply, open_question}
+use Rattle.kc_macros_model.specs.Worlds.{World, reply}
+use Rattle.kc_macros_model.proofs.OpenQuestions.{open_question}
 
 -- along the run of a program in a world, a fact holds of each event, and another of the value that the program returns, if any
 abbrev pub Along : {A : Type 0} → World → (Event → Type 0) → (A → Type 0) → Program A → Type 0

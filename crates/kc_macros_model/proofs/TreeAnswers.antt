@@ -1,38 +1,19 @@
 -- Laws on the answers to the questions of a tree.
-use Rattle.std.proofs.Common.{◌≡◌, ℕ, Bool, true, false, cond, List, [], ◌∷◌, ◌++◌, Ok, Err, refl, sym, ap, ◌∙◌}
-use Rattle.std.specs.Prelude.{reverse}
-use Rattle.kc_tree_model.specs.Limits.{is_in_list, without_repeats}
+use Rattle.std.proofs.Common.{◌≡◌, ℕ, false, List, [], ◌∷◌, Ok, Err, refl, sym, ap, ◌∙◌}
+use Rattle.std.specs.Prelude.{is_none, reverse}
 use Rattle.kc_value.specs.declared.limits.TheConstants.{MAX_WORK}
 use Rattle.kc_macros_model.specs.Programs.{Fault}
 use Rattle.kc_macros_model.specs.ReadingStates.{ExpandedFile}
 use Rattle.kc_macros_model.specs.TreeExpansion.{tree_read}
-use Rattle.kc_macros_model.specs.Worlds.{Ending, returned, failed, stopped, Outcome, outcome, expansion, questions_or_fault, wanted}
+use Rattle.kc_macros_model.specs.Worlds.{Ending, returned, failed, stopped, Outcome, outcome, expansion, questions_or_fault, without_answer, questions_once, wanted}
 use Rattle.kc_macros_model.specs.TreeLaws.{AnswersNotAskedChangeNothing, NothingWantedIsExpanded, NothingWantedReturnsFiles}
 use Rattle.kc_macros_model.proofs.Outcomes.{same_if_answered, same_if_none_open}
 use Rattle.kc_macros_model.proofs.KnownTrees.{expansion_never_stops}
-use Rattle.std.proofs.lemmas.List.{reverse-reverse}
+use Rattle.kc_macros_model.proofs.OpenQuestions.{none_repeated, none_turned}
 
 pub answers_not_asked : AnswersNotAskedChangeNothing
 unfolding expansion
 answers_not_asked w more root ext h = same_if_answered w more ext MAX_WORK (tree_read root) h
-
-end_of_none : {A : Type 0} (qs : List (List ℕ)) (x : List ℕ) → qs ++ x ∷ [] ≡ [] → A
-end_of_none [] x e = absurd (let z : ⊥ = cc in z)
-end_of_none (q ∷ qs) x e = absurd (let z : ⊥ = cc in z)
-
--- a list that is empty without repeats is empty
-none_of_none : (qs : List (List ℕ)) → without_repeats qs ≡ [] → qs ≡ []
-none_of_none [] e = refl
-none_of_none (x ∷ xs) e = by_test (none_of_none xs) (is_in_list x xs) refl e
-  where
-    has_none : (b : Bool) → is_in_list x [] ≡ b → b ≡ true → xs ≡ [] → x ∷ xs ≡ []
-    has_none true e h r = absurd (let z : ⊥ = cc in z)
-    has_none false e h r = absurd (let z : ⊥ = cc in z)
-
-    by_test : (without_repeats xs ≡ [] → xs ≡ []) → (b : Bool) → is_in_list x xs ≡ b → cond b (without_repeats xs) (without_repeats xs ++ x ∷ []) ≡ []
-        → x ∷ xs ≡ []
-    by_test ih true h e = let n = ih e in has_none (is_in_list x []) refl (ap (is_in_list x) (sym n) ∙ h) n
-    by_test ih false h e = end_of_none (without_repeats xs) x e
 
 nothing_open : {A : Type 0} (qs : List (List ℕ)) (end : Ending A) → questions_or_fault qs end ≡ Ok [] → qs ≡ []
 nothing_open [] end e = refl
@@ -45,8 +26,9 @@ pub nothing_wanted : NothingWantedIsExpanded
 unfolding wanted expansion
 nothing_wanted w root f e h =
     let o : Outcome (List ExpandedFile) = outcome false w MAX_WORK (tree_read root) in
-    let n = nothing_open (without_repeats (reverse o.questions)) o.ending e in
-    let none : o.questions ≡ [] = sym (reverse-reverse o.questions) ∙ ap reverse (none_of_none (reverse o.questions) n) in
+    let n = nothing_open (without_answer w (questions_once o)) o.ending e in
+    let p = λ (q : List ℕ). is_none (w.answer q) in
+    let none : without_answer w o.questions ≡ [] = none_turned p o.questions (none_repeated p (reverse o.questions) n) in
     let same = same_if_none_open w MAX_WORK (tree_read root) none in
     not_failed o.ending f (ap (λ qs. questions_or_fault qs o.ending) (sym n) ∙ e) (ap (λ (x : Outcome (List ExpandedFile)). x.ending) (sym same) ∙ h)
 

@@ -1,6 +1,6 @@
 -- A question that is wanted is needed.
 use Rattle.std.proofs.Common.{◌≡◌, ℕ, Bool, true, false, ◌||◌, cond, List, [], ◌∷◌, ◌++◌, Option, Some, None, Ok, Err, refl, sym, ap, ◌∙◌}
-use Rattle.std.specs.Prelude.{nat_lt, ◌-◌, bytes_eq, reverse}
+use Rattle.std.specs.Prelude.{nat_lt, ◌-◌, bytes_eq, is_none, reverse}
 use mathlib.Core.List.{reverse-cons}
 use Rattle.std.proofs.lemmas.List.Folds.{list_any-append}
 use Rattle.std.proofs.lemmas.Slice.Eq.{bytes_eq-Decides}
@@ -10,7 +10,8 @@ use Rattle.kc_value.specs.declared.limits.TheConstants.{MAX_WORK}
 use Rattle.kc_macros_model.specs.Programs.{Place, Answer, spend, report, ask, read_file, find_file, list_folder, Program, returns, fails, stops, does}
 use Rattle.kc_macros_model.specs.ReadingStates.{ExpandedFile}
 use Rattle.kc_macros_model.specs.TreeExpansion.{tree_read}
-use Rattle.kc_macros_model.specs.Worlds.{World, has_file, if_unanswered, unless_unanswered, Ending, returned, failed, stopped, Outcome, after_event, unless_fault, outcome, expansion, questions_or_fault, wanted}
+use Rattle.kc_macros_model.specs.Worlds.{World, has_file, unless_unanswered, Ending, returned, failed, stopped, Outcome, after_event, unless_fault, outcome, expansion, questions_or_fault, without_answer, questions_once, wanted}
+use Rattle.kc_macros_model.proofs.OpenQuestions.{if_unanswered, absent_filtered}
 use Rattle.kc_macros_model.specs.ProgramLaws.{Extends}
 use Rattle.kc_macros_model.specs.TreeLaws.{WantedIsNeeded}
 use Rattle.kc_macros_model.proofs.RunInvariants.{Along, Succeeds}
@@ -28,7 +29,7 @@ module _ {A : Type 0} (w : World) (y : A) where
   spent_success left at work k ih = by_test (nat_lt left work)
     where
       by_test : (b : Bool) → Returned (unless_fault left (cond b (Err (record { at = at; kind = TooMany; text = [] })) (Ok (left - work)))
-          (λ n. after_event w (spend at work) (outcome true w n (k (tt {0}))))) → Succeeds w y (k (tt {0}))
+          (λ n. after_event (spend at work) (outcome true w n (k (tt {0}))))) → Succeeds w y (k (tt {0}))
       by_test true e = absurd (let z : ⊥ = cc in z)
       by_test false e = ih (left - work) e
 
@@ -38,7 +39,7 @@ module _ {A : Type 0} (w : World) (y : A) where
   asked_success left at question k ih = by_answer (w.answer question)
     where
       by_answer : (a : Option Answer) → Returned (unless_fault left (unless_unanswered at question left a)
-          (λ n. after_event (record w { answer = λ q. a }) (ask at question) (outcome true w n (k a)))) → (if_unanswered question a ≡ []) × Succeeds w y (k a)
+          (λ n. after_event (ask at question) (outcome true w n (k a)))) → (if_unanswered question a ≡ []) × Succeeds w y (k a)
       by_answer None e = absurd (let z : ⊥ = cc in z)
       by_answer (Some a) e = (refl, ih (Some a) e)
 
@@ -68,22 +69,25 @@ module _ {A : Type 0} (w more : World) (ext : Extends w more) (question : List �
   spared_spent left at work k ih = by_test (nat_lt left work)
     where
       by_test : (b : Bool) → Without (unless_fault left (cond b (Err (record { at = at; kind = TooMany; text = [] })) (Ok (left - work)))
-          (λ n. after_event w (spend at work) (outcome false w n (k (tt {0})))))
+          (λ n. after_event (spend at work) (outcome false w n (k (tt {0})))))
       by_test true = refl
       by_test false = ih (left - work)
 
+  -- the question has no answer in the world with fewer answers
+  none_before : w.answer question ≡ None
+  none_before = by_answer (w.answer question) refl
+    where
+      by_answer : (a : Option Answer) → w.answer question ≡ a → w.answer question ≡ None
+      by_answer None e = e
+      by_answer (Some a) e = absurd (let z : Some a ≡ None = sym (ext.answers question a e) ∙ unanswered in let y : ⊥ = cc in y)
+
   spared_asked : (left : ℕ) (at : Place) (other : List ℕ) (k : Option Answer → Program A) → (w.answer other ≡ None → other ≡ question → ⊥)
       → Without (outcome false w left (k (w.answer other))) → Without (outcome false w left (does (ask at other) k))
-  spared_asked left at other k h ih = by_answer (w.answer other) refl ih
+  spared_asked left at other k h ih = by_same (bytes_eq other question) refl (outcome false w left (k (w.answer other))) ih
     where
-      by_same : (b : Bool) → bytes_eq other question ≡ b → w.answer other ≡ None → (o : Outcome A) → Without o → (b || is_in_list question o.questions) ≡ false
-      by_same true e n o i = absurd (h n ((bytes_eq-Decides other question).0 e))
-      by_same false e n o i = i
-
-      by_answer : (a : Option Answer) → w.answer other ≡ a → Without (outcome false w left (k a)) → Without
-          (after_event (record w { answer = λ q. a }) (ask at other) (outcome false w left (k a)))
-      by_answer None e i = by_same (bytes_eq other question) refl e (outcome false w left (k None)) i
-      by_answer (Some a) e i = i
+      by_same : (b : Bool) → bytes_eq other question ≡ b → (o : Outcome A) → Without o → (b || is_in_list question o.questions) ≡ false
+      by_same true e o i = let s = (bytes_eq-Decides other question).0 e in absurd (h (ap w.answer s ∙ none_before) s)
+      by_same false e o i = i
 
   pub spared_questions : (left : ℕ) (p : Program A) → Spared p → Without (outcome false w left p)
   spared_questions left (returns x) h = refl
@@ -131,6 +135,7 @@ wanted_is_needed w more root question questions files asked has ext unanswered h
     let o : Outcome (List ExpandedFile) = outcome false w MAX_WORK (tree_read root) in
     let spared = tree_matches w more ext question unanswered root files (job_succeeds more files MAX_WORK (tree_read root) h) in
     let none = spared_questions w more ext question unanswered (λ x. Any w more ext question unanswered x files) MAX_WORK (tree_read root) spared in
-    let absent = not_without_repeats question (reverse o.questions) (not_in_reverse question o.questions none) in
-    let e : true ≡ false = sym has ∙ ap (is_in_list question) (sym (questions_are (without_repeats (reverse o.questions)) o.ending questions asked)) ∙ absent in
+    let absent = absent_filtered (λ (q : List ℕ). is_none (w.answer q)) question (questions_once o)
+    (not_without_repeats question (reverse o.questions) (not_in_reverse question o.questions none)) in
+    let e : true ≡ false = sym has ∙ ap (is_in_list question) (sym (questions_are (without_answer w (questions_once o)) o.ending questions asked)) ∙ absent in
     cc

@@ -12,6 +12,12 @@ pub record Extends (w more : World) : Type 0 where
   pub unreadable : (path : List ℕ) → more.unreadable path ≡ w.unreadable path
   pub names : (folder : List ℕ) → more.names folder ≡ w.names folder
 
+-- the world `other` has the files and folders of the world `w`
+pub record HasSameFiles (w other : World) : Type 0 where
+  pub bytes : (path : List ℕ) → other.bytes path ≡ w.bytes path
+  pub unreadable : (path : List ℕ) → other.unreadable path ≡ w.unreadable path
+  pub names : (folder : List ℕ) → other.names folder ≡ w.names folder
+
 -- the world `w` has the answers of the world `known`, and files at the same paths; each file that can be read in it has the bytes
 -- that it has in `known`, and each folder that can be listed the same names
 pub record IsReadInPart (known w : World) : Type 0 where

@@ -6,8 +6,8 @@ use Rattle.kc_tree_model.specs.Limits.{is_in_list}
 use Rattle.kc_macros_model.specs.Programs.{Place, Fault}
 use Rattle.kc_macros_model.specs.ReadingStates.{ExpandedFile}
 use Rattle.kc_macros_model.specs.TreeExpansion.{list_name}
-use Rattle.kc_macros_model.specs.Worlds.{World, returned, failed, stopped, expansion, wanted}
-use Rattle.kc_macros_model.specs.ProgramLaws.{Extends, IsReadInPart, is_unanswered}
+use Rattle.kc_macros_model.specs.Worlds.{World, returned, failed, stopped, expansion, wanted, unused}
+use Rattle.kc_macros_model.specs.ProgramLaws.{Extends, HasSameFiles, IsReadInPart, is_unanswered}
 use Rattle.kc_macros_model.specs.LinePlaces.{line_of, AreInPlace}
 use Rattle.kc_value.specs.Lines.{newline_count, has_newline}
 
@@ -36,6 +36,12 @@ NothingWantedReturnsFiles = (w : World) (root : List ℕ) → wanted w root ≡ 
 abbrev pub WantedIsNeeded : Type 0
 WantedIsNeeded = (w more : World) (root question : List ℕ) (questions : List (List ℕ)) (files : List ExpandedFile) → wanted w root ≡ Ok questions → is_in_list question questions ≡ true
     → Extends w more → more.answer question ≡ None → (expansion more root).ending ≡ returned files → ⊥
+
+-- where no question of a tree is open, the answers that are unused may be others, or be taken away: its expansion is the same
+abbrev pub UnusedAnswersChangeNothing : Type 0
+UnusedAnswersChangeNothing = (w other : World) (root : List ℕ) (answered listed : List (List ℕ)) → wanted w root ≡ Ok [] → unused w root answered ≡ Ok listed
+    → HasSameFiles w other → ((question : List ℕ) → is_in_list question listed ≡ false → other.answer question ≡ w.answer question)
+    → expansion other root ≡ expansion w root
 
 -- an expanded file has the logical lines of the file that was read for its path under their numbers, and as many newlines as that
 -- file; or it is the list of files of a `source` line

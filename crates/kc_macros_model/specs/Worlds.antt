@@ -1,6 +1,6 @@
--- A program in a world that replies: its notices, its open questions, and its end.
-use Rattle.std.specs.Prelude.{ℕ, ◌-◌, Bool, true, false, ◌||◌, is_some, nat_lt, List, [], ◌∷◌, ◌++◌, reverse, Option, Some, None, Result, Ok, Err, if◌then◌else◌}
-use Rattle.kc_tree_model.specs.Limits.{without_repeats}
+-- A program in a world that replies: its notices, its questions, and its end.
+use Rattle.std.specs.Prelude.{ℕ, ◌-◌, Bool, true, false, not, ◌||◌, is_some, is_none, nat_lt, List, [], ◌∷◌, ◌++◌, filter, reverse, Option, Some, None, Result, Ok, Err, if◌then◌else◌}
+use Rattle.kc_tree_model.specs.Limits.{is_in_list, without_repeats}
 use Rattle.kc_macros_model.specs.declared.fault.MacroKind.TheVariants.{Unanswered, TooMany}
 use Rattle.kc_value.specs.declared.limits.TheConstants.{MAX_WORK}
 use Rattle.kc_macros_model.specs.Programs.{Place, Fault, Notice, Answer, Event, spend, report, ask, read_file, find_file, list_folder, Reply, Program, returns, fails, stops, does}
@@ -33,15 +33,10 @@ abbrev pub notices_of : Event → List Notice
 notices_of (report notice) = notice ∷ []
 notices_of e = []
 
--- the open questions that a question with this answer leaves: the question itself if it has no answer, else no question
-abbrev pub if_unanswered : List ℕ → Option Answer → List (List ℕ)
-if_unanswered question None = question ∷ []
-if_unanswered question (Some a) = []
-
--- the question that an event of a program asks without getting an answer from the world, or none
-abbrev pub open_question : World → Event → List (List ℕ)
-open_question w (ask at question) = if_unanswered question (w.answer question)
-open_question w e = []
+-- the question that an event of a program asks, or none
+abbrev pub question_of : Event → List (List ℕ)
+question_of (ask at question) = question ∷ []
+question_of e = []
 
 -- the work that is left, or the fault `Unanswered` where the question has no answer
 abbrev pub unless_unanswered : Place → List ℕ → ℕ → Option Answer → Result ℕ Fault
@@ -61,7 +56,7 @@ pub data Ending (A : Type 0) : Type 0 where
   failed : Fault → Ending A
   stopped : Ending A
 
--- the outcome of a program: its notices and open questions in order, the work that is left, and its end
+-- the outcome of a program: its notices and the questions that it asks in order, the work that is left, and its end
 pub record Outcome (A : Type 0) : Type 0 where
   pub notices : List Notice
   pub questions : List (List ℕ)
@@ -73,8 +68,8 @@ abbrev pub ended : {A : Type 0} → ℕ → Ending A → Outcome A
 ended left e = record { notices = []; questions = []; left = left; ending = e }
 
 -- the outcome of a program that begins with an event, given the outcome of the rest of the program
-abbrev pub after_event : {A : Type 0} → World → Event → Outcome A → Outcome A
-after_event w e o = record { notices = notices_of e ++ o.notices; questions = open_question w e ++ o.questions; left = o.left; ending = o.ending }
+abbrev pub after_event : {A : Type 0} → Event → Outcome A → Outcome A
+after_event e o = record { notices = notices_of e ++ o.notices; questions = question_of e ++ o.questions; left = o.left; ending = o.ending }
 
 -- the outcome of a program that goes on with the work that is left, or that ends at once with the fault, if there is one
 abbrev pub unless_fault : {A : Type 0} → ℕ → Result ℕ Fault → (ℕ → Outcome A) → Outcome A
@@ -86,7 +81,7 @@ abbrev pub outcome : {A : Type 0} → (all_answered : Bool) → World → ℕ �
 outcome all w left (returns x) = ended left (returned x)
 outcome all w left (fails f) = ended left (failed f)
 outcome all w left stops = ended left stopped
-outcome all w left (does e k) = unless_fault left (left_after all w left e) (λ more. after_event w e (outcome all w more (k (reply w e))))
+outcome all w left (does e k) = unless_fault left (left_after all w left e) (λ more. after_event e (outcome all w more (k (reply w e))))
 
 -- the outcome of the expansion of a tree by the path of its first file, where each question must be answered
 unfoldable pub expansion : World → List ℕ → Outcome (List ExpandedFile)
@@ -99,6 +94,29 @@ questions_or_fault [] (returned x) = Ok []
 questions_or_fault [] stopped = Ok []
 questions_or_fault (q ∷ qs) e = Ok (q ∷ qs)
 
+-- the questions among these that a world doesn't answer, in their order
+abbrev pub without_answer : World → List (List ℕ) → List (List ℕ)
+without_answer w questions = filter (λ q. is_none (w.answer q)) questions
+
+-- the questions among these that aren't in `asked`, in their order
+abbrev pub not_in : (asked questions : List (List ℕ)) → List (List ℕ)
+not_in asked questions = filter (λ q. not (is_in_list q asked)) questions
+
+-- the questions of a program with this outcome, each once, in the order first asked
+abbrev pub questions_once : {A : Type 0} → Outcome A → List (List ℕ)
+questions_once o = without_repeats (reverse o.questions)
+
 -- the open questions of the reading of a tree, each once, in the order first asked; if there are none, the fault of the reading
 unfoldable pub wanted : World → List ℕ → Result (List (List ℕ)) Fault
-wanted w root = let o = outcome false w MAX_WORK (tree_read root) in questions_or_fault (without_repeats (reverse o.questions)) o.ending
+wanted w root = let o = outcome false w MAX_WORK (tree_read root) in questions_or_fault (without_answer w (questions_once o)) o.ending
+
+-- these questions, where a reading has neither open questions nor a fault; else its open questions, or its fault
+abbrev pub if_all_answered : Result (List (List ℕ)) Fault → List (List ℕ) → Result (List (List ℕ)) Fault
+if_all_answered (Ok []) questions = Ok questions
+if_all_answered (Ok (q ∷ qs)) questions = Ok (q ∷ qs)
+if_all_answered (Err f) questions = Err f
+
+-- the questions of `answered` that the reading of a tree doesn't ask, in their order; while it has open questions, these; else its
+-- fault, if it has one
+unfoldable pub unused : World → List ℕ → (answered : List (List ℕ)) → Result (List (List ℕ)) Fault
+unused w root answered = if_all_answered (wanted w root) (not_in (questions_once (outcome false w MAX_WORK (tree_read root))) answered)

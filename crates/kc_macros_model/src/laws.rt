@@ -3,7 +3,7 @@ ghost use Rattle.kc_macros_model.specs.ExpansionLaws.{ExpansionKeepsTheRules, Ru
 ghost use Rattle.kc_macros_model.specs.SecondExpansionLaws.{NothingIsLeftToExpand, WrittenLinesStay};
 ghost use Rattle.kc_macros_model.specs.PlainLines.{LinesWithoutDollars, PlainLinesStay, PlainFilesStay, PlainTreesStay};
 ghost use Rattle.kc_macros_model.specs.ReadingLaws.{CountsAreBounded, TreeCountsAreBounded, KeysAreBounded, SourceKeysHaveFiles, KeysDiffer, FilesAreBounded, WorkIsBounded};
-ghost use Rattle.kc_macros_model.specs.TreeLaws.{AnswersNotAskedChangeNothing, FailedReadsChangeNothing, ExpansionNeverStops, NothingWantedIsExpanded, NothingWantedReturnsFiles, WantedIsNeeded, LinesAreKept};
+ghost use Rattle.kc_macros_model.specs.TreeLaws.{AnswersNotAskedChangeNothing, FailedReadsChangeNothing, ExpansionNeverStops, NothingWantedIsExpanded, NothingWantedReturnsFiles, WantedIsNeeded, UnusedAnswersChangeNothing, LinesAreKept};
 
 /// The expansion of a text agrees with the rules of macro expansion: it returns only values that the rules give, and each of
 /// them, unless it exceeds a limit or a variable needs its own value.
@@ -50,6 +50,12 @@ pub fn nothing_wanted_is_expanded()
 /// whatever else is answered.
 pub fn wanted_is_needed()
     ensures { WantedIsNeeded }
+{}
+
+/// Where no question of a tree is open, the answers that are unused may be others, or be taken away: the expansion of the tree is the
+/// same.
+pub fn unused_answers_change_nothing()
+    ensures { UnusedAnswersChangeNothing }
 {}
 
 /// Where neither an answer nor the first file's path has a newline, an expanded file has its lines under the numbers that they have

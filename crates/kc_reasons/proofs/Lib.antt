@@ -2,3 +2,5 @@ pub mod Marks
 pub mod UnitCases
 pub mod Ranges
 pub mod UnitHindrances
+pub mod LackingLemmas
+pub mod DecisiveLemmas

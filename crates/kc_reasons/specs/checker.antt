@@ -1,1 +1,4 @@
 pub mod CaseParts
+pub mod LackingWalk
+pub mod LargestLimits
+pub mod EmptyLists

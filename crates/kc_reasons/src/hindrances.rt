@@ -7,10 +7,10 @@ ghost use Rattle.kc_rules_model.specs.Kinds.{is_m};
 ghost use Rattle.kc_rules_model.specs.Rule.{active_range, is_upside_down, is_within};
 ghost use Rattle.kc_reasons_model.specs.Hindrances.{hinders_symbol, hinders_tri, hinders_text, holds_of_tri, holds_of_text};
 
-use super::tristates::{is_below, is_without_m, leaves_no_m};
+use super::tristates::{is_without_m, leaves_no_m};
 use kc_evaluation::{
-    Valuation, active_range, is_from_environment, is_n, is_upside_down, is_visible, is_within,
-    number_of, reverse_limit, visibility,
+    Valuation, active_range, is_below, is_from_environment, is_n, is_upside_down, is_visible,
+    is_within, number_of, reverse_limit, visibility,
 };
 use kc_reasons_model::Hindrance;
 use kc_rules_model::{Profile, UserValue};

@@ -1,41 +1,22 @@
 //! What gives a bool or tristate its value.
-ghost use Rattle.std.specs.Prelude.{◌≡◌, ◌<◌, length, map, is_some, option_map, nat_lt};
+ghost use Rattle.std.specs.Prelude.{◌≡◌, ◌<◌, length, map, is_some, option_map};
 ghost use Rattle.std.specs.Option.{option_copied};
-ghost use Rattle.kc_value.specs.Tri.{rank};
 ghost use Rattle.kc_tree.specs.between.Views.{symbol_view, default_view, SymbolFits};
 ghost use Rattle.kc_dependencies.specs.checker.StoredRules.{AreDefaults};
 ghost use Rattle.kc_evaluation.specs.checker.RuleParts.{active_default_of};
 ghost use Rattle.kc_evaluation.specs.checker.ValuationView.{valuation_tree, valuation_exprs, valuation_values};
 ghost use Rattle.kc_rules_model.specs.Rule.{active_default, leaves_no_m};
-ghost use Rattle.kc_reasons_model.specs.Conjuncts.{below};
 ghost use Rattle.kc_reasons_model.specs.Cases.{is_environment, by_default, asked_tri, base_case, tri_case, is_without_m, given_tri, lift_of};
 ghost use Rattle.kc_reasons.specs.checker.CaseParts.{mark_of, unasked_of};
 
 use kc_evaluation::{
-    Valuation, assigned_tri, base, default_value, implied_effect, is_n, largest, reverse_limit,
-    visibility,
+    Valuation, assigned_tri, base, default_value, implied_effect, is_below, is_n, largest,
+    reverse_limit, visibility,
 };
 use kc_reasons_model::{Lift, TriCase};
 use kc_rules_model::{Profile, UserValue};
 use kc_tree::{Default, Symbol};
 use kc_value::{Kind, Tri};
-
-/// Whether the first is below the second.
-pub(crate) fn is_below(a: Tri, b: Tri) -> bool
-    ensures { result ≡ below a b }
-{
-    match (a, b) {
-        (Tri::N, Tri::N) => false,
-        (Tri::N, Tri::M) => true,
-        (Tri::N, Tri::Y) => true,
-        (Tri::M, Tri::N) => false,
-        (Tri::M, Tri::M) => false,
-        (Tri::M, Tri::Y) => true,
-        (Tri::Y, Tri::N) => false,
-        (Tri::Y, Tri::M) => false,
-        (Tri::Y, Tri::Y) => false,
-    }
-}
 
 /// Whether the first default whose condition isn't `n` is an `option env`; `None` without such a default.
 pub(crate) fn active_mark(under: &Valuation<'_>, defaults: &[Default]) -> Option<bool>

@@ -17,3 +17,4 @@ pub mod ReasonLaws
 pub mod TextLaws
 pub mod CaseRows
 mod HindranceRows
+pub mod FittingLines

@@ -1,5 +1,5 @@
 -- The laws of reasons, for each tree, each valuation and both profiles.
-use Rattle.std.specs.Prelude.{is_some, ◌≡◌, ◌≢◌, ◌↔◌, ℕ, ◌+◌, ◌<◌, Bool, true, false, not, ◌&&◌, List, [], ◌++◌, Option, Some, None, IsTrue, IfSome, length, Contains, slice_get, option_to_list, map, ◌≤◌, Ok, if◌then◌else◌}
+use Rattle.std.specs.Prelude.{is_some, ◌≡◌, ◌≢◌, ◌↔◌, ℕ, ◌+◌, ◌<◌, Bool, true, false, not, ◌&&◌, List, [], ◌++◌, Option, Some, None, IsTrue, IfSome, length, Contains, slice_get, option_to_list, map, filter_map, ◌≤◌, Ok, if◌then◌else◌}
 use Rattle.std.specs.List.{All, list_all, list_any}
 use Rattle.kc_value.specs.declared.tri.Tri.{Tri}
 use Rattle.kc_expr.specs.Expr.{Expr, Environment, value, named, quoted}
@@ -22,12 +22,12 @@ use Rattle.kc_rules_model.specs.Shapes.{user_fits, tri_fits}
 use Rattle.kc_rules_model.specs.SymbolValues.{condition, environment}
 use Rattle.kc_rules_model.specs.Rule.{rule, reverse_dependency_value, reverse_dependency_limit, visibility, is_visible, direct_dependency, counted_prompts, choice_rule, member_user}
 use Rattle.kc_tokens.specs.Languages.{is_linux_6_12}
-use Rattle.kc_tree_model.specs.TreeLookup.{unit_of, symbol_named}
+use Rattle.kc_tree_model.specs.TreeLookup.{IsConsistent, unit_of, symbol_named}
 use Rattle.kc_rules_model.specs.Dependencies.{dependencies}
 use Rattle.kc_dotconfig_model.specs.MissedAssignments.{is_missed}
 use Rattle.kc_dotconfig_model.specs.ConfigLines.{LineMeaning, Means}
 use Rattle.kc_dotconfig_model.specs.Formats.{FileFormat}
-use Rattle.kc_dotconfig_model.specs.ConfigFiles.{assigned_over}
+use Rattle.kc_dotconfig_model.specs.ConfigFiles.{has_utf8_lines, FileMeans, assigned_over}
 use Rattle.kc_reasons_model.specs.declared.cases.Hindrance.{Hindrance}
 use Rattle.kc_reasons_model.specs.Conjuncts.{below, Part, conjuncts, lacks, lacking}
 use Rattle.kc_tree_model.specs.Blocks.{Group}
@@ -36,7 +36,7 @@ use Rattle.kc_reasons_model.specs.Places.{located_context, located_prompt, locat
 use Rattle.kc_tree_model.specs.Contents.{contents_of, symbol_of}
 use Rattle.kc_reasons_model.specs.SymbolLines.{SymbolLines, lines_of_symbol}
 use Rattle.kc_reasons_model.specs.Blame.{is_off, blamed}
-use Rattle.kc_reasons_model.specs.DecisiveLimits.{decisive, weaker}
+use Rattle.kc_reasons_model.specs.DecisiveLimits.{decisive, decisive_numbers, weaker}
 use Rattle.kc_reasons_model.specs.Cases.{case_of, given}
 use Rattle.kc_reasons_model.specs.Claims.{claims_hold}
 use Rattle.kc_reasons_model.specs.Hindrances.{hindrance_to, hinders, suffices, is_given_y, is_asked_n, is_given_both, wanted_for, is_about}
@@ -171,6 +171,11 @@ abbrev pub DecisiveForceAll : Type 0
 DecisiveForceAll = (tree : Tree) (values : List UnitValue) (fs : List ReverseDependency)
     → All (λ f. (reverse_dependency_value tree values f ≡ largest (reverse_dependency_limit tree values fs)) × (is_n (reverse_dependency_value tree values f) ≡ false)) (decisive tree values fs)
 
+-- the numbers of the decisive selects or implies are those of `decisive`, in the list of all
+abbrev pub NumbersAreDecisive : Type 0
+NumbersAreDecisive = (tree : Tree) (values : List UnitValue) (fs : List ReverseDependency)
+    → filter_map (slice_get fs) (decisive_numbers tree values fs) ≡ decisive tree values fs
+
 -- the last line that says something of symbol s of unit u: it says this, and no later line says anything of it
 pub record IsLastAssigning (u s first : ℕ) (meanings : List LineMeaning) (line : AssigningLine) : Type 0 where
   pub k : ℕ
@@ -192,6 +197,11 @@ LinesAssign = (tree : Tree) (u s first : ℕ) (meanings : List LineMeaning) (use
     → (assigning_line u s first meanings ≡ None → said_to s (user_of (assigned_over meanings users) u) ≡ said_to s (user_of users u))
     × ((line : AssigningLine) → assigning_line u s first meanings ≡ Some line
     → (said_to s (user_of (assigned_over meanings users) u) ≡ Some line.user) × IsLastAssigning u s first meanings line)
+
+-- what lines of a file of UTF-8 assign to a unit fits it, over a consistent tree, as `LinesAssign` and `FilesAssign` want it
+abbrev pub LinesFitUnits : Type 0
+LinesFitUnits = (format : FileFormat) (tree : Tree) (u : ℕ) (bytes : List ℕ) (meanings : List LineMeaning) → IsConsistent tree
+    → has_utf8_lines bytes ≡ true → FileMeans format tree bytes meanings → FitUnit tree u meanings
 
 -- a unit's user value gives no member both `y` and `n` after lines that each give none both
 abbrev pub MembersHaveOneLine : Type 0

@@ -11,4 +11,5 @@ pub mod Places
 pub mod Laws
 pub mod SymbolLines
 pub mod Reasons
+pub mod PlainReasons
 pub mod ReasonLaws

@@ -147,7 +147,7 @@ is_empty [] = true
 is_empty (x ∷ xs) = false
 
 -- alternatives, none if one of them lacks nothing
-abbrev pub unless_one_lacks_nothing : List (List LowPart) → List (List LowPart)
+abbrev pub unless_one_lacks_nothing : {X : Type 0} → List (List X) → List (List X)
 unless_one_lacks_nothing parts = if list_any is_empty parts then [] else parts
 
 -- the name of the symbol of this number, and its value

@@ -1,6 +1,6 @@
 //! Laws of reasons.
 ghost use Rattle.kc_reasons_model.specs.ReasonLaws.{HiddenNeedsAreGiven, NothingIsNeededIfVisible, UnmetPartsAreGiven, NextAreDependencies, MemberNextAreDependencies, NextNamesHide};
-ghost use Rattle.kc_reasons_model.specs.Laws.{CasesGiveValues, HindrancesAreMissed, HindrancesHold, HindrancesSuffice, PromptsLetInWhatIsWanted, ConjunctsDecide, NothingLacksIfHigh, RaisingSuffices, EachLackingIsNeeded, BlamedNamesKeep, WeakerForceLess, LinesAssign, ClaimsHold, BlamedAreNamed, RuleGivesWhatIf, SpelledIsReadBack, SpellingIsReadAsTokens, PrintedExpressionsAreReadBack, OperandsAreReadBack, DecisiveForceAll, HiddenPromptsLack, UnmetDependenciesLack, AssignableIsTaken, MissedAreHindered, PromptPartsAreLocated, ConditionPartsAreLocated, DependencyPartsAreLocated, FilesAssign, BlamedAreDependencies, ChoiceBlamedAreDependencies, LinesAreOfSymbol, SelectableAreTaken, MembersHaveOneLine, LinesGiveOne};
+ghost use Rattle.kc_reasons_model.specs.Laws.{CasesGiveValues, HindrancesAreMissed, HindrancesHold, HindrancesSuffice, PromptsLetInWhatIsWanted, ConjunctsDecide, NothingLacksIfHigh, RaisingSuffices, EachLackingIsNeeded, BlamedNamesKeep, WeakerForceLess, LinesAssign, ClaimsHold, BlamedAreNamed, RuleGivesWhatIf, SpelledIsReadBack, SpellingIsReadAsTokens, PrintedExpressionsAreReadBack, OperandsAreReadBack, DecisiveForceAll, HiddenPromptsLack, UnmetDependenciesLack, AssignableIsTaken, MissedAreHindered, PromptPartsAreLocated, ConditionPartsAreLocated, DependencyPartsAreLocated, FilesAssign, BlamedAreDependencies, ChoiceBlamedAreDependencies, LinesAreOfSymbol, SelectableAreTaken, MembersHaveOneLine, LinesGiveOne, LinesFitUnits, NumbersAreDecisive};
 
 /// The case of each unit, given its value by the case's own formula.
 pub fn cases_give_values()
@@ -200,4 +200,14 @@ pub fn members_have_one_line()
 /// A line of a configuration file gives no member both.
 pub fn lines_give_one()
     ensures { LinesGiveOne }
+{}
+
+/// What lines of a configuration file of UTF-8 assign to a unit fits it.
+pub fn lines_fit_units()
+    ensures { LinesFitUnits }
+{}
+
+/// The numbers of the decisive selects or implies are those of the selects or implies that force as much as all together.
+pub fn numbers_are_decisive()
+    ensures { NumbersAreDecisive }
 {}

@@ -1,23 +1,21 @@
 //! Tests of whether a symbol is written or unmet, given the values of the units.
-ghost use Rattle.std.specs.Prelude.{◌≡◌, ◌<◌, ◌++◌, ◌∷◌, ◌&&◌, ◌||◌, [], not, length, nat_lt, IfOk, OnOk, if◌then◌else◌};
-ghost use Rattle.kc_value.specs.Tri.{rank};
+ghost use Rattle.std.specs.Prelude.{◌≡◌, ◌<◌, ◌++◌, ◌∷◌, ◌&&◌, ◌||◌, [], not, length, IfOk, OnOk, if◌then◌else◌};
 ghost use Rattle.kc_tree.specs.between.Views.{SymbolFits, symbol_view};
 ghost use Rattle.kc_tokens.specs.Languages.{is_linux_6_12};
 ghost use Rattle.kc_rules_model.specs.Kinds.{is_n};
 ghost use Rattle.kc_rules_model.specs.Rule.{implied, direct_dependency};
-ghost use Rattle.kc_rules_model.specs.Reports.{allowed, has_default, is_unselected, is_written_symbol, is_written, is_unmet_symbol, is_unmet, unmet};
+ghost use Rattle.kc_rules_model.specs.Reports.{has_default, is_unselected, is_written_symbol, is_written, is_unmet, unmet};
 ghost use Rattle.kc_rules.specs.between.SettledViews.{tree_of_settled};
 ghost use Rattle.kc_evaluation.specs.checker.ValuationView.{valuation_tree, valuation_exprs, valuation_values};
 
 use super::rules::Settled;
 use kc_evaluation::{
-    Valuation, active_default, default_value, has_no_member, is_from_environment, is_n, is_visible,
-    largest, reverse_limit, y_for_m,
+    Valuation, active_default, default_value, has_no_member, is_from_environment, is_n,
+    is_symbol_unmet, is_visible, largest, reverse_limit,
 };
 use kc_rules_model::UnitValue;
-use kc_tokens::Language;
 use kc_tree::{Sym, Symbol};
-use kc_value::{Kind, Tri};
+use kc_value::Kind;
 use std::alloc::{AllocError, Global};
 
 /// Whether a bool or tristate has a default that isn't `n`, or another symbol a default that counts.
@@ -71,49 +69,6 @@ fn is_symbol_written(under: &Valuation<'_>, symbol: &Symbol<'_>) -> bool
     has_default(under, symbol)
         || !is_n(reverse_limit(under, symbol.selectors))
         || is_implied(under, symbol)
-}
-
-/// Whether the first is below the second.
-fn is_below(a: Tri, b: Tri) -> bool
-    ensures { result ≡ nat_lt (rank a) (rank b) }
-{
-    match (a, b) {
-        (Tri::N, Tri::N) => false,
-        (Tri::N, Tri::M) => true,
-        (Tri::N, Tri::Y) => true,
-        (Tri::M, Tri::N) => false,
-        (Tri::M, Tri::M) => false,
-        (Tri::M, Tri::Y) => true,
-        (Tri::Y, Tri::N) => false,
-        (Tri::Y, Tri::M) => false,
-        (Tri::Y, Tri::Y) => false,
-    }
-}
-
-/// The direct dependency of a symbol, up to which it may be selected: in the languages of Linux `m` counts as `y` for a bool.
-fn allowed(under: &Valuation<'_>, symbol: &Symbol<'_>) -> Tri
-    requires fits { SymbolFits (valuation_exprs under.now) (length (valuation_tree under.now).symbols) symbol.now }
-    ensures value { result ≡ allowed (valuation_tree under.now) (valuation_values under.now) (symbol_view (valuation_exprs under.now) symbol.now) }
-{
-    let direct = largest(under, symbol.direct);
-    match (under.rules.tree.language(), symbol.kind) {
-        (Language::Linux(_), Kind::Bool) => y_for_m(direct),
-        _ => direct,
-    }
-}
-
-/// Whether a symbol outside choices is selected above its direct dependency.
-fn is_symbol_unmet(under: &Valuation<'_>, symbol: &Symbol<'_>) -> bool
-    requires fits { SymbolFits (valuation_exprs under.now) (length (valuation_tree under.now).symbols) symbol.now }
-    ensures value { result ≡ is_unmet_symbol (valuation_tree under.now) (valuation_values under.now) (symbol_view (valuation_exprs under.now) symbol.now) }
-{
-    if symbol.choice.is_some() {
-        return false;
-    }
-    is_below(
-        allowed(under, symbol),
-        reverse_limit(under, symbol.selectors),
-    )
 }
 
 /// Whether a symbol is outside choices and selected above its direct dependency, by its number.

@@ -15,13 +15,13 @@ use Rattle.kc_tree_model.specs.Trees.{Tree}
 use Rattle.kc_tree_model.specs.declared.ids.Unit.TheVariants.{Choice as of_choice}
 use Rattle.kc_tree_model.specs.TreeLookup.{IsConsistent, unit_of, index_of_unit, symbol_named}
 use Rattle.kc_tree.specs.between.Views.{DefaultFits, RangeFits, HasOperands, ReverseDependencyFits, MemberDefaultFits}
-use Rattle.kc_tree.specs.checker.GatheredAttributes.{AreGrouped}
-use Rattle.kc_tree.specs.checker.GatheredFits.{GatheredFit}
-use Rattle.kc_tree.specs.checker.GatheredView.{gathered_tree, symbol_gathered, choice_gathered}
-use Rattle.kc_tree.specs.checker.GroupedItems.{IsGrouped}
-use Rattle.kc_tree.specs.checker.StoredParts.{AreSoundParts, PartsFit, HasPlaces}
+use Rattle.kc_tree.specs.between.GatheredAttributes.{AreGrouped}
+use Rattle.kc_tree.specs.between.GatheredFits.{GatheredFit}
+use Rattle.kc_tree.specs.between.GatheredView.{gathered_tree, symbol_gathered, choice_gathered}
+use Rattle.kc_tree.specs.between.GroupedItems.{IsGrouped}
+use Rattle.kc_tree.specs.between.StoredParts.{AreSoundParts, PartsFit, HasPlaces}
 use Rattle.kc_tree.specs.checker.NameTable.{IsTable}
-use Rattle.kc_tree.specs.checker.PartsView.{tree_from_rows, symbol_from_row, choice_from_row, from_rows}
+use Rattle.kc_tree.specs.between.PartsView.{tree_from_rows, symbol_from_row, choice_from_row, from_rows}
 use Rattle.kc_tree.specs.checker.Units.{HasUnits}
 use Rattle.kc_tree.specs.declared.parts.SymbolRow.{SymbolRow}
 use Rattle.kc_tree.specs.declared.parts.ChoiceRow.{ChoiceRow}

@@ -4,8 +4,8 @@ use Rattle.std.specs.Prelude.{All, slice_get, slice_index}
 use Rattle.std.proofs.lemmas.List.{length-map, take-map}
 use Rattle.std.proofs.lemmas.List.Elements.{All-take, All-drop}
 use Rattle.kc_tree_model.specs.Contents.{own_dependencies}
-use Rattle.kc_tree.specs.checker.GroupedItems.{items_at}
-use Rattle.kc_tree.specs.checker.PartsView.{from_rows, tree_from_rows, symbol_from_row, choice_from_row, entry_from_row}
+use Rattle.kc_tree.specs.between.GroupedItems.{items_at}
+use Rattle.kc_tree.specs.between.PartsView.{from_rows, tree_from_rows, symbol_from_row, choice_from_row, entry_from_row}
 use Rattle.kc_tree.specs.declared.parts.Parts.{Parts}
 
 pub seen_get : {A B : Type 0} (f : ℕ → A → B) (n : ℕ) (xs : List A) (i j : ℕ) (x : A) → j ≡ n + i → slice_get xs i ≡ Some x

@@ -5,7 +5,7 @@ use Rattle.std.proofs.lemmas.Option.{slice_get_within, get_or_from_slice_get}
 use Rattle.kc_tree_model.specs.declared.ids.Unit.{Unit as TreeUnit}
 use Rattle.kc_tree_model.specs.declared.ids.Unit.TheVariants.{Symbol as of_symbol, Choice as of_choice}
 use Rattle.kc_tree_model.specs.TreeLookup.{IsConsistent, unit_of, index_of_unit}
-use Rattle.kc_tree.specs.checker.GatheredView.{gathered_tree, symbol_gathered, choice_gathered}
+use Rattle.kc_tree.specs.between.GatheredView.{gathered_tree, symbol_gathered, choice_gathered}
 use Rattle.kc_tree.specs.checker.UnitNumbers.{AreNumbered, own_or_choice}
 use Rattle.kc_tree.specs.checker.Units.{HasUnits}
 use Rattle.kc_tree.specs.declared.parts.SymbolRow.{SymbolRow}

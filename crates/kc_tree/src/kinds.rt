@@ -15,7 +15,7 @@ pub fn is_tri_kind(kind: Kind) -> bool
 }
 
 /// Whether a type is int or hex.
-pub(crate) fn is_number(kind: Kind) -> bool
+pub fn is_number(kind: Kind) -> bool
     ensures { result ≡ is_number kind }
 {
     matches!(kind, Kind::Int | Kind::Hex)
@@ -35,7 +35,7 @@ fn is_same(a: Kind, b: Kind) -> bool
 }
 
 /// Whether an optional type `given` is present and differs from `kind`.
-pub(crate) fn is_other_kind(kind: Kind, given: Option<Kind>) -> bool
+pub fn is_other_kind(kind: Kind, given: Option<Kind>) -> bool
     ensures { result ≡ is_other_kind kind given }
 {
     match given {
@@ -45,7 +45,7 @@ pub(crate) fn is_other_kind(kind: Kind, given: Option<Kind>) -> bool
 }
 
 /// Whether an optional type `given` is present and a member of a choice can't have it.
-pub(crate) fn is_no_member_kind(language: Language, given: Option<Kind>) -> bool
+pub fn is_no_member_kind(language: Language, given: Option<Kind>) -> bool
     ensures { result ≡ is_no_member_kind language given }
 {
     match given {
@@ -58,7 +58,7 @@ pub(crate) fn is_no_member_kind(language: Language, given: Option<Kind>) -> bool
 }
 
 /// The type of a symbol, by the number of its choice if it is a member, and the first type given to it, if any.
-pub(crate) fn kind_in_tree(choice: Option<u32>, given: Option<Kind>) -> Kind
+pub fn kind_in_tree(choice: Option<u32>, given: Option<Kind>) -> Kind
     ensures { result ≡ kind_in_tree choice given }
 {
     match choice {

@@ -16,7 +16,7 @@ use kc_value::{Kind, Text};
 /// A stored symbol without its attributes: its name and type, the file's number and the line of its first definition, and the
 /// number of its choice if it is a member.
 #[derive(Clone, Copy)]
-pub(crate) struct SymbolRow {
+pub struct SymbolRow {
     pub name: NameId,
     pub kind: Kind,
     pub file: u32,
@@ -27,7 +27,7 @@ pub(crate) struct SymbolRow {
 /// A stored choice without its members and defaults: its file's number and line, the condition of its prompt if it has one, and
 /// whether it is optional.
 #[derive(Clone, Copy)]
-pub(crate) struct ChoiceRow {
+pub struct ChoiceRow {
     pub file: u32,
     pub line: u32,
     pub prompt: Option<ExprId>,
@@ -36,7 +36,7 @@ pub(crate) struct ChoiceRow {
 
 /// A stored entry of a tree; `title` is an index into the tree's titles.
 #[derive(Clone, Copy)]
-pub(crate) enum EntryRow {
+pub enum EntryRow {
     Definition(Sym),
     ChoiceBegins(u32),
     MenuBegins {
@@ -58,7 +58,7 @@ pub(crate) enum EntryRow {
 /// The lists that store a tree, with the unit of each symbol and of each choice, for each name of the arena the symbol of that
 /// name, and the language of the files.
 #[derive(Drop)]
-pub(crate) struct Parts {
+pub struct Parts {
     pub arena: Arena,
     pub symbols: Vec<SymbolRow>,
     pub prompts: ItemsByNumber<ExprId>,
@@ -91,8 +91,8 @@ fn own_dependencies(choice: Option<u32>, all: &[ExprId]) -> &[ExprId]
 
 impl Parts {
     ghost use Rattle.kc_tree.specs.between.Views.{symbol_view, choice_view, entry_view, SymbolFits, ChoiceFits, EntryFits};
-    ghost use Rattle.kc_tree.specs.checker.PartsView.{tree_from_rows};
-    ghost use Rattle.kc_tree.specs.checker.StoredParts.{AreSoundParts};
+    ghost use Rattle.kc_tree.specs.between.PartsView.{tree_from_rows};
+    ghost use Rattle.kc_tree.specs.between.StoredParts.{AreSoundParts};
 
     /// The symbol with number `s`.
     pub(crate) fn symbol(&self, s: usize) -> Symbol<'_>

@@ -38,8 +38,8 @@ impl Model for Tree {
 }
 
 impl Tree {
-    ghost use Rattle.kc_tree.specs.checker.PartsView.{tree_from_rows};
-    ghost use Rattle.kc_tree.specs.checker.StoredParts.{AreSoundParts};
+    ghost use Rattle.kc_tree.specs.between.PartsView.{tree_from_rows};
+    ghost use Rattle.kc_tree.specs.between.StoredParts.{AreSoundParts};
 
     /// The tree that these lists store.
     pub(crate) fn of(parts: Parts) -> Tree

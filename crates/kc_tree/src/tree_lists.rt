@@ -19,7 +19,7 @@ use std::alloc::{AllocError, Global};
 /// The collected attributes of symbols, in reading order, each under the number of its symbol; a `select` or `imply` is under the
 /// number of its target.
 #[derive(Drop)]
-pub(crate) struct Attributes {
+pub struct Attributes {
     pub prompts: ItemsWithKeys<ExprId>,
     pub defaults: ItemsWithKeys<Default>,
     pub ranges: ItemsWithKeys<Range>,
@@ -30,7 +30,7 @@ pub(crate) struct Attributes {
 
 /// The attributes of all symbols, grouped by symbol; a `select` or `imply` belongs to its target.
 #[derive(Drop)]
-pub(crate) struct GroupedAttributes {
+pub struct GroupedAttributes {
     pub prompts: ItemsByNumber<ExprId>,
     pub defaults: ItemsByNumber<Default>,
     pub ranges: ItemsByNumber<Range>,
@@ -40,7 +40,7 @@ pub(crate) struct GroupedAttributes {
 }
 
 impl Attributes {
-    ghost use Rattle.kc_tree.specs.checker.GatheredAttributes.{HaveKeys, AreGrouped};
+    ghost use Rattle.kc_tree.specs.between.GatheredAttributes.{HaveKeys, AreGrouped};
 
     /// Groups the attributes by symbol. An `Err` means out of memory.
     fn grouped(&self, alloc: Global, count: usize) -> Result<GroupedAttributes, AllocError>
@@ -83,7 +83,7 @@ pub(crate) struct FinishedTables {
 
 /// The lists collected from all groups of a listing, from which a tree is built, and the language of the files.
 #[derive(Drop)]
-pub(crate) struct TreeLists {
+pub struct TreeLists {
     pub arena: Arena,
     pub symbols: Vec<SymbolRow>,
     pub attributes: Attributes,
@@ -98,8 +98,8 @@ pub(crate) struct TreeLists {
 
 impl TreeLists {
     ghost use Rattle.kc_tree.specs.TreeModel.{TreeModel};
-    ghost use Rattle.kc_tree.specs.checker.GatheredView.{gathered_tree};
-    ghost use Rattle.kc_tree.specs.checker.GatheredFits.{GatheredFit};
+    ghost use Rattle.kc_tree.specs.between.GatheredView.{gathered_tree};
+    ghost use Rattle.kc_tree.specs.between.GatheredFits.{GatheredFit};
     ghost use Rattle.kc_tree.specs.checker.GatheredLists.{AreLists, AreTables, parts_made};
     ghost use Rattle.kc_tree.specs.checker.Units.{HasUnits};
 
@@ -184,7 +184,7 @@ impl TreeLists {
     }
 
     /// Builds the tree from its collected lists. An `Err` means out of memory.
-    pub(crate) fn into_tree(self, alloc: Global) -> Result<Tree, AllocError>
+    pub fn into_tree(self, alloc: Global) -> Result<Tree, AllocError>
         requires fits { GatheredFit self }
         requires distinct { AreDistinct self.arena.names }
         requires consistent { IsConsistent (gathered_tree self) }

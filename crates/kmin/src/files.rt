@@ -1,5 +1,5 @@
 //! The files of the system.
-ghost use Rattle.std.specs.Prelude.{None};
+ghost use Rattle.std.specs.Prelude.{◌≡◌, None, IfSome};
 
 use kc_value::{Failed, FromRead, Seed, Source};
 use kmin_run::{FileStop, Files};
@@ -10,21 +10,38 @@ use std::io::ErrorKind;
 use std::random::RandomSource;
 use std::{env, fs, io};
 
-/// The files and the environment of the system, of which contracts know nothing. Paths and names are hashed by a seed
-/// of this run's own.
+/// The files and the environment of the system, of which contracts know nothing but how many calls on files failed. Paths
+/// and names are hashed by a seed of this run's own.
 #[derive(Drop)]
 pub(crate) struct Disk<'a> {
     runtime: &'a HostRuntime,
     seed: Seed,
+    failed: u64,
 }
 
 impl<'a> Disk<'a> {
-    /// The files and the environment of the system, with a new seed.
-    pub(crate) fn new(runtime: &'a HostRuntime) -> Disk<'a> {
+    /// The files and the environment of the system, with a new seed and no failed call so far.
+    pub(crate) fn new(runtime: &'a HostRuntime) -> Disk<'a>
+        ensures { ⟦<Disk<'a> as Files>⟧.failures result ≡ 0 }
+    {
         Disk {
             runtime,
             seed: new_seed(runtime),
+            failed: 0,
         }
+    }
+
+    /// A reader of the file at a path; `None` if it can't be opened.
+    fn open(&self, path: &str) -> Option<OpenFile>
+        ensures { IfSome result (λ file. file.failed ≡ 0) }
+    {
+        let file = File::open(self.runtime, path).ok()?;
+        let size = size_now(&file);
+        Some(OpenFile {
+            reader: FromRead::new(file),
+            size,
+            failed: 0,
+        })
     }
 }
 
@@ -38,20 +55,27 @@ pub(crate) fn new_seed(runtime: &HostRuntime) -> Seed {
     Seed::of(u64::from_le_bytes(first), u64::from_le_bytes(second))
 }
 
-/// An open file, and how many bytes it had when it was opened.
+/// An open file, how many bytes it had when it was opened, and how many of its reads failed.
 #[derive(Drop)]
 pub(crate) struct OpenFile {
     reader: FromRead<File>,
     size: usize,
+    failed: u64,
 }
 
 impl Source for OpenFile {
     ghost left = { λ s. ⟦<FromRead<File> as Source>⟧.left s.reader };
 
-    ghost failures = { λ s. ⟦<FromRead<File> as Source>⟧.failures s.reader };
+    ghost failures = { λ s. s.failed };
 
     fn read_some(&mut self, buf: &mut [u8]) -> Result<usize, Failed> {
-        self.reader.read_some(buf)
+        match self.reader.read_some(buf) {
+            Ok(count) => Ok(count),
+            Err(failed) => {
+                self.failed = self.failed.saturating_add(1);
+                Err(failed)
+            }
+        }
     }
 }
 
@@ -107,24 +131,35 @@ impl Files for Disk<'_> {
 
     ghost surroundings = { λ _. record { content = λ _. None; regular = λ _. None; names = λ _. None; variable = λ _. None } };
 
+    ghost failures = { λ disk. disk.failed };
+
     fn seed(&self) -> Seed {
         self.seed
     }
 
     fn reader_for(&mut self, path: &str) -> Option<OpenFile> {
-        let file = File::open(self.runtime, path).ok()?;
-        let size = size_now(&file);
-        Some(OpenFile {
-            reader: FromRead::new(file),
-            size,
-        })
+        match self.open(path) {
+            Some(file) => Some(file),
+            None => {
+                self.failed = self.failed.saturating_add(1);
+                None
+            }
+        }
+    }
+
+    fn reader_if_there(&mut self, path: &str) -> Option<OpenFile> {
+        self.open(path)
+    }
+
+    fn close(&mut self, file: OpenFile) {
+        self.failed = self.failed.saturating_add(file.failed);
     }
 
     fn regular_reader_for(&mut self, path: &str) -> Result<Option<OpenFile>, Failed> {
         if !is_regular(self.runtime, path)? {
             return Ok(None);
         }
-        match self.reader_for(path) {
+        match self.open(path) {
             Some(file) => Ok(Some(file)),
             None => Err(Failed),
         }

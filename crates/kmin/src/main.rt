@@ -8,7 +8,7 @@ use files::{Disk, new_seed};
 use kc_value::FromRead;
 use kmin_disk::SystemDisk;
 use kmin_run::run;
-use kmin_words::{ParsedWords, Task, Verb, read_words};
+use kmin_words::{ParsedWords, Task, Verb, command_first, read_words};
 use std::alloc::Global;
 use std::io::IsTerminal;
 use std::process::ExitCode;
@@ -64,7 +64,10 @@ fn write_without_files(rt: &HostRuntime, words: &[&str]) {
 
 /// Whether these words are the command `missed` or `check` without a FILE.
 fn list_without_files(alloc: Global, words: &[&str]) -> bool {
-    match read_words(alloc, words) {
+    let Ok(ordered) = command_first(alloc, words) else {
+        return false;
+    };
+    match read_words(alloc, &ordered) {
         Ok(ParsedWords::Job(job)) => match &job.task {
             Task::Over {
                 verb: Verb::Missed { .. } | Verb::Check { .. },

@@ -1,2 +1,3 @@
 pub mod CommandParts
 pub mod Simplicity
+pub mod SameWords

@@ -93,7 +93,7 @@ tidy choices = command (codes "tidy") (shared choices
     ++ (tidy_flags ++ valued (codes "from") ∷ linked nul ∷ linked (any_number (codes "FILE")) ∷ []))
 
 abbrev pub wants : Shape
-wants = command (codes "wants") (place ++ answers)
+wants = command (codes "wants") (place ++ (answers ++ flag (codes "unused") ∷ []))
 
 -- a program that tells its version
 abbrev pub with_version : App → App

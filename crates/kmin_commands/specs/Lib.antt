@@ -1,3 +1,4 @@
 pub mod Declarations
 pub mod Messages
+pub mod OptionWords
 pub mod checker

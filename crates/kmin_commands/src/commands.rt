@@ -353,12 +353,13 @@ fn required<'a>(alloc: Global, name: &'a str, help: &'a str) -> Arg<'a>
     Arg::new(alloc, name).required(true).help(help)
 }
 
-/// The command over a tree without configuration files.
+/// The command over a tree without configuration files, with `--unused`.
 fn wants<'a>(alloc: Global) -> Result<Command<'a>, AllocError>
     ensures { IfOk result (IsDeclared declared.wants) }
 {
     let command = with_place(alloc, described(alloc, &WANTS))?;
-    with_answers(alloc, command)
+    let command = with_answers(alloc, command)?;
+    command.arg(flag(alloc, "unused", help_texts::UNUSED))
 }
 
 /// A command with its help and the options that all commands over configuration files share.

@@ -148,16 +148,19 @@ pub(crate) const WANTS_LONG: &str = "\
 Expands the tree as far as the answers go, and lists the questions that it met and that have no
 answer, each once, a line each: a NAME of the environment, or `$ ` and a command. A command that is
 made of another's answer is listed once that is known, so answer the list and ask again, until
-nothing is listed. kmin itself runs nothing: the script kmin-answer runs the commands of a tree,
-and adds what they print to a file of answers, to be read before it is used.";
+nothing is listed. Then --unused lists what the files of answers have beyond what the tree asks, in
+their order. kmin itself runs nothing: the script kmin-answer runs the commands of a tree, and adds
+what they print to a file of answers, to be read before it is used.";
 
 pub(crate) const WANTS_AFTER: &str = "\
 Example, and how a tree's own Makefile, in its folder, records the answers:
   kmin wants --root linux --answers answers
   make ARCH=x86 --eval='kminconfig:; kmin-answer ../answers kmin wants' kminconfig
 
-Exit status: 0 nothing is asked, 1 questions are listed, 2 command line refused, 3 tree refused,
+Exit status: 0 nothing is listed, 1 questions are listed, 2 command line refused, 3 tree refused,
 4 file of answers refused, 5 a read or a write failed, 6 out of memory.";
+
+pub(crate) const UNUSED: &str = "Lists questions in files that nothing asks, once none is open";
 
 pub(crate) const COMPARE: &str = "Lists the symbols whose values differ between two files";
 

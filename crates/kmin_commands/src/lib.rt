@@ -5,7 +5,9 @@ mod commands;
 mod help_texts;
 mod kinds;
 mod messages;
+mod option_words;
 
 pub use commands::{command_names, explained_names, program};
 pub use kinds::kind_asked;
 pub use messages::{Row, Table, message_tables};
+pub use option_words::{gives_option, names_command, takes_next};

@@ -159,9 +159,9 @@ Exit status:
   6  out of memory
 
 Without a word, kmin reads a bundle on standard input, a tree, a line `%%` and a configuration
-file, and writes its full file. Options come after the command: `kmin help COMMAND` lists them.
-`kmin help KIND` explains a kind of message, `kmin help FORM` a form that LeftOut leaves out, and
-share/doc/kmin/FAULTS.md all of them.
+file, and writes its full file. Options stand after the command or before it: `kmin help COMMAND`
+lists them. `kmin help KIND` explains a kind of message, `kmin help FORM` a form that LeftOut
+leaves out, and share/doc/kmin/FAULTS.md all of them.
 
 ",
             $($text),*

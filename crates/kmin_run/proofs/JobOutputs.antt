@@ -16,7 +16,7 @@ use Rattle.kc_rules_model.specs.declared.values.UnitValue.{UnitValue}
 use Rattle.kc_dotconfig.specs.ConfigStates.{Configured, IsSolved, tree_in}
 use Rattle.kc_minimal_model.specs.Differences.{differences}
 use Rattle.kc_files.specs.TreeContents.{FileContent}
-use Rattle.kmin_words.specs.Jobs.{Settings, Task, over, compare, paths_of}
+use Rattle.kmin_words.specs.Jobs.{Settings, Task, over, compare}
 use Rattle.kmin_words.specs.declared.job.Verb.{Verb}
 use Rattle.kmin_words.specs.declared.job.Verb.TheVariants.{Min, Full, Missed, Check}
 use Rattle.kc_minimal_model.specs.CanonicalText.{IsCanonicalText}
@@ -38,6 +38,9 @@ use Rattle.kmin_run.specs.Stops.{Stops, StopsAmongFiles, StopsAtChoices, StopsBe
 use Rattle.kmin_run.specs.Stops as stops
 use Rattle.kmin_run.specs.between.LoadResults.{AreLoaded, AreRead, lists_of}
 use Rattle.kmin_run.specs.between.LoadStops.{StopsOverTree, StopsNoticing}
+use Rattle.kmin_run.specs.between.Comparisons.{AreBothRead, AreNoticed, AreBothNoticed, StopsAnswering, at_the_choices, answering_output, StopsComparing, at_left, at_right, comparing_output}
+use Rattle.kmin_run.specs.declared.configurations.ReadFiles.{ReadFiles}
+use Rattle.kmin_report.proofs.Results.{if_ok_map}
 use Rattle.kmin_run.specs.between.LoadStops as noticing
 use Rattle.kmin_report.specs.between.RunErrors.{status_of}
 use Rattle.kmin_report.proofs.WriterLemmas.{lines_append}
@@ -310,6 +313,92 @@ module _ (content_of : List ℕ → FileContent) (settings : Settings) (verb : V
         lines_append taken middle failed failed_middle _ _ after failed_after l.loaded.reported
             (noticed_are content_of settings config settled paths lists taken middle failed failed_middle same l middle after failed_middle failed_after t),
       )
+
+-- the output of a verb over a configuration of all files of a command, or its end, once the files are read
+module _ (content_of : List ℕ → FileContent) (settings : Settings) (verb : Verb) (read : ReadFiles) (settled : Settled) (paths : List (List ℕ))
+    (taken middle after : Option (List ℕ)) (failed failed_middle failed_after : ℕ)
+    (same : read.config.system ≡ settled) (p : profile_of settled ≡ settings.profile) (s : IsSolved read.config)
+    (l : AreRead content_of settings.format settings.strict (tree_of_settled settled) paths (empty_assignment (tree_of_settled settled)) read.config.users
+    [] (lists_of read.chosen.items) taken failed middle failed_middle) where
+  pub verb_answers : (r : Result AnswerText RunError)
+      → IfOk r (λ answer. (given : Settings) → given.format ≡ settings.format → given.profile ≡ profile_of read.config.system
+      → IsTextOfVerb given (tree_in read.config) read.config.users read.config.values verb answer.text.items)
+      → IfOk r (λ answer. answer.status ≡ status_of_verb (tree_in read.config) read.config.users read.config.values verb)
+      → IfOk r (λ answer. AreNoticed settings.strict paths read middle failed_middle after failed_after)
+      → IfOk r (λ answer. (notices : List (List ℕ)) × ((texts : Files) → AreAccepted texts settings.tree (tree_of_settled settled)
+      → Answer content_of settings texts (over verb paths) answer.text.items answer.status notices) × TakesLines taken failed notices after failed_after)
+  verb_answers (Err stop) t n k = tt
+  verb_answers (Ok answer) t n k =
+      answers_files content_of settings verb read.config settled paths (lists_of read.chosen.items) answer.text.items answer.status taken middle after failed
+      failed_middle failed_after same p s l k.allowed k.noticed (t settings refl (sym (ap profile_of same ∙ p))) n
+
+  answering_stops : (status : ℕ) → StopsAnswering settings.strict paths read status middle failed_middle after failed_after
+      → (lines : List (List ℕ)) × StopsOverTree content_of settings (tree_of_settled settled) (over verb paths) status lines × TakesLines taken failed lines after failed_after
+  answering_stops status (at_the_choices n) =
+      stopped_noticing content_of settings verb read.config settled paths (lists_of read.chosen.items) taken middle failed failed_middle same p s l status after
+      failed_after n
+  answering_stops status (answering_output n e) =
+      stopped_after content_of settings verb read.config settled paths (lists_of read.chosen.items) taken middle failed failed_middle same p s l status after
+      failed_after e n.allowed n.noticed
+
+  pub verb_stops : (r : Result AnswerText RunError)
+      → IfErr r (λ stop. StopsAnswering settings.strict paths read (status_of stop) middle failed_middle after failed_after)
+      → IfErr r (λ stop. (lines : List (List ℕ)) × StopsOverTree content_of settings (tree_of_settled settled) (over verb paths) (status_of stop) lines
+      × TakesLines taken failed lines after failed_after)
+  verb_stops (Ok answer) h = tt
+  verb_stops (Err stop) h = answering_stops (status_of stop) h
+
+-- the output of a comparison of two configurations of one file each, or its end, once the files are read
+module _ (content_of : List ℕ → FileContent) (settings : Settings) (before after : ReadFiles) (settled : Settled) (a b : List ℕ)
+    (taken middle taken_after : Option (List ℕ)) (failed failed_middle failed_after : ℕ)
+    (same : (before.config.system ≡ settled) × (after.config.system ≡ settled)) (p : profile_of settled ≡ settings.profile)
+    (s : IsSolved before.config × IsSolved after.config)
+    (l : AreBothRead content_of settings.format settings.strict (tree_of_settled settled) a b before after taken failed middle failed_middle) where
+  pub comparison_answers : (r : Result AnswerText RunError)
+      → IfOk r (λ answer. answer.text.items ≡ flat_map (difference_line settings.format.strings (tree_in before.config)) (differences (tree_in before.config) before.config.values after.config.values))
+      → IfOk r (λ answer. answer.status ≡ status_of_list true (differences (tree_in before.config) before.config.values after.config.values))
+      → IfOk r (λ answer. AreBothNoticed settings.strict a b before after middle failed_middle taken_after failed_after)
+      → IfOk r (λ answer. (notices : List (List ℕ)) × ((texts : Files) → AreAccepted texts settings.tree (tree_of_settled settled)
+      → Answer content_of settings texts (compare a b) answer.text.items answer.status notices) × TakesLines taken failed notices taken_after failed_after)
+  comparison_answers (Err stop) t n k = tt
+  comparison_answers (Ok answer) t n k =
+      answers_comparison content_of settings before.config after.config settled a b _ _ taken l.between middle failed l.failed_between failed_middle
+      same.0 same.1 p s.0 s.1 l.left_read l.right_read k.between k.failed_between k.left_noticed.allowed k.left_noticed.noticed taken_after failed_after
+      k.right_noticed.allowed k.right_noticed.noticed answer.text.items answer.status t n
+
+  comparing_stops : (status : ℕ) → StopsComparing settings.strict a b before after status middle failed_middle taken_after failed_after
+      → (lines : List (List ℕ)) × StopsOverTree content_of settings (tree_of_settled settled) (compare a b) status lines
+      × TakesLines taken failed lines taken_after failed_after
+  comparing_stops status (at_left n) =
+      stopped_left content_of settings before.config after.config settled a b _ _ taken l.between middle failed l.failed_between failed_middle
+      same.0 same.1 p s.0 s.1 l.left_read l.right_read status taken_after failed_after n
+  comparing_stops status (at_right between failed_between k n) =
+      stopped_right content_of settings before.config after.config settled a b _ _ taken l.between middle failed l.failed_between failed_middle
+      same.0 same.1 p s.0 s.1 l.left_read l.right_read between failed_between k.allowed k.noticed status taken_after failed_after n
+  comparing_stops status (comparing_output k e) =
+      stopped_output content_of settings before.config after.config settled a b _ _ taken l.between middle failed l.failed_between failed_middle
+      same.0 same.1 p s.0 s.1 l.left_read l.right_read k.between k.failed_between k.left_noticed.allowed k.left_noticed.noticed taken_after failed_after
+      k.right_noticed.allowed k.right_noticed.noticed status e
+
+  pub comparison_stops : (r : Result AnswerText RunError)
+      → IfErr r (λ stop. StopsComparing settings.strict a b before after (status_of stop) middle failed_middle taken_after failed_after)
+      → IfErr r (λ stop. (lines : List (List ℕ)) × StopsOverTree content_of settings (tree_of_settled settled) (compare a b) (status_of stop) lines
+      × TakesLines taken failed lines taken_after failed_after)
+  comparison_stops (Ok answer) h = tt
+  comparison_stops (Err stop) h = comparing_stops (status_of stop) h
+
+-- the status of a result that is that of a list, or of a verb, is at most 1
+pub list_status_small : {A : Type 0} (r : Result AnswerText RunError) (listed : List A) → IfOk r (λ answer. answer.status ≡ status_of_list true listed)
+    → IfOk r (λ answer. answer.status ≤ 1)
+list_status_small r listed h =
+    if_ok_map r (λ answer. answer.status ≡ status_of_list true listed) (λ answer. answer.status ≤ 1)
+    (λ answer e. subst (λ n. n ≤ 1) (sym e) (status_at_most_one true listed)) h
+
+pub verb_status_small : (r : Result AnswerText RunError) (tree : Tree) (users : List (Option UserValue)) (values : List UnitValue) (verb : Verb)
+    → IfOk r (λ answer. answer.status ≡ status_of_verb tree users values verb) → IfOk r (λ answer. answer.status ≤ 1)
+verb_status_small r tree users values verb h =
+    if_ok_map r (λ answer. answer.status ≡ status_of_verb tree users values verb) (λ answer. answer.status ≤ 1)
+    (λ answer e. subst (λ n. n ≤ 1) (sym e) (status_of_verb_at_most_one tree users values verb)) h
 
 -- the output of a command, or its end, over the texts of its tree
 module _ (known : Surroundings) (settings : Settings) (task : Task) (tree : Tree) (t : TreeTexts)

@@ -1,8 +1,11 @@
 pub mod LoadLines
+pub mod ErrorExits
 pub mod Sequences
+pub mod ReadFailures
 pub mod BundleCuts
 pub mod NamedLines
 pub mod QuestionEnds
+pub mod RunStatuses
 pub mod RunEnds
 pub mod JobOutputs
 pub mod BundleOutputs

@@ -1,5 +1,5 @@
 -- Ends of runs, from what the parts of a run ensure.
-use Rattle.std.proofs.Common.{◌≡◌, ◌≢◌, ◌==◌, eqb-true, true≢false, map, false, ◌⊎◌, ℕ, true, List, [], ◌∷◌, ◌++◌, Option, Ok, length, inl, inr, refl, arith}
+use Rattle.std.proofs.Common.{◌≡◌, ◌≢◌, ◌==◌, eqb-true, true≢false, map, false, ◌⊎◌, ℕ, true, List, [], ◌∷◌, ◌++◌, Option, Ok, length, inl, inr, refl, subst, arith}
 use Rattle.std.proofs.lemmas.Bool.Decides.{eqb_tells}
 use Rattle.std.specs.Io.KnownBytes.{Appends}
 use Rattle.kmin_report.specs.Reports.{last_lines}
@@ -8,7 +8,8 @@ use Rattle.kmin_report.specs.declared.run_error.RunError.{RunError}
 use Rattle.kmin_report.specs.declared.run_error.RunError.TheVariants.{Tree, Configuration, Failed, Memory}
 use Rattle.kmin_report.specs.between.RunErrors.{status_of}
 use Rattle.kmin_words.specs.Jobs.{Settings, Questions, Task}
-use Rattle.kmin_words.specs.Parses.{AreParsedAs}
+use Rattle.kmin_words.specs.Parses.{AreParsedAs, AreReadAs}
+use Rattle.kmin_words.specs.WordOrder.{command_first}
 use Rattle.kmin_words.specs.declared.command_line.ParsedWords.{ParsedWords}
 use Rattle.kmin_trees.specs.FileContents.{Surroundings}
 use Rattle.kmin_trees.specs.JobTexts.{TreeTexts, AreTextsOfJob}
@@ -117,7 +118,11 @@ module _ (known : Surroundings) (input input_after : Input) (old new : Outputs) 
   with_words f [] some ends = absurd (true≢false some)
   with_words f (word ∷ words) some ends = ends
 
-module _ (P : Type 0) (words : List (List ℕ)) (what : ParsedWords) (are : AreParsedAs words what) where
+-- words are read as what they are parsed as once the command is first
+pub read_first : (words ordered : List (List ℕ)) (what : ParsedWords) → ordered ≡ command_first words → AreParsedAs ordered what → AreReadAs words what
+read_first words ordered what first are = subst (λ (given : List (List ℕ)). AreParsedAs given what) first are
+
+module _ (P : Type 0) (words : List (List ℕ)) (what : ParsedWords) (are : AreReadAs words what) where
   -- what was parsed of the words changes files, if anything does
   pub asked : P ⊎ MayChangeFiles what → P ⊎ AskForChanges words
   asked (inl unchanged) = inl unchanged

@@ -28,7 +28,6 @@ use Rattle.kc_dotconfig_model.specs.declared.choice_line.ChoiceLine.{ChoiceLine}
 use Rattle.kc_dotconfig_model.specs.OtherChoices.{choice_lines_from}
 use Rattle.std.proofs.lemmas.List.{map-append}
 use Rattle.std.specs.Global.{Vec}
-use Rattle.std.specs.Result.{IsErrAnd}
 use Rattle.kmin_run.specs.declared.configurations.ReadFiles.{ReadFiles}
 use Rattle.kmin_run.specs.between.LoadResults.{IsLoaded, AreLoaded, AreRead, lists_of}
 use Rattle.kmin_run.specs.between.LoadStops.{StopsLoad, StopsAtPath, at_file, for_memory, fragment_notices, load_lines, load_status}
@@ -166,11 +165,6 @@ loaded_append content_of format strict tree xs ys before between after taken mid
       (sym (notices_append content_of format strict tree ys k.meanings xs h.meanings h.mean))
       (lines_append taken middle failed failed_middle _ _ taken_after failed_after h.reported k.reported);
 }
-
--- a result that is an error, and whose error is this one
-pub is_err_of : {T E : Type 0} (r : Result T E) (e : E) → IsErrAnd r (λ y. y ≡ e) → r ≡ Err e
-is_err_of (Ok x) e h = absurd h
-is_err_of (Err y) e h = ap (λ z. Err z) h
 
 -- the lists of lines of members with one more
 pub lists_pushed : (old new : List (Vec ChoiceLine)) (lines : Vec ChoiceLine) → new ≡ old ++ lines ∷ [] → lists_of new ≡ lists_of old ++ lines.items ∷ []

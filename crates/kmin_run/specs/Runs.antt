@@ -5,7 +5,7 @@ use Rattle.kc_value.specs.declared.limits.TheConstants.{MAX_BUNDLE_BYTES}
 use Rattle.kmin_report.specs.Reports.{last_lines, output_line}
 use Rattle.kmin_report.specs.StandardError.{HasRisen}
 use Rattle.kmin_words.specs.Jobs.{Settings, Questions, Task, settings_view, questions_view, task_view, tidy_job_view}
-use Rattle.kmin_words.specs.Parses.{AreParsedAs}
+use Rattle.kmin_words.specs.Parses.{AreReadAs}
 use Rattle.kmin_words.specs.declared.command_line.ParsedWords.{ParsedWords}
 use Rattle.kmin_words.specs.declared.command_line.ParsedWords.TheVariants.{Job, Save, Questions as TheQuestions, Tidy, Help, Refused}
 use Rattle.kmin_trees.specs.FileContents.{Surroundings}
@@ -68,9 +68,9 @@ ParsedEnds known left (Tidy tidy_job) old new lines status =
 ParsedEnds known left (Help text) old new lines status = HelpEnds text.bytes.items old new lines status
 ParsedEnds known left (Refused text) old new lines status = (status ≡ 2) × (new ≡ old) × (lines ≡ text.bytes.items ∷ [])
 
--- A run on words ends as what they are parsed as does, or memory ran out before, and nothing changes.
+-- A run on words ends as what they are parsed as does, with the command first of them, or memory ran out before, and nothing changes.
 pub data WordsEnd (known : Surroundings) (words : List (List ℕ)) (left : Option (List ℕ)) (old new : Outputs) (lines : List (List ℕ)) (status : ℕ) : Type 0 where
-  parsed : (what : ParsedWords) → AreParsedAs words what → ParsedEnds known left what old new lines status
+  parsed : (what : ParsedWords) → AreReadAs words what → ParsedEnds known left what old new lines status
       → WordsEnd known words left old new lines status
   for_memory : status ≡ 6 → new ≡ old → lines ≡ last_lines status → WordsEnd known words left old new lines status
 
@@ -82,6 +82,12 @@ pub record Input : Type 0 where
 -- standard input, from its parts
 abbrev pub input_of : (left : Option (List ℕ)) → (failures : ℕ) → Input
 input_of left failures = record { left = left; failures = failures }
+
+-- a count of failures rose: that of the files, which counts those that can't be opened and reads that fail, that of standard input
+-- or that of standard output
+abbrev pub HasFailed : (failed failed_after : ℕ) → (input input_after : Input) → (old new : Outputs) → Type 0
+HasFailed failed failed_after input input_after old new =
+    HasRisen failed failed_after ⊎ (HasRisen input.failures input_after.failures ⊎ HasRisen old.failures new.failures)
 
 -- A run on a bundle ends: it was read to its end, has an allowed size, its full file is written, and no read or write failed; or
 -- the run ended without the whole file, on status 5 since a read or a write failed. The disk is unchanged.
@@ -107,7 +113,7 @@ MayChangeFiles what = ⊥
 
 -- words are parsed as a command that changes files
 abbrev pub AskForChanges : (words : List (List ℕ)) → Type 0
-AskForChanges words = (what : ParsedWords) × AreParsedAs words what × MayChangeFiles what
+AskForChanges words = (what : ParsedWords) × AreReadAs words what × MayChangeFiles what
 
 -- what was parsed is the command `tidy`
 abbrev pub IsTidying : ParsedWords → Type 0
@@ -116,4 +122,4 @@ IsTidying what = ⊥
 
 -- words are parsed as the command `tidy`
 abbrev pub AskForTidying : (words : List (List ℕ)) → Type 0
-AskForTidying words = (what : ParsedWords) × AreParsedAs words what × IsTidying what
+AskForTidying words = (what : ParsedWords) × AreReadAs words what × IsTidying what

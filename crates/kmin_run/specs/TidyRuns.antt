@@ -102,6 +102,10 @@ pub record GoesOver (s : RunSettings) (old new : Outputs) (paths : List (List �
   pub again : AreTidy s old.disk.state paths → new.disk.state ≡ old.disk.state
   pub silent : AreTidy s old.disk.state paths → Appends old.taken new.taken []
 
+-- a run over some files ended as `tidy_files` promises, with this status
+abbrev pub IsGoneOver : (old new : Outputs) → (status : ℕ) → Type 0
+IsGoneOver old new status = (s : RunSettings) × (paths : List (List ℕ)) × (reports : List (List ℕ)) × GoesOver s old new paths reports status
+
 -- The command `tidy` over these paths ends: the files are tidied; or its tree is refused or memory ran out, and nothing changes.
 pub data PathsEnd (known : Surroundings) (settings : Settings) (flags : TidyFlags) (paths : List (List ℕ)) (old new : Outputs) (lines : List (List ℕ)) (status : ℕ) : Type 0 where
   at_tree : (own : List (List ℕ)) → StopsAtTree known settings status own → lines ≡ own ++ last_lines status → new ≡ old

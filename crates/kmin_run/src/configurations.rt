@@ -1,15 +1,15 @@
 //! Configurations of a settled tree, read from files.
-ghost use Rattle.std.specs.Prelude.{◌≡◌, ◌∷◌, [], List, ℕ, true, false, map, unwrap_or, slice_get, IfOk, IfErr, OnOk};
+ghost use Rattle.std.specs.Prelude.{◌≡◌, ◌≢◌, ◌≤◌, ◌∷◌, ◌++◌, [], List, ℕ, true, false, map, unwrap_or, slice_get, IfOk, IfErr, OnOk};
 ghost use Rattle.std.specs.Borrow.{Bor};
 ghost use Rattle.kc_rules.specs.between.SettledViews.{tree_of_settled};
-ghost use Rattle.kc_dotconfig_model.specs.ConfigFiles.{empty_assignment};
+ghost use Rattle.kc_dotconfig_model.specs.ConfigFiles.{empty_assignment, overlay};
 ghost use Rattle.kc_dotconfig_model.specs.between.Formats.{file_format};
 ghost use Rattle.kc_dotconfig_model.specs.OtherChoices.{other_choices_of, placed_from};
 ghost use Rattle.kc_dotconfig.specs.ConfigStates.{IsSolved, tree_in};
-ghost use Rattle.kc_dotconfig.specs.Fragments.{FitsTree, notice_pair};
+ghost use Rattle.kc_dotconfig.specs.Fragments.{FitsTree, notice_pair, users_of};
 ghost use Rattle.kc_dotconfig.specs.ReadResults.{IsReadAs};
 ghost use Rattle.kmin_report.specs.Reports.{notice_line, choice_notice_lines};
-ghost use Rattle.kmin_report.specs.StandardError.{TakesLines};
+ghost use Rattle.kmin_report.specs.StandardError.{HasRisen, TakesLines};
 ghost use Rattle.kmin_run.specs.Stops.{StopsAmongFiles};
 ghost use Rattle.kmin_run.specs.Strictness.{AllowsNotices, RefusesNotices};
 ghost use Rattle.kmin_run.specs.between.LoadResults.{IsLoaded, AreLoaded, AreRead, lists_of};
@@ -86,6 +86,18 @@ fn report_notices<E: Sink>(path: &str, notices: &[Notice], err: &mut E)
     }
 }
 
+/// The assignments of a configuration file, unless it has a notice and `strict` is set.
+fn allowed(strict: bool, fragment: Fragment) -> Result<Fragment, RunError>
+    ensures ok { IfOk result (λ f. (f ≡ fragment) × AllowsNotices strict (map notice_pair fragment.notices.items)) }
+    ensures refused { IfErr result (λ stop. (status_of stop ≡ 4) × (strict ≡ true) × (fragment.notices.items ≢ [])) }
+{
+    if strict && !fragment.notices.is_empty() {
+        Err(RunError::Configuration)
+    } else {
+        Ok(fragment)
+    }
+}
+
 /// Reads the assignments of a configuration file by its path. Reports the file's notices, or its fault. Under `strict` a file that
 /// has a notice is refused.
 fn load_path<F: Files, E: Sink>(
@@ -101,14 +113,17 @@ fn load_path<F: Files, E: Sink>(
     ensures loaded { IfOk result (λ f. IsLoaded ((F.surroundings files.old).content path.now) (file_format settings.now.format) (tree_of_settled settled.now) path.now f (E.taken err.old) (E.failures err.old) (E.taken err.new) (E.failures err.new)) }
     ensures allowed { IfOk result (λ f. AllowsNotices settings.now.strict (map notice_pair f.notices.items)) }
     ensures stopped { IfErr result (λ stop. (lines : List (List ℕ)) × StopsAtPath ((F.surroundings files.old).content path.now) (file_format settings.now.format) settings.now.strict (tree_of_settled settled.now) path.now (status_of stop) lines × TakesLines (E.taken err.old) (E.failures err.old) lines (E.taken err.new) (E.failures err.new)) }
+    ensures rising { F.failures files.old ≤ F.failures files.new }
+    ensures failed { IfErr result (λ stop. status_of stop ≡ 5 → HasRisen (F.failures files.old) (F.failures files.new)) }
 {
     match files.reader_for(path) {
         Some(mut reader) => {
-            let fragment = load(alloc, settled, &settings.format, path, &mut reader, err)?;
-            if settings.strict && !fragment.notices.is_empty() {
-                return Err(RunError::Configuration);
+            let loaded = load(alloc, settled, &settings.format, path, &mut reader, err);
+            files.close(reader);
+            match loaded {
+                Ok(fragment) => allowed(settings.strict, fragment),
+                Err(stop) => Err(stop),
             }
-            Ok(fragment)
         }
         None => {
             let kind = LoadKind::Read;
@@ -139,8 +154,25 @@ pub(crate) fn configured_by<'a, F: Files, E: Sink>(
     ensures solved { IfOk result (λ read. IsSolved read.config) }
     ensures loaded { IfOk result (λ read. AreRead (F.surroundings files.old).content (file_format settings.now.format) settings.now.strict (tree_of_settled settled.now) (path.now ∷ []) (empty_assignment (tree_of_settled settled.now)) read.config.users [] (lists_of read.chosen.items) (E.taken err.old) (E.failures err.old) (E.taken err.new) (E.failures err.new)) }
     ensures stopped { IfErr result (λ stop. (lines : List (List ℕ)) × StopsAmongFiles (F.surroundings files.old).content (file_format settings.now.format) settings.now.strict (tree_of_settled settled.now) (path.now ∷ []) (status_of stop) lines × TakesLines (E.taken err.old) (E.failures err.old) lines (E.taken err.new) (E.failures err.new)) }
+    ensures rising { F.failures files.old ≤ F.failures files.new }
+    ensures failed { IfErr result (λ stop. status_of stop ≡ 5 → HasRisen (F.failures files.old) (F.failures files.new)) }
 {
     let fragment = load_path(alloc, settled, settings, path, files, err)?;
+    Ok(first_read(alloc, settled, fragment)?)
+}
+
+/// The configuration of the assignments of one file.
+fn first_read<'a>(
+    alloc: Global,
+    settled: &'a Settled,
+    fragment: Fragment,
+) -> Result<ReadFiles<'a>, AllocError>
+    requires { FitsTree (tree_of_settled settled.now) fragment.assigns.items }
+    ensures settled { IfOk result (λ read. read.config.system ≡ settled.now) }
+    ensures solved { IfOk result (λ read. IsSolved read.config) }
+    ensures users { IfOk result (λ read. read.config.users ≡ users_of (tree_of_settled settled.now) fragment.assigns.items) }
+    ensures chosen { IfOk result (λ read. lists_of read.chosen.items ≡ fragment.chosen.items ∷ []) }
+{
     let config = Config::of(alloc, settled, &fragment);
     let Fragment { chosen, .. } = fragment;
     let config = config?;
@@ -174,18 +206,52 @@ fn overlaid<'a, F: Files, E: Sink>(
     ensures solved { IfOk result (λ read. IsSolved read.config) }
     ensures loaded { IfOk result (λ read. AreRead (F.surroundings files.old).content (file_format settings.now.format) settings.now.strict (tree_of_settled settled.now) (map (λ (path : Bor (List ℕ)). path.now) paths.now) begun.entry.config.users read.config.users (lists_of begun.entry.chosen.items) (lists_of read.chosen.items) (E.taken err.old) (E.failures err.old) (E.taken err.new) (E.failures err.new)) }
     ensures stopped { IfErr result (λ stop. (lines : List (List ℕ)) × StopsAmongFiles (F.surroundings files.old).content (file_format settings.now.format) settings.now.strict (tree_of_settled settled.now) (map (λ (path : Bor (List ℕ)). path.now) paths.now) (status_of stop) lines × TakesLines (E.taken err.old) (E.failures err.old) lines (E.taken err.new) (E.failures err.new)) }
+    ensures rising { F.failures files.old ≤ F.failures files.new }
+    ensures failed { IfErr result (λ stop. status_of stop ≡ 5 → HasRisen (F.failures files.old) (F.failures files.new)) }
 {
-    let ReadFiles {
-        mut config,
-        mut chosen,
-    } = begun;
+    let mut read = begun;
     for path in paths {
-        let fragment = load_path(alloc, settled, settings, path, files, err)?;
-        config.merge(&fragment)?;
-        let Fragment { chosen: lines, .. } = fragment;
-        chosen.push(lines)?;
+        overlay_file(alloc, settled, &mut read, settings, path, files, err)?;
     }
-    Ok(ReadFiles { config, chosen })
+    Ok(read)
+}
+
+/// Overrides a configuration with one file. Reports the notices of the file's lines, and why it is refused.
+fn overlay_file<F: Files, E: Sink>(
+    alloc: Global,
+    settled: &Settled,
+    read: &mut ReadFiles<'_>,
+    settings: &Settings<'_>,
+    path: &str,
+    files: &mut F,
+    err: &mut E,
+) -> Result<(), RunError>
+    requires { read.old.config.system ≡ settled.now }
+    ensures same { F.surroundings files.new ≡ F.surroundings files.old }
+    ensures settled { OnOk result (read.new.config.system ≡ settled.now) }
+    ensures solved { OnOk result (IsSolved read.new.config) }
+    ensures loaded { OnOk result (AreRead (F.surroundings files.old).content (file_format settings.now.format) settings.now.strict (tree_of_settled settled.now) (path.now ∷ []) read.old.config.users read.new.config.users (lists_of read.old.chosen.items) (lists_of read.new.chosen.items) (E.taken err.old) (E.failures err.old) (E.taken err.new) (E.failures err.new)) }
+    ensures stopped { IfErr result (λ stop. (lines : List (List ℕ)) × StopsAmongFiles (F.surroundings files.old).content (file_format settings.now.format) settings.now.strict (tree_of_settled settled.now) (path.now ∷ []) (status_of stop) lines × TakesLines (E.taken err.old) (E.failures err.old) lines (E.taken err.new) (E.failures err.new)) }
+    ensures rising { F.failures files.old ≤ F.failures files.new }
+    ensures failed { IfErr result (λ stop. status_of stop ≡ 5 → HasRisen (F.failures files.old) (F.failures files.new)) }
+{
+    let fragment = load_path(alloc, settled, settings, path, files, err)?;
+    add_fragment(read, fragment)?;
+    Ok(())
+}
+
+/// Overrides a configuration with the assignments of one more file.
+fn add_fragment(read: &mut ReadFiles<'_>, fragment: Fragment) -> Result<(), AllocError>
+    requires { FitsTree (tree_in read.old.config) fragment.assigns.items }
+    ensures settled { read.new.config.system ≡ read.old.config.system }
+    ensures solved { IsSolved read.new.config }
+    ensures users { OnOk result (read.new.config.users ≡ overlay (users_of (tree_in read.old.config) fragment.assigns.items) read.old.config.users) }
+    ensures chosen { OnOk result (lists_of read.new.chosen.items ≡ lists_of read.old.chosen.items ++ fragment.chosen.items ∷ []) }
+{
+    read.config.merge(&fragment)?;
+    let Fragment { chosen, .. } = fragment;
+    read.chosen.push(chosen)?;
+    Ok(())
 }
 
 /// The configuration of files, each of which overrides those before it. Reports the notices of their lines, and why one is refused.
@@ -202,15 +268,26 @@ pub(crate) fn configured<'a, F: Files, E: Sink>(
     ensures solved { IfOk result (λ read. IsSolved read.config) }
     ensures loaded { IfOk result (λ read. AreRead (F.surroundings files.old).content (file_format settings.now.format) settings.now.strict (tree_of_settled settled.now) (map (λ (path : Bor (List ℕ)). path.now) paths.now) (empty_assignment (tree_of_settled settled.now)) read.config.users [] (lists_of read.chosen.items) (E.taken err.old) (E.failures err.old) (E.taken err.new) (E.failures err.new)) }
     ensures stopped { IfErr result (λ stop. (lines : List (List ℕ)) × StopsAmongFiles (F.surroundings files.old).content (file_format settings.now.format) settings.now.strict (tree_of_settled settled.now) (map (λ (path : Bor (List ℕ)). path.now) paths.now) (status_of stop) lines × TakesLines (E.taken err.old) (E.failures err.old) lines (E.taken err.new) (E.failures err.new)) }
+    ensures rising { F.failures files.old ≤ F.failures files.new }
+    ensures failed { IfErr result (λ stop. status_of stop ≡ 5 → HasRisen (F.failures files.old) (F.failures files.new)) }
 {
     let Some((first, others)) = paths.split_first() else {
-        return Ok(ReadFiles {
-            config: Config::new(alloc, settled)?,
-            chosen: Vec::new(alloc),
-        });
+        return Ok(unassigned(alloc, settled)?);
     };
     let read = configured_by(alloc, settled, settings, first, files, err)?;
     overlaid(alloc, settled, read, settings, others, files, err)
+}
+
+/// The configuration of no files.
+fn unassigned(alloc: Global, settled: &Settled) -> Result<ReadFiles<'_>, AllocError>
+    ensures settled { IfOk result (λ read. read.config.system ≡ settled.now) }
+    ensures solved { IfOk result (λ read. IsSolved read.config) }
+    ensures users { IfOk result (λ read. read.config.users ≡ empty_assignment (tree_of_settled settled.now)) }
+    ensures chosen { IfOk result (λ read. lists_of read.chosen.items ≡ []) }
+{
+    let config = Config::new(alloc, settled)?;
+    let chosen = Vec::new(alloc);
+    Ok(ReadFiles { config, chosen })
 }
 
 /// Reports the notices on the choices of a configuration of files at these paths. Under `strict` the configuration is refused for them.

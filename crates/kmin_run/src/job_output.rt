@@ -1,21 +1,27 @@
 //! The output of commands over configuration files.
-ghost use Rattle.std.specs.Prelude.{◌≡◌, ◌≢◌, ◌≤◌, ◌⊎◌, ◌∷◌, ◌++◌, [], List, ℕ, map, IfOk, IfErr};
+ghost use Rattle.std.specs.Prelude.{◌≡◌, ◌≢◌, ◌≤◌, ◌⊎◌, ◌∷◌, ◌++◌, [], List, ℕ, true, map, IfOk, IfErr};
 ghost use Rattle.std.specs.Borrow.{Bor};
+ghost use Rattle.std.specs.List.{flat_map};
 ghost use Rattle.std.specs.Io.KnownBytes.{Appends};
 ghost use Rattle.kc_tree_model.specs.TreeFiles as trees;
 ghost use Rattle.kc_rules.specs.between.SettledViews.{tree_of_settled, profile_of};
-ghost use Rattle.kmin_words.specs.Jobs.{settings_view, task_view, over, compare};
-ghost use Rattle.kmin_run.specs.Answers.{Answer};
+ghost use Rattle.kc_dotconfig_model.specs.between.Formats.{file_format};
+ghost use Rattle.kc_dotconfig.specs.ConfigStates.{IsSolved, tree_in};
+ghost use Rattle.kc_minimal_model.specs.Differences.{differences};
+ghost use Rattle.kmin_words.specs.Jobs.{Settings as GivenSettings, settings_view, task_view, over, compare};
+ghost use Rattle.kmin_run.specs.Answers.{Answer, IsTextOfVerb, difference_line};
+ghost use Rattle.kmin_run.specs.Statuses.{status_of_list, status_of_verb};
 ghost use Rattle.kmin_trees.specs.AcceptedTrees.{AreAccepted};
 ghost use Rattle.kmin_trees.specs.JobTexts.{TreeTexts, AreTextsOfJob};
 ghost use Rattle.kmin_run.specs.PartialAnswers.{AnswersInPart};
 ghost use Rattle.kmin_report.specs.Reports.{last_lines};
-ghost use Rattle.kmin_report.specs.StandardError.{TakesLines};
-ghost use Rattle.kmin_run.specs.Stops.{Stops, StopsBefore};
+ghost use Rattle.kmin_report.specs.StandardError.{HasRisen, TakesLines};
+ghost use Rattle.kmin_run.specs.Stops.{Stops, StopsAmongFiles, StopsBefore};
+ghost use Rattle.kmin_run.specs.between.Comparisons.{AreBothNoticed, AreBothRead, AreNoticed, StopsAnswering, StopsComparing};
 ghost use Rattle.kmin_run.specs.between.LoadStops.{StopsOverTree};
 ghost use Rattle.kmin_report.specs.between.RunErrors.{status_of};
 
-use crate::configurations::{configured, configured_by, notice_choices};
+use crate::configurations::{ReadFiles, configured, configured_by, notice_choices};
 use crate::verb_texts::{AnswerText, answer_of, compared};
 use kc_rules::Settled;
 use kc_value::Sink;
@@ -57,6 +63,9 @@ pub fn serve<F: Files, O: Sink, E: Sink>(
     ensures part { result ≡ 5 → (O.taken out.new ≡ O.taken out.old) ⊎ AnswersInPart (F.surroundings files.old) (settings_view job.now.settings) (task_view job.now.task) (O.taken out.old) (O.taken out.new) }
 
     ensures unwritten { result ≢ 0 → result ≢ 1 → result ≢ 5 → O.taken out.new ≡ O.taken out.old }
+
+    // On status 5 a file couldn't be opened, or a read of a file or a write of the output failed.
+    ensures failed { result ≡ 5 → HasRisen (F.failures files.old) (F.failures files.new) ⊎ HasRisen (O.failures out.old) (O.failures out.new) }
 {
     match answer_job(alloc, job, files, err) {
         Ok(answer) => match write_answer(&answer.text, out, err) {
@@ -77,6 +86,7 @@ pub(crate) fn answer_job<F: Files, E: Sink>(
     ensures status { IfOk result (λ answer. answer.status ≤ 1) }
     ensures answer { IfOk result (λ answer. (t : TreeTexts) × (notices : List (List ℕ)) × AreTextsOfJob (F.surroundings files.old) (settings_view job.now.settings) t × Answer (F.surroundings files.old).content (settings_view job.now.settings) t.texts (task_view job.now.task) answer.text.items answer.status notices × TakesLines (E.taken err.old) (E.failures err.old) (t.lines ++ notices) (E.taken err.new) (E.failures err.new)) }
     ensures stopped { IfErr result (λ stop. (lines : List (List ℕ)) × StopsBefore (F.surroundings files.old) (settings_view job.now.settings) (task_view job.now.task) (status_of stop) lines × TakesLines (E.taken err.old) (E.failures err.old) lines (E.taken err.new) (E.failures err.new)) }
+    ensures failed { IfErr result (λ stop. status_of stop ≡ 5 → HasRisen (F.failures files.old) (F.failures files.new)) }
 {
     let settled = job_tree(alloc, &job.settings, files, err)?;
     let answer = answer_over(alloc, &job.settings, &job.task, &settled, files, err);
@@ -97,6 +107,8 @@ fn answer_over<F: Files, E: Sink>(
     ensures status { IfOk result (λ answer. answer.status ≤ 1) }
     ensures answer { IfOk result (λ answer. (notices : List (List ℕ)) × ((texts : trees.Files) → AreAccepted texts settings.now.tree.now (tree_of_settled settled.now) → Answer (F.surroundings files.old).content (settings_view settings.now) texts (task_view task.now) answer.text.items answer.status notices) × TakesLines (E.taken err.old) (E.failures err.old) notices (E.taken err.new) (E.failures err.new)) }
     ensures stopped { IfErr result (λ stop. (lines : List (List ℕ)) × StopsOverTree (F.surroundings files.old).content (settings_view settings.now) (tree_of_settled settled.now) (task_view task.now) (status_of stop) lines × TakesLines (E.taken err.old) (E.failures err.old) lines (E.taken err.new) (E.failures err.new)) }
+    ensures failed { IfErr result (λ stop. status_of stop ≡ 5 → HasRisen (F.failures files.old) (F.failures files.new)) }
+    ensures rising { F.failures files.old ≤ F.failures files.new }
 {
     match task {
         Task::Over { verb, files: paths } => {
@@ -123,12 +135,32 @@ fn answer_files<F: Files, E: Sink>(
     ensures status { IfOk result (λ answer. answer.status ≤ 1) }
     ensures answer { IfOk result (λ answer. (notices : List (List ℕ)) × ((texts : trees.Files) → AreAccepted texts settings.now.tree.now (tree_of_settled settled.now) → Answer (F.surroundings files.old).content (settings_view settings.now) texts (over verb (map (λ (path : Bor (List ℕ)). path.now) paths.now)) answer.text.items answer.status notices) × TakesLines (E.taken err.old) (E.failures err.old) notices (E.taken err.new) (E.failures err.new)) }
     ensures stopped { IfErr result (λ stop. (lines : List (List ℕ)) × StopsOverTree (F.surroundings files.old).content (settings_view settings.now) (tree_of_settled settled.now) (over verb (map (λ (path : Bor (List ℕ)). path.now) paths.now)) (status_of stop) lines × TakesLines (E.taken err.old) (E.failures err.old) lines (E.taken err.new) (E.failures err.new)) }
+    ensures failed { IfErr result (λ stop. status_of stop ≡ 5 → HasRisen (F.failures files.old) (F.failures files.new)) }
+    ensures rising { F.failures files.old ≤ F.failures files.new }
 {
     let read = configured(alloc, settled, settings, paths, files, err)?;
-    notice_choices(alloc, settings, paths, &read, err)?;
-    let answer = answer_of(alloc, verb, &read.config, &settings.format);
+    let answer = noticed_answer(alloc, settings, verb, paths, &read, err);
     drop(read);
-    Ok(answer?)
+    answer
+}
+
+/// The output of a verb over a configuration of files at these paths, and its status, once the notices on its choices are
+/// reported. Reports why there is no output.
+fn noticed_answer<E: Sink>(
+    alloc: Global,
+    settings: &Settings<'_>,
+    verb: Verb,
+    paths: &[&str],
+    read: &ReadFiles<'_>,
+    err: &mut E,
+) -> Result<AnswerText, RunError>
+    ensures text { IfOk result (λ answer. (given : GivenSettings) → given.format ≡ file_format settings.now.format → given.profile ≡ profile_of read.now.config.system → IsTextOfVerb given (tree_in read.now.config) read.now.config.users read.now.config.values verb answer.text.items) }
+    ensures status { IfOk result (λ answer. answer.status ≡ status_of_verb (tree_in read.now.config) read.now.config.users read.now.config.values verb) }
+    ensures noticed { IfOk result (λ answer. AreNoticed settings.now.strict (map (λ (path : Bor (List ℕ)). path.now) paths.now) read.now (E.taken err.old) (E.failures err.old) (E.taken err.new) (E.failures err.new)) }
+    ensures stopped { IfErr result (λ stop. StopsAnswering settings.now.strict (map (λ (path : Bor (List ℕ)). path.now) paths.now) read.now (status_of stop) (E.taken err.old) (E.failures err.old) (E.taken err.new) (E.failures err.new)) }
+{
+    notice_choices(alloc, settings, paths, read, err)?;
+    Ok(answer_of(alloc, verb, &read.config, &settings.format)?)
 }
 
 /// The output of a comparison of two configurations of one file each, and its status. Reports the notices, and why
@@ -146,18 +178,67 @@ fn answer_comparison<F: Files, E: Sink>(
     ensures status { IfOk result (λ answer. answer.status ≤ 1) }
     ensures answer { IfOk result (λ answer. (notices : List (List ℕ)) × ((texts : trees.Files) → AreAccepted texts settings.now.tree.now (tree_of_settled settled.now) → Answer (F.surroundings files.old).content (settings_view settings.now) texts (compare left.now right.now) answer.text.items answer.status notices) × TakesLines (E.taken err.old) (E.failures err.old) notices (E.taken err.new) (E.failures err.new)) }
     ensures stopped { IfErr result (λ stop. (lines : List (List ℕ)) × StopsOverTree (F.surroundings files.old).content (settings_view settings.now) (tree_of_settled settled.now) (compare left.now right.now) (status_of stop) lines × TakesLines (E.taken err.old) (E.failures err.old) lines (E.taken err.new) (E.failures err.new)) }
+    ensures failed { IfErr result (λ stop. status_of stop ≡ 5 → HasRisen (F.failures files.old) (F.failures files.new)) }
+    ensures rising { F.failures files.old ≤ F.failures files.new }
+{
+    let (before, after) = read_both(alloc, settled, settings, left, right, files, err)?;
+    let answer = noticed_comparison(alloc, settings, left, right, &before, &after, err);
+    drop(after);
+    drop(before);
+    answer
+}
+
+/// The configurations of two files, each by itself. Reports the notices of the files' lines, and why one is refused.
+fn read_both<'a, F: Files, E: Sink>(
+    alloc: Global,
+    settled: &'a Settled,
+    settings: &Settings<'_>,
+    left: &str,
+    right: &str,
+    files: &mut F,
+    err: &mut E,
+) -> Result<(ReadFiles<'a>, ReadFiles<'a>), RunError>
+    ensures same { F.surroundings files.new ≡ F.surroundings files.old }
+    ensures settled { IfOk result (λ both. (both.0.config.system ≡ settled.now) × (both.1.config.system ≡ settled.now)) }
+    ensures solved { IfOk result (λ both. IsSolved both.0.config × IsSolved both.1.config) }
+    ensures loaded { IfOk result (λ both. AreBothRead (F.surroundings files.old).content (file_format settings.now.format) settings.now.strict (tree_of_settled settled.now) left.now right.now both.0 both.1 (E.taken err.old) (E.failures err.old) (E.taken err.new) (E.failures err.new)) }
+    ensures stopped { IfErr result (λ stop. (lines : List (List ℕ)) × StopsAmongFiles (F.surroundings files.old).content (file_format settings.now.format) settings.now.strict (tree_of_settled settled.now) (left.now ∷ right.now ∷ []) (status_of stop) lines × TakesLines (E.taken err.old) (E.failures err.old) lines (E.taken err.new) (E.failures err.new)) }
+    ensures rising { F.failures files.old ≤ F.failures files.new }
+    ensures failed { IfErr result (λ stop. status_of stop ≡ 5 → HasRisen (F.failures files.old) (F.failures files.new)) }
 {
     let before = configured_by(alloc, settled, settings, left, files, err)?;
-    let after = configured_by(alloc, settled, settings, right, files, err)?;
-    notice_choices(alloc, settings, &[left], &before, err)?;
-    notice_choices(alloc, settings, &[right], &after, err)?;
-    let answer = compared(
+    match configured_by(alloc, settled, settings, right, files, err) {
+        Ok(after) => Ok((before, after)),
+        Err(stop) => {
+            drop(before);
+            Err(stop)
+        }
+    }
+}
+
+/// The output of a comparison of two configurations of one file each, and its status, once the notices on their choices are
+/// reported. Reports why there is no output.
+fn noticed_comparison<E: Sink>(
+    alloc: Global,
+    settings: &Settings<'_>,
+    left: &str,
+    right: &str,
+    before: &ReadFiles<'_>,
+    after: &ReadFiles<'_>,
+    err: &mut E,
+) -> Result<AnswerText, RunError>
+    requires { before.now.config.system ≡ after.now.config.system }
+    ensures text { IfOk result (λ answer. answer.text.items ≡ flat_map (difference_line settings.now.format.strings (tree_in before.now.config)) (differences (tree_in before.now.config) before.now.config.values after.now.config.values)) }
+    ensures status { IfOk result (λ answer. answer.status ≡ status_of_list true (differences (tree_in before.now.config) before.now.config.values after.now.config.values)) }
+    ensures noticed { IfOk result (λ answer. AreBothNoticed settings.now.strict left.now right.now before.now after.now (E.taken err.old) (E.failures err.old) (E.taken err.new) (E.failures err.new)) }
+    ensures stopped { IfErr result (λ stop. StopsComparing settings.now.strict left.now right.now before.now after.now (status_of stop) (E.taken err.old) (E.failures err.old) (E.taken err.new) (E.failures err.new)) }
+{
+    notice_choices(alloc, settings, &[left], before, err)?;
+    notice_choices(alloc, settings, &[right], after, err)?;
+    Ok(compared(
         alloc,
         &before.config,
         &after.config,
         settings.format.strings,
-    );
-    drop(after);
-    drop(before);
-    Ok(answer?)
+    )?)
 }

@@ -1,8 +1,8 @@
 //! Commands whose output goes to a file.
-ghost use Rattle.std.specs.Prelude.{◌≡◌, ◌≢◌, ◌≤◌, [], List, ℕ, IfErr, OnOk};
+ghost use Rattle.std.specs.Prelude.{◌≡◌, ◌≢◌, ◌≤◌, ◌⊎◌, [], List, ℕ, IfErr, OnOk};
 ghost use Rattle.kmin_disk.specs.declared.fault.UpdateFault.{UpdateFault as TheFault};
 ghost use Rattle.kmin_words.specs.Jobs.{settings_view, task_view};
-ghost use Rattle.kmin_report.specs.StandardError.{TakesLine, TakesLines};
+ghost use Rattle.kmin_report.specs.StandardError.{HasRisen, TakesLine, TakesLines};
 ghost use Rattle.kmin_run.specs.Saves.{IsSaved, IsUnsaved, SaveEnds, replace_lines, replace_status, update_lines, update_status};
 ghost use Rattle.kmin_report.specs.between.ReportLines.{report_line};
 ghost use Rattle.kmin_report.specs.between.RunErrors.{status_of};
@@ -35,6 +35,10 @@ pub fn save<F: Files, D: WriteDisk, E: Sink>(
     // after the notices of the files that were accepted.
     ensures ends { (lines : List (List ℕ)) × SaveEnds (F.surroundings files.old) (settings_view output_job.now.job.settings) (task_view output_job.now.job.task) output_job.now.output.now
         (D.disk disk.old) (D.disk disk.new) lines result × TakesLines (E.taken err.old) (E.failures err.old) lines (E.taken err.new) (E.failures err.new) }
+
+    // On status 5 a file couldn't be opened, or a read of a file failed, or the output file wasn't updated, or not for good.
+    ensures failed { result ≡ 5 → HasRisen (F.failures files.old) (F.failures files.new)
+        ⊎ ((text : List ℕ) × (fault : TheFault) × IsUnsaved (D.disk disk.old) (D.disk disk.new) output_job.now.output.now text fault) }
 {
     match answer_job(alloc, &output_job.job, files, err) {
         Ok(answer) => match save_text(alloc, output_job.output, &answer.text, disk, err) {

@@ -3,7 +3,7 @@ ghost use Rattle.std.specs.Prelude.{◌≡◌, ◌≢◌, ◌≤◌, ◌⊎◌, 
 ghost use Rattle.std.specs.Borrow.{Bor};
 ghost use Rattle.kmin_report.specs.StandardError.{TakesLine, TakesLines};
 ghost use Rattle.kmin_disk.specs.Disks.{Disk};
-ghost use Rattle.kmin_run.specs.Runs.{AskForChanges, AskForTidying, BundleEnds, Ends, HelpEnds, IsTidying, MayChangeFiles, ParsedEnds, input_of};
+ghost use Rattle.kmin_run.specs.Runs.{AskForChanges, AskForTidying, BundleEnds, Ends, HasFailed, HelpEnds, IsTidying, MayChangeFiles, ParsedEnds, WordsEnd, input_of};
 ghost use Rattle.kmin_run.specs.TidyRuns.{outputs_of};
 
 use crate::bundle_answer::run_bundle;
@@ -15,13 +15,13 @@ use kc_value::{Seed, Sink, Source};
 use kmin_disk::WriteDisk;
 use kmin_report::{Report, RunError, exit_status, write_answer, write_report};
 use kmin_trees::Files;
-use kmin_words::{ParsedWords, read_words};
+use kmin_words::{ParsedWords, command_first, read_words};
 use std::alloc::Global;
 
 /// Runs the program on its words, the files, the disk, a reader and two writers, and returns the exit status.
 ///
 /// Without words it reads a bundle, a Kconfig tree, a line `%%` and a configuration file, and writes the full file.
-/// Else the words are a command. Statuses: 0 done, 1 a comparison found differences, symbols are listed with
+/// Else the words are a command, before which options may stand. Statuses: 0 done, 1 a comparison found differences, symbols are listed with
 /// `--exit-code`, a file isn't minimal or a tree has open questions, 2 words or a list of paths refused, 3 tree
 /// refused, also by its expansion, 4 configuration file or answer file refused, or bundle or list too large, 5 a read
 /// or write failed, 6 out of memory.
@@ -38,9 +38,9 @@ pub fn run<F: Files, D: WriteDisk, I: Source, O: Sink, E: Sink>(
 ) -> u8
     ensures status { result ≤ 6 }
 
-    // Without words the run is on a bundle. Else the words are parsed, and the run ends as what they are parsed as does: a
-    // command by the clauses of its own, a help, or a message that refuses them, with status 2; or memory runs out
-    // before. Standard error takes just these lines.
+    // Without words the run is on a bundle. Else the words are parsed, the command first of them, and the run ends as
+    // what they are parsed as does: a command by the clauses of its own, a help, or a message that refuses them, with
+    // status 2; or memory runs out before. Standard error takes just these lines.
     ensures ends { (lines : List (List ℕ)) × Ends (F.surroundings files.old) (map (λ (word : Bor (List ℕ)). word.now) words.now)
         (input_of (I.left input.old) (I.failures input.old)) (input_of (I.left input.new) (I.failures input.new))
         (outputs_of (D.disk disk.old) (O.taken out.old) (O.failures out.old))
@@ -52,14 +52,19 @@ pub fn run<F: Files, D: WriteDisk, I: Source, O: Sink, E: Sink>(
     // On status 4 something was written only if the words are parsed as `tidy`, of which a file is refused.
     ensures refused { result ≡ 4 → (O.taken out.new ≡ O.taken out.old) ⊎ AskForTidying (map (λ (word : Bor (List ℕ)). word.now) words.now) }
     ensures unwritten { result ≢ 0 → result ≢ 1 → result ≢ 4 → result ≢ 5 → O.taken out.new ≡ O.taken out.old }
+
+    // On status 5 a file couldn't be opened, or a read or a write failed; or the words are parsed as `tidy`, or have an output
+    // file, whose own clauses say more.
+    ensures failed { result ≡ 5 → HasFailed (F.failures files.old) (F.failures files.new)
+        (input_of (I.left input.old) (I.failures input.old)) (input_of (I.left input.new) (I.failures input.new))
+        (outputs_of (D.disk disk.old) (O.taken out.old) (O.failures out.old))
+        (outputs_of (D.disk disk.new) (O.taken out.new) (O.failures out.new))
+        ⊎ (AskForTidying (map (λ (word : Bor (List ℕ)). word.now) words.now) ⊎ AskForChanges (map (λ (word : Bor (List ℕ)). word.now) words.now)) }
 {
     if words.is_empty() {
         return answer_bundle(alloc, files.seed(), input, out, err);
     }
-    match read_words(alloc, words) {
-        Ok(parsed) => run_parsed(alloc, &parsed, files, disk, input, out, err),
-        Err(_) => exit_status(RunError::Memory, err),
-    }
+    run_words(alloc, words, files, disk, input, out, err)
 }
 
 /// Reads a bundle, writes its full file, and returns the exit status.
@@ -82,6 +87,38 @@ fn answer_bundle<I: Source, O: Sink, E: Sink>(
     }
 }
 
+/// Runs the command that the words name, behind options or before them, and returns the exit status.
+fn run_words<F: Files, D: WriteDisk, I: Source, O: Sink, E: Sink>(
+    alloc: Global,
+    words: &[&str],
+    files: &mut F,
+    disk: &mut D,
+    input: &mut I,
+    out: &mut O,
+    err: &mut E,
+) -> u8
+    ensures status { result ≤ 6 }
+    ensures ends { (lines : List (List ℕ)) × WordsEnd (F.surroundings files.old) (map (λ (word : Bor (List ℕ)). word.now) words.now) (I.left input.old)
+        (outputs_of (D.disk disk.old) (O.taken out.old) (O.failures out.old))
+        (outputs_of (D.disk disk.new) (O.taken out.new) (O.failures out.new)) lines result × TakesLines (E.taken err.old) (E.failures err.old) lines (E.taken err.new) (E.failures err.new) }
+    ensures unasked { ((D.disk disk.new).state ≡ (D.disk disk.old).state) ⊎ AskForChanges (map (λ (word : Bor (List ℕ)). word.now) words.now) }
+    ensures refused { result ≡ 4 → (O.taken out.new ≡ O.taken out.old) ⊎ AskForTidying (map (λ (word : Bor (List ℕ)). word.now) words.now) }
+    ensures unwritten { result ≢ 0 → result ≢ 1 → result ≢ 4 → result ≢ 5 → O.taken out.new ≡ O.taken out.old }
+    ensures failed { result ≡ 5 → HasFailed (F.failures files.old) (F.failures files.new)
+        (input_of (I.left input.old) (I.failures input.old)) (input_of (I.left input.new) (I.failures input.new))
+        (outputs_of (D.disk disk.old) (O.taken out.old) (O.failures out.old))
+        (outputs_of (D.disk disk.new) (O.taken out.new) (O.failures out.new))
+        ⊎ (AskForTidying (map (λ (word : Bor (List ℕ)). word.now) words.now) ⊎ AskForChanges (map (λ (word : Bor (List ℕ)). word.now) words.now)) }
+{
+    let Ok(ordered) = command_first(alloc, words) else {
+        return exit_status(RunError::Memory, err);
+    };
+    match read_words(alloc, &ordered) {
+        Ok(parsed) => run_parsed(alloc, &parsed, files, disk, input, out, err),
+        Err(_) => exit_status(RunError::Memory, err),
+    }
+}
+
 /// Runs what the words are parsed as, a command, a help or a message, and returns the exit status.
 fn run_parsed<F: Files, D: WriteDisk, I: Source, O: Sink, E: Sink>(
     alloc: Global,
@@ -99,6 +136,10 @@ fn run_parsed<F: Files, D: WriteDisk, I: Source, O: Sink, E: Sink>(
     ensures unasked { ((D.disk disk.new).state ≡ (D.disk disk.old).state) ⊎ MayChangeFiles parsed.now }
     ensures refused { result ≡ 4 → (O.taken out.new ≡ O.taken out.old) ⊎ IsTidying parsed.now }
     ensures unwritten { result ≢ 0 → result ≢ 1 → result ≢ 4 → result ≢ 5 → O.taken out.new ≡ O.taken out.old }
+    ensures failed { result ≡ 5 → HasFailed (F.failures files.old) (F.failures files.new)
+        (input_of (I.left input.old) (I.failures input.old)) (input_of (I.left input.new) (I.failures input.new))
+        (outputs_of (D.disk disk.old) (O.taken out.old) (O.failures out.old))
+        (outputs_of (D.disk disk.new) (O.taken out.new) (O.failures out.new)) ⊎ (IsTidying parsed.now ⊎ MayChangeFiles parsed.now) }
 {
     match parsed {
         ParsedWords::Job(job) => serve(alloc, job, files, out, err),

@@ -1,5 +1,5 @@
 //! The command `tidy`, which compares each configuration file with its minimal file, or replaces it.
-ghost use Rattle.std.specs.Prelude.{◌≡◌, ◌≢◌, ◌≤◌, ◌++◌, [], List, ℕ, Option, Some, false, length, map, option_map, IfOk, IfErr, IsErrOf};
+ghost use Rattle.std.specs.Prelude.{◌≡◌, ◌≢◌, ◌≤◌, ◌⊎◌, ◌++◌, [], List, ℕ, Option, Some, false, length, map, option_map, IfOk, IfErr, IsErrOf};
 ghost use Rattle.std.specs.List.{list_all};
 ghost use Rattle.std.specs.Str.{is_utf8};
 ghost use Rattle.std.specs.Borrow.{Bor};
@@ -9,8 +9,8 @@ ghost use Rattle.kmin_words.specs.Jobs.{list_view, settings_view, tidy_job_view}
 ghost use Rattle.kmin_report.specs.KnownBytes.{AreKnownBytes};
 ghost use Rattle.kmin_disk.specs.Contents.{OpensAs};
 ghost use Rattle.kmin_report.specs.Reports.{fault_line};
-ghost use Rattle.kmin_report.specs.StandardError.{TakesLine, TakesLines};
-ghost use Rattle.kmin_run.specs.TidyRuns.{AreListBytes, AreNamed, StopsReadingList, StopsAtList, PathsEnd, TidyEnds, list_content, malformed_line, is_ended_by_nul, options_of, outputs_of};
+ghost use Rattle.kmin_report.specs.StandardError.{HasRisen, TakesLine, TakesLines};
+ghost use Rattle.kmin_run.specs.TidyRuns.{IsGoneOver, AreListBytes, AreNamed, StopsReadingList, StopsAtList, PathsEnd, TidyEnds, list_content, malformed_line, is_ended_by_nul, options_of, outputs_of};
 ghost use Rattle.kmin_report.specs.between.RunErrors.{status_of};
 
 use kc_dotconfig::LoadKind;
@@ -50,6 +50,10 @@ pub fn tidy<F: Files, D: WriteDisk, I: Source, O: Sink, E: Sink>(
 
     // Where the list or the tree is refused, or memory runs out, nothing is written.
     ensures unwritten { result ≢ 0 → result ≢ 1 → result ≢ 4 → result ≢ 5 → O.taken out.new ≡ O.taken out.old }
+
+    // On status 5 the list or an answer file couldn't be opened, or a read of one failed; or the files were gone over.
+    ensures failed { result ≡ 5 → (HasRisen (F.failures files.old) (F.failures files.new) ⊎ HasRisen (I.failures input.old) (I.failures input.new))
+        ⊎ IsGoneOver (outputs_of (D.disk disk.old) (O.taken out.old) (O.failures out.old)) (outputs_of (D.disk disk.new) (O.taken out.new) (O.failures out.new)) result }
 {
     match list_bytes(alloc, tidy_job.list, files, input, err) {
         Ok(list) => tidy_listed(alloc, tidy_job, &list, files, disk, out, err),
@@ -74,6 +78,8 @@ fn tidy_listed<F: Files, D: WriteDisk, O: Sink, E: Sink>(
         (outputs_of (D.disk disk.new) (O.taken out.new) (O.failures out.new)) lines result × TakesLines (E.taken err.old) (E.failures err.old) lines (E.taken err.new) (E.failures err.new) }
     ensures unasked { tidy_job.now.flags.write ≡ false → (D.disk disk.new).state ≡ (D.disk disk.old).state }
     ensures unwritten { result ≢ 0 → result ≢ 1 → result ≢ 4 → result ≢ 5 → O.taken out.new ≡ O.taken out.old }
+    ensures rising { F.failures files.old ≤ F.failures files.new }
+    ensures failed { result ≡ 5 → HasRisen (F.failures files.old) (F.failures files.new) ⊎ IsGoneOver (outputs_of (D.disk disk.old) (O.taken out.old) (O.failures out.old)) (outputs_of (D.disk disk.new) (O.taken out.new) (O.failures out.new)) result }
 {
     match all_paths(alloc, &tidy_job.files, list, is_ended_by_nul(tidy_job.list)) {
         Ok(paths) => tidy_paths(alloc, tidy_job, &paths, files, disk, out, err),
@@ -108,6 +114,8 @@ fn tidy_paths<F: Files, D: WriteDisk, O: Sink, E: Sink>(
         (outputs_of (D.disk disk.new) (O.taken out.new) (O.failures out.new)) lines result × TakesLines (E.taken err.old) (E.failures err.old) lines (E.taken err.new) (E.failures err.new) }
     ensures unasked { tidy_job.now.flags.write ≡ false → (D.disk disk.new).state ≡ (D.disk disk.old).state }
     ensures unwritten { result ≢ 0 → result ≢ 1 → result ≢ 4 → result ≢ 5 → O.taken out.new ≡ O.taken out.old }
+    ensures rising { F.failures files.old ≤ F.failures files.new }
+    ensures failed { result ≡ 5 → HasRisen (F.failures files.old) (F.failures files.new) ⊎ IsGoneOver (outputs_of (D.disk disk.old) (O.taken out.old) (O.failures out.old)) (outputs_of (D.disk disk.new) (O.taken out.new) (O.failures out.new)) result }
 {
     match job_tree(alloc, &tidy_job.settings, files, err) {
         Ok(settled) => {
@@ -187,6 +195,8 @@ fn list_bytes<F: Files, I: Source, E: Sink>(
     ensures bytes { IfOk result (λ bytes. AreListBytes (F.surroundings files.old).content (I.left input.old) (option_map list_view list.entry) bytes.items) }
     ensures unreported { IfOk result (λ bytes. TakesLines (E.taken err.old) (E.failures err.old) [] (E.taken err.new) (E.failures err.new)) }
     ensures stopped { IfErr result (λ stop. (lines : List (List ℕ)) × StopsAtList (F.surroundings files.old).content (I.left input.old) (option_map list_view list.entry) (status_of stop) lines × TakesLines (E.taken err.old) (E.failures err.old) lines (E.taken err.new) (E.failures err.new)) }
+    ensures rising { F.failures files.old ≤ F.failures files.new }
+    ensures failed { IfErr result (λ stop. status_of stop ≡ 5 → HasRisen (F.failures files.old) (F.failures files.new) ⊎ HasRisen (I.failures input.old) (I.failures input.new)) }
 {
     match list {
         Some(list) => named_list(alloc, list.path, files, input, err),
@@ -207,12 +217,18 @@ fn named_list<F: Files, I: Source, E: Sink>(
     ensures bytes { IfOk result (λ bytes. AreKnownBytes (list_content (F.surroundings files.old).content (I.left input.old) path.now) bytes.items) }
     ensures unreported { IfOk result (λ bytes. TakesLines (E.taken err.old) (E.failures err.old) [] (E.taken err.new) (E.failures err.new)) }
     ensures stopped { IfErr result (λ stop. (lines : List (List ℕ)) × StopsReadingList (list_content (F.surroundings files.old).content (I.left input.old) path.now) path.now (status_of stop) lines × TakesLines (E.taken err.old) (E.failures err.old) lines (E.taken err.new) (E.failures err.new)) }
+    ensures rising { F.failures files.old ≤ F.failures files.new }
+    ensures failed { IfErr result (λ stop. status_of stop ≡ 5 → HasRisen (F.failures files.old) (F.failures files.new) ⊎ HasRisen (I.failures input.old) (I.failures input.new)) }
 {
     if path == "-" {
         return read_list(alloc, path, input, err);
     }
     match files.reader_for(path) {
-        Some(mut reader) => read_list(alloc, path, &mut reader, err),
+        Some(mut reader) => {
+            let bytes = read_list(alloc, path, &mut reader, err);
+            files.close(reader);
+            bytes
+        }
         None => {
             report_list(path, LoadKind::Read, err);
             Err(RunError::Failed)
@@ -231,6 +247,7 @@ fn read_list<S: Source, E: Sink>(
     ensures bytes { IfOk result (λ bytes. (content : FileContent) → OpensAs content (Some (S.left source.old)) → AreKnownBytes content bytes.items) }
     ensures unreported { IfOk result (λ bytes. TakesLines (E.taken err.old) (E.failures err.old) [] (E.taken err.new) (E.failures err.new)) }
     ensures stopped { IfErr result (λ stop. (lines : List (List ℕ)) × ((content : FileContent) → OpensAs content (Some (S.left source.old)) → StopsReadingList content path.now (status_of stop) lines) × TakesLines (E.taken err.old) (E.failures err.old) lines (E.taken err.new) (E.failures err.new)) }
+    ensures failed { IfErr result (λ stop. status_of stop ≡ 5 → HasRisen (S.failures source.old) (S.failures source.new)) }
 {
     let ReadBytes { bytes, end } = read_up_to(alloc, source, MAX_LIST_BYTES + 1, 0)?;
     match end {

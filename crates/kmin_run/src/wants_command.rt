@@ -1,4 +1,4 @@
-//! The command `wants`, which lists the open questions of a tree's macros.
+//! The command `wants`, which lists the open questions of a tree's macros, or the answers that they don't use.
 ghost use Rattle.std.specs.Prelude.{◌≡◌, ◌≢◌, ◌≤◌, ◌⊎◌, ◌++◌, [], List, ℕ, true, Ok, Vec, IfOk, IfErr};
 ghost use Rattle.std.specs.declared.alloc.Global.{Global};
 ghost use Rattle.std.specs.List.{flat_map};
@@ -6,7 +6,7 @@ ghost use Rattle.std.specs.Io.KnownBytes.{Appends};
 ghost use Rattle.kc_files.specs.TextViews.{items_of};
 ghost use Rattle.kmin_words.specs.Jobs.{questions_view};
 ghost use Rattle.kmin_report.specs.Reports.{last_lines};
-ghost use Rattle.kmin_report.specs.StandardError.{TakesLines};
+ghost use Rattle.kmin_report.specs.StandardError.{HasRisen, TakesLines};
 ghost use Rattle.kmin_trees.specs.WantedQuestions.{AreAsked, AsksInPart, StopsWanting, question_line, questions_text};
 ghost use Rattle.kmin_run.specs.Statuses.{status_of_list};
 ghost use Rattle.kmin_report.specs.between.RunErrors.{status_of};
@@ -18,9 +18,10 @@ use kmin_trees::{Files, wanted_of};
 use kmin_words::Questions;
 use std::alloc::{AllocError, Global};
 
-/// Lists the open questions of a tree's macros, a line each, in the order in which the expansion asks them, and returns
-/// the exit status: 0 no question, 1 some questions, 3 no question but a fault of the expansion, 4 answer file refused,
-/// 5 a read or write failed, 6 out of memory.
+/// Lists the open questions of a tree's macros, a line each, in the order in which the expansion asks them; with `--unused`, where
+/// none is open, those that the answer files answer and the expansion doesn't ask, in their order. Returns the exit status: 0 no
+/// question, 1 some questions, 3 no question but a fault of the expansion, 4 answer file refused, 5 a read or write failed, 6 out of
+/// memory.
 ///
 /// The output is complete before the first write. Standard error gets a line `FILE:LINE: KIND` or
 /// `FILE:LINE: KIND TEXT` for the fault, and no notices; a failed write there has no influence.
@@ -34,7 +35,7 @@ pub fn list_questions<F: Files, O: Sink, E: Sink>(
     ensures status { result ≤ 6 }
     ensures accepted_words { result ≢ 2 }
 
-    // The answer files are accepted, exactly the open questions are written, and no write failed.
+    // The answer files are accepted, exactly these questions are written, and no write failed.
     ensures done { (result ≡ 0) ⊎ (result ≡ 1) → (asked : List (List ℕ)) × AreAsked (F.surroundings files.old) (questions_view questions.now) (Ok asked) × (result ≡ status_of_list true asked) × Appends (O.taken out.old) (O.taken out.new) (questions_text asked) × TakesLines (E.taken err.old) (E.failures err.old) [] (E.taken err.new) (E.failures err.new) }
     ensures unfailed { (result ≡ 0) ⊎ (result ≡ 1) → O.failures out.new ≡ O.failures out.old }
 
@@ -45,6 +46,9 @@ pub fn list_questions<F: Files, O: Sink, E: Sink>(
     ensures part { result ≡ 5 → (O.taken out.new ≡ O.taken out.old) ⊎ AsksInPart (F.surroundings files.old) (questions_view questions.now) (O.taken out.old) (O.taken out.new) }
 
     ensures unwritten { result ≢ 0 → result ≢ 1 → result ≢ 5 → O.taken out.new ≡ O.taken out.old }
+
+    // On status 5 an answer file couldn't be opened, or a read of one or a write of the output failed.
+    ensures failed { result ≡ 5 → HasRisen (F.failures files.old) (F.failures files.new) ⊎ HasRisen (O.failures out.old) (O.failures out.new) }
 {
     match answer_questions(alloc, questions, files, err) {
         Ok(answer) => match write_answer(&answer.text, out, err) {
@@ -55,7 +59,7 @@ pub fn list_questions<F: Files, O: Sink, E: Sink>(
     }
 }
 
-/// The complete list of open questions, and its status. Reports why there is none.
+/// The complete list of questions, and its status. Reports why there is none.
 fn answer_questions<F: Files, E: Sink>(
     alloc: Global,
     questions: &Questions<'_>,
@@ -66,6 +70,7 @@ fn answer_questions<F: Files, E: Sink>(
     ensures answer { IfOk result (λ answer. (asked : List (List ℕ)) × AreAsked (F.surroundings files.old) (questions_view questions.now) (Ok asked) × (answer.text.items ≡ questions_text asked) × (answer.status ≡ status_of_list true asked)) }
     ensures unreported { IfOk result (λ answer. TakesLines (E.taken err.old) (E.failures err.old) [] (E.taken err.new) (E.failures err.new)) }
     ensures stopped { IfErr result (λ stop. (lines : List (List ℕ)) × StopsWanting (F.surroundings files.old) (questions_view questions.now) (status_of stop) lines × TakesLines (E.taken err.old) (E.failures err.old) lines (E.taken err.new) (E.failures err.new)) }
+    ensures failed { IfErr result (λ stop. status_of stop ≡ 5 → HasRisen (F.failures files.old) (F.failures files.new)) }
 {
     let wanted = wanted_of(alloc, questions, files, err)?;
     match wanted {

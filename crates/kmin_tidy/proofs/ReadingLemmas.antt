@@ -1,5 +1,5 @@
 -- Files that are read whole or in part.
-use Rattle.std.proofs.Common.{◌≡◌, ◌≢◌, ℕ, List, [], ◌∷◌, ◌++◌, Option, Some, None, Result, Ok, Err, IfOk, length, refl, sym, ap, ◌∙◌, subst, append_assoc, ◌⊎◌, inl, inr, arith, length-append, lit<}
+use Rattle.std.proofs.Common.{◌≡◌, ◌≢◌, ◌<◌, ◌≤◌, ◌+◌, ◌-◌, ◌^◌, ℕ, List, [], ◌∷◌, ◌++◌, Option, Some, None, Result, Ok, Err, IfOk, length, refl, sym, ap, ◌∙◌, subst, append-nil, append_assoc, ◌⊎◌, inl, inr, arith, length-append, lit<, take}
 use Rattle.std.specs.Io.KnownBytes.{Consumes, IsAtEnd}
 use Rattle.std.proofs.lemmas.List.{append_cancel_right}
 use Rattle.kc_tree_model.specs.Trees.{Tree}
@@ -7,10 +7,16 @@ use Rattle.kc_dotconfig_model.specs.Formats.{FileFormat}
 use Rattle.kc_dotconfig_model.specs.declared.fault.LoadKind.{LoadKind}
 use Rattle.kc_dotconfig_model.specs.declared.fault.LoadKind.TheVariants.{Malformed, NotUtf8, LineTooLong, TooManyLines, Read, OutOfMemory, TooLarge}
 use Rattle.kc_dotconfig_model.specs.ConfigFiles.{FileMeans}
-use Rattle.kc_dotconfig_model.specs.LoadFaults.{IsAccepted, IsFirstFault, complete}
+use Rattle.kc_dotconfig_model.specs.LoadFaults.{IsAccepted, IsConsideredAt, IsFirstFault, complete, cut_short}
 use Rattle.kc_dotconfig.specs.declared.fragment.Fragment.{Fragment}
 use Rattle.kc_dotconfig.specs.Fragments.{FitsTree}
 use Rattle.kc_dotconfig.specs.ReadResults.{IsReadAs, IsRefused, ReportsFault}
+use Rattle.kc_value.specs.declared.limits.TheConstants.{MAX_CONFIG_BYTES}
+use Rattle.kc_value.specs.declared.reader_bytes.ReadEnd.{ReadEnd}
+use Rattle.kc_value.specs.declared.reader_bytes.ReadEnd.TheVariants.{AtEnd, AtLimit, AtFailure}
+use Rattle.kc_value.specs.Lines.{newline_count}
+use Rattle.kc_value.specs.ReaderFailures.{failures_after_reading}
+use Rattle.kmin_report.specs.StandardError.{HasRisen}
 use Rattle.kmin_disk.specs.Contents.{OpensAs}
 use Rattle.kmin_report.specs.KnownBytes.{AreKnownBytes}
 use Rattle.kmin_tidy.specs.checker.Readings.{IsFragmentOf, IsFaultOf, IsFaultOfPart, in_front, at_failure, no_memory, IsFaulty, refused, unread, for_memory}
@@ -30,6 +36,10 @@ fragment_of_read format tree bytes before after f is r fits =
       chosen = r.chosen;
       fits = fits;
     }
+
+-- a count that rose from 0
+rose_from : (before after : ℕ) → before ≡ 0 → (before < 2 ^ 64 - 1 → before < after) → 0 < after
+rose_from before after none rose = omega (arith, rose (omega arith))
 
 module _ (format : FileFormat) (tree : Tree) (bytes : List ℕ) where
   whole_first : (after : Option (List ℕ)) (kind : LoadKind) (number : ℕ) (known : List ℕ) → Consumes (Some bytes) after known
@@ -80,21 +90,29 @@ module _ (format : FileFormat) (tree : Tree) (bytes : List ℕ) where
   refused_part rest kind number other r =
       in_front other (part_first rest kind number r.known (part_front rest r.known r.consumed) r.first)
 
-  part_kind : (rest : List ℕ) (failed failed_after : ℕ) (kind : LoadKind) (number : ℕ)
+  -- a read failed only once all bytes of the part were read
+  cut_after : (rest known : List ℕ) (number : ℕ) → rest ≡ [] → bytes ≡ known ++ rest → IsFirstFault format tree cut_short known Read number
+      → IsFirstFault format tree cut_short bytes Read number
+  cut_after rest known number none e first =
+      subst (λ b. IsFirstFault format tree cut_short b Read number) (sym (e ∙ ap (λ r. known ++ r) none ∙ append-nil known)) first
+
+  part_kind : (rest : List ℕ) (failed failed_after : ℕ) (kind : LoadKind) (number : ℕ) → failed ≡ 0 → (0 < failed_after → rest ≡ [])
       → ReportsFault format tree (Some (bytes ++ 0 ∷ [])) (Some (rest ++ 0 ∷ [])) failed failed_after kind number → IsFaultOfPart format tree bytes kind number
-  part_kind rest f g OutOfMemory number t = no_memory refl
-  part_kind rest f g Read number t = at_failure t.0.known rest (part_front rest t.0.known t.0.consumed) t.0.first refl
-  part_kind rest f g Malformed number t = refused_part rest Malformed number (λ e. (cc)) t
-  part_kind rest f g NotUtf8 number t = refused_part rest NotUtf8 number (λ e. (cc)) t
-  part_kind rest f g LineTooLong number t = refused_part rest LineTooLong number (λ e. (cc)) t
-  part_kind rest f g TooManyLines number t = refused_part rest TooManyLines number (λ e. (cc)) t
-  part_kind rest f g TooLarge number t = refused_part rest TooLarge number (λ e. (cc)) t
+  part_kind rest f g OutOfMemory number none drained t = no_memory refl
+  part_kind rest f g Read number none drained t =
+      let rose : 0 < g = rose_from f g none t.1 in
+      at_failure (cut_after rest t.0.known number (drained rose) (part_front rest t.0.known t.0.consumed) t.0.first) refl
+  part_kind rest f g Malformed number none drained t = refused_part rest Malformed number (λ e. (cc)) t
+  part_kind rest f g NotUtf8 number none drained t = refused_part rest NotUtf8 number (λ e. (cc)) t
+  part_kind rest f g LineTooLong number none drained t = refused_part rest LineTooLong number (λ e. (cc)) t
+  part_kind rest f g TooManyLines number none drained t = refused_part rest TooManyLines number (λ e. (cc)) t
+  part_kind rest f g TooLarge number none drained t = refused_part rest TooLarge number (λ e. (cc)) t
 
   pub fault_of_part : (first : List ℕ) (before : Option (List ℕ)) (rest : List ℕ) (failed failed_after : ℕ) (kind : LoadKind) (number : ℕ)
-      → before ≡ Some (first ++ 0 ∷ [])
-      → first ≡ bytes → ReportsFault format tree before (Some (rest ++ 0 ∷ [])) failed failed_after kind number → IsFaultOfPart format tree bytes kind number
-  fault_of_part first before rest f g kind number is same t =
-      part_kind rest f g kind number
+      → before ≡ Some (first ++ 0 ∷ []) → first ≡ bytes → failed ≡ 0 → (0 < failed_after → rest ≡ [])
+      → ReportsFault format tree before (Some (rest ++ 0 ∷ [])) failed failed_after kind number → IsFaultOfPart format tree bytes kind number
+  fault_of_part first before rest f g kind number is same none drained t =
+      part_kind rest f g kind number none drained
       (subst (λ b. ReportsFault format tree b (Some (rest ++ 0 ∷ [])) f g kind number) (is ∙ ap (λ b. Some (b ++ 0 ∷ [])) same) t)
 
   -- a file in which a read fails is never read to its end and accepted
@@ -111,8 +129,7 @@ faulty_whole format tree known bytes kind number k (inr t) = refused bytes k t.0
 pub faulty_part : (format : FileFormat) (tree : Tree) (known : Option (Option (List ℕ))) (bytes rest : List ℕ) (kind : LoadKind) (number : ℕ)
     → AreKnownBytes known (bytes ++ rest) → IsFaultOfPart format tree bytes kind number → IsFaulty format tree known kind number
 faulty_part format tree known bytes rest kind number k (in_front other first) = refused (bytes ++ rest) k other (first rest)
-faulty_part format tree known bytes rest kind number k (at_failure front back e first is) =
-    unread front (back ++ rest) (subst (AreKnownBytes known) (ap (λ b. b ++ rest) e ∙ append_assoc front back rest) k) first is
+faulty_part format tree known bytes rest kind number k (at_failure first is) = unread bytes rest k first is
 faulty_part format tree known bytes rest kind number k (no_memory is) = for_memory is
 
 -- a fault of the bytes that were read of an opened file, up to its end or to a failed read, is a fault of that file
@@ -125,6 +142,40 @@ faulty_read format tree known before after bytes kind number Ended opens consume
 faulty_read format tree known before after bytes kind number Ended opens consumed ends (inr h) =
     let w = rest_of known before after bytes opens consumed in
     faulty_part format tree known bytes w.0 kind number w.1 h
+
+end_of_cut : (format : FileFormat) (tree : Tree) (bytes : List ℕ) (byte number : ℕ) → IsConsideredAt format tree cut_short bytes Read byte number
+    → byte ≡ length bytes
+end_of_cut format tree bytes byte number (inl occurs) = absurd occurs.0
+end_of_cut format tree bytes byte number (inr e) = e.1
+
+-- a file whose first fault is a failed read isn't too large as far as it was read
+cut_within : (format : FileFormat) (tree : Tree) (bytes : List ℕ) (number : ℕ) → IsFirstFault format tree cut_short bytes Read number
+    → MAX_CONFIG_BYTES < length bytes → ⊥
+cut_within format tree bytes number h lt =
+    let e = end_of_cut format tree bytes h.byte number h.comes in
+    let k = h.first TooLarge MAX_CONFIG_BYTES (newline_count (take MAX_CONFIG_BYTES bytes) + 1) (inl ((lt, refl, refl), lt)) in
+    elim k [ inl less ↦ omega (arith, less, e, lt) | inr same ↦ omega (arith, same.0, e, lt) ]
+
+-- a fault of a failed read is told only of a part that isn't too large
+pub read_within : (format : FileFormat) (tree : Tree) (bytes : List ℕ) (kind : LoadKind) (number : ℕ) → IsFaultOfPart format tree bytes kind number
+    → kind ≡ Read → length bytes ≤ MAX_CONFIG_BYTES
+read_within format tree bytes kind number (in_front other first) read = absurd (other read)
+read_within format tree bytes kind number (at_failure first is) read =
+    let fits = cut_within format tree bytes number first in omega (arith, fits)
+read_within format tree bytes kind number (no_memory is) read = absurd (cc (is, read))
+
+-- a fault of a whole file isn't that of a failed read
+pub whole_not_read : (format : FileFormat) (tree : Tree) (bytes : List ℕ) (kind : LoadKind) (number : ℕ) → IsFaultOf format tree bytes kind number
+    → kind ≡ Read → ⊥
+whole_not_read format tree bytes kind number (inl memory) read = cc (memory, read)
+whole_not_read format tree bytes kind number (inr other) read = other.0 read
+
+-- reading that ended neither at the end of a file nor at its limit ended at a failed read
+pub ended_at_failure : (end : ReadEnd) (before after count most : ℕ) → (end ≡ AtLimit → count ≡ most + 1) → (end ≡ AtEnd → ⊥) → count ≤ most
+    → after ≡ failures_after_reading before end → HasRisen before after
+ended_at_failure AtEnd before after count most limit other within e = absurd (other refl)
+ended_at_failure AtLimit before after count most limit other within e = absurd (omega (arith, limit refl))
+ended_at_failure AtFailure before after count most limit other within e = λ below. omega (arith, e)
 
 pub both_ok : {T E : Type 0} (r : Result T E) (P Q R : T → Type 0) → ((x : T) → P x → Q x → R x) → IfOk r P → IfOk r Q → IfOk r R
 both_ok (Ok x) P Q R f h k = f x h k

@@ -1,9 +1,10 @@
 //! Reading a configuration file, and keeping its bytes.
-ghost use Rattle.std.specs.Prelude.{◌≡◌, ◌⊎◌, ℕ, List, Option, Some, IfOk, IfErr};
+ghost use Rattle.std.specs.Prelude.{◌≡◌, ◌≢◌, ◌⊎◌, ◌≤◌, ℕ, List, Option, Some, length, IfOk, IfErr};
 ghost use Rattle.kc_rules.specs.between.SettledViews.{tree_of_settled};
 ghost use Rattle.kc_dotconfig_model.specs.between.Formats.{file_format};
 ghost use Rattle.kmin_disk.specs.Contents.{readable, OpensAs};
 ghost use Rattle.kmin_disk.specs.Disks.{content_at};
+ghost use Rattle.kmin_report.specs.StandardError.{HasRisen};
 ghost use Rattle.kmin_tidy.specs.checker.Readings.{IsAcceptedAs, IsFaulty, IsFaultOf, IsFaultOfPart, IsFragmentOf};
 
 use crate::part_reader::PartReader;
@@ -60,6 +61,7 @@ fn read_source<S: Source>(
         → IsAcceptedAs (file_format format.now) (tree_of_settled settled.now) known file) }
     ensures fault { IfErr result (λ fault. (known : Option (Option (List ℕ))) → OpensAs known (Some (S.left source.old))
         → IsFaulty (file_format format.now) (tree_of_settled settled.now) known fault.kind fault.line) }
+    ensures failed { IfErr result (λ fault. fault.kind ≡ LoadKind.Read → HasRisen (S.failures source.old) (S.failures source.new)) }
 {
     let limit = MAX_CONFIG_BYTES + 1;
     match read_up_to(alloc, source, limit, room.min(limit)) {
@@ -83,6 +85,7 @@ fn accept_read(
     ensures fault { IfErr result (λ fault. ((read.end ≡ ReadEnd.AtEnd)
         × IsFaultOf (file_format format.now) (tree_of_settled settled.now) read.bytes.items fault.kind fault.line) ⊎ IsFaultOfPart
         (file_format format.now) (tree_of_settled settled.now) read.bytes.items fault.kind fault.line) }
+    ensures unread { IfErr result (λ fault. fault.kind ≡ LoadKind.Read → (read.end ≢ ReadEnd.AtEnd) × (length read.bytes.items ≤ MAX_CONFIG_BYTES)) }
 {
     let ReadBytes { bytes, end } = read;
     match end {

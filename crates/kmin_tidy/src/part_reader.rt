@@ -1,19 +1,21 @@
 //! A reader of the bytes of a file that were read before a read failed.
-ghost use Rattle.std.specs.Prelude.{◌≡◌, ◌∷◌, ◌++◌, [], Some};
+ghost use Rattle.std.specs.Prelude.{◌≡◌, ◌<◌, ◌∷◌, ◌++◌, [], Some};
 
 use kc_value::{Failed, Source};
 
-/// A reader of the first bytes of a file. The read after them fails.
+/// A reader of the first bytes of a file. The read after them fails, and none before.
 #[derive(Drop)]
 pub(crate) struct PartReader<'a> {
     rest: &'a [u8],
     failed: u64,
+    ghost drained: { 0 < failed → rest.now ≡ [] },
 }
 
 impl<'a> PartReader<'a> {
     /// A reader that gives these bytes, and then fails.
     pub(crate) fn new(bytes: &'a [u8]) -> PartReader<'a>
-        ensures { result.rest.now ≡ bytes.entry.now }
+        ensures rest { result.rest.now ≡ bytes.entry.now }
+        ensures unfailed { result.failed ≡ 0 }
     {
         PartReader {
             rest: bytes,

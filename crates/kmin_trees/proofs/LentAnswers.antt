@@ -15,7 +15,8 @@ use Rattle.kmin_words.specs.declared.job.Definition.{Definition as DeclaredDefin
 use Rattle.kmin_words.specs.Jobs.{Definition, Expansion, definition_view}
 use Rattle.kmin_trees.specs.FileContents.{VariableContent, MatchVariable}
 use Rattle.kmin_trees.specs.JobAnswers.{defined_answer, answer_of_variable, lent_answer, FilesRecord, AreJobAnswers}
-use Rattle.kmin_trees.specs.between.AnswerSteps.{AreLent}
+use Rattle.kc_answers.specs.RunStates.{questions_of}
+use Rattle.kmin_trees.specs.between.AnswerSteps.{AreLent, AnswersAndQuestions}
 
 pub or_none : (a : Option Answer) → option_or a None ≡ a
 or_none None = refl
@@ -161,6 +162,17 @@ answers_of_job content_of variable_of expansion recorded defined answers f d l =
       l.each question ∙ ap (λ r. option_or r (lent_answer expansion.environment l.values question)) (d question)
       ∙ or_assoc (defined_answer expansion.definitions question) (keyword_in_table recorded question) (lent_answer expansion.environment l.values question);
 }
+
+-- and so are they with the questions of the answer files
+pub questions_of_job : (content_of : List ℕ → FileContent) (variable_of : List ℕ → VariableContent)
+    (expansion : Expansion) (recorded defined answers : RecordedAnswers) (answered : List (List ℕ))
+    → FilesRecord content_of expansion.answers [] recorded
+    → ((question : List ℕ) → keyword_in_table defined question ≡ option_or (defined_answer expansion.definitions question) (keyword_in_table recorded question))
+    → AreLent variable_of expansion.environment defined answers → answered ≡ questions_of recorded
+    → AnswersAndQuestions content_of variable_of expansion answers answered
+unfolding answers_of_job
+questions_of_job content_of variable_of expansion recorded defined answers answered f d l q =
+    record { job = answers_of_job content_of variable_of expansion recorded defined answers f d l; answered_are = q }
 
 -- the answers with the first k + 1 definitions are those with the first k, and that of the definition at place k
 pub defined_next : (definitions : List DeclaredDefinition) (k : ℕ) (absent : DeclaredDefinition) (before answers : RecordedAnswers) → k < length definitions

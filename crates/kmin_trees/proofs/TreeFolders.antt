@@ -10,7 +10,7 @@ use Rattle.kc_macros_model.specs.AnswerFiles.{RecordedAnswers}
 use Rattle.kc_macros_model.specs.Programs.{Fault, Notice}
 use Rattle.kc_macros_model.specs.ReadingStates.{ExpandedFile}
 use Rattle.kc_macros_model.specs.Worlds.{World}
-use Rattle.kc_expansion.specs.Expansions.{IsExpansion, AreWanted}
+use Rattle.kc_expansion.specs.Expansions.{IsExpansion, AreWanted, AreUnused}
 use Rattle.kc_files.specs.TreeContents.{FileContent, FolderContent, ListsAs, IsWorldOf}
 use Rattle.kc_files.specs.TreeContents as tree
 use Rattle.kmin_trees.specs.FileContents.{Surroundings, path_below}
@@ -56,39 +56,55 @@ pub unlisted_below : (names : List ℕ → FolderContent) (root folder : List �
 unlisted_below names root folder most found u h = rw u h
 
 -- the files and folders are the same, whatever they are read through
-world_below : (reference : ℕ) (known : Surroundings) (root : List ℕ) (w : World) → IsWorldOf (contents_through reference known root) w
+world_below : (reference failures : ℕ) (known : Surroundings) (root : List ℕ) (w : World) → IsWorldOf (contents_through reference failures known root) w
     → IsWorldOf (contents_below known root) w
-world_below reference known root w h = record { files = h.files; folders = h.folders }
+world_below reference failures known root w h = record { files = h.files; folders = h.folders }
 
-through_any : (reference : ℕ) (known : Surroundings) (root first : List ℕ) (answers : RecordedAnswers) (notices : List Notice)
+through_any : (reference failures : ℕ) (known : Surroundings) (root first : List ℕ) (answers : RecordedAnswers) (notices : List Notice)
     (r : Result (List ExpandedFile) Fault)
-    → IsExpansion (contents_through reference known root) answers first notices r → IsExpansion (contents_below known root) answers first notices r
-through_any reference known root first answers notices r h = record {
+    → IsExpansion (contents_through reference failures known root) answers first notices r → IsExpansion (contents_below known root) answers first notices r
+through_any reference failures known root first answers notices r h = record {
   world = h.world;
-  of_contents = world_below reference known root h.world h.of_contents;
+  of_contents = world_below reference failures known root h.world h.of_contents;
   answered = h.answered;
   has_notices = h.has_notices;
   ends_so = h.ends_so;
 }
 
-pub expansion_below : (reference : ℕ) (known : Surroundings) (root first path : List ℕ) (answers : RecordedAnswers) (notices : List Notice)
+pub expansion_below : (reference failures : ℕ) (known : Surroundings) (root first path : List ℕ) (answers : RecordedAnswers) (notices : List Notice)
     (r : Result (List ExpandedFile) Fault)
-    → path ≡ first → IsExpansion (contents_through reference known root) answers path notices r → IsExpansion
+    → path ≡ first → IsExpansion (contents_through reference failures known root) answers path notices r → IsExpansion
     (contents_below known root) answers first notices r
-expansion_below reference known root first path answers notices r e h =
-    subst (λ p. IsExpansion (contents_below known root) answers p notices r) e (through_any reference known root path answers notices r h)
+expansion_below reference failures known root first path answers notices r e h =
+    subst (λ p. IsExpansion (contents_below known root) answers p notices r) e (through_any reference failures known root path answers notices r h)
 
-wanted_any : (reference : ℕ) (known : Surroundings) (root first : List ℕ) (answers : RecordedAnswers) (asked : Result (List (List ℕ)) Fault)
-    → AreWanted (contents_through reference known root) answers first asked → AreWanted (contents_below known root) answers first asked
-wanted_any reference known root first answers asked h = record {
+wanted_any : (reference failures : ℕ) (known : Surroundings) (root first : List ℕ) (answers : RecordedAnswers) (asked : Result (List (List ℕ)) Fault)
+    → AreWanted (contents_through reference failures known root) answers first asked → AreWanted (contents_below known root) answers first asked
+wanted_any reference failures known root first answers asked h = record {
   world = h.world;
-  of_contents = world_below reference known root h.world h.of_contents;
+  of_contents = world_below reference failures known root h.world h.of_contents;
   answered = h.answered;
   are_wanted = h.are_wanted;
 }
 
-pub wanted_below : (reference : ℕ) (known : Surroundings) (root first path : List ℕ) (answers : RecordedAnswers)
+pub wanted_below : (reference failures : ℕ) (known : Surroundings) (root first path : List ℕ) (answers : RecordedAnswers)
     (asked : Result (List (List ℕ)) Fault) → path ≡ first
-    → AreWanted (contents_through reference known root) answers path asked → AreWanted (contents_below known root) answers first asked
-wanted_below reference known root first path answers asked e h =
-    subst (λ p. AreWanted (contents_below known root) answers p asked) e (wanted_any reference known root path answers asked h)
+    → AreWanted (contents_through reference failures known root) answers path asked → AreWanted (contents_below known root) answers first asked
+wanted_below reference failures known root first path answers asked e h =
+    subst (λ p. AreWanted (contents_below known root) answers p asked) e (wanted_any reference failures known root path answers asked h)
+
+unused_any : (reference failures : ℕ) (known : Surroundings) (root first : List ℕ) (answers : RecordedAnswers) (answered : List (List ℕ))
+    (listed : Result (List (List ℕ)) Fault)
+    → AreUnused (contents_through reference failures known root) answers first answered listed → AreUnused (contents_below known root) answers first answered listed
+unused_any reference failures known root first answers answered listed h = record {
+  world = h.world;
+  of_contents = world_below reference failures known root h.world h.of_contents;
+  answered_so = h.answered_so;
+  are_unused = h.are_unused;
+}
+
+pub unused_below : (reference failures : ℕ) (known : Surroundings) (root first path : List ℕ) (answers : RecordedAnswers) (answered : List (List ℕ))
+    (listed : Result (List (List ℕ)) Fault) → path ≡ first
+    → AreUnused (contents_through reference failures known root) answers path answered listed → AreUnused (contents_below known root) answers first answered listed
+unused_below reference failures known root first path answers answered listed e h =
+    subst (λ p. AreUnused (contents_below known root) answers p answered listed) e (unused_any reference failures known root path answers answered listed h)

@@ -12,11 +12,12 @@ regular_below regular root path = if is_utf8 path then regular (path_below root 
 abbrev pub names_below : (List ℕ → FolderContent) → (root folder : List ℕ) → FolderContent
 names_below names root folder = if is_utf8 folder then names (path_below root folder) else Some []
 
--- the `TreeContents` of a tree below a root: what is known of its files and folders, with this number in the field `reference`
-abbrev pub contents_through : (reference : ℕ) → Surroundings → (root : List ℕ) → TreeContents
-contents_through reference known root =
-    record { file = regular_below known.regular root; folder = names_below known.names root; beside = known.content; reference = reference }
+-- the `TreeContents` of a tree below a root: what is known of its files and folders, with these numbers in the fields `reference`
+-- and `failures`
+abbrev pub contents_through : (reference failures : ℕ) → Surroundings → (root : List ℕ) → TreeContents
+contents_through reference failures known root =
+    record { file = regular_below known.regular root; folder = names_below known.names root; beside = known.content; failures = failures; reference = reference }
 
 -- what is known of the files and folders of a tree below a root, for an expansion of its macros
 abbrev pub contents_below : Surroundings → (root : List ℕ) → TreeContents
-contents_below known root = contents_through 0 known root
+contents_below known root = contents_through 0 0 known root

@@ -1,10 +1,12 @@
--- The open questions of a tree's macros.
-use Rattle.std.specs.Prelude.{◌≡◌, ℕ, ◌<◌, List, [], ◌∷◌, ◌++◌, Option, Result, Ok, Err, length, take}
+-- The open questions of a tree's macros, and the answers that they don't use.
+use Rattle.std.specs.Prelude.{◌≡◌, ℕ, ◌<◌, Bool, true, false, List, [], ◌∷◌, ◌++◌, Option, Result, Ok, Err, length, take}
 use Rattle.std.specs.List.{flat_map}
 use Rattle.std.specs.Io.KnownBytes.{Appends}
 use Rattle.kc_macros_model.specs.Programs.{Fault}
 use Rattle.kc_macros_model.specs.AnswerFiles.{RecordedAnswers}
-use Rattle.kc_expansion.specs.Expansions.{AreWanted}
+use Rattle.kc_answers.specs.RunStates.{questions_of}
+use Rattle.kc_files.specs.TreeContents.{TreeContents}
+use Rattle.kc_expansion.specs.Expansions.{AreWanted, AreUnused}
 use Rattle.kmin_words.specs.Jobs.{Questions}
 use Rattle.kmin_trees.specs.FileContents.{Surroundings}
 use Rattle.kmin_trees.specs.JobAnswers.{AreJobAnswers}
@@ -13,17 +15,23 @@ use Rattle.kmin_trees.specs.AnswerStops.{StopsAmongAnswers}
 use Rattle.kmin_report.specs.MacroReports.{macro_fault_line}
 use Rattle.kmin_report.specs.Reports.{output_line}
 
--- the result of the command `wants` for a tree: the open questions of its macros, or if there are none the fault of the expansion
+-- what `wants` lists of a tree with these answers: its open questions; with `--unused` where none is open the questions of the
+-- answers `recorded` of answer files that the tree doesn't ask, in their order; or the fault of the tree's expansion
+abbrev pub AreListed : (unused : Bool) → TreeContents → (answers recorded : RecordedAnswers) → (root : List ℕ) → Result (List (List ℕ)) Fault → Type 0
+AreListed false contents answers recorded root listed = AreWanted contents answers root listed
+AreListed true contents answers recorded root listed = AreUnused contents answers root (questions_of recorded) listed
+
+-- the result of the command `wants` for a tree: the questions that it lists, or if there are none the fault of the expansion
 pub record AreAsked (known : Surroundings) (questions : Questions) (asked : Result (List (List ℕ)) Fault) : Type 0 where
   pub answers : RecordedAnswers
   pub answered : AreJobAnswers known.content known.variable questions.expansion answers
-  pub wanted : AreWanted (contents_below known questions.root) answers questions.tree asked
+  pub wanted : AreListed questions.unused (contents_below known questions.root) answers answered.recorded questions.tree asked
 
 -- the line of standard output for a question: its text and a newline
 abbrev pub question_line : List ℕ → List ℕ
 question_line question = question ++ 10 ∷ []
 
--- the lines of standard output for questions, in order
+-- the lines of standard output for listed questions, in order
 abbrev pub questions_text : List (List ℕ) → List ℕ
 questions_text asked = flat_map question_line asked
 
@@ -37,7 +45,7 @@ pub data StopsWanting (known : Surroundings) (questions : Questions) (status : �
       → StopsWanting known questions status lines
   for_memory : status ≡ 6 → lines ≡ [] → StopsWanting known questions status lines
 
--- standard output took the first bytes of the list of open questions, but not all of them
+-- standard output took the first bytes of the list of questions, but not all of them
 pub record AsksInPart (known : Surroundings) (questions : Questions) (taken taken_after : Option (List ℕ)) : Type 0 where
   pub asked : List (List ℕ)
   pub are : AreAsked known questions (Ok asked)

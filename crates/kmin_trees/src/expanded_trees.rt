@@ -3,7 +3,8 @@ ghost use Rattle.std.specs.Prelude.{◌≡◌, ℕ, List, Ok, IfOk, IfErr, OnOk,
 ghost use Rattle.std.specs.Str.{is_utf8};
 ghost use Rattle.kc_macros_model.specs.Programs.{Notice};
 ghost use Rattle.kc_macros.specs.Runs.{notice_of};
-ghost use Rattle.kc_expansion.specs.Expansions.{IsExpansion, AreWanted, tree_of, questions_of};
+ghost use Rattle.kc_expansion.specs.Expansions.{IsExpansion, AreWanted, AreUnused, tree_of, questions_of};
+ghost use Rattle.kc_files.specs.TextViews.{texts_of};
 ghost use Rattle.kc_tree_model.specs.TreeFiles.{with_file};
 ghost use Rattle.kmin_trees.specs.JobTexts.{expanded_texts};
 ghost use Rattle.kmin_trees.specs.TreeFolders.{contents_below};
@@ -16,7 +17,7 @@ ghost use Rattle.kmin_report.specs.between.RunErrors.{status_of};
 use crate::files::Files;
 use crate::tree_folder::{TreeFolder, text_of};
 use kc_answers::Answers;
-use kc_expansion::{ExpandedTree, Expansion, expand, wants};
+use kc_expansion::{ExpandedTree, Expansion, expand, unused, wants};
 use kc_macros::{MacroFault, MacroNotice};
 use kc_tokens::Language;
 use kc_tree::Texts;
@@ -44,6 +45,7 @@ pub(crate) fn expanded_tree<F: Files, E: Sink>(
     ensures texts { IfOk result (λ t. t.texts ≡ expanded_texts settings.now.language t.tree) }
     ensures expanded { IfOk result (λ t. (notices : List Notice) × IsExpansion (contents_below (F.surroundings files.old) settings.now.root.now) answers.now settings.now.tree.now notices (Ok t.tree) × TakesLines (E.taken err.old) (E.failures err.old) (map macro_notice_line notices) (E.taken err.new) (E.failures err.new)) }
     ensures stopped { IfErr result (λ stop. (lines : List (List ℕ)) × StopsExpanding (contents_below (F.surroundings files.old) settings.now.root.now) answers.now settings.now.tree.now (status_of stop) lines × TakesLines (E.taken err.old) (E.failures err.old) lines (E.taken err.new) (E.failures err.new)) }
+    ensures uncounted { F.failures files.new ≡ F.failures files.old }
 {
     let seed = files.seed();
     let Expansion { notices, tree } = expansion_below(
@@ -80,6 +82,7 @@ fn expansion_below<F: Files>(
 ) -> Result<Expansion, AllocError>
     ensures same { (F.surroundings files.new).content ≡ (F.surroundings files.old).content }
     ensures expanded { IfOk result (λ e. IsExpansion (contents_below (F.surroundings files.old) root.now) answers.now first.now (map notice_of e.notices.items) (tree_of e.tree)) }
+    ensures uncounted { F.failures files.new ≡ F.failures files.old }
 {
     let mut tree = TreeFolder { files, root };
     expand(alloc, &mut tree, first.as_bytes(), answers)
@@ -97,6 +100,22 @@ pub(crate) fn wanted_below<F: Files>(
 {
     let mut tree = TreeFolder { files, root };
     wants(alloc, &mut tree, first.as_bytes(), answers)
+}
+
+/// The questions of `answered` that the macros of the tree below a folder don't ask; or their open questions, or the fault of its
+/// expansion.
+pub(crate) fn unused_below<F: Files>(
+    alloc: Global,
+    root: &str,
+    first: &str,
+    answers: &Answers,
+    answered: Vec<Vec<u8>>,
+    files: &mut F,
+) -> Result<Result<Vec<Vec<u8>>, MacroFault>, AllocError>
+    ensures { IfOk result (λ w. AreUnused (contents_below (F.surroundings files.old) root.now) answers.now first.now (texts_of answered) (questions_of w)) }
+{
+    let mut tree = TreeFolder { files, root };
+    unused(alloc, &mut tree, first.as_bytes(), answers, answered)
 }
 
 /// The texts of expanded files by their keys, in a language; a file whose key isn't UTF-8 is left out.

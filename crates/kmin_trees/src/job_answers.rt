@@ -1,5 +1,5 @@
 //! The answers to the questions of a job's tree, from definitions, answer files and the environment.
-ghost use Rattle.std.specs.Prelude.{◌≡◌, ◌∷◌, [], ℕ, List, Some, None, IfOk, IfErr, OnOk, map, option_map, string_bytes};
+ghost use Rattle.std.specs.Prelude.{◌≡◌, ◌∷◌, [], ℕ, ◌≤◌, List, Some, None, IfOk, IfErr, OnOk, map, option_map, string_bytes};
 ghost use Rattle.std.specs.Borrow.{Bor};
 ghost use Rattle.std.specs.Option.{option_or};
 ghost use Rattle.kc_tree_model.specs.Keywords.{keyword_in_table};
@@ -7,8 +7,9 @@ ghost use Rattle.kmin_words.specs.Jobs.{definition_view, expansion_view};
 ghost use Rattle.kmin_trees.specs.JobAnswers.{FilesRecord, AreJobAnswers, defined_answer, answer_of_variable};
 ghost use Rattle.kc_answers.specs.ReadAnswers.{AreRecorded};
 ghost use Rattle.kmin_trees.specs.AnswerStops.{StopsAmongAnswers, answers_status};
-ghost use Rattle.kmin_report.specs.StandardError.{TakesLines};
-ghost use Rattle.kmin_trees.specs.between.AnswerSteps.{StopsReading, StopsAtAnswersPath, AreLent, answers_lines};
+ghost use Rattle.kmin_report.specs.StandardError.{HasRisen, TakesLines};
+ghost use Rattle.kmin_trees.specs.between.AnswerSteps.{StopsReading, StopsAtAnswersPath, AreLent, AnswersAndQuestions, answers_lines};
+ghost use Rattle.kc_files.specs.TextViews.{texts_of};
 ghost use Rattle.kmin_report.specs.between.RunErrors.{status_of};
 
 use crate::files::Files;
@@ -31,11 +32,33 @@ pub(crate) fn job_answers<F: Files, E: Sink>(
     ensures answers { IfOk result (AreJobAnswers (F.surroundings files.old).content (F.surroundings files.old).variable (expansion_view expansion.now)) }
     ensures unreported { OnOk result (TakesLines (E.taken err.old) (E.failures err.old) [] (E.taken err.new) (E.failures err.new)) }
     ensures stopped { IfErr result (λ stop. (lines : List (List ℕ)) × StopsAmongAnswers (F.surroundings files.old).content (expansion_view expansion.now).answers (status_of stop) lines × TakesLines (E.taken err.old) (E.failures err.old) lines (E.taken err.new) (E.failures err.new)) }
+    ensures rising { F.failures files.old ≤ F.failures files.new }
+    ensures failed { IfErr result (λ stop. status_of stop ≡ 5 → HasRisen (F.failures files.old) (F.failures files.new)) }
 {
     let mut answers = file_answers(alloc, &expansion.answers, files, err)?;
     define(&expansion.definitions, &mut answers)?;
     lend(alloc, &expansion.environment, files, &mut answers)?;
     Ok(answers)
+}
+
+/// The answers that `job_answers` makes, and the questions that the answer files answer, in order of their first answers.
+pub(crate) fn answers_and_questions<F: Files, E: Sink>(
+    alloc: Global,
+    expansion: &Expansion<'_>,
+    files: &mut F,
+    err: &mut E,
+) -> Result<(Answers, Vec<Vec<u8>>), RunError>
+    ensures same { F.surroundings files.new ≡ F.surroundings files.old }
+    ensures answers { IfOk result (λ r. AnswersAndQuestions (F.surroundings files.old).content (F.surroundings files.old).variable (expansion_view expansion.now) r.0 (texts_of r.1)) }
+    ensures unreported { OnOk result (TakesLines (E.taken err.old) (E.failures err.old) [] (E.taken err.new) (E.failures err.new)) }
+    ensures stopped { IfErr result (λ stop. (lines : List (List ℕ)) × StopsAmongAnswers (F.surroundings files.old).content (expansion_view expansion.now).answers (status_of stop) lines × TakesLines (E.taken err.old) (E.failures err.old) lines (E.taken err.new) (E.failures err.new)) }
+    ensures failed { IfErr result (λ stop. status_of stop ≡ 5 → HasRisen (F.failures files.old) (F.failures files.new)) }
+{
+    let mut answers = file_answers(alloc, &expansion.answers, files, err)?;
+    let answered = answers.questions()?;
+    define(&expansion.definitions, &mut answers)?;
+    lend(alloc, &expansion.environment, files, &mut answers)?;
+    Ok((answers, answered))
 }
 
 /// Reads answer files, one after another. Reports why one is refused.
@@ -49,6 +72,8 @@ fn file_answers<F: Files, E: Sink>(
     ensures recorded { IfOk result (λ answers. FilesRecord (F.surroundings files.old).content (map (λ (path : Bor (List ℕ)). path.now) paths.now) [] answers) }
     ensures unreported { OnOk result (TakesLines (E.taken err.old) (E.failures err.old) [] (E.taken err.new) (E.failures err.new)) }
     ensures stopped { IfErr result (λ stop. (lines : List (List ℕ)) × StopsAmongAnswers (F.surroundings files.old).content (map (λ (path : Bor (List ℕ)). path.now) paths.now) (status_of stop) lines × TakesLines (E.taken err.old) (E.failures err.old) lines (E.taken err.new) (E.failures err.new)) }
+    ensures rising { F.failures files.old ≤ F.failures files.new }
+    ensures failed { IfErr result (λ stop. status_of stop ≡ 5 → HasRisen (F.failures files.old) (F.failures files.new)) }
 {
     let mut answers = Answers::new(alloc, files.seed());
     for path in paths {
@@ -68,9 +93,15 @@ fn record_path<F: Files, E: Sink>(
     ensures recorded { OnOk result (FilesRecord (F.surroundings files.old).content (path.now ∷ []) answers.old answers.new) }
     ensures unreported { OnOk result (TakesLines (E.taken err.old) (E.failures err.old) [] (E.taken err.new) (E.failures err.new)) }
     ensures stopped { IfErr result (λ stop. (lines : List (List ℕ)) × StopsAtAnswersPath ((F.surroundings files.old).content path.now) answers.old path.now (status_of stop) lines × TakesLines (E.taken err.old) (E.failures err.old) lines (E.taken err.new) (E.failures err.new)) }
+    ensures rising { F.failures files.old ≤ F.failures files.new }
+    ensures failed { IfErr result (λ stop. status_of stop ≡ 5 → HasRisen (F.failures files.old) (F.failures files.new)) }
 {
     match files.reader_for(path) {
-        Some(mut reader) => record(path, &mut reader, answers, err),
+        Some(mut reader) => {
+            let recorded = record(path, &mut reader, answers, err);
+            files.close(reader);
+            recorded
+        }
         None => {
             let kind = AnswersKind::Read;
             let fault = AnswersFault { line: 0, kind };
@@ -89,6 +120,7 @@ fn record<S: Source, E: Sink>(
     ensures recorded { OnOk result (AreRecorded (S.left source.old) (S.left source.new) answers.old answers.new) }
     ensures unreported { OnOk result (TakesLines (E.taken err.old) (E.failures err.old) [] (E.taken err.new) (E.failures err.new)) }
     ensures stopped { IfErr result (λ stop. StopsReading path.now (S.left source.old) (S.left source.new) (S.failures source.old) (S.failures source.new) answers.old (status_of stop) (E.taken err.old) (E.failures err.old) (E.taken err.new) (E.failures err.new)) }
+    ensures failed { IfErr result (λ stop. status_of stop ≡ 5 → HasRisen (S.failures source.old) (S.failures source.new)) }
 {
     match answers.read(source) {
         Ok(()) => Ok(()),
@@ -135,6 +167,7 @@ fn lend<F: Files>(
 ) -> Result<(), AllocError>
     ensures same { F.surroundings files.new ≡ F.surroundings files.old }
     ensures lent { OnOk result (AreLent (F.surroundings files.old).variable (map (λ (name : Bor (List ℕ)). name.now) names.now) answers.old answers.new) }
+    ensures uncounted { F.failures files.new ≡ F.failures files.old }
 {
     for name in names {
         lend_one(alloc, name, files, answers)?;
@@ -151,6 +184,7 @@ fn lend_one<F: Files>(
 ) -> Result<(), AllocError>
     ensures same { F.surroundings files.new ≡ F.surroundings files.old }
     ensures lent { OnOk result (AreLent (F.surroundings files.old).variable (name.now ∷ []) answers.old answers.new) }
+    ensures uncounted { F.failures files.new ≡ F.failures files.old }
 {
     let question = name.as_bytes();
     if answers.has(question) {

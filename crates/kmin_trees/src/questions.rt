@@ -1,21 +1,21 @@
-//! The open questions of the macros of a job's tree.
-ghost use Rattle.std.specs.Prelude.{[], ℕ, List, IfOk, IfErr};
+//! The open questions of the macros of a job's tree, and the answers that they don't use.
+ghost use Rattle.std.specs.Prelude.{◌≡◌, [], ℕ, true, false, List, IfOk, IfErr};
 ghost use Rattle.kc_expansion.specs.Expansions.{questions_of};
 ghost use Rattle.kmin_words.specs.Jobs.{questions_view};
 ghost use Rattle.kmin_trees.specs.WantedQuestions.{AreAsked, StopsWanting};
-ghost use Rattle.kmin_report.specs.StandardError.{TakesLines};
+ghost use Rattle.kmin_report.specs.StandardError.{HasRisen, TakesLines};
 ghost use Rattle.kmin_report.specs.between.RunErrors.{status_of};
 
-use crate::expanded_trees::wanted_below;
+use crate::expanded_trees::{unused_below, wanted_below};
 use crate::files::Files;
-use crate::job_answers::job_answers;
+use crate::job_answers::{answers_and_questions, job_answers};
 use kc_macros::MacroFault;
 use kc_value::Sink;
 use kmin_report::RunError;
 use kmin_words::Questions;
 use std::alloc::Global;
 
-/// The open questions of a tree's macros, or the fault of the expansion. Reports why an answer file is refused.
+/// The questions that `wants` lists of a tree's macros, or the fault of the expansion. Reports why an answer file is refused.
 pub fn wanted_of<F: Files, E: Sink>(
     alloc: Global,
     questions: &Questions<'_>,
@@ -25,9 +25,57 @@ pub fn wanted_of<F: Files, E: Sink>(
     ensures asked { IfOk result (λ wanted. AreAsked (F.surroundings files.old) (questions_view questions.now) (questions_of wanted)) }
     ensures unreported { IfOk result (λ wanted. TakesLines (E.taken err.old) (E.failures err.old) [] (E.taken err.new) (E.failures err.new)) }
     ensures stopped { IfErr result (λ stop. (lines : List (List ℕ)) × StopsWanting (F.surroundings files.old) (questions_view questions.now) (status_of stop) lines × TakesLines (E.taken err.old) (E.failures err.old) lines (E.taken err.new) (E.failures err.new)) }
+    ensures failed { IfErr result (λ stop. status_of stop ≡ 5 → HasRisen (F.failures files.old) (F.failures files.new)) }
+{
+    if questions.unused {
+        unused_of(alloc, questions, files, err)
+    } else {
+        open_of(alloc, questions, files, err)
+    }
+}
+
+/// The open questions of a tree's macros, or the fault of the expansion. Reports why an answer file is refused.
+fn open_of<F: Files, E: Sink>(
+    alloc: Global,
+    questions: &Questions<'_>,
+    files: &mut F,
+    err: &mut E,
+) -> Result<Result<Vec<Vec<u8>>, MacroFault>, RunError>
+    requires open { questions.now.unused ≡ false }
+    ensures asked { IfOk result (λ wanted. AreAsked (F.surroundings files.old) (questions_view questions.now) (questions_of wanted)) }
+    ensures unreported { IfOk result (λ wanted. TakesLines (E.taken err.old) (E.failures err.old) [] (E.taken err.new) (E.failures err.new)) }
+    ensures stopped { IfErr result (λ stop. (lines : List (List ℕ)) × StopsWanting (F.surroundings files.old) (questions_view questions.now) (status_of stop) lines × TakesLines (E.taken err.old) (E.failures err.old) lines (E.taken err.new) (E.failures err.new)) }
+    ensures failed { IfErr result (λ stop. status_of stop ≡ 5 → HasRisen (F.failures files.old) (F.failures files.new)) }
 {
     let answers = job_answers(alloc, &questions.expansion, files, err)?;
     let wanted = wanted_below(alloc, questions.root, questions.tree, &answers, files);
+    drop(answers);
+    Ok(wanted?)
+}
+
+/// The questions of the answer files that a tree's macros don't ask; or their open questions, or the fault of the expansion. Reports
+/// why an answer file is refused.
+fn unused_of<F: Files, E: Sink>(
+    alloc: Global,
+    questions: &Questions<'_>,
+    files: &mut F,
+    err: &mut E,
+) -> Result<Result<Vec<Vec<u8>>, MacroFault>, RunError>
+    requires unused { questions.now.unused ≡ true }
+    ensures asked { IfOk result (λ wanted. AreAsked (F.surroundings files.old) (questions_view questions.now) (questions_of wanted)) }
+    ensures unreported { IfOk result (λ wanted. TakesLines (E.taken err.old) (E.failures err.old) [] (E.taken err.new) (E.failures err.new)) }
+    ensures stopped { IfErr result (λ stop. (lines : List (List ℕ)) × StopsWanting (F.surroundings files.old) (questions_view questions.now) (status_of stop) lines × TakesLines (E.taken err.old) (E.failures err.old) lines (E.taken err.new) (E.failures err.new)) }
+    ensures failed { IfErr result (λ stop. status_of stop ≡ 5 → HasRisen (F.failures files.old) (F.failures files.new)) }
+{
+    let (answers, answered) = answers_and_questions(alloc, &questions.expansion, files, err)?;
+    let wanted = unused_below(
+        alloc,
+        questions.root,
+        questions.tree,
+        &answers,
+        answered,
+        files,
+    );
     drop(answers);
     Ok(wanted?)
 }

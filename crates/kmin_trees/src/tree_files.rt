@@ -7,8 +7,9 @@ ghost use Rattle.kmin_trees.specs.between.Readings.{IsRead};
 use crate::files::Files;
 use crate::prefetch::absent_paths_of_file;
 use crate::trees::read_texts;
+use kc_builder::wanted;
 use kc_tokens::Language;
-use kc_tree::{Texts, Tree, TreeFault, TreeKind, wanted};
+use kc_tree::{Texts, Tree, TreeFault, TreeKind};
 use kc_value::{MAX_FILE_BYTES, MAX_FILES, MAX_ROUNDS, ReadBytes, ReadEnd, Source, read_up_to};
 use std::alloc::{AllocError, Global};
 
@@ -59,6 +60,7 @@ pub(crate) fn gather<F: Files>(
     ensures same { F.surroundings files.new ≡ F.surroundings files.old }
     ensures below { IfOk result (λ g. AreTextsBelow (F.surroundings files.old).content root.now language g.texts) }
     ensures read { IfOk result (λ g. IsRead g.texts first.now g.read) }
+    ensures rising { F.failures files.old ≤ F.failures files.new }
 {
     let mut texts = Texts::with_language(alloc, files.seed(), language);
     open_first(alloc, root, first, files, &mut texts)?;
@@ -81,6 +83,7 @@ fn open_first<F: Files>(
     requires below { AreTextsBelow (F.surroundings files.old).content root.now texts.old.language texts.old }
     ensures same { F.surroundings files.new ≡ F.surroundings files.old }
     ensures below { AreTextsBelow (F.surroundings files.old).content root.now texts.old.language texts.new }
+    ensures rising { F.failures files.old ≤ F.failures files.new }
 {
     let mut room = Room::whole();
     insert_one(alloc, root, first, &mut room, files, texts)?;
@@ -100,6 +103,7 @@ fn gather_wanted<F: Files>(
     ensures same { F.surroundings files.new ≡ F.surroundings files.old }
     ensures below { IfOk result (λ g. AreTextsBelow (F.surroundings files.old).content root.now texts.language g.texts) }
     ensures read { IfOk result (λ g. IsRead g.texts first.now g.read) }
+    ensures rising { F.failures files.old ≤ F.failures files.new }
 {
     open_wanted(alloc, root, first, files, &mut texts)?;
     let read = read_texts(alloc, &texts, first);
@@ -126,6 +130,7 @@ fn open_ahead<F: Files>(
     requires below { AreTextsBelow (F.surroundings files.old).content root.now texts.old.language texts.old }
     ensures same { F.surroundings files.new ≡ F.surroundings files.old }
     ensures below { AreTextsBelow (F.surroundings files.old).content root.now texts.old.language texts.new }
+    ensures rising { F.failures files.old ≤ F.failures files.new }
 {
     for number in 0..MAX_FILES as u32 {
         if room.is_used() {
@@ -150,6 +155,7 @@ fn open_wanted<F: Files>(
     requires below { AreTextsBelow (F.surroundings files.old).content root.now texts.old.language texts.old }
     ensures same { F.surroundings files.new ≡ F.surroundings files.old }
     ensures below { AreTextsBelow (F.surroundings files.old).content root.now texts.old.language texts.new }
+    ensures rising { F.failures files.old ≤ F.failures files.new }
 {
     for _ in 0..MAX_ROUNDS {
         let paths = match wanted(alloc, texts, first) {
@@ -176,6 +182,7 @@ fn insert_all<F: Files>(
     requires below { AreTextsBelow (F.surroundings files.old).content root.now texts.old.language texts.old }
     ensures same { F.surroundings files.new ≡ F.surroundings files.old }
     ensures below { AreTextsBelow (F.surroundings files.old).content root.now texts.old.language texts.new }
+    ensures rising { F.failures files.old ≤ F.failures files.new }
 {
     let mut any = false;
     for path in paths {
@@ -199,6 +206,7 @@ fn insert_one<F: Files>(
     requires below { AreTextsBelow (F.surroundings files.old).content root.now texts.old.language texts.old }
     ensures same { F.surroundings files.new ≡ F.surroundings files.old }
     ensures below { AreTextsBelow (F.surroundings files.old).content root.now texts.old.language texts.new }
+    ensures rising { F.failures files.old ≤ F.failures files.new }
 {
     if texts.get(path).is_some() {
         return Ok(false);
@@ -221,14 +229,17 @@ fn read_below<F: Files>(
 ) -> Result<Option<Vec<u8>>, AllocError>
     ensures same { F.surroundings files.new ≡ F.surroundings files.old }
     ensures bytes { IfOk result (λ found. IfSome found (λ bytes. MatchContentStart ((F.surroundings files.old).content (path_below root.now path.now)) bytes.items)) }
+    ensures rising { F.failures files.old ≤ F.failures files.new }
 {
     let mut place = String::from_str(alloc, root)?;
     place.push_str("/")?;
     place.push_str(path)?;
-    match files.reader_for(&place) {
+    match files.reader_if_there(&place) {
         Some(mut reader) => {
             let room = files.size_of(&reader).min(MAX_FILE_BYTES);
-            read_front(alloc, &mut reader, room)
+            let found = read_front(alloc, &mut reader, room);
+            files.close(reader);
+            found
         }
         None => Ok(None),
     }

@@ -40,7 +40,7 @@ pub(crate) fn text_of(bytes: &[u8]) -> Option<&str>
 impl<F: Files> TreeFiles for TreeFolder<'_, F> {
     type File = F::File;
 
-    ghost contents = { λ t. contents_through t.files.ghost_name (F.surroundings t.files.now) t.root.now };
+    ghost contents = { λ t. contents_through t.files.ghost_name (F.failures t.files.now) (F.surroundings t.files.now) t.root.now };
 
     fn seed(&self) -> Seed {
         self.files.seed()

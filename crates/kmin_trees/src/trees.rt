@@ -11,8 +11,9 @@ ghost use Rattle.kmin_report.specs.between.RunErrors.{status_of};
 ghost use Rattle.kmin_trees.specs.between.TreeStops.{StopsAtTexts, settle_status, settle_lines};
 
 use crate::file_names::FileNames;
+use kc_builder::read_tree;
 use kc_rules::{Profile, SettleFault, Settled, settle};
-use kc_tree::{Texts, Tree, TreeFault, TreeKind, Unit, read_tree};
+use kc_tree::{Texts, Tree, TreeFault, TreeKind, Unit};
 use kc_value::Sink;
 use kmin_report::{Report, RunError, write_report};
 use std::alloc::Global;

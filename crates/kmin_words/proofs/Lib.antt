@@ -1,3 +1,4 @@
 pub mod CommandWords
 pub mod Lists
 pub mod TidyRefusals
+pub mod WordOrders

@@ -51,12 +51,13 @@ pub record TidyJob : Type 0 where
   pub list : Option PathList
   pub files : List (List ℕ)
 
--- the command `wants`: the folder of the tree, the path of its first Kconfig file there, and where its macros' questions are
--- answered
+-- the command `wants`: the folder of the tree, the path of its first Kconfig file there, where its macros' questions are answered,
+-- and whether the questions of answer files that the tree doesn't ask are listed where none is open
 pub record Questions : Type 0 where
   pub root : List ℕ
   pub tree : List ℕ
   pub expansion : Expansion
+  pub unused : Bool
 
 -- a command: a verb over the files of one configuration, or the comparison of two files
 pub data Task : Type 0 where
@@ -102,7 +103,7 @@ tidy_job_view t = record {
 
 -- the `Questions` of the code, as contracts see them
 abbrev pub questions_view : DeclaredQuestions → Questions
-questions_view q = record { root = q.root.now; tree = q.tree.now; expansion = expansion_view q.expansion }
+questions_view q = record { root = q.root.now; tree = q.tree.now; expansion = expansion_view q.expansion; unused = q.unused }
 
 -- a `Task` of the code, as contracts see it
 abbrev pub task_view : DeclaredTask → Task

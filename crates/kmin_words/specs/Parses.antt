@@ -7,6 +7,7 @@ use Rattle.kmin_commands.specs.Messages.{kind_asked}
 use Rattle.kmin_commands.specs.declared.messages.Table.{Table}
 use Rattle.kmin_words.specs.declared.command_line.ParsedWords.{ParsedWords}
 use Rattle.kmin_words.specs.declared.command_line.ParsedWords.TheVariants.{Help, Refused}
+use Rattle.kmin_words.specs.WordOrder.{command_first}
 use Rattle.kmin_words.specs.between.WordValues.{HasValues}
 
 -- The words name this command of the program, and these are the values of its options and files in them.
@@ -35,3 +36,7 @@ pub data AreParsedAs (words : List (List ℕ)) (parsed : ParsedWords) : Type 0 w
   command : (name : List ℕ) (found : Found) → AreFound words name found → HasValues name found parsed → AreParsedAs words parsed
   kind : (tables : List Table) → IsKindHelp words tables parsed → AreParsedAs words parsed
   text : AreNotTaken words → IsText parsed → AreParsedAs words parsed
+
+-- The words of the command line are read as what they are parsed as once the command is first.
+abbrev pub AreReadAs : (words : List (List ℕ)) → ParsedWords → Type 0
+AreReadAs words parsed = AreParsedAs (command_first words) parsed

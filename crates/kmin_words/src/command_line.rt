@@ -30,7 +30,7 @@ pub enum ParsedWords<'a> {
     Job(Job<'a>),
     /// A command over configuration files whose output goes to a file.
     Save(OutputJob<'a>),
-    /// `kmin wants`, which lists the open questions of a tree's macros.
+    /// `kmin wants`, which lists the open questions of a tree's macros, or the answers that they don't use.
     Questions(Questions<'a>),
     /// `kmin tidy`, which compares each file with its minimal file, or replaces it.
     Tidy(TidyJob<'a>),
@@ -176,10 +176,12 @@ fn questions_of<'a>(alloc: Global, matches: &ArgMatches<'a>) -> Result<Questions
     check_inputs(matches, &[])?;
     let root = value_of(matches, "root");
     let tree = value_of(matches, "tree");
+    let unused = is_given(matches, "unused");
     Ok(Questions {
         root,
         tree,
         expansion,
+        unused,
     })
 }
 

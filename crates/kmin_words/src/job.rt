@@ -111,7 +111,7 @@ pub struct TidyJob<'a> {
     pub files: Vec<&'a str>,
 }
 
-/// The command `kmin wants`, which lists the open questions of a tree's macros.
+/// The command `kmin wants`, which lists the open questions of a tree's macros, or the answers that they don't use.
 #[derive(Drop)]
 pub struct Questions<'a> {
     /// The folder to which the paths of the tree are relative.
@@ -120,4 +120,6 @@ pub struct Questions<'a> {
     pub tree: &'a str,
     /// Where the questions of the tree's macros are answered; those without an answer are open.
     pub expansion: Expansion<'a>,
+    /// `--unused`: whether the questions of the answer files that the tree doesn't ask are listed where none is open.
+    pub unused: bool,
 }

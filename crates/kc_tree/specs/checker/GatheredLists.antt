@@ -1,8 +1,8 @@
 -- The grouped lists and the tables made from the collected lists.
 use Rattle.std.specs.Prelude.{length}
-use Rattle.kc_tree.specs.checker.GatheredAttributes.{AreGrouped}
-use Rattle.kc_tree.specs.checker.GatheredView.{gathered_tree}
-use Rattle.kc_tree.specs.checker.GroupedItems.{IsGrouped}
+use Rattle.kc_tree.specs.between.GatheredAttributes.{AreGrouped}
+use Rattle.kc_tree.specs.between.GatheredView.{gathered_tree}
+use Rattle.kc_tree.specs.between.GroupedItems.{IsGrouped}
 use Rattle.kc_tree.specs.checker.NameTable.{IsTable}
 use Rattle.kc_tree.specs.checker.Units.{HasUnits}
 use Rattle.kc_tree.specs.declared.parts.Parts.{Parts}

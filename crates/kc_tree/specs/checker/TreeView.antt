@@ -1,7 +1,7 @@
 -- The view of a tree's lists.
 use Rattle.kc_tree.specs.TreeModel.{TreeModel}
-use Rattle.kc_tree.specs.checker.StoredParts.{AreSoundParts}
-use Rattle.kc_tree.specs.checker.PartsView.{tree_from_rows}
+use Rattle.kc_tree.specs.between.StoredParts.{AreSoundParts}
+use Rattle.kc_tree.specs.between.PartsView.{tree_from_rows}
 use Rattle.kc_tree.specs.declared.tree.Tree.TheInside.{Inside}
 
 -- a tree's value in contracts, from the lists inside it: its arena, and the symbols, choices, entries and units they store

@@ -40,12 +40,11 @@ abbrev pub IsFaultOf : FileFormat → Tree → (bytes : List ℕ) → LoadKind �
 IsFaultOf format tree bytes kind number = (kind ≡ OutOfMemory) ⊎ ((kind ≢ Read) × IsFirstFault format tree complete bytes kind number)
 
 -- a file of which these bytes were read before a read failed isn't accepted, for a fault of this kind at the line `number`: the
--- first fault in these bytes, the failed read, or lack of memory
+-- first fault in these bytes, the failed read after all of them, or lack of memory
 pub data IsFaultOfPart (format : FileFormat) (tree : Tree) (bytes : List ℕ) (kind : LoadKind) (number : ℕ) : Type 0 where
   in_front : kind ≢ Read → ((rest : List ℕ) → IsFirstFault format tree complete (bytes ++ rest) kind number)
       → IsFaultOfPart format tree bytes kind number
-  at_failure : (front back : List ℕ) → bytes ≡ front ++ back → IsFirstFault format tree cut_short front Read number → kind ≡ Read
-      → IsFaultOfPart format tree bytes kind number
+  at_failure : IsFirstFault format tree cut_short bytes Read number → kind ≡ Read → IsFaultOfPart format tree bytes kind number
   no_memory : kind ≡ OutOfMemory → IsFaultOfPart format tree bytes kind number
 
 -- a file isn't accepted for a fault of this kind at the line `number`: its first fault, a read that fails before one, that it

@@ -11,7 +11,9 @@ use Rattle.kc_files.specs.TreeContents.{FileContent}
 use Rattle.kmin_trees.specs.FileContents.{VariableContent, MatchVariable}
 use Rattle.kmin_report.specs.StandardError.{TakesLines}
 use Rattle.kmin_report.specs.MacroReports.{answers_line}
-use Rattle.kmin_trees.specs.JobAnswers.{lent_answer}
+use Rattle.kmin_words.specs.Jobs.{Expansion}
+use Rattle.kc_answers.specs.RunStates.{questions_of}
+use Rattle.kmin_trees.specs.JobAnswers.{lent_answer, AreJobAnswers}
 use Rattle.kmin_trees.specs.AnswerStops.{StopsAtAnswers, answers_status}
 
 -- the lines of standard error for a fault of an answer file: one, or none for lack of memory, which is reported later
@@ -42,3 +44,8 @@ pub record AreLent (variable_of : List ℕ → VariableContent) (names : List (L
   pub values : List ℕ → Option (List ℕ)
   pub environment : (name : List ℕ) → MatchVariable (variable_of name) (values name)
   pub each : (question : List ℕ) → keyword_in_table after question ≡ option_or (keyword_in_table before question) (lent_answer names values question)
+
+-- the answers to a job's questions, and the questions that its answer files answer, in order of their first answers
+pub record AnswersAndQuestions (content_of : List ℕ → FileContent) (variable_of : List ℕ → VariableContent) (expansion : Expansion) (answers : RecordedAnswers) (answered : List (List ℕ)) : Type 0 where
+  pub job : AreJobAnswers content_of variable_of expansion answers
+  pub answered_are : answered ≡ questions_of job.recorded

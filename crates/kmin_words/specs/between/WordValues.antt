@@ -224,12 +224,13 @@ job_and_output_of name found =
     and_then (job_of name found) (λ job.
     Ok (kept_in_place (is_given found (codes "drop")) output job, output)))
 
--- the folder, first Kconfig file and sources of answers that the words of the command `wants` give, or why they are refused
+-- the folder, first Kconfig file, sources of answers and `--unused` that the words of the command `wants` give, or why they are
+-- refused
 abbrev pub questions_of : Found → ValueResult Questions
 questions_of found =
     and_then (expansion_of found) (λ expansion.
     and_then (paths_beside (values_of found (codes "answers")) []) (λ named.
-    Ok (record { root = value_of found (codes "root"); tree = value_of found (codes "tree"); expansion = expansion })))
+    Ok (record { root = value_of found (codes "root"); tree = value_of found (codes "tree"); expansion = expansion; unused = is_given found (codes "unused") })))
 
 -- whether the flags `--write` and `--drop` are given
 abbrev pub flags_of : Found → TidyFlags

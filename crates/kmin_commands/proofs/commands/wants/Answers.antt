@@ -1,6 +1,9 @@
 use Rattle.std.proofs.lemmas.Result.{IfOk-weaker}
+use Rattle.kmin_commands.proofs.CommandParts.{with_argument}
 use Rattle.kmin_commands.proofs.commands.wants.Goals as goal
 
 pub returns : goal.returns
 returns c =
-    IfOk-weaker c.with_answers.result _ _ (λ made answers. answers _ (c.in_ok-command.ensures _ c.described.ensures)) c.with_answers.ensures
+    let place = c.in_ok-command.ensures _ c.described.ensures in
+    let answers = c.in_ok-command-2.ensures _ place in
+    IfOk-weaker c.arg.result _ _ (λ made adds. with_argument _ made _ _ _ adds c.flag.ensures answers) c.arg.ensures

@@ -1,38 +1,77 @@
-use Rattle.std.proofs.Common.{[], ◌∷◌, ◌++◌, refl, rules}
+use Rattle.std.proofs.Common.{[], ◌∷◌, ◌++◌, Err, ap, inl, inr, refl}
 use Rattle.kmin_report.specs.Reports.{output_line}
 use Rattle.kmin_run.specs.BundleAnswers.{in_bundle, at_write}
 use Rattle.kmin_report.proofs.WriterLemmas.{lines_append}
-use Rattle.kmin_report.proofs.Results.{if_err}
 use Rattle.kmin_run.proofs.JobOutputs.{lines_kept}
+use Rattle.kmin_run.proofs.ErrorExits.{no_success, with_error, value_is_no_error, error_is}
 use Rattle.kmin_run.proofs.bundle_answer.run_bundle.Goals as goal
 
-pub returns-in_err-text-clause-stopped : goal.returns-in_err-text-clause-stopped
-returns-in_err-text-clause-stopped g c =
-    let stopped = c.in_err-text.ensures.stopped in
-    if_err c.from_residual-in_err-text.result c.in_err-text.field-0.0 _ (search rules) (
-      stopped.0,
-      in_bundle c.in_ok-bundle.bundle.items c.in_ok-bundle.ensures.ok (rw c.deref.ensures.value at stopped.1),
-      lines_append _ _ _ _ [] stopped.0 _ _
-          c.in_ok-bundle.ensures.unreported stopped.2,
-    )
+pub returns-in_err-bundle : goal.returns-in_err-bundle
+returns-in_err-bundle g c =
+    record {
+      ok = no_success c.from_residual.result _ _ c.from_residual.ensures.1;
+      unfailed = no_success c.from_residual.result _ _ c.from_residual.ensures.1;
+      failures = λ e. inl (c.in_err-bundle.ensures.failures (ap Err (error_is c.from_residual.result _ _ c.from_residual.ensures.1 e)));
+      part = λ e. inl refl;
+      unwritten = with_error c.from_residual.result _ _ c.from_residual.ensures.1 (inr refl);
+      stopped = with_error c.from_residual.result _ _ c.from_residual.ensures.1 c.in_err-bundle.ensures.stopped;
+    }
 
-pub returns-in-Ok-clause-ok : goal.returns-in-Ok-clause-ok
-returns-in-Ok-clause-ok g c =
-    let answer = c.in_ok-text.ensures.ok in (
-      c.in_ok-bundle.bundle.items,
-      c.in_ok-text.text.items,
-      answer.0,
-      c.in_ok-bundle.ensures.ok,
-      search rules,
-      search rules,
-      search rules,
-      lines_kept _ _ _ _ _ _ answer.0 (lines_append _ _ _ _ [] answer.0 _ _ c.in_ok-bundle.ensures.unreported answer.2) c.in-Ok.ensures.unreported,
-    )
+pub returns-in_err-text : goal.returns-in_err-text
+returns-in_err-text g c =
+    let stopped = c.in_err-text.ensures.stopped in record {
+      ok = no_success c.from_residual-in_err-text.result _ _ c.from_residual-in_err-text.ensures.1;
+      unfailed = no_success c.from_residual-in_err-text.result _ _ c.from_residual-in_err-text.ensures.1;
+      failures = λ e. absurd (c.in_err-text.ensures.unfailed (ap Err (error_is c.from_residual-in_err-text.result _ _ c.from_residual-in_err-text.ensures.1 e)));
+      part = λ e. inl refl;
+      unwritten = with_error c.from_residual-in_err-text.result _ _ c.from_residual-in_err-text.ensures.1 (inr refl);
+      stopped = with_error c.from_residual-in_err-text.result _ _ c.from_residual-in_err-text.ensures.1 (
+        stopped.0,
+        in_bundle c.in_ok-bundle.bundle.items c.in_ok-bundle.ensures.ok (rw c.deref.ensures.value at stopped.1),
+        lines_append _ _ _ _ [] stopped.0 _ _
+            c.in_ok-bundle.ensures.unreported stopped.2,
+      );
+    }
 
-pub returns-clause-stopped : goal.returns-clause-stopped
-returns-clause-stopped g c =
-    let answer = c.in_ok-text.ensures.ok in (
-      answer.0 ++ output_line ∷ [],
-      at_write c.in_ok-bundle.bundle.items c.in_ok-text.text.items answer.0 c.in_ok-bundle.ensures.ok (search rules) refl refl,
-      lines_append _ _ _ _ answer.0 (output_line ∷ []) _ _ (lines_append _ _ _ _ [] answer.0 _ _ c.in_ok-bundle.ensures.unreported answer.2) (search rules),
-    )
+pub returns-in-Ok : goal.returns-in-Ok
+returns-in-Ok g c =
+    let answer = c.in_ok-text.ensures.ok in record {
+      ok = (
+        c.in_ok-bundle.bundle.items,
+        c.in_ok-text.text.items,
+        answer.0,
+        c.in_ok-bundle.ensures.ok,
+        c.in_ok-bundle.ensures.within,
+        rw c.deref.ensures.value at answer.1,
+        rw c.deref-2.ensures.value at c.in-Ok.ensures.whole,
+        lines_kept _ _ _ _ _ _ answer.0 (lines_append _ _ _ _ [] answer.0 _ _ c.in_ok-bundle.ensures.unreported answer.2) c.in-Ok.ensures.unreported,
+      );
+      unfailed = (c.in_ok-bundle.ensures.unfailed, c.in-Ok.ensures.unfailed);
+      failures = λ e. absurd (value_is_no_error _ _ e);
+      part = λ e. absurd (value_is_no_error _ _ e);
+      unwritten = tt;
+      stopped = tt;
+    }
+
+pub returns : goal.returns
+returns g c =
+    let answer = c.in_ok-text.ensures.ok in record {
+      ok = tt;
+      unfailed = tt;
+      failures = λ e. inr c.in-Err.ensures.failures;
+      part = λ e. inr (record {
+        bundle = c.in_ok-bundle.bundle.items;
+        whole = c.in_ok-bundle.ensures.ok;
+        text = c.in_ok-text.text.items;
+        notices = answer.0;
+        answers = rw c.deref.ensures.value at answer.1;
+        written = c.in-Err.field-0.written;
+        taken = rw c.deref-2.ensures.value at c.in-Err.ensures.part.1;
+      });
+      unwritten = inl refl;
+      stopped = (
+        answer.0 ++ output_line ∷ [],
+        at_write c.in_ok-bundle.bundle.items c.in_ok-text.text.items answer.0 c.in_ok-bundle.ensures.ok (rw c.deref.ensures.value at answer.1) refl refl,
+        lines_append _ _ _ _ answer.0 (output_line ∷ []) _ _ (lines_append _ _ _ _ [] answer.0 _ _ c.in_ok-bundle.ensures.unreported answer.2) c.in-Err.ensures.reported,
+      );
+    }

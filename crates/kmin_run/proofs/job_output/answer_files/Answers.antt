@@ -1,44 +1,38 @@
-use Rattle.std.proofs.Common.{◌≤◌, inl, List, ℕ, map, refl, subst, sym, ap, ◌∙◌, rules}
+use Rattle.std.proofs.Common.{inl, List, ℕ, map}
 use Rattle.std.specs.Borrow.{Bor}
-use Rattle.kc_rules.specs.between.SettledViews.{profile_of}
 use Rattle.kc_dotconfig.specs.ConfigStates.{tree_in}
 use Rattle.kmin_words.specs.Jobs.{settings_view}
-use Rattle.kmin_report.proofs.Results.{if_err, memory_err}
-use Rattle.kmin_run.proofs.JobOutputs.{answers_files, stopped_noticing, stopped_after, status_of_verb_at_most_one}
+use Rattle.kmin_report.proofs.Results.{if_err_map}
+use Rattle.kmin_run.proofs.ReadFailures.{answering_unfailed}
+use Rattle.kmin_run.proofs.JobOutputs.{verb_answers, verb_stops, verb_status_small}
+use Rattle.kmin_run.proofs.ErrorExits.{no_value, with_error}
 use Rattle.kmin_run.proofs.job_output.answer_files.Goals as goal
 
-pub returns-in_err-read-clause-stopped : goal.returns-in_err-read-clause-stopped
-returns-in_err-read-clause-stopped g c =
+pub returns-in_err-read : goal.returns-in_err-read
+returns-in_err-read g c =
     let stopped = c.in_err-read.ensures.stopped in
-    if_err c.from_residual.result c.in_err-read.field-0.0 _ (search rules) (stopped.0, inl stopped.1, stopped.2)
+    record {
+      status = no_value c.from_residual.result _ _ c.from_residual.ensures.1;
+      answer = no_value c.from_residual.result _ _ c.from_residual.ensures.1;
+      stopped = with_error c.from_residual.result _ _ c.from_residual.ensures.1 (stopped.0, inl stopped.1, stopped.2);
+      failed = with_error c.from_residual.result _ _ c.from_residual.ensures.1 c.in_err-read.ensures.failed;
+      rising = c.configured.ensures.rising;
+    }
 
-pub returns-in_err-notice_choices-clause-stopped : goal.returns-in_err-notice_choices-clause-stopped
-returns-in_err-notice_choices-clause-stopped g c =
+pub returns : goal.returns
+returns g c =
+    let content_of = (g.F.Files.surroundings c.args.files.now).content in
+    let settings = settings_view c.args.settings.now in
+    let paths = map (λ (path : Bor (List ℕ)). path.now) c.args.paths.now in
     let read = c.in_ok-read.read in
-    if_err c.from_residual-in_err-notice_choices.result c.in_err-notice_choices.field-0.0 _ (search rules)
-    (stopped_noticing (g.F.Files.surroundings c.args.files.now).content (settings_view c.args.settings.now) c.args.verb read.config c.args.settled.now
-    (map (λ (path : Bor (List ℕ)). path.now) c.args.paths.now) _ _ _ _ _
-    c.in_ok-read.ensures.settled c.requires.profile c.in_ok-read.ensures.solved c.in_ok-read.ensures.loaded _ _ _ c.in_err-notice_choices.ensures.stopped)
-
-pub returns-in_err-answer-clause-stopped : goal.returns-in_err-answer-clause-stopped
-returns-in_err-answer-clause-stopped g c =
-    let read = c.in_ok-read.read in
-    memory_err _ _ c.from_residual-in_err-answer.ensures (λ stop status.
-    stopped_after (g.F.Files.surroundings c.args.files.now).content (settings_view c.args.settings.now) c.args.verb read.config c.args.settled.now
-    (map (λ (path : Bor (List ℕ)). path.now) c.args.paths.now) _ _ _ _ _
-    c.in_ok-read.ensures.settled c.requires.profile c.in_ok-read.ensures.solved c.in_ok-read.ensures.loaded _ _ _ status
-    c.in_ok-notice_choices.ensures.allowed c.in_ok-notice_choices.ensures.noticed)
-
-pub returns-clause-answer : goal.returns-clause-answer
-returns-clause-answer g c =
-    let read = c.in_ok-read.read in
-    let same = c.in_ok-read.ensures.settled in
-    answers_files (g.F.Files.surroundings c.args.files.now).content (settings_view c.args.settings.now) c.args.verb read.config c.args.settled.now
-    (map (λ (path : Bor (List ℕ)). path.now) c.args.paths.now) _ _ _ _ _ _ _ _ _
-    same c.requires.profile c.in_ok-read.ensures.solved c.in_ok-read.ensures.loaded c.in_ok-notice_choices.ensures.allowed c.in_ok-notice_choices.ensures.noticed
-    (c.in_ok-answer.ensures.text (settings_view c.args.settings.now) refl (sym (ap profile_of same ∙ c.requires.profile))) c.in_ok-answer.ensures.status
-
-pub returns-clause-status : goal.returns-clause-status
-returns-clause-status g c =
-    let config = c.in_ok-read.read.config in
-    subst (λ n. n ≤ 1) (sym c.in_ok-answer.ensures.status) (status_of_verb_at_most_one (tree_in config) config.users config.values c.args.verb)
+    let given = c.in_ok-read.ensures in
+    let answer = c.noticed_answer-answer.result in
+    let known = c.noticed_answer-answer.ensures in record {
+      status = verb_status_small answer (tree_in read.config) read.config.users read.config.values c.args.verb known.status;
+      answer = verb_answers content_of settings c.args.verb read c.args.settled.now paths _ _ _ _ _ _ given.settled c.requires.profile given.solved
+          given.loaded answer known.text known.status known.noticed;
+      stopped = verb_stops content_of settings c.args.verb read c.args.settled.now paths _ _ _ _ _ _ given.settled c.requires.profile given.solved
+          given.loaded answer known.stopped;
+      failed = if_err_map answer _ _ (λ stop stopped. λ five. absurd (answering_unfailed _ _ _ _ _ _ _ _ stopped five)) known.stopped;
+      rising = c.configured.ensures.rising;
+    }

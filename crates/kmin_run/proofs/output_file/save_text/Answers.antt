@@ -1,11 +1,12 @@
 use Rattle.std.proofs.Common.{ap, Err}
 use Rattle.kmin_report.specs.StandardError.{none}
+use Rattle.kmin_run.proofs.ErrorExits.{value_is_no_error}
 use Rattle.kmin_run.proofs.output_file.save_text.Goals as goal
 
 pub returns-in-Ok-clause-saved : goal.returns-in-Ok-clause-saved
 returns-in-Ok-clause-saved g c = record {
   updates = c.in-Ok.ensures.ok;
-  regular = λ special. (let h = c.in-Ok.ensures.refused special in cc);
+  regular = λ special. value_is_no_error _ _ (c.in-Ok.ensures.refused special);
   unfailed = c.in-Ok.ensures.failures;
 }
 

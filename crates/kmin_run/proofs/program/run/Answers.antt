@@ -1,23 +1,24 @@
-use Rattle.std.proofs.Common.{sym, ◌∙◌}
-use Rattle.kmin_run.specs.Runs.{parsed}
-use Rattle.kmin_run.proofs.RunEnds.{asked, tidied, with_words, without_words}
+use Rattle.std.proofs.Common.{inl, refl, sym, ◌∙◌, inr}
+use Rattle.kmin_run.proofs.ReadFailures.{bundle_rises}
+use Rattle.kmin_run.proofs.RunEnds.{with_words, without_words}
+use Rattle.kmin_run.proofs.RunStatuses.{on_four}
 use Rattle.kmin_run.proofs.program.run.Goals as goal
 
-pub returns-then-is_empty-clause-ends : goal.returns-then-is_empty-clause-ends
-returns-then-is_empty-clause-ends g c =
-    let ends = c.answer_bundle.ensures.ends (g.D.ReadDisk.disk c.args.disk.now) in
-    (ends.0, without_words _ _ _ _ _ ends.0 _ _ c.args.words.now (sym c.is_empty.ensures ∙ c.if-is_empty.true) ends.1, ends.2)
+pub returns-then-is_empty : goal.returns-then-is_empty
+returns-then-is_empty g c =
+    let ends = c.answer_bundle.ensures.ends (g.D.ReadDisk.disk c.args.disk.now) in record {
+      status = c.answer_bundle.ensures.status;
+      ends = (ends.0, without_words _ _ _ _ _ ends.0 _ _ c.args.words.now (sym c.is_empty.ensures ∙ c.if-is_empty.true) ends.1, ends.2);
+      unasked = inl refl;
+      refused = λ e. inl (on_four c.answer_bundle.result e c.answer_bundle.ensures.unwritten);
+      unwritten = λ zero one four five. c.answer_bundle.ensures.unwritten zero five;
+      failed = λ five. inl (inr (bundle_rises _ _ _ _ _ _ ends.1 five));
+    }
 
-pub returns-in-Ok-clause-ends : goal.returns-in-Ok-clause-ends
-returns-in-Ok-clause-ends g c =
-    let ends = c.run_parsed.ensures.ends in (
-      ends.0,
-      with_words _ _ _ _ _ ends.0 _ _ c.args.words.now (sym c.is_empty.ensures ∙ c.if-is_empty.false) (parsed c.in-Ok.parsed c.in-Ok.ensures ends.1),
-      ends.2,
-    )
+pub returns-clause-ends : goal.returns-clause-ends
+returns-clause-ends g c =
+    let ends = c.run_words.ensures.ends in
+    (ends.0, with_words _ _ _ _ _ ends.0 _ _ c.args.words.now (sym c.is_empty.ensures ∙ c.if-is_empty.false) ends.1, ends.2)
 
-pub returns-in-Ok-clause-unasked : goal.returns-in-Ok-clause-unasked
-returns-in-Ok-clause-unasked g c = asked _ _ c.in-Ok.parsed c.in-Ok.ensures c.run_parsed.ensures.unasked
-
-pub returns-in-Ok-clause-refused : goal.returns-in-Ok-clause-refused
-returns-in-Ok-clause-refused g c = λ e. tidied _ _ c.in-Ok.parsed c.in-Ok.ensures (c.run_parsed.ensures.refused e)
+pub returns-clause-failed : goal.returns-clause-failed
+returns-clause-failed g c = c.run_words.ensures.failed

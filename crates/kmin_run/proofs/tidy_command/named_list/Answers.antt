@@ -1,7 +1,8 @@
-use Rattle.std.proofs.Common.{refl, rules}
+use Rattle.std.proofs.Common.{inl, inr, refl, rules}
 use Rattle.kmin_run.specs.TidyRuns.{list_content, unread}
 use Rattle.kmin_report.proofs.WriterLemmas.{lines_one}
 use Rattle.kmin_report.proofs.Results.{if_err_map}
+use Rattle.kmin_trees.proofs.FailureCounts.{closed_rises}
 use Rattle.kmin_run.proofs.TidyLemmas.{opens_input, opens_file}
 use Rattle.kmin_run.proofs.tidy_command.named_list.Goals as goal
 
@@ -16,13 +17,26 @@ returns-then-eq-clause-stopped g c =
 
 pub returns-in-Some-clause-stopped : goal.returns-in-Some-clause-stopped
 returns-in-Some-clause-stopped g c =
-    if_err_map c.read_list-in-Some.result _ _ (λ stop stopped. (
+    if_err_map c.read_list-bytes.result _ _ (λ stop stopped. (
       stopped.0,
       stopped.1 (list_content (g.F.Files.surroundings c.args.files.now).content (g.I.Source.left c.args.input.now) c.args.path.now)
           (opens_file (g.F.Files.surroundings c.args.files.now).content (g.I.Source.left c.args.input.now) _ c.args.path.now (search rules)
           (rw c.in-Some.is at c.reader_for.ensures.opens)),
       stopped.2,
-    )) c.read_list-in-Some.ensures.stopped
+    )) c.read_list-bytes.ensures.stopped
 
 pub returns-in-None-clause-stopped : goal.returns-in-None-clause-stopped
 returns-in-None-clause-stopped g c = (_, unread refl refl, lines_one _ _ _ _ _ c.report_list.ensures)
+
+pub returns-then-eq-clause-failed : goal.returns-then-eq-clause-failed
+returns-then-eq-clause-failed g c = if_err_map c.read_list.result _ _ (λ stop failed. λ five. inr (failed five)) c.read_list.ensures.failed
+
+pub returns-in-Some-clause-failed : goal.returns-in-Some-clause-failed
+returns-in-Some-clause-failed g c =
+    if_err_map c.read_list-bytes.result _ _ (λ stop failed. λ five.
+    inl (closed_rises _ _ (g.F.Files.failures c.args.files.now)
+    (g.F.Files.failures c.reader_for.new.self) (g.F.Files.failures c.close.new.self) (rw c.in-Some.is at c.reader_for.ensures.unread) (failed five)
+    c.reader_for.ensures.rising c.close.ensures.failed c.close.ensures.rising)) c.read_list-bytes.ensures.failed
+
+pub returns-in-None-clause-failed : goal.returns-in-None-clause-failed
+returns-in-None-clause-failed g c = λ five. inl (rw c.in-None.is at c.reader_for.ensures.failed)

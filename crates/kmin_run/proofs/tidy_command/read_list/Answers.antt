@@ -25,3 +25,9 @@ returns-in-AtLimit-clause-stopped g c = (
 
 pub returns-in-AtFailure-clause-stopped : goal.returns-in-AtFailure-clause-stopped
 returns-in-AtFailure-clause-stopped g c = (_, (λ content opens. unread refl refl), lines_one _ _ _ _ _ c.report_list-in-AtFailure.ensures)
+
+pub returns-in_err-bytes-clause-failed : goal.returns-in_err-bytes-clause-failed
+returns-in_err-bytes-clause-failed g c = memory_err _ _ c.from_residual.ensures (λ stop status. λ five. absurd (omega arith))
+
+pub returns-in-AtFailure-clause-failed : goal.returns-in-AtFailure-clause-failed
+returns-in-AtFailure-clause-failed g c = λ five. λ below. omega (arith, rw c.in-AtFailure.is at c.in_ok-bytes.ensures.failures)

@@ -1,5 +1,7 @@
 use Rattle.std.proofs.Common.{inl, inr}
-use Rattle.kmin_tidy.proofs.ReadingLemmas.{both_ok}
+use Rattle.kc_rules.specs.between.SettledViews.{tree_of_settled}
+use Rattle.kc_dotconfig_model.specs.between.Formats.{file_format}
+use Rattle.kmin_tidy.proofs.ReadingLemmas.{both_ok, read_within, whole_not_read}
 use Rattle.kmin_report.proofs.Results.{if_err_map}
 use Rattle.kmin_tidy.proofs.accepted_file.accept_read.Goals as goal
 
@@ -12,3 +14,14 @@ returns-in-AtEnd-clause-fault c = if_err_map c.accept.result _ _ (λ fault t. in
 
 pub returns-in_default-clause-fault : goal.returns-in_default-clause-fault
 returns-in_default-clause-fault c = inr (rw c.deref.ensures.value at c.fault_of_part.ensures)
+
+pub returns-in-AtEnd-clause-unread : goal.returns-in-AtEnd-clause-unread
+returns-in-AtEnd-clause-unread c =
+    if_err_map c.accept.result _ _ (λ fault t. λ read. absurd (whole_not_read (file_format c.args.format.now) (tree_of_settled c.args.settled.now) _ fault.kind
+    fault.line t read)) c.accept.ensures.fault
+
+pub returns-in_default-clause-unread : goal.returns-in_default-clause-unread
+returns-in_default-clause-unread c = λ read. (
+  c.in_default.not-AtEnd,
+  read_within (file_format c.args.format.now) (tree_of_settled c.args.settled.now) _ _ _ (rw c.deref.ensures.value at c.fault_of_part.ensures) read,
+)

@@ -11,4 +11,4 @@ unreachable-requires c =
 pub returns : goal.returns
 returns c =
     fault_of_part (file_format c.args.format.now) (tree_of_settled c.args.settled.now) c.args.bytes.now c.new.result.rest.now _ _ _ _
-    c.in-Err.fault.kind c.in-Err.fault.line refl c.new.ensures c.in-Err.ensures.fault
+    c.in-Err.fault.kind c.in-Err.fault.line refl c.new.ensures.rest c.new.ensures.unfailed c.read_config.new.source.drained c.in-Err.ensures.fault

@@ -1,12 +1,13 @@
-use Rattle.std.proofs.Common.{◌≡◌, ℕ, List, sym, subst, refl}
+use Rattle.std.proofs.Common.{◌≡◌, ℕ, List, length, sym, subst, refl}
 use Rattle.kc_value.specs.declared.reader_bytes.ReadEnd.TheVariants.{AtEnd}
+use Rattle.kc_value.specs.declared.limits.TheConstants.{MAX_CONFIG_BYTES}
 use Rattle.kc_rules.specs.between.SettledViews.{tree_of_settled}
 use Rattle.kc_dotconfig_model.specs.between.Formats.{file_format}
 use Rattle.kmin_report.specs.KnownBytes.{AreKnownBytes}
 use Rattle.kmin_tidy.specs.checker.Readings.{IsFragmentOf, for_memory}
 use Rattle.kmin_report.proofs.Results.{if_ok_map, if_err_map}
 use Rattle.kmin_report.proofs.KnownContents.{whole_content}
-use Rattle.kmin_tidy.proofs.ReadingLemmas.{faulty_read}
+use Rattle.kmin_tidy.proofs.ReadingLemmas.{faulty_read, ended_at_failure}
 use Rattle.kmin_tidy.proofs.accepted_file.read_source.Goals as goal
 
 pub returns-in-Ok-clause-ok : goal.returns-in-Ok-clause-ok
@@ -31,3 +32,10 @@ returns-in-Ok-clause-fault g c =
 
 pub returns-in-Err-clause-fault : goal.returns-in-Err-clause-fault
 returns-in-Err-clause-fault g c = λ known opens. for_memory refl
+
+pub returns-in-Ok-clause-failed : goal.returns-in-Ok-clause-failed
+returns-in-Ok-clause-failed g c =
+    if_err_map c.accept_read.result _ _ (λ fault h. λ is. (
+    let unread = h is in
+    ended_at_failure c.in-Ok.read.end (g.S.Source.failures c.args.source.now) (g.S.Source.failures c.read_up_to.new.source) (length c.in-Ok.read.bytes.items)
+    MAX_CONFIG_BYTES c.in-Ok.ensures.at_limit unread.0 unread.1 c.in-Ok.ensures.failures)) c.accept_read.ensures.unread

@@ -1,4 +1,4 @@
-use Rattle.std.proofs.Common.{◌≡◌, ℕ, List, [], map, take}
+use Rattle.std.proofs.Common.{◌≡◌, ◌≤◌, ℕ, List, [], map, take}
 use Rattle.std.specs.Borrow.{Bor}
 use Rattle.kmin_trees.specs.JobAnswers.{FilesRecord}
 use Rattle.kmin_report.specs.StandardError.{TakesLines}
@@ -7,6 +7,7 @@ use Rattle.kmin_trees.proofs.job_answers.file_answers.Given as goal
 abbrev pub invariant-loop-path : goal.invariant-loop-path
 invariant-loop-path g l = record {
   same : g.F.Files.surroundings l.files ≡ g.F.Files.surroundings l.fn.files;
+  rising : g.F.Files.failures l.fn.files ≤ g.F.Files.failures l.files;
   recorded : FilesRecord (g.F.Files.surroundings l.fn.files).content (map (λ (path : Bor (List ℕ)). path.now) (take l.path-index l.paths)) [] l.answers;
   reported : TakesLines (g.E.Sink.taken l.fn.err) (g.E.Sink.failures l.fn.err) [] (g.E.Sink.taken l.err) (g.E.Sink.failures l.err);
 }

@@ -1,9 +1,9 @@
-use Rattle.std.proofs.Common.{ℕ, List, ap, subst, rules}
+use Rattle.std.proofs.Common.{ℕ, List, ap, subst, arith, rules}
 use Rattle.kmin_words.specs.Jobs.{expansion_view}
 use Rattle.kmin_trees.specs.FileContents.{Surroundings, VariableContent}
 use Rattle.kmin_trees.specs.between.AnswerSteps.{AreLent}
 use Rattle.kmin_trees.proofs.LentAnswers.{answers_of_job}
-use Rattle.kmin_report.proofs.Results.{if_err}
+use Rattle.kmin_report.proofs.Results.{if_err, memory_err}
 use Rattle.kmin_trees.proofs.job_answers.job_answers.Goals as goal
 
 pub returns-in_err-answers-clause-stopped : goal.returns-in_err-answers-clause-stopped
@@ -19,3 +19,12 @@ returns-clause-answers g c =
     (subst (λ (variable_of : List ℕ → VariableContent). AreLent variable_of (expansion_view c.args.expansion.now).environment c.define.new.answers
     c.lend.new.answers)
     variable lent)
+
+pub returns-in_err-answers-clause-failed : goal.returns-in_err-answers-clause-failed
+returns-in_err-answers-clause-failed g c = if_err c.from_residual.result c.in_err-answers.field-0.0 _ (search rules) c.in_err-answers.ensures.failed
+
+pub returns-in_err-define-clause-failed : goal.returns-in_err-define-clause-failed
+returns-in_err-define-clause-failed g c = memory_err _ _ c.from_residual-in_err-define.ensures (λ stop status. λ five. absurd (omega arith))
+
+pub returns-in_err-lend-clause-failed : goal.returns-in_err-lend-clause-failed
+returns-in_err-lend-clause-failed g c = memory_err _ _ c.from_residual-in_err-lend.ensures (λ stop status. λ five. absurd (omega arith))

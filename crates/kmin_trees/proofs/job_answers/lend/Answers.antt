@@ -8,7 +8,7 @@ use Rattle.kmin_report.proofs.Lists.{paths_next}
 use Rattle.kmin_trees.proofs.job_answers.lend.Goals as goal
 
 pub loop-name-init : goal.loop-name-init
-loop-name-init g c = record { same = refl; lent = lent_none _ _ }
+loop-name-init g c = record { same = refl; uncounted = refl; lent = lent_none _ _ }
 
 pub loop-name-preserved : goal.loop-name-preserved
 loop-name-preserved g c =
@@ -18,6 +18,7 @@ loop-name-preserved g c =
     let variable = ap (λ (known : Surroundings). known.variable) c.loop-name.invariant.same in
     record {
       same = c.lend_one.ensures.same ∙ c.loop-name.invariant.same;
+      uncounted = c.lend_one.ensures.uncounted ∙ c.loop-name.invariant.uncounted;
       lent = rw (paths_next c.args.names.now k absent (search rules))
           (lent_append _ _ (name.now ∷ []) _ _ _ c.loop-name.invariant.lent
           (subst (λ (variable : List ℕ → VariableContent). AreLent variable (name.now ∷ []) c.loop-name.answers c.lend_one.new.answers) variable

@@ -6,5 +6,6 @@ use Rattle.kmin_trees.proofs.job_answers.lend.Given as goal
 abbrev pub invariant-loop-name : goal.invariant-loop-name
 invariant-loop-name g l = record {
   same : g.F.Files.surroundings l.files ≡ g.F.Files.surroundings l.fn.files;
+  uncounted : g.F.Files.failures l.files ≡ g.F.Files.failures l.fn.files;
   lent : AreLent (g.F.Files.surroundings l.fn.files).variable (map (λ (name : Bor (List ℕ)). name.now) (take l.name-index l.names)) l.fn.answers l.answers;
 }

@@ -1,4 +1,5 @@
 use Rattle.kmin_report.specs.StandardError.{none}
+use Rattle.kmin_trees.proofs.AnswerReads.{ended_for_read}
 use Rattle.kmin_trees.proofs.AnswerFileLists.{reports_fault}
 use Rattle.kmin_trees.proofs.job_answers.record.Goals as goal
 
@@ -12,3 +13,8 @@ returns-in-Err-clause-stopped g c = record {
   status_is = c.report_answers_fault.ensures.status;
   reported = c.report_answers_fault.ensures.reported;
 }
+
+pub returns-in-Err-clause-failed : goal.returns-in-Err-clause-failed
+returns-in-Err-clause-failed g c = λ status.
+    ended_for_read _ _ (g.S.Source.failures c.args.source.now) (g.S.Source.failures c.read.new.source) _ c.in-Err.fault _ c.in-Err.ensures.fault
+    c.report_answers_fault.ensures.status status

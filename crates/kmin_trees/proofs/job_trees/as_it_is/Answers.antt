@@ -1,10 +1,11 @@
-use Rattle.std.proofs.Common.{[], refl, subst}
+use Rattle.std.proofs.Common.{[], refl, subst, arith}
 use Rattle.kc_tree_model.specs.TreeFiles.{Files}
 use Rattle.kmin_trees.specs.JobTexts.{no_texts}
 use Rattle.kmin_report.specs.StandardError.{none}
 use Rattle.kmin_report.specs.between.RunErrors.{status_of}
 use Rattle.kmin_trees.specs.between.TreeStops.{StopsAtTexts, for_memory}
 use Rattle.kmin_trees.proofs.TextGrowth.{below_none}
+use Rattle.kmin_trees.proofs.FailureCounts.{texts_unfailed}
 use Rattle.kmin_report.proofs.Results.{if_err_map, memory_err}
 use Rattle.kmin_trees.proofs.job_trees.as_it_is.Goals as goal
 
@@ -31,3 +32,10 @@ returns-clause-stopped g c =
       subst (λ (names : Files). StopsAtTexts texts names first (status_of stop) stopped.0) c.of_texts-names.ensures stopped.1,
       stopped.2,
     )) c.settled_tree.ensures.stopped
+
+pub returns-in_err-texts-clause-failed : goal.returns-in_err-texts-clause-failed
+returns-in_err-texts-clause-failed g c = memory_err _ _ c.from_residual.ensures (λ stop status. λ five. absurd (omega arith))
+
+pub returns-clause-failed : goal.returns-clause-failed
+returns-clause-failed g c =
+    if_err_map c.settled_tree.result _ _ (λ stop stopped. λ five. absurd (texts_unfailed _ _ _ _ _ stopped.1 five)) c.settled_tree.ensures.stopped

@@ -2,7 +2,8 @@ use Rattle.std.proofs.Common.{rules}
 use Rattle.kmin_words.specs.Jobs.{expansion_view}
 use Rattle.kmin_trees.specs.between.ExpandedStops.{in_expansion}
 use Rattle.kmin_trees.proofs.JobTrees.{settled_accepted, settled_stopped}
-use Rattle.kmin_report.proofs.Results.{if_err}
+use Rattle.kmin_trees.proofs.FailureCounts.{texts_unfailed}
+use Rattle.kmin_report.proofs.Results.{if_err, if_err_map}
 use Rattle.kmin_trees.proofs.job_trees.expanded.Goals as goal
 
 pub returns-in_err-tree-clause-stopped : goal.returns-in_err-tree-clause-stopped
@@ -21,3 +22,10 @@ returns-clause-stopped g c =
     settled_stopped (g.F.Files.surroundings c.args.files.now) _ _ c.args.settings.now.language (expansion_view c.args.expansion.now) _ _ _ _ _ _ _ _
     c.in_ok-tree.ensures.expanded
     c.settled_expanded.result c.settled_expanded.ensures.stopped
+
+pub returns-in_err-tree-clause-failed : goal.returns-in_err-tree-clause-failed
+returns-in_err-tree-clause-failed g c = if_err c.from_residual.result c.in_err-tree.field-0.0 _ (search rules) c.in_err-tree.ensures.failed
+
+pub returns-clause-failed : goal.returns-clause-failed
+returns-clause-failed g c =
+    if_err_map c.settled_expanded.result _ _ (λ stop stopped. λ five. absurd (texts_unfailed _ _ _ _ _ stopped.1 five)) c.settled_expanded.ensures.stopped

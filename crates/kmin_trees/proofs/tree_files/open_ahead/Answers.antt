@@ -8,6 +8,7 @@ loop-number-preserved g c =
     let put = c.insert_all.ensures in
     record {
       same = put.same ∙ i.same;
+      rising = omega (arith, put.rising, i.rising);
       below = rw (i.same, i.below.in_language) at put.below;
     }
 

@@ -1,9 +1,10 @@
-use Rattle.std.proofs.Common.{◌≡◌}
+use Rattle.std.proofs.Common.{◌≡◌, ◌≤◌}
 use Rattle.kmin_trees.specs.FileContents.{AreTextsBelow}
 use Rattle.kmin_trees.proofs.tree_files.open_wanted.Given as goal
 
 abbrev pub invariant-loop : goal.invariant-loop
 invariant-loop g l = record {
   same : g.F.Files.surroundings l.files ≡ g.F.Files.surroundings l.fn.files;
+  rising : g.F.Files.failures l.fn.files ≤ g.F.Files.failures l.files;
   below : AreTextsBelow (g.F.Files.surroundings l.fn.files).content l.root l.fn.texts.language l.texts;
 }

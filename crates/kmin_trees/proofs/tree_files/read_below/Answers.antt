@@ -12,7 +12,7 @@ returns-in-Some-clause-bytes g c =
     ∙ ap (λ (z : List ℕ). z ++ c.args.path.now) (c.in_ok-push_str.ensures.bytes ∙ ap (λ (z : List ℕ). z ++ 47 ∷ []) c.in_ok-place.ensures.ok)
     ∙ append_assoc c.args.root.now (47 ∷ []) c.args.path.now in
     let opens : OpensAs ((g.F.Files.surroundings c.args.files.now).content (path_below c.args.root.now c.args.path.now)) _ = rw at at c.in-Some.ensures.opens in
-    front_read ((g.F.Files.surroundings c.args.files.now).content (path_below c.args.root.now c.args.path.now)) _ _ c.read_front.result opens c.read_front.ensures.bytes
+    front_read ((g.F.Files.surroundings c.args.files.now).content (path_below c.args.root.now c.args.path.now)) _ _ c.read_front-found.result opens c.read_front-found.ensures.bytes
 
 pub returns-in_err-push_str-clause-bytes : goal.returns-in_err-push_str-clause-bytes
 returns-in_err-push_str-clause-bytes g c = grind (arith, common_steps)

@@ -4,7 +4,7 @@ use Rattle.std.specs.Prelude.{◌<◌, length}
 use Rattle.std.specs.Prelude.{slice_index}
 use Rattle.std.proofs.lemmas.Grind.{get_or_default_zero}
 use Rattle.kc_tree.specs.between.Views.{MemberDefaultFits}
-use Rattle.kc_tree.specs.checker.PartsView.{choice_from_row}
+use Rattle.kc_tree.specs.between.PartsView.{choice_from_row}
 use Rattle.kc_tree.proofs.RowViews.{seen_get, all_at}
 use Rattle.kc_tree.proofs.parts.Parts.choice.Goals as goal
 

@@ -1,0 +1,14 @@
+use Rattle.std.proofs.Common.{ℕ, List, ap, ◌∙◌, rules}
+use Rattle.std.specs.Prelude.{Vec, is_none, map}
+use Rattle.std.specs.declared.alloc.Global.{Global}
+use Rattle.std.proofs.lemmas.Fn.{filter_same}
+use Rattle.kc_tree_model.specs.Keywords.{keyword_in_table}
+use Rattle.kc_answers.proofs.TableLemmas.{filtered_items}
+use Rattle.kc_answers.proofs.answer_table.AnswerTable.keep_missing.Goals as goal
+
+pub returns : goal.returns
+returns c =
+    let p = λ (question : List ℕ). is_none (keyword_in_table c.args.self.now question) in
+    ap (map (λ (v : Vec ℕ Global). v.items))
+    (filter_same _ (λ (v : Vec ℕ Global). p v.items) _ (λ x b f' k. search rules) _ _ c.retain.ensures.filtered)
+    ∙ filtered_items p c.args.questions.now.items

@@ -1,0 +1,17 @@
+use Rattle.std.proofs.Common.{◌≡◌, ℕ, [], ◌++◌, sym, ap, ◌∙◌}
+use Rattle.std.specs.Prelude.{Vec, map}
+use Rattle.std.specs.declared.alloc.Global.{Global}
+use Rattle.std.specs.Map.Iter.{deref}
+use Rattle.std.proofs.lemmas.List.{append-nil}
+use Rattle.std.proofs.lemmas.Map.Iter.{rest_all}
+use Rattle.kc_answers.specs.RunStates.{questions_of}
+use Rattle.kc_answers.proofs.TableLemmas.{questions_of_keys}
+use Rattle.kc_answers.proofs.answer_table.AnswerTable.questions.Goals as goal
+
+pub returns : goal.returns
+returns c =
+    let texts = map (λ (q : Vec ℕ Global). q.items) in
+    let copied = texts c.loop-question.questions.items in
+    let none : c.loop-question.question-iterator ≡ [] = rest_all (deref {X = Vec ℕ Global}) _ _ c.next.result c.in-None.is c.next.ensures.steps in
+    sym (append-nil copied) ∙ ap (λ rest. copied ++ texts rest) (sym none) ∙ c.loop-question.invariant
+    ∙ questions_of_keys c.self.inside.entries.entries ∙ ap questions_of c.self.view_is

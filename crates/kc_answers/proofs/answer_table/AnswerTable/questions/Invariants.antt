@@ -1,0 +1,10 @@
+use Rattle.std.proofs.Common.{◌≡◌, ◌++◌}
+use Rattle.std.specs.Prelude.{ℕ, Vec, map}
+use Rattle.std.specs.declared.alloc.Global.{Global}
+use Rattle.std.specs.Map.{keys_of}
+use Rattle.kc_answers.proofs.answer_table.AnswerTable.questions.Given as goal
+
+abbrev pub invariant-loop-question : goal.invariant-loop-question
+invariant-loop-question l =
+    map (λ (q : Vec ℕ Global). q.items) l.questions.items ++ map (λ (q : Vec ℕ Global). q.items) l.question-iterator
+    ≡ map (λ (q : Vec ℕ Global). q.items) (keys_of l.self-inside.entries.entries)

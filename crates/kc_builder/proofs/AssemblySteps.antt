@@ -1,0 +1,350 @@
+-- The collected lists represent the tree.
+use Rattle.std.proofs.Common.{◌≡◌, ℕ, zero, suc, ◌+◌, ◌<◌, ◌≤◌, ◌^◌, Bool, true, false, cond, List, [], ◌∷◌, length, map, Option, Some, None, refl, ap, sym, subst, ◌∙◌, arith}
+use Rattle.std.specs.Prelude.{All, filter, filter_map, flat_map, slice_get, option_to_list, option_and_then}
+use Rattle.std.specs.Option.{option_or}
+use Rattle.std.specs.List.{cons_option}
+use Rattle.std.proofs.lemmas.List.{length-map}
+use Rattle.std.proofs.lemmas.List.Elements.{All-append, All-cons, All-nil}
+use Rattle.kc_tokens.specs.declared.language.Language.{Language}
+use Rattle.kc_expr.specs.between.Arena.{Exprs}
+use Rattle.kc_expr.specs.Lookup.{index_of_name}
+use Rattle.kc_tree_model.specs.Trees as tree
+use Rattle.kc_tree_model.specs.TreeFiles.{Files}
+use Rattle.kc_tree_model.specs.Blocks.{Group, defined_name}
+use Rattle.kc_tree_model.specs.Conditions.{GroupInContext}
+use Rattle.kc_tree_model.specs.Contents.{Contents, begins_symbol, contents_of, symbol_of, choice_of, choice_number, tree_of_groups, tree_of_files}
+use Rattle.kc_tree_model.specs.Limits.{names_defined}
+use Rattle.kc_tree_model.proofs.Consistency.Definitions.{IsSound, sound_contents, no_first}
+use Rattle.kc_tree_model.proofs.Consistency.Consistent.{tree_is_consistent}
+use Rattle.kc_tree_model.specs.TreeLookup.{IsConsistent}
+use Rattle.kc_tree_model.proofs.Consistency.NameLimits.{few_symbols as few_defined}
+use Rattle.kc_tree_model.proofs.Consistency.Places.{is_read}
+use Rattle.kc_tree_model.specs.declared.fault.TreeFault.{TreeFault}
+use Rattle.kc_tree_model.specs.TreeReading.{reading}
+use Rattle.kc_tree_model.specs.TreeFaults.{first_tree_fault, tree_faults}
+use Rattle.kc_tree_model.proofs.Consistency.Lists.{get_below, place-get, number-get, map-get}
+use Rattle.kc_tree_model.proofs.Consistency.Units.{number_is}
+use Rattle.kc_listing.specs.declared.listing.Listing.{Listing}
+use Rattle.kc_listing.specs.between.SymbolTable.{text_of_name}
+use Rattle.kc_listing.specs.between.ListingView.{RepresentsListing}
+use Rattle.kc_checks.specs.between.FaultSearch.{HasNoFaults}
+use Rattle.kc_tree.specs.TreeModel.{TreeModel}
+use Rattle.kc_tree.specs.between.Views.{member_default_view}
+use Rattle.kc_builder.specs.checker.Assembly.{AreSymbolParts, AreChoiceParts, IsGathering}
+use Rattle.kc_builder.specs.checker.ChoiceDefaults.{choice_defaults_of}
+use Rattle.kc_builder.specs.checker.ChoiceRows.{opens, IsChoiceRow, AreChoiceRows}
+use Rattle.kc_builder.specs.checker.Definitions.{AreAttributes}
+use Rattle.kc_tree.specs.between.GatheredAttributes.{AreKeys}
+use Rattle.kc_tree.specs.between.GatheredFits.{GatheredFit}
+use Rattle.kc_tree.specs.between.GatheredView.{symbol_gathered, choice_gathered, gathered_tree}
+use Rattle.kc_tree.specs.between.GroupedItems.{items_of}
+use Rattle.kc_tree.specs.between.PartsView.{from_rows, entry_from_row}
+use Rattle.kc_builder.specs.checker.Rows.{IsRowOf, AreRowsOf}
+use Rattle.kc_checks.specs.between.Summaries.{AreOwnMembers, own_choice, member_in, members_at, member_keys_at}
+use Rattle.kc_builder.specs.checker.UnitList.{unit_read, units_read}
+use Rattle.kc_builder.specs.declared.builder.ChoiceParts.{ChoiceParts}
+use Rattle.kc_builder.specs.declared.builder.SymbolParts.{SymbolParts}
+use Rattle.kc_tree.specs.declared.tree_lists.TreeLists.{TreeLists}
+use Rattle.kc_tree.specs.declared.items_with_keys.ItemsWithKeys.{ItemsWithKeys}
+use Rattle.kc_tree.specs.declared.parts.ChoiceRow.{ChoiceRow}
+use Rattle.kc_tree.specs.declared.parts.SymbolRow.{SymbolRow}
+use Rattle.kc_checks.proofs.GroupPlaces.{placed_count, count_is}
+use Rattle.kc_checks.proofs.MemberLaw.{own_members_are}
+
+-- symbols
+module _ (language : Language) (g : TreeLists) (c : Contents) (a : AreAttributes language g.arena c g.attributes) where
+  symbol_same : (s : ℕ) (name : List ℕ) (r : SymbolRow) → slice_get c.names s ≡ Some name → IsRowOf g.arena c name r → symbol_gathered g s r ≡ symbol_of language c name
+  symbol_same s name r e h =
+      rw (
+        h.name_is,
+        h.kind_is,
+        h.file_is,
+        h.line_is,
+        h.choice_is,
+        a.prompts_are s name e,
+        a.defaults_are s name e,
+        a.ranges_are s name e,
+        a.selectors_are s
+            name e,
+        a.impliers_are s name e,
+        a.direct_are s name e,
+      ) refl
+
+  symbols_from : (n : ℕ) (names : List (List ℕ)) (rows : List SymbolRow)
+      → ((i : ℕ) (x : List ℕ) → slice_get names i ≡ Some x → slice_get c.names (n + i) ≡ Some x) → AreRowsOf g.arena c names rows
+      → from_rows (symbol_gathered g) n rows ≡ map (symbol_of language c) names
+  symbols_from n [] [] at h = refl
+  symbols_from n [] (r ∷ rows) at h = absurd h
+  symbols_from n (x ∷ names) [] at h = absurd h
+  symbols_from n (x ∷ names) (r ∷ rows) at h =
+      let here : slice_get c.names n ≡ Some x = ap (slice_get c.names) (let e : n ≡ n + 0 = omega arith in e) ∙ at 0 x refl in
+      let rest = symbols_from (suc n) names rows (λ i y e. ap (slice_get c.names) (let m : suc n + i ≡ n + suc i = omega arith in m) ∙ at (suc i) y e) h.1 in
+      ap (λ k. k ∷ from_rows (symbol_gathered g) (suc n) rows) (symbol_same n x r here h.0) ∙ ap (λ ks. symbol_of language c x ∷ ks) rest
+
+  pub symbols_are : (rows : List SymbolRow) → AreRowsOf g.arena c c.names rows → from_rows (symbol_gathered g) 0 rows ≡ map (symbol_of language c) c.names
+  symbols_are rows h = symbols_from 0 c.names rows (λ i x e. ap (slice_get c.names) (let m : 0 + i ≡ i = omega arith in m) ∙ e) h
+
+as_many_rows : (e : Exprs) (c : Contents) (names : List (List ℕ)) (rows : List SymbolRow) → AreRowsOf e c names rows → length rows ≡ length names
+as_many_rows e c [] [] h = refl
+as_many_rows e c [] (r ∷ rows) h = absurd h
+as_many_rows e c (x ∷ names) [] h = absurd h
+as_many_rows e c (x ∷ names) (r ∷ rows) h = ap suc (as_many_rows e c names rows h.1)
+
+rows_held : (e : Exprs) (c : Contents) (names : List (List ℕ)) (rows : List SymbolRow) → AreRowsOf e c names rows
+    → All (λ (r : SymbolRow). r.name < length e.names) rows
+rows_held e c [] [] h = All-nil (λ (r : SymbolRow). r.name < length e.names)
+rows_held e c [] (r ∷ rows) h = absurd h
+rows_held e c (x ∷ names) [] h = absurd h
+rows_held e c (x ∷ names) (r ∷ rows) h = All-cons (λ (r : SymbolRow). r.name < length e.names) r rows h.0.held (rows_held e c names rows h.1)
+
+-- choices
+module _ (language : Language) (g : TreeLists) (c : Contents) (sound : IsSound c) (keys : g.members.keys.items ≡ flat_map (member_keys_at (own_choice c) c) c.places)
+    (items : g.members.items.items ≡ flat_map (members_at (own_choice c) c) c.places)
+    (d : (k : ℕ) → map (member_default_view g.arena) (items_of k g.member_defaults.keys.items g.member_defaults.items.items)
+    ≡ elim (slice_get (filter opens c.places) k) as (λ _. List tree.MemberDefault) [ None ↦ [] | Some p ↦ (choice_of language c p).defaults ]) where
+  members_same : (k : ℕ) (p : GroupInContext) → slice_get (filter opens c.places) k ≡ Some p
+      → items_of k g.members.keys.items g.members.items.items ≡ (choice_of language c p).members
+  members_same k p e =
+      let number : choice_number c p.group.number ≡ Some k = number_is c sound p.group.number k
+      (ap (λ ns. slice_get ns k) sound.choices ∙ map-get (λ (q : GroupInContext). q.group.number) (filter opens c.places) k p e) in
+      ap (λ ks. items_of k ks g.members.items.items) keys
+      ∙ ap (items_of k (flat_map (member_keys_at (own_choice c) c) c.places)) items
+      ∙ own_members_are c k p.group.number number
+
+  choice_same : (k : ℕ) (p : GroupInContext) (r : ChoiceRow) → slice_get (filter opens c.places) k ≡ Some p → IsChoiceRow language g.arena p r
+      → choice_gathered g k r ≡ choice_of language c p
+  choice_same k p r e h =
+      let defaults : map (member_default_view g.arena) (items_of k g.member_defaults.keys.items g.member_defaults.items.items) ≡ (choice_of language c p).defaults =
+      d k ∙ ap (λ o. elim o as (λ _. List tree.MemberDefault) [ None ↦ [] | Some q ↦ (choice_of language c q).defaults ]) e in
+      rw (h.file_is, h.line_is, h.prompt_is, h.optional_is, members_same k p e, defaults) refl
+
+  choices_from : (n : ℕ) (ps : List GroupInContext) (rows : List ChoiceRow)
+      → ((i : ℕ) (p : GroupInContext) → slice_get ps i ≡ Some p → slice_get (filter opens c.places) (n + i) ≡ Some p) → AreChoiceRows language g.arena ps rows
+      → from_rows (choice_gathered g) n rows ≡ map (choice_of language c) ps
+  choices_from n [] [] at h = refl
+  choices_from n [] (r ∷ rows) at h = absurd h
+  choices_from n (p ∷ ps) [] at h = absurd h
+  choices_from n (p ∷ ps) (r ∷ rows) at h =
+      let here : slice_get (filter opens c.places) n ≡ Some p = ap (slice_get (filter opens c.places)) (let e : n ≡ n + 0 = omega arith in e) ∙ at 0 p refl in
+      let rest = choices_from (suc n) ps rows (λ i y e. ap (slice_get (filter opens c.places)) (let m : suc n + i ≡ n + suc i = omega arith in m)
+      ∙ at (suc i) y e) h.1 in
+      ap (λ k. k ∷ from_rows (choice_gathered g) (suc n) rows) (choice_same n p r here h.0) ∙ ap (λ ks. choice_of language c p ∷ ks) rest
+
+  pub choices_are : (rows : List ChoiceRow) → AreChoiceRows language g.arena (filter opens c.places) rows
+      → from_rows (choice_gathered g) 0 rows ≡ map (choice_of language c) (filter opens c.places)
+  choices_are rows h =
+      choices_from 0 (filter opens c.places) rows (λ i p e. ap (slice_get (filter opens c.places)) (let m : 0 + i ≡ i = omega arith in m) ∙ e) h
+
+as_many_choices : (language : Language) (e : Exprs) (ps : List GroupInContext) (rows : List ChoiceRow) → AreChoiceRows language e ps rows → length rows ≡ length ps
+as_many_choices language e [] [] h = refl
+as_many_choices language e [] (r ∷ rows) h = absurd h
+as_many_choices language e (p ∷ ps) [] h = absurd h
+as_many_choices language e (p ∷ ps) (r ∷ rows) h = ap suc (as_many_choices _ e ps rows h.1)
+
+prompts_held : (language : Language) (e : Exprs) (ps : List GroupInContext) (rows : List ChoiceRow) → AreChoiceRows language e ps rows → (k i : ℕ) (r : ChoiceRow) → slice_get rows k ≡ Some r
+    → r.prompt ≡ Some i → i < length e.nodes
+prompts_held language e [] [] h k i r at is = cc
+prompts_held language e [] (x ∷ rows) h k i r at is = absurd h
+prompts_held language e (p ∷ ps) [] h k i r at is = absurd h
+prompts_held language e (p ∷ ps) (x ∷ rows) h zero i r at is = let same : x ≡ r = cc in h.0.held i (ap (λ (y : ChoiceRow). y.prompt) same ∙ is)
+prompts_held language e (p ∷ ps) (x ∷ rows) h (suc k) i r at is = prompts_held _ e ps rows h.1 k i r at is
+
+-- members are symbols under choices
+module _ (c : Contents) where
+  below_one : (m n : ℕ) → n < m → All (λ s. s < m) (n ∷ [])
+  below_one m n h = All-cons (λ s. s < m) n [] h (All-nil (λ s. s < m))
+
+  place_fits : (o : Option ℕ) → ((n : ℕ) → o ≡ Some n → n < length c.names) → All (λ s. s < length c.names) (option_to_list o)
+  place_fits None h = All-nil (λ s. s < length c.names)
+  place_fits (Some n) h = below_one (length c.names) n (h n refl)
+
+  named_fits : (x : Option (List ℕ)) (n : ℕ) → option_and_then (λ y. index_of_name y c.names) x ≡ Some n → n < length c.names
+  named_fits None n e = cc
+  named_fits (Some y) n e = get_below c.names n y (place-get y c.names n e)
+
+  members_fit_at : (o : Option ℕ) (x : Option (List ℕ)) → All (λ s. s < length c.names) (member_in c o x)
+  members_fit_at None x = All-nil (λ s. s < length c.names)
+  members_fit_at (Some k) x = place_fits (option_and_then (λ y. index_of_name y c.names) x) (named_fits x)
+
+  pub members_fit : (ps : List GroupInContext) → All (λ s. s < length c.names) (flat_map (members_at (own_choice c) c) ps)
+  members_fit [] = All-nil (λ s. s < length c.names)
+  members_fit (p ∷ ps) =
+      All-append (λ s. s < length c.names) (members_at (own_choice c) c p) (flat_map (members_at (own_choice c) c) ps) (members_fit_at (own_choice c p) (defined_name p.group))
+      (members_fit ps)
+
+  mapped_keys : (k : ℕ) (xs : List ℕ) → k < length c.choices → All (λ n. n < length c.choices) (map (λ _. k) xs)
+  mapped_keys k [] h = All-nil (λ n. n < length c.choices)
+  mapped_keys k (x ∷ xs) h = All-cons (λ n. n < length c.choices) k (map (λ _. k) xs) h (mapped_keys k xs h)
+
+  keys_fit_at : (o : Option ℕ) (x : Option (List ℕ)) → ((k : ℕ) → o ≡ Some k → k < length c.choices)
+      → All (λ n. n < length c.choices) (map (λ _. elim o as (λ _. ℕ) [ None ↦ 0 | Some k ↦ k ]) (member_in c o x))
+  keys_fit_at None x h = All-nil (λ n. n < length c.choices)
+  keys_fit_at (Some k) x h = mapped_keys k (option_to_list (option_and_then (λ y. index_of_name y c.names) x)) (h k refl)
+
+  enclosing_fits : (o : Option ℕ) (k : ℕ) → option_and_then (choice_number c) o ≡ Some k → k < length c.choices
+  enclosing_fits None k e = cc
+  enclosing_fits (Some n) k e = get_below c.choices k n (number-get n c.choices k e)
+
+  own_fits : (b : Bool) (o : Option ℕ) (k : ℕ) → cond b (option_and_then (choice_number c) o) None ≡ Some k → k < length c.choices
+  own_fits true o k e = enclosing_fits o k e
+  own_fits false o k e = cc
+
+  pub keys_fit : (ps : List GroupInContext) → All (λ n. n < length c.choices) (flat_map (member_keys_at (own_choice c) c) ps)
+  keys_fit [] = All-nil (λ n. n < length c.choices)
+  keys_fit (p ∷ ps) =
+      All-append (λ n. n < length c.choices) (member_keys_at (own_choice c) c p) (flat_map (member_keys_at (own_choice c) c) ps)
+      (keys_fit_at (own_choice c p) (defined_name p.group) (own_fits (begins_symbol c p) p.choice)) (keys_fit ps)
+
+keys_of_all : (n : ℕ) (ks : List ℕ) → All (λ k. k < n) ks → AreKeys n ks
+keys_of_all n ks h i l = h i 0 l
+
+-- few of few
+few_filtered : {A : Type 0} (f : A → Bool) (xs : List A) → length (filter f xs) ≤ length xs
+few_filtered f [] = omega arith
+few_filtered f (x ∷ xs) = by (f x) (few_filtered f xs)
+  where
+    by : (b : Bool) → length (filter f xs) ≤ length xs → length (cond b (x ∷ filter f xs) (filter f xs)) ≤ suc (length xs)
+    by true h = omega (arith, h)
+    by false h = omega (arith, h)
+
+few_mapped : {A B : Type 0} (f : A → Option B) (xs : List A) → length (filter_map f xs) ≤ length xs
+few_mapped f [] = omega arith
+few_mapped {A = A} {B = B} f (x ∷ xs) = by (f x) (few_mapped f xs)
+  where
+    by : (o : Option B) → length (filter_map f xs) ≤ length xs → length (cons_option o (filter_map f xs)) ≤ suc (length xs)
+    by None h = omega (arith, h)
+    by (Some y) h = omega (arith, h)
+
+-- no fault is left
+after_by : (f : Option TreeFault) (x : Option TreeFault) → option_or f x ≡ None → x ≡ None
+after_by None x e = e
+after_by (Some g) x e = cc
+
+pub faultless_of : (files : Files) (root : List ℕ) → first_tree_fault files root ≡ None → HasNoFaults (reading files root).read
+unfolding first_tree_fault
+faultless_of files root h = (
+  files.language,
+  no_first (tree_faults files.language (reading files root).read)
+      (after_by (reading files root).fault (slice_get (tree_faults files.language (reading files root).read) 0) h),
+)
+
+-- the whole, part by part
+module _ (files : Files) (root : List ℕ) (l : Listing) (symbols : SymbolParts) (choices : ChoiceParts) (members : ItemsWithKeys ℕ) (g : TreeLists)
+    (arena_is : g.arena ≡ l.names.arena) (symbols_is : g.symbols ≡ symbols.rows) (attributes_is : g.attributes ≡ symbols.attributes)
+    (choices_is : g.choices ≡ choices.rows) (members_is : g.members ≡ members)
+    (defaults_is : g.member_defaults ≡ choices.defaults) (entries_is : g.entries ≡ choices.entries) (titles_is : g.titles ≡ l.texts)
+    (units_is : g.units ≡ symbols.units) (language_is : g.language ≡ files.language)
+    (shows : RepresentsListing l (reading files root).read) (s : AreSymbolParts files.language l.names.arena (reading files root).read symbols)
+    (k : AreChoiceParts l files.language (reading files root).read choices)
+    (m : AreOwnMembers (contents_of (reading files root).read) members) (few : length l.groups.items < 2 ^ 32) where
+  abbrev read : List Group
+  read = (reading files root).read
+
+  abbrev c : Contents
+  c = contents_of (reading files root).read
+
+  sound : IsSound c
+  sound = sound_contents (reading files root).read (is_read files root)
+
+  rows : AreRowsOf g.arena c c.names g.symbols.items
+  rows = rw (arena_is, symbols_is) s.rows
+
+  attributes : AreAttributes files.language g.arena c g.attributes
+  attributes = rw (arena_is, attributes_is) s.attributes
+
+  choice_rows : AreChoiceRows files.language g.arena (filter opens c.places) g.choices.items
+  choice_rows = rw (arena_is, choices_is) k.rows
+
+  keys : g.members.keys.items ≡ flat_map (member_keys_at (own_choice c) c) c.places
+  keys = ap (λ v. v.keys.items) members_is ∙ m.member_keys
+
+  items : g.members.items.items ≡ flat_map (members_at (own_choice c) c) c.places
+  items = ap (λ v. v.items.items) members_is ∙ m.members
+
+  defaults_by : (o : Option GroupInContext) → choice_defaults_of files.language c o ≡ elim o as (λ _. List tree.MemberDefault)
+      [ None ↦ [] | Some p ↦ (choice_of files.language c p).defaults ]
+  defaults_by None = refl
+  defaults_by (Some p) = refl
+
+  defaults : (j : ℕ)
+      → map (member_default_view g.arena) (items_of j g.member_defaults.keys.items g.member_defaults.items.items)
+      ≡ elim (slice_get (filter opens c.places) j) as (λ _. List tree.MemberDefault) [ None ↦ [] | Some p ↦ (choice_of files.language c p).defaults ]
+  defaults j = rw (arena_is, defaults_is) (k.defaults.are j ∙ defaults_by (slice_get (filter opens c.places) j))
+
+  entries : map (entry_from_row g.arena g.titles.items) g.entries.items ≡ (tree_of_groups files.language read).entries
+  entries = rw (arena_is, titles_is, entries_is) k.entries
+
+  units : g.units.items ≡ units_read c
+  units = rw units_is s.units
+
+  pub whole : gathered_tree g ≡ tree_of_groups files.language read
+  unfolding tree_of_groups
+  whole = rw (symbols_are _ g c attributes g.symbols.items rows, choices_are _ g c sound keys items defaults g.choices.items choice_rows, entries, units, language_is) refl
+
+  many_symbols : length g.symbols.items ≡ length c.names
+  many_symbols = as_many_rows g.arena c c.names g.symbols.items rows
+
+  many_choices : length g.choices.items ≡ length c.choices
+  many_choices =
+      as_many_choices _ g.arena (filter opens c.places) g.choices.items choice_rows
+      ∙ sym (length-map (filter opens c.places) (λ (p : GroupInContext). p.group.number))
+
+  many_names : length l.names.symbols.items ≡ length c.names
+  unfolding RepresentsListing
+  many_names = sym (length-map l.names.symbols.items (text_of_name l.names.arena)) ∙ ap length shows.names.words
+
+  many_places : length c.places ≡ length l.groups.items
+  unfolding RepresentsListing
+  many_places = placed_count read ∙ sym (count_is l.names.arena (names_defined read) l.texts.items l.lines.items l.groups.items read shows.groups_are)
+
+  few_choices : length g.choices.items < 2 ^ 32
+  few_choices =
+      let a = few_filtered opens c.places in
+      omega (arith, a, many_places, few, as_many_choices _ g.arena (filter opens c.places) g.choices.items choice_rows)
+
+  few_units : length g.units.items < 2 ^ 32
+  few_units =
+      let a = few_mapped (unit_read c) c.places in
+      let n : length g.units.items ≡ length (units_read c) = ap length units in
+      omega (arith, a, many_places, few, n)
+
+  few_names : length c.names < 2 ^ 32
+  unfolding tree_of_files tree_of_groups
+  few_names = let n = few_defined files root in omega (arith, n, length-map c.names (symbol_of files.language c))
+
+  pub fits : GatheredFit g
+  fits = record {
+    few_symbols = omega (arith, many_symbols, few_names);
+    few_choices = few_choices;
+    few_units = few_units;
+    names = rows_held g.arena c c.names g.symbols.items rows;
+    keys = rw many_symbols attributes.keys;
+    member_keys = rw (many_choices, keys) (keys_of_all (length c.choices) (flat_map (member_keys_at (own_choice c) c) c.places) (keys_fit c c.places));
+    member_default_keys = rw (many_choices, defaults_is) k.defaults.keys;
+    prompts = attributes.prompts_fit;
+    defaults = attributes.defaults_fit;
+    ranges = attributes.ranges_fit;
+    bounds = attributes.bounds_fit;
+    selectors = rw many_symbols attributes.selectors_fit;
+    impliers = rw many_symbols attributes.impliers_fit;
+    direct = attributes.direct_fit;
+    choice_prompts = λ j i r at is. prompts_held _ g.arena (filter opens c.places) g.choices.items choice_rows j i r at is;
+    members = rw (many_symbols, items) (members_fit c c.places);
+    member_defaults = rw (many_symbols, ← many_names, arena_is, defaults_is) k.defaults.fits;
+    entries = rw (many_symbols, ← many_names, many_choices, arena_is, titles_is, entries_is) k.entries_fit;
+  }
+
+  pub is_gathering : IsGathering files.language (reading files root).read g
+  is_gathering = record { whole = whole; fits = fits }
+
+-- the tree of the collected lists is consistent if the files have no fault
+pub consistent_of : (files : Files) (root : List ℕ) (g : TreeLists) → first_tree_fault files root ≡ None → IsGathering files.language (reading files root).read g
+    → IsConsistent (gathered_tree g)
+unfolding tree_of_files
+consistent_of files root g h k = subst IsConsistent (sym k.whole) (tree_is_consistent files root h)
+
+-- a tree with the value of the collected lists is the tree of the files
+pub whole_is : (files : Files) (root : List ℕ) (g : TreeLists) (t : TreeModel) → IsGathering files.language (reading files root).read g
+    → t ≡ record { exprs = g.arena; tree = gathered_tree g } → t.tree ≡ tree_of_files files root
+unfolding tree_of_files
+whole_is files root g t k e = ap (λ (h : TreeModel). h.tree) e ∙ k.whole

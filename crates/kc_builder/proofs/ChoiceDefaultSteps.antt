@@ -1,0 +1,477 @@
+-- The defaults of choices, as they are collected.
+use Rattle.std.proofs.Common.{◌≡◌, ℕ, zero, suc, ◌+◌, ◌<◌, ◌≤◌, ◌==◌, Bool, true, false, cond, List, [], ◌∷◌, ◌++◌, length, get_or, take, map, Option, Some, None, refl, ap, sym, subst, ◌∙◌, arith, append_assoc, append-nil}
+use Rattle.std.specs.Prelude.{All, slice_get, slice_index, option_map, option_and_then, option_to_list, filter, filter_map, flat_map, is_none}
+use Rattle.std.specs.List.{cons_option}
+use Rattle.std.proofs.lemmas.Bool.{eq-eqb, eqb-true, false≢true}
+use Rattle.std.proofs.lemmas.List.{map-append, length-map}
+use Rattle.std.proofs.lemmas.Option.{slice_get_within, slice_get_past}
+use Rattle.std.proofs.lemmas.List.Concat.{flat_map-cons}
+use Rattle.std.proofs.lemmas.List.Elements.{All-append, All-cons, All-nil}
+use Rattle.kc_tokens.specs.declared.language.Language.{Language}
+use Rattle.kc_expr.specs.between.Arena.{Exprs, node_expr}
+use Rattle.kc_expr.specs.Expr.{Expr}
+use Rattle.kc_expr.specs.Lookup.{index_of_name}
+use Rattle.kc_expr.specs.between.Names.{name_alone}
+use Rattle.kc_statements.specs.between.StatementViews.{attribute_in, default_in, AttributeNodesExist}
+use Rattle.kc_statements.specs.declared.statement.Attribute.{Attribute as CodeAttribute}
+use Rattle.kc_statements.specs.declared.statement.Attribute.TheVariants as attributes
+use Rattle.kc_listing.specs.declared.listing.Line.{Line as CodeLine}
+use Rattle.kc_listing.specs.declared.listing.SymbolTable.{SymbolTable}
+use Rattle.kc_listing.specs.between.SymbolTable.{number_in, HasNames}
+use Rattle.kc_listing.specs.between.ListingView.{line_in, RepresentsListing, RepresentsHead}
+use Rattle.kc_listing.specs.declared.listing.Listing.{Listing}
+use Rattle.kc_listing.specs.declared.listing.GroupHead.{GroupHead as CodeHead}
+use Rattle.kc_listing.specs.declared.listing.GroupHead.TheVariants as codes
+use Rattle.kc_listing.proofs.NameLemmas.{as_many_names}
+use Rattle.kc_tree_model.specs.Limits.{names_defined}
+use Rattle.kc_tree_model.specs.Trees as tree
+use Rattle.kc_tree_model.specs.declared.fault.TreeKind.{TreeKind}
+use Rattle.kc_tree_model.specs.declared.fault.TreeKind.TheVariants.{ChoiceDefault}
+use Rattle.kc_tree_model.specs.Statements.{DefaultAttribute, default_of, choice}
+use Rattle.kc_tree_model.specs.Blocks.{Group, Line, of_head, open_blocks}
+use Rattle.kc_tree_model.specs.Conditions.{context_of, GroupInContext, group_in_context, groups_in_context, attribute_condition}
+use Rattle.kc_tree_model.specs.Contents.{Contents, contents_of, bare_name, member_named, member_names, member_default, name_among}
+use Rattle.kc_tree_model.proofs.Consistency.Lists.{place-get}
+use Rattle.kc_tree_model.specs.TreeFaults.{when, second_prompt, choice_faults, is_no_member, faults_at, faults_of_lines, faults_of_group, tree_faults}
+use Rattle.kc_checks.specs.between.FaultSearch.{HasNoFaults}
+use Rattle.kc_tree.specs.between.Views.{member_default_view, MemberDefaultFits}
+use Rattle.kc_builder.specs.checker.ChoiceDefaults.{default_value_view, symbol_bare, member_default_row, member_default_rows, group_default_rows, choice_defaults_of, AreDefaultsOf, IsWalkOf}
+use Rattle.kc_builder.specs.checker.ChoiceRows.{opens}
+use Rattle.kc_builder.specs.checker.GroupConditions.{own_conditions}
+use Rattle.kc_builder.specs.checker.Entries.{choices_after}
+use Rattle.kc_checks.specs.between.Summaries.{read_before, group_at, own_lines, is_choice_code}
+use Rattle.kc_tree.specs.declared.items_with_keys.ItemsWithKeys.{ItemsWithKeys}
+use Rattle.kc_builder.specs.declared.group_walk.GroupConditions.{GroupConditions}
+use Rattle.kc_checks.proofs.GroupPlaces.{none_before, all_before, count_is, place_numbered}
+use Rattle.kc_builder.proofs.ChoiceRowSteps.{as_many_conditions, as_long, both_at, places_more}
+use Rattle.kc_checks.proofs.Rounds.{numbers_of_choices, all_counted}
+use Rattle.kc_tree.specs.between.GatheredAttributes.{AreKeys}
+use Rattle.kc_tree.specs.between.GroupedItems.{items_of}
+use Rattle.kc_builder.specs.checker.Walks.{condition_at}
+use Rattle.kc_tree.specs.declared.symbol.MemberDefault.{MemberDefault}
+use Rattle.kc_checks.proofs.Symbols.{bare_is}
+
+-- the value of a default whose nodes exist is a node of the arena
+pub value_there : (exprs : Exprs) (a : CodeAttribute) (v : ℕ) → AttributeNodesExist exprs a → default_value_view a ≡ Some v → v < length exprs.nodes
+value_there exprs (attributes.Typed k) v h e = cc
+value_there exprs (attributes.TypedPrompt k c) v h e = cc
+value_there exprs (attributes.TypedDefault k d) v h e = let s : d.value ≡ v = cc in let l = h.0 in omega arith
+value_there exprs (attributes.Prompt c) v h e = cc
+value_there exprs (attributes.Default d) v h e = let s : d.value ≡ v = cc in let l = h.0 in omega arith
+value_there exprs (attributes.Depends id) v h e = cc
+value_there exprs (attributes.Select s) v h e = cc
+value_there exprs (attributes.Imply s) v h e = cc
+value_there exprs (attributes.Range r) v h e = cc
+value_there exprs (attributes.Visible id) v h e = cc
+value_there exprs attributes.Help v h e = cc
+value_there exprs attributes.Modules v h e = cc
+value_there exprs attributes.Optional v h e = cc
+
+-- one attribute more
+cons_front : {X : Type 0} (o : Option X) (xs ys : List X) → cons_option o xs ++ ys ≡ cons_option o (xs ++ ys)
+cons_front None xs ys = refl
+cons_front (Some x) xs ys = refl
+
+cons_one : {X : Type 0} (o : Option X) → cons_option o [] ≡ option_to_list o
+cons_one None = refl
+cons_one (Some x) = refl
+
+kept_more : (n : SymbolTable) (ls : List CodeLine) (cs : List ℕ) (i : ℕ) (d : CodeLine) (c : ℕ) → i < length ls → i < length cs
+    → member_default_rows n (take (suc i) ls) (take (suc i) cs) ≡ member_default_rows n (take i ls) (take i cs) ++ option_to_list
+    (member_default_row n (get_or ls i d) (get_or cs i c))
+kept_more n [] cs i d c h k = absurd (omega arith)
+kept_more n (l ∷ ls) [] i d c h k = absurd (omega arith)
+kept_more n (l ∷ ls) (x ∷ cs) zero d c h k = cons_one (member_default_row n l x)
+kept_more n (l ∷ ls) (x ∷ cs) (suc i) d c h k =
+    ap (cons_option (member_default_row n l x)) (kept_more n ls cs i d c (omega arith) (omega arith))
+    ∙ sym (cons_front (member_default_row n l x) (member_default_rows n (take i ls) (take i cs))
+    (option_to_list (member_default_row n (get_or ls i d) (get_or cs i c))))
+
+pub items_more : (n : SymbolTable) (ls : List CodeLine) (cs : List ℕ) (i : ℕ) (d : CodeLine) (c : ℕ) (old mid new : List MemberDefault)
+    (o : Option MemberDefault)
+    → i < length ls → length cs ≡ length ls → o ≡ member_default_row n (get_or ls i d) (get_or cs i c)
+    → mid ≡ old ++ member_default_rows n (take i ls) (take i cs) → new ≡ mid ++ option_to_list o
+    → new ≡ old ++ member_default_rows n (take (i + 1) ls) (take (i + 1) cs)
+items_more n ls cs i d c old mid new o h k e m f =
+    let s : i + 1 ≡ suc i = omega arith in
+    f ∙ ap (λ xs. xs ++ option_to_list o) m ∙ append_assoc old (member_default_rows n (take i ls) (take i cs)) (option_to_list o)
+    ∙ ap (λ xs. old ++ xs) (ap (λ x. member_default_rows n (take i ls) (take i cs) ++ option_to_list x) e ∙ sym (kept_more n ls cs i d c h (omega arith))
+    ∙ ap (λ j. member_default_rows n (take j ls) (take j cs)) (sym s))
+
+pub keys_more : (n : SymbolTable) (choice : ℕ) (ls : List CodeLine) (cs : List ℕ) (i : ℕ) (d : CodeLine) (c : ℕ) (old mid new : List ℕ)
+    (o : Option MemberDefault)
+    → i < length ls → length cs ≡ length ls → o ≡ member_default_row n (get_or ls i d) (get_or cs i c)
+    → mid ≡ old ++ map (λ (_ : MemberDefault). choice) (member_default_rows n (take i ls) (take i cs))
+    → new ≡ mid ++ map (λ (_ : MemberDefault). choice) (option_to_list o)
+    → new ≡ old ++ map (λ (_ : MemberDefault). choice) (member_default_rows n (take (i + 1) ls) (take (i + 1) cs))
+keys_more n number ls cs i d c old mid new o h k e m f =
+    let s : i + 1 ≡ suc i = omega arith in
+    let key : MemberDefault → ℕ = λ _. number in
+    f ∙ ap (λ xs. xs ++ map key (option_to_list o)) m ∙ append_assoc old (map key (member_default_rows n (take i ls) (take i cs))) (map key (option_to_list o))
+    ∙ ap (λ xs. old ++ xs) (sym (map-append key (member_default_rows n (take i ls) (take i cs)) (option_to_list o))
+    ∙ ap (map key) (ap (λ x. member_default_rows n (take i ls) (take i cs) ++ option_to_list x) e ∙ sym (kept_more n ls cs i d c h (omega arith))
+    ∙ ap (λ j. member_default_rows n (take j ls) (take j cs)) (sym s)))
+
+-- a choice's attributes have no fault
+append_none : {X : Type 0} (xs ys : List X) → xs ++ ys ≡ [] → (xs ≡ []) × (ys ≡ [])
+append_none [] ys e = (refl, e)
+append_none (x ∷ xs) ys e = cc
+
+map_none : {X Y : Type 0} (f : X → Y) (xs : List X) → map f xs ≡ [] → xs ≡ []
+map_none f [] e = refl
+map_none f (x ∷ xs) e = cc
+
+when_none : (b : Bool) (k : TreeKind) → when b k ≡ [] → b ≡ false
+when_none true k e = cc
+when_none false k e = refl
+
+pub flat_none : {X Y : Type 0} (f : X → List Y) (xs : List X) (i : ℕ) (x : X) → flat_map f xs ≡ [] → slice_get xs i ≡ Some x → f x ≡ []
+flat_none f [] i x e h = cc
+flat_none f (y ∷ ys) zero x e h =
+    let p = append_none (f y) (flat_map f ys) (sym (flat_map-cons f y ys) ∙ e) in let s : y ≡ x = cc in subst (λ z. f z ≡ []) s p.0
+flat_none f (y ∷ ys) (suc i) x e h = let p = append_none (f y) (flat_map f ys) (sym (flat_map-cons f y ys) ∙ e) in flat_none f ys i x p.1 h
+
+-- each default of a choice without faults names a member
+abbrev NamesMember : List (List ℕ) → Option DefaultAttribute → Type 0
+NamesMember members None = Unit {0}
+NamesMember members (Some d) = (x : List ℕ) × (member_named members d ≡ Some x) × (bare_name d.value ≡ Some x)
+
+among_same : (names : List (List ℕ)) (x y : List ℕ) → name_among names x ≡ Some y → x ≡ y
+among_same names x y e = by (index_of_name x names) e
+  where
+    by : (o : Option ℕ) → option_map (λ _. x) o ≡ Some y → x ≡ y
+    by None f = cc
+    by (Some i) f = cc
+
+member_by : (members : List (List ℕ)) (d : DefaultAttribute) (b : Bool) (o : Option (List ℕ)) → bare_name d.value ≡ o
+    → is_none (cond b (option_and_then (name_among members) o) None) ≡ false
+    → (x : List ℕ) × (cond b (option_and_then (name_among members) o) None ≡ Some x) × (o ≡ Some x)
+member_by members d false o e f = cc
+member_by members d true None e f = cc
+member_by members d true (Some y) e f = by (name_among members y) refl f
+  where
+    by : (p : Option (List ℕ)) → name_among members y ≡ p → is_none p ≡ false → (x : List ℕ) × (p ≡ Some x) × (Some y ≡ Some x)
+    by None g h = cc
+    by (Some x) g h = (x, refl, ap Some (among_same members y x g))
+
+names_by : (members : List (List ℕ)) (o : Option DefaultAttribute) → is_no_member members o ≡ false → NamesMember members o
+names_by members None e = tt
+names_by members (Some d) e =
+    let r = member_by members d d.single (bare_name d.value) refl e in
+    (r.0, r.1, r.2)
+
+pub no_line_faults : (g : Group) (members : List (List ℕ)) (prompted : Bool) (l : Line) (ls : List Line)
+    → faults_of_lines g (choice_faults members) prompted (l ∷ ls) ≡ []
+    → NamesMember members (default_of l.attribute) × ((b : Bool) × (faults_of_lines g (choice_faults members) b ls ≡ []))
+no_line_faults g members prompted l ls e =
+    let p = append_none (faults_at g l.number (choice_faults members prompted l.attribute)) _ e in
+    let q = append_none (second_prompt prompted l.attribute) (when (is_no_member members (default_of l.attribute)) ChoiceDefault)
+    (map_none _ (choice_faults members prompted l.attribute) p.0) in
+    (names_by members (default_of l.attribute) (when_none (is_no_member members (default_of l.attribute)) ChoiceDefault q.1), (_, p.1))
+
+-- the default of an attribute, by the code and by the definition
+view_option : (e : Exprs) (o : Option ℕ) (x : ℕ) (y : Expr) → node_expr e x ≡ y
+    → option_map (member_default_view e) (option_map (λ s. (let d : MemberDefault = record { member = s; condition = x } in d)) o) ≡ option_map
+    (λ s. (let d : tree.MemberDefault = record { member = s; condition = y } in d)) o
+view_option e None x y h = refl
+view_option e (Some s) x y h = ap (λ z. (let d : Option tree.MemberDefault = Some (record { member = s; condition = z }) in d)) h
+
+module _ (language : Language) (n : SymbolTable) (symbols : List ℕ) (c : Contents) (has : HasNames n.arena symbols n.numbers.items c.names) where
+  default_value : (p : GroupInContext) (v : ℕ) (d : DefaultAttribute) (x : ℕ) → node_expr n.arena v ≡ d.value
+      → node_expr n.arena x ≡ attribute_condition (context_of language p) p.group d.condition → NamesMember (member_names c p.group.number) (Some d)
+      → option_map (member_default_view n.arena) (option_map (λ s. (let m : MemberDefault = record { member = s; condition = x } in m)) (symbol_bare n v))
+      ≡ member_default language c p d
+  default_value p v d x e f m =
+      let alone : name_alone (node_expr n.arena v) ≡ Some m.0 = ap name_alone e ∙ bare_is d.value ∙ m.2 in
+      let symbol : symbol_bare n v ≡ index_of_name m.0 c.names = ap (option_and_then (number_in n.arena.names n.numbers.items)) alone ∙ has.numbered m.0 in
+      view_option n.arena (symbol_bare n v) x (attribute_condition (context_of language p) p.group d.condition) f
+      ∙ ap (option_map (λ s. (let m : tree.MemberDefault = record { member = s; condition = attribute_condition (context_of language p) p.group d.condition } in m)))
+      (symbol ∙ sym (ap (option_and_then (λ y. index_of_name y c.names)) m.1))
+
+  one_default : (p : GroupInContext) (k : ℕ) (a : CodeAttribute) (x : ℕ)
+      → node_expr n.arena x ≡ condition_at language p (record { number = k; attribute = attribute_in n.arena a })
+      → NamesMember (member_names c p.group.number) (default_of (attribute_in n.arena a))
+      → option_map (member_default_view n.arena) (option_map (λ s. (let m : MemberDefault = record { member = s; condition = x } in m))
+      (option_and_then (symbol_bare n) (default_value_view a))) ≡ option_and_then (member_default language c p) (default_of (attribute_in n.arena a))
+  one_default p k (attributes.Typed t) x f m = refl
+  one_default p k (attributes.TypedPrompt t q) x f m = refl
+  one_default p k (attributes.TypedDefault t d) x f m = default_value p d.value (default_in n.arena d) x refl f m
+  one_default p k (attributes.Prompt q) x f m = refl
+  one_default p k (attributes.Default d) x f m = default_value p d.value (default_in n.arena d) x refl f m
+  one_default p k (attributes.Depends id) x f m = refl
+  one_default p k (attributes.Select s) x f m = refl
+  one_default p k (attributes.Imply s) x f m = refl
+  one_default p k (attributes.Range r) x f m = refl
+  one_default p k (attributes.Visible id) x f m = refl
+  one_default p k attributes.Help x f m = refl
+  one_default p k attributes.Modules x f m = refl
+  one_default p k attributes.Optional x f m = refl
+
+  view_cons : (o : Option MemberDefault) (xs : List MemberDefault)
+      → map (member_default_view n.arena) (cons_option o xs) ≡ cons_option (option_map (member_default_view n.arena) o) (map (member_default_view n.arena) xs)
+  view_cons None xs = refl
+  view_cons (Some x) xs = refl
+
+  statement_cons : (p : GroupInContext) (o : Option DefaultAttribute) (l : Line) (ls : List Line) → default_of l.attribute ≡ o
+      → filter_map (member_default language c p) (filter_map (λ (l : Line). default_of l.attribute) (l ∷ ls)) ≡ cons_option (option_and_then (member_default language c p) o)
+      (filter_map (member_default language c p) (filter_map (λ (l : Line). default_of l.attribute) ls))
+  statement_cons p None l ls e = rw e refl
+  statement_cons p (Some d) l ls e = rw e refl
+
+  pub all_defaults : (p : GroupInContext) (ls : List CodeLine) (xs : List ℕ) (prompted : Bool)
+      → map (node_expr n.arena) xs ≡ map (condition_at language p) (map (line_in n.arena) ls)
+      → faults_of_lines p.group (choice_faults (member_names c p.group.number)) prompted (map (line_in n.arena) ls) ≡ []
+      → map (member_default_view n.arena) (member_default_rows n ls xs) ≡ filter_map (member_default language c p)
+      (filter_map (λ (l : Line). default_of l.attribute) (map (line_in n.arena) ls))
+  all_defaults p [] xs prompted e f = refl
+  all_defaults p (l ∷ ls) [] prompted e f = absurd (let k : 0 ≡ suc (length (map (condition_at language p) (map (line_in n.arena) ls))) = ap length e in cc)
+  all_defaults p (l ∷ ls) (x ∷ xs) prompted e f =
+      let rest : map (node_expr n.arena) xs ≡ map (condition_at language p) (map (line_in n.arena) ls) = cc in
+      let here : node_expr n.arena x ≡ condition_at language p (line_in n.arena l) = cc in
+      let q = no_line_faults p.group (member_names c p.group.number) prompted (line_in n.arena l) (map (line_in n.arena) ls) f in
+      view_cons (member_default_row n l x) (member_default_rows n ls xs)
+      ∙ ap (λ o. cons_option o (map (member_default_view n.arena) (member_default_rows n ls xs))) (one_default p l.number l.attribute x here q.0)
+      ∙ ap (cons_option (option_and_then (member_default language c p) (default_of (attribute_in n.arena l.attribute)))) (all_defaults p ls xs q.1.0 rest q.1.1)
+      ∙ sym (statement_cons p (default_of (attribute_in n.arena l.attribute)) (line_in n.arena l) (map (line_in n.arena) ls) refl)
+
+  -- their numbers are there
+  kept_fits : (l : CodeLine) (x : ℕ) (o : Option ℕ) → option_and_then (symbol_bare n) (default_value_view l.attribute) ≡ o → x < length n.arena.nodes
+      → (xs : List MemberDefault) → All (MemberDefaultFits (length n.arena.nodes) (length c.names)) xs
+      → All (MemberDefaultFits (length n.arena.nodes) (length c.names))
+      (cons_option (option_map (λ s. (let m : MemberDefault = record { member = s; condition = x } in m)) o) xs)
+  kept_fits l x None e h xs a = a
+  kept_fits l x (Some s) e h xs a =
+      All-cons (MemberDefaultFits (length n.arena.nodes) (length c.names)) (record { member = s; condition = x }) xs
+      (symbol_small (default_value_view l.attribute) s e, h) a
+    where
+      by_name : (o : Option (List ℕ)) (s : ℕ) → option_and_then (number_in n.arena.names n.numbers.items) o ≡ Some s → s < length c.names
+      by_name None s f = cc
+      by_name (Some y) s f = slice_get_within c.names s y (place-get y c.names s (sym (has.numbered y) ∙ f))
+
+      symbol_small : (v : Option ℕ) (s : ℕ) → option_and_then (symbol_bare n) v ≡ Some s → s < length c.names
+      symbol_small None s f = cc
+      symbol_small (Some v) s f = by_name (name_alone (node_expr n.arena v)) s f
+
+  pub all_fit : (ls : List CodeLine) (xs : List ℕ) → All (λ i. i < length n.arena.nodes) xs
+      → All (MemberDefaultFits (length n.arena.nodes) (length c.names)) (member_default_rows n ls xs)
+  all_fit [] xs h = All-nil (MemberDefaultFits (length n.arena.nodes) (length c.names))
+  all_fit (l ∷ ls) [] h = All-nil (MemberDefaultFits (length n.arena.nodes) (length c.names))
+  all_fit (l ∷ ls) (x ∷ xs) h =
+      kept_fits l x (option_and_then (symbol_bare n) (default_value_view l.attribute)) refl (h 0 x (omega arith)) (member_default_rows n ls xs)
+      (all_fit ls xs (λ k d i. h (suc k) d (omega arith)))
+
+-- items appended under key `m` come after those of `k` if the keys are equal, and don't change those of `k` if not
+pub items_after : {T : Type 0} (k m : ℕ) (keys : List ℕ) (items xs : List T) → length items ≡ length keys
+    → items_of k (keys ++ map (λ (_ : T). m) xs) (items ++ xs) ≡ items_of k keys items ++ cond (m == k) xs []
+items_after {T} k m [] [] [] e = by (m == k)
+  where
+    by : (b : Bool) → (let e : List T = [] in e) ≡ cond b [] []
+    by true = refl
+    by false = refl
+items_after {T} k m [] [] (x ∷ xs) e = by (m == k) refl (items_after k m [] [] xs refl)
+  where
+    by : (b : Bool) → (m == k) ≡ b → items_of k (map (λ (_ : T). m) xs) xs ≡ cond (m == k) xs []
+        → cond b (x ∷ items_of k (map (λ (_ : T). m) xs) xs) (items_of k (map (λ (_ : T). m) xs) xs) ≡ cond b (x ∷ xs) []
+    by true f r = ap (λ t. x ∷ t) (r ∙ ap (λ t. cond t xs []) f)
+    by false f r = r ∙ ap (λ t. cond t xs []) f
+items_after {T} k m [] (y ∷ items) xs e = absurd (omega arith)
+items_after {T} k m (y ∷ keys) [] xs e = absurd (omega arith)
+items_after {T} k m (y ∷ keys) (z ∷ items) xs e = by (y == k) (items_after k m keys items xs (omega arith))
+  where
+    by : (b : Bool) → items_of k (keys ++ map (λ (_ : T). m) xs) (items ++ xs) ≡ items_of k keys items ++ cond (m == k) xs []
+        → cond b (z ∷ items_of k (keys ++ map (λ (_ : T). m) xs) (items ++ xs)) (items_of k (keys ++ map (λ (_ : T). m) xs) (items ++ xs)) ≡ cond b
+        (z ∷ items_of k keys items) (items_of k keys items) ++ cond (m == k) xs []
+    by true r = ap (λ t. z ∷ t) r
+    by false r = r
+
+const_keys : {T : Type 0} (m : ℕ) (xs : List T) (i : ℕ) → i < length (map (λ (_ : T). m) xs) → slice_index (map (λ (_ : T). m) xs) i < m + 1
+const_keys m [] i h = absurd (omega arith)
+const_keys m (x ∷ xs) zero h = omega arith
+const_keys m (x ∷ xs) (suc i) h = const_keys m xs i (omega arith)
+
+pub keys_after : {T : Type 0} (m : ℕ) (keys : List ℕ) (xs : List T) → AreKeys m keys → AreKeys (m + 1) (keys ++ map (λ (_ : T). m) xs)
+keys_after {T} m [] xs h = const_keys m xs
+keys_after {T} m (k ∷ keys) xs h = by (keys_after m keys xs (λ i l. h (suc i) (omega arith)))
+  where
+    by : AreKeys (m + 1) (keys ++ map (λ (_ : T). m) xs) → (i : ℕ) → i < length (k ∷ (keys ++ map (λ (_ : T). m) xs))
+        → slice_index (k ∷ (keys ++ map (λ (_ : T). m) xs)) i < m + 1
+    by rest zero l = let a = h 0 (omega arith) in omega arith
+    by rest (suc i) l = rest i (omega arith)
+
+pub get_other : {X : Type 0} (xs : List X) (y : X) (k : ℕ) → (k ≡ length xs → ⊥) → slice_get (xs ++ y ∷ []) k ≡ slice_get xs k
+get_other [] y zero h = absurd (h refl)
+get_other [] y (suc k) h = refl
+get_other (x ∷ xs) y zero h = refl
+get_other (x ∷ xs) y (suc k) h = get_other xs y k (λ e. h (omega arith))
+
+pub get_last : {X : Type 0} (xs : List X) (y : X) → slice_get (xs ++ y ∷ []) (length xs) ≡ Some y
+get_last [] y = refl
+get_last (x ∷ xs) y = get_last xs y
+
+pub choices_by : (x : CodeHead) (n : ℕ) → choices_after x n ≡ cond (is_choice_code x) (n + 1) n
+choices_by (codes.Config s) n = refl
+choices_by codes.Choice n = refl
+choices_by (codes.Menu t) n = refl
+choices_by (codes.Condition id) n = refl
+choices_by (codes.Comment t) n = refl
+choices_by (codes.Source t) n = refl
+choices_by codes.Mainmenu n = refl
+choices_by (codes.Ends b) n = refl
+choices_by codes.FileEnd n = refl
+
+pub choices_few : (x : CodeHead) (n : ℕ) → choices_after x n ≤ n + 1
+choices_few x n = by (is_choice_code x) (choices_by x n)
+  where
+    by : (b : Bool) → choices_after x n ≡ cond b (n + 1) n → choices_after x n ≤ n + 1
+    by true e = omega (arith, e)
+    by false e = omega (arith, e)
+
+choice_given : (exprs : Exprs) (names texts : List (List ℕ)) (c : CodeHead) (m : Group) → RepresentsHead exprs names texts c m.head → is_choice_code c ≡ true
+    → m.head ≡ of_head choice
+choice_given exprs names texts (codes.Config s) m h e = cc
+choice_given exprs names texts codes.Choice m h e = h
+choice_given exprs names texts (codes.Menu t) m h e = cc
+choice_given exprs names texts (codes.Condition id) m h e = cc
+choice_given exprs names texts (codes.Comment t) m h e = cc
+choice_given exprs names texts (codes.Source t) m h e = cc
+choice_given exprs names texts codes.Mainmenu m h e = cc
+choice_given exprs names texts (codes.Ends b) m h e = cc
+choice_given exprs names texts codes.FileEnd m h e = cc
+
+choice_group_faults : (language : Language) (c : Contents) (p : GroupInContext) → p.group.head ≡ of_head choice
+    → faults_of_group language c p ≡ faults_of_lines p.group (choice_faults (member_names c p.group.number)) false p.group.attributes
+choice_group_faults language c p e = rw e refl
+
+-- the defaults of the choices among the groups that were visited
+module _ (language : Language) (l : Listing) (groups : List GroupConditions) (conditions : List ℕ) (read : List Group) (w : IsWalkOf language l groups conditions read) where
+  abbrev pub AreTo : ℕ → ℕ → ItemsWithKeys MemberDefault → Type 0
+  AreTo i n found = AreDefaultsOf language l (contents_of read) (groups_in_context (read_before i read)) n found
+
+  pub as_many : length groups ≡ length l.groups.items
+  as_many = as_many_conditions _ l l.names.arena groups conditions read w.shows w.shown
+
+  pub as_long_own : (i : ℕ) → i < length l.groups.items → length (own_conditions groups conditions i) ≡ length (own_lines l i)
+  as_long_own i h = as_long _ l l.names.arena groups conditions read w.shows w.shown i h
+
+  pub no_defaults : (found : ItemsWithKeys MemberDefault) → found.keys.items ≡ [] → found.items.items ≡ [] → AreTo 0 0 found
+  no_defaults found e f = record {
+    keys = rw e (λ i h. absurd (omega arith));
+    fits = rw f (All-nil (MemberDefaultFits (length l.names.arena.nodes) (length l.names.symbols.items)));
+    are = λ k. rw e (ap (λ r. choice_defaults_of language (contents_of read) (slice_get (filter opens (groups_in_context r)) k)) (sym (none_before read)));
+  }
+
+  same_defaults : (i n : ℕ) (old new : ItemsWithKeys MemberDefault) → i < length l.groups.items → is_choice_code (group_at l.groups.items i).head ≡ false
+      → new.keys.items ≡ old.keys.items → new.items.items ≡ old.items.items → AreTo i n old → AreTo (i + 1) n new
+  same_defaults i n old new h b e f d =
+      let same = places_more _ l l.names.arena groups conditions read w.shows w.shown i h false b
+      ∙ append-nil (filter opens (groups_in_context (read_before i read))) in
+      record {
+        keys = rw e d.keys;
+        fits = rw f d.fits;
+        are = λ k. rw (e, f) (d.are k) ∙ ap (λ ps. choice_defaults_of language (contents_of read) (slice_get ps k)) (sym same);
+      }
+
+  own_defaults : (i : ℕ) (h : i < length l.groups.items) → is_choice_code (group_at l.groups.items i).head ≡ true → HasNoFaults read
+      → map (member_default_view l.names.arena) (member_default_rows l.names (own_lines l i) (own_conditions groups conditions i))
+      ≡ choice_defaults_of language (contents_of read) (Some (group_in_context (open_blocks 0 (read_before i read))
+      (both_at _ l l.names.arena groups conditions read w.shows w.shown i h).group))
+  unfolding RepresentsListing tree_faults
+  own_defaults i h b none =
+      let x = both_at _ l l.names.arena groups conditions read w.shows w.shown i h in
+      let p : GroupInContext = group_in_context (open_blocks 0 (read_before i read)) x.group in
+      let n = count_is l.names.arena (names_defined read) l.texts.items l.lines.items l.groups.items read w.shows.groups_are in
+      let faults = flat_none (faults_of_group none.0 (contents_of read)) (groups_in_context read) i p none.1
+      (place_numbered read i x.group (omega (arith, n, h)) x.now) in
+      let what = choice_given l.names.arena (names_defined read) l.texts.items (group_at l.groups.items i).head x.group x.shown.head b in
+      let lines : faults_of_lines p.group (choice_faults (member_names (contents_of read) p.group.number)) false p.group.attributes ≡ [] =
+      sym (choice_group_faults none.0 (contents_of read) p what) ∙ faults in
+      let own : map (node_expr l.names.arena) (own_conditions groups conditions i) ≡ map (condition_at language p) (map (line_in l.names.arena) (own_lines l i)) =
+      x.conditioned.own_are ∙ ap (map (condition_at language p)) x.shown.attributes in
+      all_defaults _ l.names l.names.symbols.items (contents_of read) w.shows.names p (own_lines l i) (own_conditions groups conditions i) false own
+      (ap (λ ls. faults_of_lines p.group (choice_faults (member_names (contents_of read) p.group.number)) false ls) (sym x.shown.attributes) ∙ lines)
+      ∙ ap (λ ls. filter_map (member_default language (contents_of read) p) (filter_map (λ (l : Line). default_of l.attribute) ls)) (sym x.shown.attributes)
+
+  own_fit : (i : ℕ) → i < length l.groups.items
+      → All (MemberDefaultFits (length l.names.arena.nodes) (length l.names.symbols.items))
+      (member_default_rows l.names (own_lines l i) (own_conditions groups conditions i))
+  unfolding RepresentsListing
+  own_fit i h =
+      let x = both_at language l l.names.arena groups conditions read w.shows w.shown i h in
+      let many = as_many_names l.names.arena l.names.symbols.items l.names.numbers.items (names_defined read) w.shows.names in
+      subst (λ m. All (MemberDefaultFits (length l.names.arena.nodes) m) (member_default_rows l.names (own_lines l i) (own_conditions groups conditions i)))
+      (sym many)
+      (all_fit language l.names l.names.symbols.items (contents_of read) w.shows.names (own_lines l i) (own_conditions groups conditions i) x.conditioned.held)
+
+  by_key : (m k : ℕ) (b : Bool) (F : List GroupInContext) (p : GroupInContext) (old : List tree.MemberDefault) (xs : List MemberDefault) → (m == k) ≡ b
+      → m ≡ length F
+      → old ≡ choice_defaults_of language (contents_of read) (slice_get F k) → map (member_default_view l.names.arena) xs ≡ choice_defaults_of language (contents_of read)
+      (Some p)
+      → old ++ map (member_default_view l.names.arena) (cond b xs []) ≡ choice_defaults_of language (contents_of read) (slice_get (F ++ p ∷ []) k)
+  by_key m k true F p old xs e n o x =
+      let same : k ≡ length F = sym (eqb-true m k e) ∙ n in
+      let none : slice_get F k ≡ None = slice_get_past F k (omega arith) in
+      let empty : old ≡ [] = o ∙ ap (choice_defaults_of language (contents_of read)) none in
+      ap (λ ys. ys ++ map (member_default_view l.names.arena) xs) empty ∙ x
+      ∙ ap (choice_defaults_of language (contents_of read)) (sym (ap (slice_get (F ++ p ∷ [])) same ∙ get_last F p))
+  by_key m k false F p old xs e n o x =
+      append-nil old ∙ o ∙ ap (choice_defaults_of language (contents_of read)) (sym (get_other F p k (λ same. false≢true (sym e ∙ eq-eqb m k (n ∙ sym same)))))
+
+  more_defaults : (i n : ℕ) (old new : ItemsWithKeys MemberDefault) → i < length l.groups.items → is_choice_code (group_at l.groups.items i).head ≡ true
+      → n ≡ length (filter opens (groups_in_context (read_before i read))) → HasNoFaults read
+      → new.keys.items ≡ old.keys.items ++ map (λ (_ : MemberDefault). n) (member_default_rows l.names (own_lines l i) (own_conditions groups conditions i))
+      → new.items.items ≡ old.items.items ++ member_default_rows l.names (own_lines l i) (own_conditions groups conditions i) → AreTo i n old
+      → AreTo (i + 1) (n + 1) new
+  more_defaults i n old new h b c none e f d =
+      let xs = member_default_rows l.names (own_lines l i) (own_conditions groups conditions i) in
+      let p : GroupInContext = group_in_context (open_blocks 0 (read_before i read))
+      (both_at _ l l.names.arena groups conditions read w.shows w.shown i h).group in
+      let F : List GroupInContext = filter opens (groups_in_context (read_before i read)) in
+      let places = places_more _ l l.names.arena groups conditions read w.shows w.shown i h true b in
+      record {
+        keys = rw e (keys_after n old.keys.items xs d.keys);
+        fits = rw f (All-append (MemberDefaultFits (length l.names.arena.nodes) (length l.names.symbols.items)) old.items.items xs d.fits (own_fit i h));
+        are = λ k. (let cut : items_of k new.keys.items new.items.items ≡ items_of k old.keys.items old.items.items ++ cond (n == k) xs [] = rw (e, f)
+            (items_after k n old.keys.items old.items.items xs old.even) in
+            ap (map (member_default_view l.names.arena)) cut ∙ map-append (member_default_view l.names.arena) (items_of k old.keys.items old.items.items)
+            (cond (n == k) xs [])
+            ∙ by_key n k (n == k) F p (map (member_default_view l.names.arena) (items_of k old.keys.items old.items.items)) xs refl c (d.are k)
+            (own_defaults i h b none)
+            ∙ ap (λ ps. choice_defaults_of language (contents_of read) (slice_get ps k)) (sym places));
+      }
+
+  -- the defaults collected from the first `i` groups, with those of the next group, are those of the first `i + 1`
+  pub one_more : (i n n2 : ℕ) (what : CodeHead) (old new : ItemsWithKeys MemberDefault) → i < length l.groups.items → what ≡ (group_at l.groups.items i).head
+      → n ≡ length (numbers_of_choices (read_before i read)) → n2 ≡ choices_after what n → HasNoFaults read
+      → new.keys.items ≡ old.keys.items ++ map (λ (_ : MemberDefault). n) (group_default_rows what l.names (own_lines l i) (own_conditions groups conditions i))
+      → new.items.items ≡ old.items.items ++ group_default_rows what l.names (own_lines l i) (own_conditions groups conditions i) → AreTo i n old
+      → AreTo (i + 1) n2 new
+  one_more i n n2 what old new h v c m none e f d =
+      by (is_choice_code what) refl e f
+    where
+      choices_after_by : (x : CodeHead) (b : Bool) → is_choice_code x ≡ b → choices_after x n ≡ cond b (n + 1) n
+      choices_after_by x b e = choices_by x n ∙ ap (λ t. cond t (n + 1) n) e
+
+      by : (b : Bool) → is_choice_code what ≡ b
+          → new.keys.items ≡ old.keys.items ++ map (λ (_ : MemberDefault). n)
+          (cond (is_choice_code what) (member_default_rows l.names (own_lines l i) (own_conditions groups conditions i)) [])
+          → new.items.items ≡ old.items.items ++ cond (is_choice_code what) (member_default_rows l.names (own_lines l i) (own_conditions groups conditions i))
+          [] → AreTo (i + 1) n2 new
+      by true t e f =
+          let count : n ≡ length (filter opens (groups_in_context (read_before i read))) = c
+          ∙ length-map (filter opens (groups_in_context (read_before i read))) (λ (p : GroupInContext). p.group.number) in
+          subst (λ k. AreTo (i + 1) k new) (sym (m ∙ choices_after_by what true t))
+          (more_defaults i n old new h (ap is_choice_code (sym v) ∙ t) count none (rw t at e) (rw t at f) d)
+      by false t e f =
+          subst (λ k. AreTo (i + 1) k new) (sym (m ∙ choices_after_by what false t))
+          (same_defaults i n old new h (ap is_choice_code (sym v) ∙ t) ((rw t at e) ∙ append-nil old.keys.items) ((rw t at f) ∙ append-nil old.items.items) d)
+
+  pub all_gathered : (i n : ℕ) (found : ItemsWithKeys MemberDefault) → i ≡ length l.groups.items → n ≡ length (numbers_of_choices (read_before i read))
+      → AreTo i n found
+      → AreDefaultsOf language l (contents_of read) (groups_in_context read) (length (contents_of read).choices) found
+  unfolding RepresentsListing
+  all_gathered i n found e c d =
+      let k = count_is l.names.arena (names_defined read) l.texts.items l.lines.items l.groups.items read w.shows.groups_are in
+      let j : i ≡ length read = e ∙ k in
+      let all : read_before i read ≡ read = ap (λ m. read_before m read) j ∙ all_before read in
+      subst (λ r. AreDefaultsOf language l (contents_of read) (groups_in_context r) (length (contents_of read).choices) found) all
+      (subst (λ m. AreTo i m found) (c ∙ all_counted read i j) d)

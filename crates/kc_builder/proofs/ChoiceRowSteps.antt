@@ -1,0 +1,207 @@
+-- The rows of choices, group by group.
+use Rattle.std.proofs.Common.{◌≡◌, ℕ, suc, ◌+◌, ◌<◌, ◌||◌, Bool, true, false, cond, List, [], ◌∷◌, ◌++◌, length, map, reverse, Some, refl, ap, sym, subst, ◌∙◌, arith, append-nil}
+use Rattle.std.specs.Prelude.{All, filter, filter_map, slice_get, option_map}
+use Rattle.std.proofs.lemmas.List.{length-map}
+use Rattle.std.proofs.lemmas.List.Elements.{filter-append}
+use Rattle.std.specs.List.{list_any}
+use Rattle.kc_tokens.specs.declared.language.Language.{Language}
+use Rattle.kc_expr.specs.between.Arena.{Exprs, node_expr}
+use Rattle.kc_expr.specs.Expr.{Expr}
+use Rattle.kc_statements.specs.between.StatementViews.{attribute_in}
+use Rattle.kc_statements.specs.declared.statement.Attribute.{Attribute as CodeAttribute}
+use Rattle.kc_statements.specs.declared.statement.Attribute.TheVariants as attributes
+use Rattle.kc_tree_model.specs.Statements.{prompt_of, is_optional}
+use Rattle.kc_tree_model.specs.Blocks.{Group, Line, open_blocks}
+use Rattle.kc_tree_model.specs.Conditions.{context_of, GroupInContext, group_in_context, groups_in_context, prompt_condition, prompts_of}
+use Rattle.kc_listing.specs.declared.listing.Line.{Line as CodeLine}
+use Rattle.kc_listing.specs.declared.listing.Listing.{Listing}
+use Rattle.kc_listing.specs.between.ListingView.{RepresentsListing, line_in, RepresentsGroup}
+use Rattle.kc_tree_model.specs.Limits.{names_defined}
+use Rattle.kc_builder.specs.checker.ChoiceRows.{IsGoneThrough, is_optional_line, choice_row, opens, IsChoiceRow, AreChoiceRows}
+use Rattle.kc_builder.specs.checker.GroupConditions.{conditions_at, own_conditions, IsConditioned}
+use Rattle.kc_checks.specs.between.Attributes.{is_optional_code, is_prompt}
+use Rattle.kc_builder.specs.checker.Firsts.{first_prompt}
+use Rattle.kc_checks.specs.between.Summaries.{read_before, group_at, own_lines, is_choice_code, IsRepresented}
+use Rattle.kc_builder.specs.checker.Walks.{condition_at, RepresentsConditions, RepresentsAllConditions}
+use Rattle.kc_tree.specs.declared.parts.ChoiceRow.{ChoiceRow}
+use Rattle.kc_builder.specs.declared.group_walk.GroupConditions.{GroupConditions}
+use Rattle.kc_checks.proofs.GroupPlaces.{shown_at, placed_more, none_before, all_before, count_is}
+use Rattle.kc_builder.proofs.GroupConditionLemmas.{conditioned_at, conditions_count}
+use Rattle.kc_checks.proofs.Rounds.{begins_is}
+
+pub shown_of : (l : Listing) (groups : List GroupConditions) (conditions : List ℕ) → IsGoneThrough l groups conditions → IsRepresented l
+shown_of l groups conditions g = record { read = g.read; shows = g.shows }
+
+pub conditioned_of : (l : Listing) (groups : List GroupConditions) (conditions : List ℕ) → IsGoneThrough l groups conditions → IsConditioned groups conditions
+conditioned_of l groups conditions g = record { language = g.language; exprs = g.exprs; texts = l.texts.items; read = g.read; shown = g.walked }
+
+same_group : (m n : Group) (a b : List Group) → m ∷ a ≡ n ∷ b → m ≡ n
+same_group m n a b e = cc
+
+-- the first prompt
+module _ (language : Language) (old far : Exprs) (p : GroupInContext) where
+  abbrev prompts_among : List Line → List Expr
+  prompts_among lines = map (prompt_condition (context_of language p) p.group) (filter_map (λ (l : Line). prompt_of l.attribute) lines)
+
+  prompt_one : (n : ℕ) (a : CodeAttribute) (o : ℕ) (os : List ℕ) (ls : List CodeLine) (rest : List Line)
+      → node_expr far o ≡ condition_at language p (record { number = n; attribute = attribute_in old a })
+      → option_map (node_expr far) (first_prompt ls os) ≡ slice_get (prompts_among rest) 0
+      → option_map (node_expr far) (first_prompt (record { number = n; attribute = a } ∷ ls) (o ∷ os)) ≡ slice_get
+      (prompts_among (record { number = n; attribute = attribute_in old a } ∷ rest)) 0
+  prompt_one n (attributes.Typed k) o os ls rest e h = h
+  prompt_one n (attributes.TypedPrompt k c) o os ls rest e h = ap Some e
+  prompt_one n (attributes.TypedDefault k d) o os ls rest e h = h
+  prompt_one n (attributes.Prompt c) o os ls rest e h = ap Some e
+  prompt_one n (attributes.Default d) o os ls rest e h = h
+  prompt_one n (attributes.Depends id) o os ls rest e h = h
+  prompt_one n (attributes.Select s) o os ls rest e h = h
+  prompt_one n (attributes.Imply s) o os ls rest e h = h
+  prompt_one n (attributes.Range r) o os ls rest e h = h
+  prompt_one n (attributes.Visible id) o os ls rest e h = h
+  prompt_one n attributes.Help o os ls rest e h = h
+  prompt_one n attributes.Modules o os ls rest e h = h
+  prompt_one n attributes.Optional o os ls rest e h = h
+
+  prompt_first : (ls : List CodeLine) (os : List ℕ) → map (node_expr far) os ≡ map (condition_at language p) (map (line_in old) ls)
+      → option_map (node_expr far) (first_prompt ls os) ≡ slice_get (prompts_among (map (line_in old) ls)) 0
+  prompt_first [] os e = refl
+  prompt_first (l ∷ ls) [] e = absurd (let k : 0 ≡ suc (length (map (condition_at language p) (map (line_in old) ls))) = ap length e in cc)
+  prompt_first (l ∷ ls) (o ∷ os) e =
+      let rest : map (node_expr far) os ≡ map (condition_at language p) (map (line_in old) ls) = cc in
+      let here : node_expr far o ≡ condition_at language p (line_in old l) = cc in
+      prompt_one l.number l.attribute o os ls (map (line_in old) ls) here (prompt_first ls os rest)
+
+  pub prompt_shown : (ls : List CodeLine) (os : List ℕ) → p.group.attributes ≡ map (line_in old) ls
+      → map (node_expr far) os ≡ map (condition_at language p) p.group.attributes
+      → option_map (node_expr far) (first_prompt ls os) ≡ slice_get (prompts_of (context_of language p) p.group) 0
+  prompt_shown ls os a e = prompt_first ls os (e ∙ ap (map (condition_at language p)) a) ∙ sym (ap (λ xs. slice_get (prompts_among xs) 0) a)
+
+-- the attribute `optional`
+optional_one : (old : Exprs) (a : CodeAttribute) → is_optional_code a ≡ is_optional (attribute_in old a)
+optional_one old (attributes.Typed k) = refl
+optional_one old (attributes.TypedPrompt k c) = refl
+optional_one old (attributes.TypedDefault k d) = refl
+optional_one old (attributes.Prompt c) = refl
+optional_one old (attributes.Default d) = refl
+optional_one old (attributes.Depends id) = refl
+optional_one old (attributes.Select s) = refl
+optional_one old (attributes.Imply s) = refl
+optional_one old (attributes.Range r) = refl
+optional_one old (attributes.Visible id) = refl
+optional_one old attributes.Help = refl
+optional_one old attributes.Modules = refl
+optional_one old attributes.Optional = refl
+
+optional_shown : (old : Exprs) (ls : List CodeLine) → list_any is_optional_line ls ≡ list_any (λ (l : Line). is_optional l.attribute) (map (line_in old) ls)
+optional_shown old [] = refl
+optional_shown old (l ∷ ls) = ap (λ b. b || list_any is_optional_line ls) (optional_one old l.attribute)
+    ∙ ap (λ b. is_optional (attribute_in old l.attribute) || b) (optional_shown old ls)
+
+prompt_held : (n : ℕ) (ls : List CodeLine) (os : List ℕ) → All (λ i. i < n) os → (i : ℕ) → first_prompt ls os ≡ Some i → i < n
+prompt_held n [] os h i e = cc
+prompt_held n (l ∷ ls) [] h i e = cc
+prompt_held n (l ∷ ls) (o ∷ os) h i e = by (is_prompt l.attribute) (λ j f. prompt_held n ls os (λ k d m. h (suc k) d (omega (arith, m))) j f) e
+  where
+    by : (b : Bool) → ((j : ℕ) → first_prompt ls os ≡ Some j → j < n) → cond b (Some o) (first_prompt ls os) ≡ Some i → i < n
+    by true k e = let s : o ≡ i = cc in let t = h 0 o (omega arith) in omega (arith, s, t)
+    by false k e = k i e
+
+-- one row more
+rows_pushed : (language : Language) (exprs : Exprs) (ps : List GroupInContext) (rows : List ChoiceRow) (p : GroupInContext) (r : ChoiceRow) → AreChoiceRows language exprs ps rows
+    → IsChoiceRow language exprs p r → AreChoiceRows language exprs (ps ++ p ∷ []) (rows ++ r ∷ [])
+rows_pushed language exprs [] [] p r h k = (k, tt)
+rows_pushed language exprs [] (s ∷ rows) p r h k = absurd h
+rows_pushed language exprs (q ∷ ps) [] p r h k = absurd h
+rows_pushed language exprs (q ∷ ps) (s ∷ rows) p r h k = (h.0, rows_pushed _ exprs ps rows p r h.1 k)
+
+-- a group and its conditions
+module _ (language : Language) (l : Listing) (exprs : Exprs) (groups : List GroupConditions) (conditions : List ℕ) (read : List Group) (s : RepresentsListing l read)
+    (k : RepresentsAllConditions language exprs l.texts.items conditions (length conditions) (reverse groups) read) where
+  pub as_many_conditions : length groups ≡ length l.groups.items
+  unfolding RepresentsListing
+  as_many_conditions =
+      conditions_count _ exprs l.texts.items conditions groups read k ∙ sym
+      (count_is l.names.arena (names_defined read) l.texts.items l.lines.items l.groups.items read s.groups_are)
+
+  -- the listing represents the group with number `i` that was read, and the walk its conditions
+  pub record IsBoth (i : ℕ) : Type 0 where
+    pub group : Group
+    pub now : read_before (i + 1) read ≡ group ∷ read_before i read
+    pub shown : RepresentsGroup l.names.arena (names_defined read) l.texts.items (own_lines l i) i (group_at l.groups.items i) group
+    pub conditioned : RepresentsConditions language exprs l.texts.items (own_conditions groups conditions i) (conditions_at groups i)
+        (group_in_context (open_blocks 0 (read_before i read)) group)
+
+  pub both_at : (i : ℕ) → i < length l.groups.items → IsBoth i
+  unfolding RepresentsListing
+  both_at i h =
+      let a = shown_at l.names.arena (names_defined read) l.texts.items l.lines.items l.groups.items read s.groups_are i h in
+      let b = conditioned_at _ exprs l.texts.items conditions groups read k i (omega (arith, as_many_conditions, h)) in
+      let e : b.group ≡ a.group = same_group b.group a.group (read_before i read) (read_before i read) (sym b.now ∙ a.now) in
+      record {
+        group = a.group;
+        now = a.now;
+        shown = a.shown;
+        conditioned = subst (λ m. RepresentsConditions language exprs l.texts.items (own_conditions groups conditions i) (conditions_at groups i)
+            (group_in_context (open_blocks 0 (read_before i read)) m)) e b.shown;
+      }
+
+  pub as_long : (i : ℕ) → i < length l.groups.items → length (own_conditions groups conditions i) ≡ length (own_lines l i)
+  as_long i h =
+      let b = both_at i h in
+      let p : GroupInContext = group_in_context (open_blocks 0 (read_before i read)) b.group in
+      sym (length-map (own_conditions groups conditions i) (node_expr exprs))
+      ∙ ap length b.conditioned.own_are
+      ∙ length-map b.group.attributes (condition_at language p)
+      ∙ ap length b.shown.attributes
+      ∙ length-map (own_lines l i) (line_in l.names.arena)
+
+  pub row_shown : (i : ℕ) (h : i < length l.groups.items)
+      → IsChoiceRow language exprs (group_in_context (open_blocks 0 (read_before i read)) (both_at i h).group)
+      (choice_row (group_at l.groups.items i) (own_lines l i) (own_conditions groups conditions i))
+  row_shown i h =
+      let b = both_at i h in
+      let p : GroupInContext = group_in_context (open_blocks 0 (read_before i read)) b.group in
+      record {
+        file_is = sym b.shown.file_is;
+        line_is = sym b.shown.line_is;
+        prompt_is = prompt_shown _ l.names.arena exprs p (own_lines l i) (own_conditions groups conditions i) b.shown.attributes b.conditioned.own_are;
+        optional_is = optional_shown l.names.arena (own_lines l i) ∙ ap (list_any (λ (x : Line). is_optional x.attribute)) (sym b.shown.attributes);
+        held = prompt_held (length exprs.nodes) (own_lines l i) (own_conditions groups conditions i) b.conditioned.held;
+      }
+
+  abbrev pub AreRowsTo : ℕ → List ChoiceRow → Type 0
+  AreRowsTo i rows = AreChoiceRows language exprs (filter opens (groups_in_context (read_before i read))) rows
+
+  pub places_more : (i : ℕ) (h : i < length l.groups.items) (b : Bool) → is_choice_code (group_at l.groups.items i).head ≡ b
+      → filter opens (groups_in_context (read_before (i + 1) read)) ≡ filter opens (groups_in_context (read_before i read)) ++ cond b
+      (group_in_context (open_blocks 0 (read_before i read)) (both_at i h).group ∷ []) []
+  places_more i h b e =
+      let x = both_at i h in
+      let p : GroupInContext = group_in_context (open_blocks 0 (read_before i read)) x.group in
+      ap (filter opens) (placed_more read i x.group x.now)
+      ∙ filter-append opens (groups_in_context (read_before i read)) (p ∷ [])
+      ∙ ap (λ t. filter opens (groups_in_context (read_before i read)) ++ cond t (p ∷ []) [])
+      (begins_is l.names.arena (names_defined read) l.texts.items (group_at l.groups.items i).head x.group x.shown.head ∙ e)
+
+  pub rows_more : (i : ℕ) (rows : List ChoiceRow) → i < length l.groups.items → is_choice_code (group_at l.groups.items i).head ≡ true → AreRowsTo i rows
+      → AreRowsTo (i + 1) (rows ++ choice_row (group_at l.groups.items i) (own_lines l i) (own_conditions groups conditions i) ∷ [])
+  rows_more i rows h e r =
+      let p : GroupInContext = group_in_context (open_blocks 0 (read_before i read)) (both_at i h).group in
+      let row = choice_row (group_at l.groups.items i) (own_lines l i) (own_conditions groups conditions i) in
+      subst (λ ps. AreChoiceRows language exprs ps (rows ++ row ∷ [])) (sym (places_more i h true e))
+      (rows_pushed _ exprs (filter opens (groups_in_context (read_before i read))) rows p row r (row_shown i h))
+
+  pub rows_same : (i : ℕ) (rows : List ChoiceRow) → i < length l.groups.items → is_choice_code (group_at l.groups.items i).head ≡ false → AreRowsTo i rows
+      → AreRowsTo (i + 1) rows
+  rows_same i rows h e r =
+      subst (λ ps. AreChoiceRows language exprs ps rows) (sym (places_more i h false e ∙ append-nil (filter opens (groups_in_context (read_before i read))))) r
+
+  pub no_rows : AreRowsTo 0 []
+  no_rows = subst (λ ms. AreChoiceRows language exprs (filter opens (groups_in_context ms)) []) (sym (none_before read)) tt
+
+  pub all_rows : (i : ℕ) (rows : List ChoiceRow) → i ≡ length l.groups.items → AreRowsTo i rows
+      → AreChoiceRows language exprs (filter opens (groups_in_context read)) rows
+  unfolding RepresentsListing
+  all_rows i rows e r =
+      let n : i ≡ length read = e ∙ count_is l.names.arena (names_defined read) l.texts.items l.lines.items l.groups.items read s.groups_are in
+      subst (λ ms. AreChoiceRows language exprs (filter opens (groups_in_context ms)) rows) (ap (λ j. read_before j read) n ∙ all_before read) r

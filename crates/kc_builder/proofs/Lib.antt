@@ -1,0 +1,15 @@
+pub mod AssemblySteps
+pub mod ChoiceDefaultSteps
+pub mod ChoiceRowSteps
+pub mod ConjunctionLemmas
+pub mod EntrySteps
+pub mod GroupConditionLemmas
+pub mod Growth
+pub mod ItemLaw
+pub mod ItemSteps
+pub mod ItemViews
+pub mod RepresentedGroups
+pub mod RowSteps
+pub mod SymbolItems
+pub mod UnitSteps
+pub mod WalkSteps

@@ -1,0 +1,70 @@
+-- A listing represents one list of statements, so a summary of it stays one as its arena grows.
+use Rattle.std.proofs.Common.{◌≡◌, ℕ, List, [], ◌∷◌, length, reverse, Some, refl, ap, sym, subst, ◌∙◌}
+use Rattle.std.specs.Prelude.{slice_get, slice_range}
+use Rattle.kc_expr.specs.between.Arena.{Exprs}
+use Rattle.kc_tree_model.specs.Statements.{config, menu, comment, source}
+use Rattle.kc_tree_model.specs.Blocks.{Group, GroupHead, of_head}
+use Rattle.kc_tree_model.specs.Limits.{names_defined}
+use Rattle.kc_listing.specs.declared.listing.Group.{Group as CodeGroup}
+use Rattle.kc_listing.specs.declared.listing.Line.{Line as CodeLine}
+use Rattle.kc_listing.specs.declared.listing.Listing.{Listing}
+use Rattle.kc_listing.specs.declared.listing.GroupHead.{GroupHead as CodeHead}
+use Rattle.kc_listing.specs.declared.listing.GroupHead.TheVariants as codes
+use Rattle.kc_listing.specs.between.ListingView.{RepresentsHead, RepresentsGroup, RepresentsGroups, RepresentsListing}
+use Rattle.kc_checks.specs.between.Summaries.{IsSummary, IsSummed}
+use Rattle.kc_checks.specs.declared.summary.Summary.{Summary}
+
+one_text : (texts : List (List ℕ)) (t : ℕ) (x y : List ℕ) → slice_get texts t ≡ Some x → slice_get texts t ≡ Some y → x ≡ y
+one_text texts t x y a b = cc
+
+one_head : (e : Exprs) (names texts : List (List ℕ)) (code : CodeHead) (v w : GroupHead) → RepresentsHead e names texts code v
+    → RepresentsHead e names texts code w → v ≡ w
+one_head e names texts (codes.Config s) v w a b = a.2 ∙ ap (λ x. of_head (config x)) (one_text names s a.0 b.0 a.1 b.1) ∙ sym b.2
+one_head e names texts codes.Choice v w a b = a ∙ sym b
+one_head e names texts (codes.Menu t) v w a b = a.2 ∙ ap (λ x. of_head (menu x)) (one_text texts t a.0 b.0 a.1 b.1) ∙ sym b.2
+one_head e names texts (codes.Condition id) v w a b = a.1 ∙ sym b.1
+one_head e names texts (codes.Comment t) v w a b = a.2 ∙ ap (λ x. of_head (comment x)) (one_text texts t a.0 b.0 a.1 b.1) ∙ sym b.2
+one_head e names texts (codes.Source t) v w a b = a.2 ∙ ap (λ x. of_head (source x)) (one_text texts t a.0 b.0 a.1 b.1) ∙ sym b.2
+one_head e names texts codes.Mainmenu v w a b = a ∙ sym b
+one_head e names texts (codes.Ends k) v w a b = a ∙ sym b
+one_head e names texts codes.FileEnd v w a b = a ∙ sym b
+
+-- groups with the same number, place, head and attributes are the same
+equal_groups : (m n : Group) → m.number ≡ n.number → m.at.file ≡ n.at.file → m.at.line ≡ n.at.line → m.head ≡ n.head → m.attributes ≡ n.attributes → m ≡ n
+equal_groups m n number file line head attributes =
+    ap (λ x. let g : Group = record { number = x; at = m.at; head = m.head; attributes = m.attributes } in g) number
+    ∙ ap (λ x. let g : Group = record { number = n.number; at = record { file = x; line = m.at.line }; head = m.head; attributes = m.attributes } in g) file
+    ∙ ap (λ x. let g : Group = record { number = n.number; at = record { file = n.at.file; line = x }; head = m.head; attributes = m.attributes } in g) line
+    ∙ ap (λ x. let g : Group = record { number = n.number; at = n.at; head = x; attributes = m.attributes } in g) head
+    ∙ ap (λ x. let g : Group = record { number = n.number; at = n.at; head = n.head; attributes = x } in g) attributes
+
+one_group : (e : Exprs) (names texts : List (List ℕ)) (own : List CodeLine) (j k : ℕ) (code : CodeGroup) (m n : Group)
+    → RepresentsGroup e names texts own j code m → RepresentsGroup e names texts own k code n → j ≡ k → m ≡ n
+one_group e names texts own j k code m n a b same =
+    equal_groups m n (a.number_is ∙ same ∙ sym b.number_is) (a.file_is ∙ sym b.file_is) (a.line_is ∙ sym b.line_is)
+    (one_head e names texts code.head m.head n.head a.head b.head) (a.attributes ∙ sym b.attributes)
+
+one_list : (e : Exprs) (names texts : List (List ℕ)) (lines : List CodeLine) (end : ℕ) (groups : List CodeGroup) (a b : List Group)
+    → RepresentsGroups e names texts lines end groups a → RepresentsGroups e names texts lines end groups b → a ≡ b
+one_list e names texts lines end [] [] [] h k = refl
+one_list e names texts lines end [] [] (n ∷ b) h k = absurd k
+one_list e names texts lines end [] (m ∷ a) b h k = absurd h
+one_list e names texts lines end (g ∷ groups) [] b h k = absurd h
+one_list e names texts lines end (g ∷ groups) (m ∷ a) [] h k = absurd k
+one_list e names texts lines end (g ∷ groups) (m ∷ a) (n ∷ b) h k =
+    let rest = one_list e names texts lines g.attributes groups a b h.2 k.2 in
+    let first = one_group e names texts (slice_range lines g.attributes end) (length a) (length b) g m n h.0 k.0 (ap length rest) in
+    ap (λ x. x ∷ a) first ∙ ap (λ xs. n ∷ xs) rest
+
+-- two lists of statements that a listing represents are the same
+pub one_reading : (l : Listing) (a b : List Group) → RepresentsListing l a → RepresentsListing l b → a ≡ b
+unfolding RepresentsListing
+one_reading l a b h k =
+    let names : names_defined b ≡ names_defined a = sym k.names.words ∙ h.names.words in
+    one_list l.names.arena (names_defined a) l.texts.items l.lines.items (length l.lines.items) (reverse l.groups.items) a b h.groups_are
+    (subst (λ ns. RepresentsGroups l.names.arena ns l.texts.items l.lines.items (length l.lines.items) (reverse l.groups.items) b) names k.groups_are)
+
+-- a summary of a listing is one of each listing that represents the same statements
+pub summed_of : (l grown : Listing) (read : List Group) (s : Summary) → RepresentsListing l read → RepresentsListing grown read → IsSummed l s
+    → IsSummed grown s
+summed_of l grown read s h k summed = λ other shows. subst (λ r. IsSummary r s) (one_reading grown read other k shows) (summed read h)

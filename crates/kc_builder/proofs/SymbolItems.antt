@@ -1,0 +1,312 @@
+-- The attributes that all definitions give symbols.
+use Rattle.std.proofs.Common.{◌≡◌, inl, inr, ℕ, ◌+◌, ◌<◌, List, [], ◌∷◌, ◌++◌, length, map, reverse, Option, Some, None, ap, sym, ◌∙◌, subst}
+use Rattle.std.specs.Prelude.{slice_range, filter_map, option_map, unwrap_or, All, IfSome}
+use Rattle.std.proofs.lemmas.List.{length-map}
+use Rattle.std.proofs.lemmas.List.Elements.{All-nil, All-cons}
+use Rattle.kc_tokens.specs.declared.language.Language.{Language}
+use Rattle.kc_expr.specs.between.Arena.{Exprs, Represents, node_expr}
+use Rattle.kc_expr.specs.Expr.{Expr}
+use Rattle.kc_tree_model.specs.Trees as tree
+use Rattle.kc_tree_model.specs.Statements.{Attribute, DefaultAttribute, RangeAttribute, config, name_of_head, prompt_of, default_of, range_of}
+use Rattle.kc_tree_model.specs.Blocks.{Group, GroupHead, of_head, from_head, defined_name, open_blocks, side_of, closing, inside}
+use Rattle.kc_tree_model.specs.Conditions.{context_of, GroupInContext, group_in_context, groups_in_context, prompt_condition, attribute_condition, dependency_of}
+use Rattle.kc_tree_model.specs.Contents.{contents_of}
+use Rattle.kc_tree_model.specs.Limits.{names_defined}
+use Rattle.kc_tree_model.proofs.Consistency.Lists.{Differ-once, get_below}
+use Rattle.kc_listing.specs.declared.listing.Group.{Group as CodeGroup}
+use Rattle.kc_listing.specs.declared.listing.Line.{Line as CodeLine}
+use Rattle.kc_listing.specs.declared.listing.Listing.{Listing}
+use Rattle.kc_listing.specs.declared.listing.SymbolTable.{SymbolTable}
+use Rattle.kc_listing.specs.declared.listing.GroupHead.TheVariants as codes
+use Rattle.kc_listing.specs.between.SymbolTable.{HasNames}
+use Rattle.kc_listing.specs.between.ListingView.{RepresentsGroups, RepresentsHead, LineNodesExist, line_in, RepresentsListing}
+use Rattle.kc_tree.specs.between.Views.{DefaultFits, ReverseDependencyFits}
+use Rattle.kc_tree.specs.between.Views as views
+use Rattle.kc_builder.specs.checker.ChoiceDefaults.{IsWalkOf}
+use Rattle.kc_builder.specs.checker.GroupConditions.{conditions_at, own_conditions}
+use Rattle.kc_builder.specs.checker.Definitions.{HasDefinition, AreAttributes}
+use Rattle.kc_builder.specs.checker.GatheredItems.{gathered_prompt, gathered_default, gathered_range, own_key, target_key, gathered_reverse_dependency, gathered_items, HasAppended}
+use Rattle.kc_checks.specs.between.Summaries.{read_before, group_at, attributes_end}
+use Rattle.kc_builder.specs.checker.Walks.{condition_at, RepresentsConditions, RepresentsAllConditions}
+use Rattle.kc_builder.specs.declared.definition_attributes.ReverseKind.{ReverseKind}
+use Rattle.kc_builder.specs.declared.definition_attributes.ReverseKind.TheVariants.{Select, Imply}
+use Rattle.kc_tree.specs.declared.tree_lists.Attributes.{Attributes}
+use Rattle.kc_tree.specs.declared.items_with_keys.ItemsWithKeys.{ItemsWithKeys}
+use Rattle.kc_tree.specs.declared.symbol.ReverseDependency.{ReverseDependency as CodeForce}
+use Rattle.kc_builder.specs.declared.group_walk.GroupConditions.{GroupConditions}
+use Rattle.kc_checks.proofs.GroupPlaces.{all_before, count_is, none_before, placed_more, shown_at}
+use Rattle.kc_builder.proofs.GroupConditionLemmas.{conditioned_at, conditions_count}
+use Rattle.kc_builder.proofs.ItemLaw.{by_name, AreListed, none_listed, listed_more, listed_same, number_of, number_is, own_key_of, own_item_of, own_keys, own_items, own_law, direct_keys, direct_items, direct_law, force_key_of, force_item_of, force_keys, force_items, reverse_dependency_law}
+use Rattle.kc_builder.proofs.ItemViews.{pairs_keys, pairs_items, pairs_fit, prompt_item, default_item, range_item, prompt_key, default_key, range_key, prompt_fit, default_fit, range_fit, RangeStands, own_below, aim_of, reverse_dependency_key, reverse_dependency_item, reverse_dependency_fit, target_below}
+use Rattle.kc_checks.proofs.Symbols.{nameless}
+
+abbrev pub prompt_meant : Language → GroupInContext → Option Expr → Expr
+prompt_meant language p = prompt_condition (context_of language p) p.group
+
+abbrev pub default_meant : Language → GroupInContext → DefaultAttribute → tree.Default
+default_meant language p d = record { value = d.value; condition = attribute_condition (context_of language p) p.group d.condition; from_environment = d.from_environment }
+
+abbrev pub range_meant : Language → GroupInContext → RangeAttribute → tree.Range
+range_meant language p r = record { low = r.low; high = r.high; condition = attribute_condition (context_of language p) p.group r.condition }
+
+abbrev pub dependency_meant : Language → GroupInContext → Expr
+dependency_meant language p = dependency_of (context_of language p) p.group
+
+-- the collected attributes are those that the definitions among the groups in `places` give symbols
+pub record AreGathered (language : Language) (e : Exprs) (names : List (List ℕ)) (places : List GroupInContext) (a : Attributes) : Type 0 where
+  pub prompts : AreListed (node_expr e) (own_keys prompt_of names) (own_items prompt_of (prompt_meant language)) (λ k. k < length e.nodes)
+      (length names) places a.prompts.keys.items a.prompts.items.items
+  pub defaults : AreListed (views.default_view e) (own_keys default_of names) (own_items default_of (default_meant language)) (DefaultFits (length e.nodes))
+      (length names) places a.defaults.keys.items a.defaults.items.items
+  pub ranges : AreListed (views.range_view e) (own_keys range_of names) (own_items range_of (range_meant language)) (RangeStands e)
+      (length names) places a.ranges.keys.items a.ranges.items.items
+  pub selectors : AreListed (views.reverse_dependency_view e) (force_keys (aim_of Select) names) (force_items language (aim_of Select) names)
+      (ReverseDependencyFits (length e.nodes) (length names)) (length names) places a.selectors.keys.items a.selectors.items.items
+  pub impliers : AreListed (views.reverse_dependency_view e) (force_keys (aim_of Imply) names) (force_items language (aim_of Imply) names)
+      (ReverseDependencyFits (length e.nodes) (length names)) (length names) places a.impliers.keys.items a.impliers.items.items
+  pub direct : AreListed (node_expr e) (direct_keys names) (direct_items (dependency_meant language)) (λ k. k < length e.nodes)
+      (length names) places a.direct.keys.items a.direct.items.items
+
+-- a definition more
+module _ (language : Language) (n : SymbolTable) (names : List (List ℕ)) (h : HasNames n.arena n.symbols.items n.numbers.items names) (prior : List GroupInContext)
+    (p : GroupInContext) (x : List ℕ) (s : ℕ) (ls : List CodeLine) (cs : List ℕ)
+    (name : defined_name p.group ≡ Some x) (number : number_of names x ≡ s) (below : s < length names) (many : length cs ≡ length ls)
+    (held : All (LineNodesExist n.arena) ls) (there : All (λ i. i < length n.arena.nodes) cs)
+    (attributes : p.group.attributes ≡ map (line_in n.arena) ls) (conditions : map (node_expr n.arena) cs
+    ≡ map (condition_at language p) (map (line_in n.arena) ls)) where
+  own_step : {T B M : Type 0} (view : T → M) (G : Attribute → Option B) (m : GroupInContext → B → M) (P : T → Type 0) (item : CodeLine → ℕ → Option T)
+      (old new : ItemsWithKeys T)
+      → AreListed view (own_keys G names) (own_items G m) P (length names) prior old.keys.items old.items.items
+      → HasAppended (own_key s item) item old new ls cs
+      → ((l : CodeLine) (i : ℕ) → own_key s item l i ≡ own_key_of G names x (line_in n.arena l))
+      → ((l : CodeLine) (i : ℕ) → LineNodesExist n.arena l → node_expr n.arena i ≡ condition_at language p (line_in n.arena l)
+      → option_map view (item l i) ≡ own_item_of G m p (line_in n.arena l))
+      → ((l : CodeLine) (i : ℕ) → LineNodesExist n.arena l → i < length n.arena.nodes → IfSome (item l i) P)
+      → AreListed view (own_keys G names) (own_items G m) P (length names) (prior ++ p ∷ []) new.keys.items new.items.items
+  own_step view G m P item old new l more key is fit =
+      listed_more view (own_keys G names) (own_items G m) P (length names) prior old.keys.items new.keys.items (gathered_items (own_key s item) ls cs)
+      old.items.items new.items.items (gathered_items item ls cs) p l more.keys more.items
+      (pairs_keys (own_key s item) (own_key_of G names x) n.arena ls cs many key ∙ ap (filter_map (own_key_of G names x)) (sym attributes)
+      ∙ sym (ap (by_name (λ y. filter_map (own_key_of G names y) p.group.attributes)) name))
+      (pairs_items view item (own_item_of G m p) (condition_at language p) n.arena ls cs conditions held is ∙ ap (filter_map (own_item_of G m p)) (sym attributes)
+      ∙ sym (ap (by_name (λ y. filter_map (own_item_of G m p) p.group.attributes)) name))
+      (pairs_fit P item n.arena ls cs held there fit)
+      (pairs_fit (λ k. k < length names) (own_key s item) n.arena ls cs held there (λ y i w v. own_below item s (length names) below y i))
+
+  reverse_dependency_step : (f : ReverseKind) (old new : ItemsWithKeys CodeForce)
+      → AreListed (views.reverse_dependency_view n.arena) (force_keys (aim_of f) names) (force_items language (aim_of f) names)
+      (ReverseDependencyFits (length n.arena.nodes) (length names)) (length names) prior old.keys.items old.items.items
+      → HasAppended (target_key n f) (gathered_reverse_dependency n f s) old new ls cs
+      → AreListed (views.reverse_dependency_view n.arena) (force_keys (aim_of f) names) (force_items language (aim_of f) names)
+      (ReverseDependencyFits (length n.arena.nodes) (length names)) (length names) (prior ++ p ∷ []) new.keys.items new.items.items
+  reverse_dependency_step f old new l more =
+      listed_more (views.reverse_dependency_view n.arena) (force_keys (aim_of f) names) (force_items language (aim_of f) names)
+      (ReverseDependencyFits (length n.arena.nodes) (length names)) (length names) prior old.keys.items new.keys.items (gathered_items (target_key n f) ls cs)
+      old.items.items new.items.items (gathered_items (gathered_reverse_dependency n f s) ls cs) p l more.keys more.items
+      (pairs_keys (target_key n f) (force_key_of (aim_of f) names) n.arena ls cs many (reverse_dependency_key language n names h f)
+      ∙ ap (filter_map (force_key_of (aim_of f) names)) (sym attributes)
+      ∙ sym (ap (by_name (λ y. filter_map (force_key_of (aim_of f) names) p.group.attributes)) name))
+      (pairs_items (views.reverse_dependency_view n.arena) (gathered_reverse_dependency n f s) (force_item_of language (aim_of f) names p x) (condition_at language p) n.arena ls
+      cs conditions held (reverse_dependency_item language n names h f x s p number)
+      ∙ ap (filter_map (force_item_of language (aim_of f) names p x)) (sym attributes)
+      ∙ sym (ap (by_name (λ y. filter_map (force_item_of language (aim_of f) names p y) p.group.attributes)) name))
+      (pairs_fit (ReverseDependencyFits (length n.arena.nodes) (length names)) (gathered_reverse_dependency n f s) n.arena ls cs held there
+      (reverse_dependency_fit language n names h f s (length names) below))
+      (pairs_fit (λ k. k < length names) (target_key n f) n.arena ls cs held there (λ y i w v. target_below language n names h f y i))
+
+  direct_step : (d : ℕ) (old new : ItemsWithKeys ℕ)
+      → AreListed (node_expr n.arena) (direct_keys names) (direct_items (dependency_meant language)) (λ k. k < length n.arena.nodes)
+      (length names) prior old.keys.items old.items.items
+      → new.keys.items ≡ old.keys.items ++ s ∷ [] → new.items.items ≡ old.items.items ++ d ∷ [] → Represents n.arena d (dependency_meant language p)
+      → AreListed (node_expr n.arena) (direct_keys names) (direct_items (dependency_meant language)) (λ k. k < length n.arena.nodes) (length names) (prior ++ p ∷ [])
+      new.keys.items new.items.items
+  direct_step d old new l k i stands =
+      listed_more (node_expr n.arena) (direct_keys names) (direct_items (dependency_meant language)) (λ j. j < length n.arena.nodes) (length names) prior old.keys.items
+      new.keys.items (s ∷ []) old.items.items new.items.items (d ∷ []) p l k i
+      (ap (λ m. m ∷ []) (sym number) ∙ sym (ap (by_name (λ y. number_of names y ∷ [])) name))
+      (ap (λ m. m ∷ []) stands.is ∙ sym (ap (by_name (λ y. dependency_meant language p ∷ [])) name))
+      (All-cons (λ j. j < length n.arena.nodes) d [] stands.within (All-nil (λ j. j < length n.arena.nodes)))
+      (All-cons (λ j. j < length names) s [] below (All-nil (λ j. j < length names)))
+
+  pub definition_step : (d : ℕ) (old new : Attributes) → AreGathered language n.arena names prior old → HasDefinition n s old new ls cs d
+      → Represents n.arena d (dependency_meant language p) → AreGathered language n.arena names (prior ++ p ∷ []) new
+  definition_step d old new g more stands = record {
+    prompts = own_step (node_expr n.arena) prompt_of (prompt_meant language) (λ k. k < length n.arena.nodes) gathered_prompt old.prompts new.prompts g.prompts more.prompts
+        (prompt_key n.arena names x s number) (prompt_item _ n.arena p) (prompt_fit n.arena);
+    defaults = own_step (views.default_view n.arena) default_of (default_meant language) (DefaultFits (length n.arena.nodes)) gathered_default old.defaults new.defaults
+        g.defaults more.defaults (default_key n.arena names x s number) (default_item _ n.arena p) (default_fit n.arena);
+    ranges = own_step (views.range_view n.arena) range_of (range_meant language) (RangeStands n.arena) gathered_range old.ranges new.ranges g.ranges more.ranges
+        (range_key n.arena names x s number) (range_item _ n.arena p) (range_fit n.arena);
+    selectors = reverse_dependency_step Select old.selectors new.selectors g.selectors more.selectors;
+    impliers = reverse_dependency_step Imply old.impliers new.impliers g.impliers more.impliers;
+    direct = direct_step d old.direct new.direct g.direct more.direct_keys more.direct_items stands;
+  }
+
+-- a group that defines no symbol adds nothing to the collected attributes
+pub nothing_more : (language : Language) (e : Exprs) (names : List (List ℕ)) (prior : List GroupInContext) (p : GroupInContext) (a : Attributes) → defined_name p.group ≡ None
+    → AreGathered language e names prior a → AreGathered language e names (prior ++ p ∷ []) a
+nothing_more language e names prior p a none g = record {
+  prompts =
+      listed_same (node_expr e) (own_keys prompt_of names) (own_items prompt_of (prompt_meant language)) (λ k. k < length e.nodes) (length names) prior
+      a.prompts.keys.items a.prompts.items.items p g.prompts
+      (ap (by_name (λ x. filter_map (own_key_of prompt_of names x) p.group.attributes)) none)
+      (ap (by_name (λ x. filter_map (own_item_of prompt_of (prompt_meant language) p) p.group.attributes)) none);
+  defaults =
+      listed_same (views.default_view e) (own_keys default_of names) (own_items default_of (default_meant language)) (DefaultFits (length e.nodes)) (length names) prior
+      a.defaults.keys.items a.defaults.items.items p g.defaults
+      (ap (by_name (λ x. filter_map (own_key_of default_of names x) p.group.attributes)) none)
+      (ap (by_name (λ x. filter_map (own_item_of default_of (default_meant language) p) p.group.attributes)) none);
+  ranges =
+      listed_same (views.range_view e) (own_keys range_of names) (own_items range_of (range_meant language)) (RangeStands e) (length names) prior a.ranges.keys.items
+      a.ranges.items.items p g.ranges
+      (ap (by_name (λ x. filter_map (own_key_of range_of names x) p.group.attributes)) none)
+      (ap (by_name (λ x. filter_map (own_item_of range_of (range_meant language) p) p.group.attributes)) none);
+  selectors =
+      listed_same (views.reverse_dependency_view e) (force_keys (aim_of Select) names) (force_items language (aim_of Select) names)
+      (ReverseDependencyFits (length e.nodes) (length names)) (length names) prior a.selectors.keys.items a.selectors.items.items p g.selectors
+      (ap (by_name (λ x. filter_map (force_key_of (aim_of Select) names) p.group.attributes)) none)
+      (ap (by_name (λ x. filter_map (force_item_of language (aim_of Select) names p x) p.group.attributes)) none);
+  impliers =
+      listed_same (views.reverse_dependency_view e) (force_keys (aim_of Imply) names) (force_items language (aim_of Imply) names)
+      (ReverseDependencyFits (length e.nodes) (length names)) (length names) prior a.impliers.keys.items a.impliers.items.items p g.impliers
+      (ap (by_name (λ x. filter_map (force_key_of (aim_of Imply) names) p.group.attributes)) none)
+      (ap (by_name (λ x. filter_map (force_item_of language (aim_of Imply) names p x) p.group.attributes)) none);
+  direct =
+      listed_same (node_expr e) (direct_keys names) (direct_items (dependency_meant language)) (λ k. k < length e.nodes) (length names) prior a.direct.keys.items
+      a.direct.items.items p g.direct
+      (ap (by_name (λ x. number_of names x ∷ [])) none) (ap (by_name (λ x. dependency_meant language p ∷ [])) none);
+}
+
+-- empty lists are the attributes collected from no groups
+pub nothing_gathered : (language : Language) (e : Exprs) (names : List (List ℕ)) (a : Attributes) → (a.prompts.keys.items ≡ []) × (a.prompts.items.items ≡ [])
+    → (a.defaults.keys.items ≡ []) × (a.defaults.items.items ≡ []) → (a.ranges.keys.items ≡ []) × (a.ranges.items.items ≡ [])
+    → (a.selectors.keys.items ≡ []) × (a.selectors.items.items ≡ []) → (a.impliers.keys.items ≡ []) × (a.impliers.items.items ≡ [])
+    → (a.direct.keys.items ≡ []) × (a.direct.items.items ≡ []) → AreGathered language e names [] a
+nothing_gathered language e names a p d r s i x = record {
+  prompts = rw (p.0, p.1) (none_listed (node_expr e) (own_keys prompt_of names) (own_items prompt_of (prompt_meant language)) (λ k. k < length e.nodes) (length names));
+  defaults = rw (d.0, d.1) (none_listed (views.default_view e) (own_keys default_of names) (own_items default_of (default_meant language)) (DefaultFits (length e.nodes))
+      (length names));
+  ranges = rw (r.0, r.1) (none_listed (views.range_view e) (own_keys range_of names) (own_items range_of (range_meant language)) (RangeStands e) (length names));
+  selectors = rw (s.0, s.1) (none_listed (views.reverse_dependency_view e) (force_keys (aim_of Select) names) (force_items language (aim_of Select) names)
+      (ReverseDependencyFits (length e.nodes) (length names)) (length names));
+  impliers = rw (i.0, i.1) (none_listed (views.reverse_dependency_view e) (force_keys (aim_of Imply) names) (force_items language (aim_of Imply) names)
+      (ReverseDependencyFits (length e.nodes) (length names)) (length names));
+  direct = rw (x.0, x.1) (none_listed (node_expr e) (direct_keys names) (direct_items (dependency_meant language)) (λ k. k < length e.nodes) (length names));
+}
+
+-- the attributes collected from all groups are those of the symbols
+pub all_gathered : (language : Language) (e : Exprs) (read : List Group) (a : Attributes) → AreGathered language e (names_defined read) (groups_in_context read) a
+    → AreAttributes language e (contents_of read) a
+all_gathered language e read a g = record {
+  keys = record {
+    prompts = λ i l. g.prompts.below i 0 l;
+    defaults = λ i l. g.defaults.below i 0 l;
+    ranges = λ i l. g.ranges.below i 0 l;
+    selectors = λ i l. g.selectors.below i 0 l;
+    impliers = λ i l. g.impliers.below i 0 l;
+    direct = λ i l. g.direct.below i 0 l;
+  };
+  prompts_are = λ s x at. own_law (node_expr e) prompt_of (prompt_meant language) (λ k. k < length e.nodes) (length (names_defined read)) read a.prompts.keys.items
+      a.prompts.items.items s x g.prompts at;
+  defaults_are = λ s x at. own_law (views.default_view e) default_of (default_meant language) (DefaultFits (length e.nodes)) (length (names_defined read)) read
+      a.defaults.keys.items a.defaults.items.items s x g.defaults at;
+  ranges_are = λ s x at. own_law (views.range_view e) range_of (range_meant language) (RangeStands e) (length (names_defined read)) read a.ranges.keys.items
+      a.ranges.items.items s x g.ranges at;
+  selectors_are = λ s x at. reverse_dependency_law _ (views.reverse_dependency_view e) (aim_of Select)
+      (ReverseDependencyFits (length e.nodes) (length (names_defined read))) (length (names_defined read)) read a.selectors.keys.items a.selectors.items.items s
+      x g.selectors at;
+  impliers_are = λ s x at. reverse_dependency_law _ (views.reverse_dependency_view e) (aim_of Imply)
+      (ReverseDependencyFits (length e.nodes) (length (names_defined read))) (length (names_defined read)) read a.impliers.keys.items a.impliers.items.items s x
+      g.impliers at;
+  direct_are = λ s x at. direct_law (node_expr e) (dependency_meant language) (λ k. k < length e.nodes) (length (names_defined read)) read a.direct.keys.items
+      a.direct.items.items s x g.direct at;
+  prompts_fit = g.prompts.fit;
+  defaults_fit = g.defaults.fit;
+  ranges_fit = λ i d l. (g.ranges.fit i d l).0;
+  bounds_fit = λ i d l. (g.ranges.fit i d l).1;
+  selectors_fit = g.selectors.fit;
+  impliers_fit = g.impliers.fit;
+  direct_fit = g.direct.fit;
+}
+
+-- a definition ends nothing
+open_still : (w : GroupHead) (x : List ℕ) → w ≡ of_head (config x) → side_of w ≡ closing → ⊥
+open_still w x e c = let d : inside ≡ closing = sym (ap side_of e) ∙ c in cc
+
+-- group by group
+module _ (language : Language) (n : SymbolTable) (read : List Group) (h : HasNames n.arena n.symbols.items n.numbers.items (names_defined read)) (texts : List (List ℕ))
+    (lines : List CodeLine) (groups : List CodeGroup) (conditioned : List GroupConditions) (conditions : List ℕ)
+    (shown : RepresentsGroups n.arena (names_defined read) texts lines (length lines) (reverse groups) read)
+    (walked : RepresentsAllConditions language n.arena texts conditions (length conditions) (reverse conditioned) read) where
+  pub gathered_definition : (i s : ℕ) (old new : Attributes) → i < length groups → i < length conditioned → (group_at groups i).head ≡ codes.Config s
+      → All (LineNodesExist n.arena) (slice_range lines (group_at groups i).attributes (attributes_end groups lines i))
+      → AreGathered language n.arena (names_defined read) (groups_in_context (read_before i read)) old
+      → HasDefinition n s old new (slice_range lines (group_at groups i).attributes (attributes_end groups lines i)) (own_conditions conditioned conditions i)
+      (conditions_at conditioned i).dependency
+      → AreGathered language n.arena (names_defined read) (groups_in_context (read_before (i + 1) read)) new
+  gathered_definition i s old new l m w held g more =
+      let t = shown_at n.arena (names_defined read) texts lines groups read shown i l in
+      let q = conditioned_at _ n.arena texts conditions conditioned read walked i m in
+      let prior : List Group = read_before i read in
+      let both : q.group ∷ prior ≡ t.group ∷ prior = sym q.now ∙ t.now in
+      let same : q.group ≡ t.group = cc in
+      let p : GroupInContext = group_in_context (open_blocks 0 prior) t.group in
+      let ls : List CodeLine = slice_range lines (group_at groups i).attributes (attributes_end groups lines i) in
+      let cs : List ℕ = own_conditions conditioned conditions i in
+      let c = subst (λ k. RepresentsConditions language n.arena texts cs (conditions_at conditioned i) (group_in_context (open_blocks 0 prior) k)) same q.shown in
+      let what = subst (λ v. RepresentsHead n.arena (names_defined read) texts v t.group.head) w t.shown.head in
+      let name : defined_name t.group ≡ Some what.0 = ap (from_head name_of_head) what.2 in
+      let number : number_of (names_defined read) what.0 ≡ s = ap (λ o. unwrap_or o 0)
+      (number_is (names_defined read) what.0 s (Differ-once (filter_map defined_name read)) what.1) in
+      let conds : map (node_expr n.arena) cs ≡ map (condition_at language p) (map (line_in n.arena) ls) = c.own_are ∙ ap (map (condition_at language p)) t.shown.attributes in
+      let many : length cs ≡ length ls = sym (length-map cs (node_expr n.arena)) ∙ ap length conds ∙ length-map (map (line_in n.arena) ls) (condition_at language p)
+      ∙ length-map ls (line_in n.arena) in
+      let stands : Represents n.arena (conditions_at conditioned i).dependency (dependency_meant language p) = elim c.dependency_is
+      [ inl closes ↦ absurd (open_still t.group.head what.0 what.2 closes) | inr d ↦ d ] in
+      subst (λ ps. AreGathered language n.arena (names_defined read) ps new) (sym (placed_more read i t.group t.now))
+      (definition_step _ n (names_defined read) h (groups_in_context prior) p what.0 s ls cs name number (get_below (names_defined read) s what.0 what.1) many
+      held c.held t.shown.attributes conds (conditions_at conditioned i).dependency old new g more stands)
+
+  pub gathered_other : (i : ℕ) (a : Attributes) → i < length groups → ((s : ℕ) → (group_at groups i).head ≡ codes.Config s → ⊥)
+      → AreGathered language n.arena (names_defined read) (groups_in_context (read_before i read)) a
+      → AreGathered language n.arena (names_defined read) (groups_in_context (read_before (i + 1) read)) a
+  gathered_other i a l w g =
+      let t = shown_at n.arena (names_defined read) texts lines groups read shown i l in
+      let prior : List Group = read_before i read in
+      let p : GroupInContext = group_in_context (open_blocks 0 prior) t.group in
+      subst (λ ps. AreGathered language n.arena (names_defined read) ps a) (sym (placed_more read i t.group t.now))
+      (nothing_more _ n.arena (names_defined read) (groups_in_context prior) p a
+      (nameless n.arena (names_defined read) texts (group_at groups i).head t.group.head t.shown.head w) g)
+
+  pub definition_many : (i : ℕ) → i < length groups → i < length conditioned
+      → length (own_conditions conditioned conditions i) ≡ length (slice_range lines (group_at groups i).attributes (attributes_end groups lines i))
+  definition_many i l m =
+      let t = shown_at n.arena (names_defined read) texts lines groups read shown i l in
+      let q = conditioned_at _ n.arena texts conditions conditioned read walked i m in
+      let prior : List Group = read_before i read in
+      let both : q.group ∷ prior ≡ t.group ∷ prior = sym q.now ∙ t.now in
+      let same : q.group ≡ t.group = cc in
+      let p : GroupInContext = group_in_context (open_blocks 0 prior) t.group in
+      let ls : List CodeLine = slice_range lines (group_at groups i).attributes (attributes_end groups lines i) in
+      let cs : List ℕ = own_conditions conditioned conditions i in
+      let c = subst (λ k. RepresentsConditions language n.arena texts cs (conditions_at conditioned i) (group_in_context (open_blocks 0 prior) k)) same q.shown in
+      let conds : map (node_expr n.arena) cs ≡ map (condition_at language p) (map (line_in n.arena) ls) = c.own_are ∙ ap (map (condition_at language p)) t.shown.attributes in
+      sym (length-map cs (node_expr n.arena)) ∙ ap length conds ∙ length-map (map (line_in n.arena) ls) (condition_at language p) ∙ length-map ls (line_in n.arena)
+
+pub gathered_none : (language : Language) (e : Exprs) (names : List (List ℕ)) (read : List Group) (a : Attributes) → AreGathered language e names [] a
+    → AreGathered language e names (groups_in_context (read_before 0 read)) a
+gathered_none language e names read a g = subst (λ ps. AreGathered language e names ps a) (sym (ap groups_in_context (none_before read))) g
+
+pub gathered_whole : (language : Language) (e : Exprs) (read : List Group) (i : ℕ) (a : Attributes) → i ≡ length read
+    → AreGathered language e (names_defined read) (groups_in_context (read_before i read)) a → AreAttributes language e (contents_of read) a
+gathered_whole language e read i a n g =
+    all_gathered _ e read a (subst (λ ps. AreGathered language e (names_defined read) ps a)
+    (ap (λ k. groups_in_context (read_before k read)) n ∙ ap groups_in_context (all_before read)) g)
+
+-- a walk has the conditions of as many groups as the listing has
+pub group_count : (language : Language) (l : Listing) (conditioned : List GroupConditions) (conditions : List ℕ) (read : List Group) → IsWalkOf language l conditioned conditions read
+    → length conditioned ≡ length l.groups.items
+unfolding RepresentsListing
+group_count language l conditioned conditions read w =
+    conditions_count _ l.names.arena l.texts.items conditions conditioned read w.shown
+    ∙ sym (count_is l.names.arena (names_defined read) l.texts.items l.lines.items l.groups.items read w.shows.groups_are)

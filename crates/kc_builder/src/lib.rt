@@ -1,0 +1,19 @@
+//! Reads Kconfig files and builds their tree: all conditions joined, and the lists that the tree stores.
+#![tactic(auto)]
+
+mod builder;
+mod choice_defaults;
+mod choice_rows;
+mod conditions;
+mod definition_attributes;
+mod definitions;
+mod entries;
+mod group_conditions;
+mod group_walk;
+mod listing_walk;
+mod rows;
+mod tree_reader;
+mod unit_list;
+
+pub use kc_checks::wanted;
+pub use tree_reader::read_tree;

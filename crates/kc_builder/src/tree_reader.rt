@@ -1,0 +1,38 @@
+//! Reads the tree of Kconfig files.
+ghost use Rattle.std.specs.Prelude.{◌≡◌, ◌⊎◌, IfOk, IfErr};
+ghost use Rattle.kc_tree_model.specs.TreesOfFiles.{IsTreeOfFiles, IsReportedFault};
+ghost use Rattle.kc_listing.specs.between.MemoryFaults.{no_memory};
+
+use super::builder::tree_of;
+use kc_checks::{check, out_of_memory};
+use kc_listing::read_files;
+use kc_tree::Tree;
+use kc_tree_model::{Texts, TreeFault};
+use std::alloc::Global;
+
+/// Reads the tree of Kconfig files, beginning with the file of path `root`.
+///
+/// `root` and the paths of `source` lines are looked up among `texts` byte for byte. The files are read in the order of the lines
+/// ("Menu entries" and "Menu structure" of kconfig-language.rst); each `source` represents the lines of its file.
+///
+/// # Errors
+///
+/// The first fault, with its file and line: in reading order the first fault of a line, of a `source` or of a file's end, or if
+/// there is none the first fault of the checks on the whole tree, for example a symbol without a type. If memory runs out,
+/// `OutOfMemory` with no file.
+pub fn read_tree(alloc: Global, texts: &Texts, root: &str) -> Result<Tree, TreeFault>
+    ensures tree { IfOk result (λ tree. IsTreeOfFiles texts.now root.now tree.tree) }
+    ensures fault { IfErr result (λ fault. (fault ≡ no_memory) ⊎ IsReportedFault texts.now root.now fault) }
+{
+    let (listing, fault) = read_files(alloc, texts, root);
+    match fault {
+        Some(fault) => return Err(fault),
+        None => {}
+    }
+    let language = texts.language();
+    let summary = check(alloc, language, &listing)?;
+    match tree_of(alloc, language, listing, &summary) {
+        Ok(tree) => Ok(tree),
+        Err(_) => Err(out_of_memory()),
+    }
+}

@@ -1,0 +1,12 @@
+pub mod FaultKinds
+pub mod FaultSearch
+pub mod GroupPlaces
+pub mod MemberLaw
+pub mod MemberMarks
+pub mod MissingPathLists
+pub mod MissingPaths
+pub mod OwnMembers
+pub mod ReadSteps
+pub mod Rounds
+pub mod SymbolSummaries
+pub mod Symbols

@@ -1,0 +1,366 @@
+-- The symbols of a listing, and their summaries.
+use Rattle.std.proofs.Common.{◌≡◌, inl, inr, ℕ, ◌+◌, ◌<◌, Bool, true, false, cond, ◌||◌, not, List, [], ◌∷◌, ◌++◌, length, get_or, set, replicate, map, reverse, Option, Some, None, refl, ap, sym, subst, ◌∙◌, arith, append-nil}
+use Rattle.std.specs.Prelude.{slice_get, filter_map, flat_map, slice_range, is_some, option_and_then, option_map, option_to_list}
+use Rattle.std.specs.List.{cons_option}
+use Rattle.std.proofs.lemmas.Grind.{flat_map-append}
+use Rattle.std.proofs.lemmas.List.{length-map}
+use Rattle.std.proofs.lemmas.Option.{get_or_from_slice_get}
+use Rattle.kc_value.specs.declared.value.Kind.{Kind}
+use Rattle.kc_expr.specs.between.Arena.{Exprs}
+use Rattle.kc_expr.specs.Expr.{Expr, named, quoted, constant, alone}
+use Rattle.kc_expr.specs.Lookup.{index_of_name}
+use Rattle.kc_expr.specs.between.Names.{name_alone}
+use Rattle.kc_tree_model.specs.Statements.{Attribute, select, imply, DefaultAttribute, name_of_head, type_of}
+use Rattle.kc_tree_model.specs.Blocks.{Group, Line, GroupHead, from_head, defined_name, open_blocks}
+use Rattle.kc_tree_model.specs.Conditions.{GroupInContext, group_in_context, groups_in_context, attribute_values}
+use Rattle.kc_tree_model.specs.Contents.{Contents, contents_of, bare_name, choice_number, choice_of_symbol, defines, definitions_of, member_named, name_among, type_given}
+use Rattle.kc_tree_model.specs.Limits.{names_defined}
+use Rattle.kc_tree_model.specs.TreeFaults.{kind_of, kind_or_bool, is_selectable, is_wrong_reverse_dependency}
+use Rattle.kc_value.specs.Kinds.{is_tri_kind}
+use Rattle.kc_tree_model.proofs.Consistency.Definitions.{defined}
+use Rattle.kc_tree_model.proofs.Consistency.Lists.{Has, Differ, Differ-once, at_most_once, has-at, get_below, has-filter, has-place, map-get, place-get, once-has, filter_map-has}
+use Rattle.kc_tree_model.proofs.Consistency.Places.{group-placed}
+use Rattle.kc_listing.specs.declared.listing.Group.{Group as CodeGroup}
+use Rattle.kc_listing.specs.declared.listing.Line.{Line as CodeLine}
+use Rattle.kc_listing.specs.declared.listing.GroupHead.{GroupHead as CodeHead}
+use Rattle.kc_listing.specs.declared.listing.GroupHead.TheVariants as codes
+use Rattle.kc_listing.specs.between.ListingView.{RepresentsGroups, RepresentsHead, line_in}
+use Rattle.kc_checks.specs.between.Attributes.{aim_of}
+use Rattle.kc_checks.specs.between.Summaries.{summary_in, first_summary, symbol_summaries, attributes_end, enclosing_choice, choices_at, group_at, member_in, member_key, member_keys_at, members_at, read_before, type_in}
+use Rattle.kc_checks.specs.declared.summary.SymbolSummary.{SymbolSummary}
+use Rattle.kc_checks.proofs.SymbolSummaries.{about_at, abouts_more, abouts_same, types_of_lines}
+use Rattle.kc_checks.proofs.GroupPlaces.{all_before, count_is, none_before, place_numbered, placed_more, shown_at}
+use Rattle.kc_checks.proofs.Rounds.{enclosing_numbered}
+
+-- a name that a group defines is one of the defined names
+pub named_there : (read : List Group) (p : GroupInContext) (name : List ℕ) → Has p (groups_in_context read) → defined_name p.group ≡ Some name
+    → Has name (names_defined read)
+named_there read p name h e = once-has name (filter_map defined_name read) (filter_map-has defined_name read p.group name (group-placed p read h) e)
+
+-- a name that isn't among them has no definition
+no_places : (read : List Group) (name : List ℕ) (ds : List GroupInContext) → definitions_of (contents_of read) name ≡ ds
+    → index_of_name name (names_defined read) ≡ None → ds ≡ []
+no_places read name [] e n = refl
+no_places read name (d ∷ ds) e n =
+    let own : Has d (definitions_of (contents_of read) name) = subst (Has d) (sym e) (inl refl) in
+    let q = has-filter (defines name) (groups_in_context read) d own in
+    let i = has-place name (names_defined read) (named_there read d name q.0 (defined d name q.1)) in
+    let there : index_of_name name (names_defined read) ≡ Some i.0 = i.1 in
+    cc
+
+pub no_definitions : (read : List Group) (name : List ℕ) → index_of_name name (names_defined read) ≡ None → definitions_of (contents_of read) name ≡ []
+no_definitions read name n = no_places read name (definitions_of (contents_of read) name) refl n
+
+-- the type by the definitions
+abbrev kind_by : Contents → List GroupInContext → Option Kind
+kind_by c ds =
+    kind_or_bool (slice_get (flat_map (λ (p : GroupInContext). attribute_values type_of p.group) ds) 0)
+    (is_some (option_and_then (choice_number c) (slice_get (filter_map (λ (p : GroupInContext). p.choice) ds) 0)))
+
+selectable_by : (o : Option Kind) → Bool
+selectable_by None = true
+selectable_by (Some k) = is_tri_kind k
+
+selectable_is : (c : Contents) (name : List ℕ) → is_selectable c name ≡ selectable_by (kind_of c name)
+unfolding selectable_by
+selectable_is c name = by_kind (kind_of c name)
+  where
+    by_kind : (o : Option Kind) → elim o as (λ _. Bool) [ None ↦ true | Some k ↦ is_tri_kind k ] ≡ selectable_by o
+    by_kind None = refl
+    by_kind (Some k) = refl
+
+pub undefined_selectable : (read : List Group) (name : List ℕ) → index_of_name name (names_defined read) ≡ None → is_selectable (contents_of read) name ≡ true
+unfolding selectable_by
+undefined_selectable read name n = selectable_is (contents_of read) name ∙ ap selectable_by (ap (kind_by (contents_of read)) (no_definitions read name n))
+
+pub selectable_some : (c : Contents) (name : List ℕ) (k : Kind) → kind_of c name ≡ Some k → is_selectable c name ≡ is_tri_kind k
+unfolding selectable_by
+selectable_some c name k e = selectable_is c name ∙ ap selectable_by e
+
+pub selectable_none : (c : Contents) (name : List ℕ) → kind_of c name ≡ None → is_selectable c name ≡ true
+unfolding selectable_by
+selectable_none c name e = selectable_is c name ∙ ap selectable_by e
+
+-- the choice of a symbol
+choice_by : (c : Contents) (p : GroupInContext) (o : Option ℕ) → p.choice ≡ o → ((n : ℕ) → o ≡ Some n → (k : ℕ) × (choice_number c n ≡ Some k))
+    → (xs ys : List ℕ)
+    → slice_get xs 0 ≡ option_and_then (choice_number c) (slice_get ys 0)
+    → slice_get (option_to_list (option_and_then (choice_number c) o) ++ xs) 0 ≡ option_and_then (choice_number c) (slice_get (cons_option o ys) 0)
+choice_by c p None e numbered xs ys ih = ih
+choice_by c p (Some n) e numbered xs ys ih = let k = numbered n refl in ap (λ m. slice_get (option_to_list m ++ xs) 0) k.1 ∙ sym k.1
+
+choice_first : (c : Contents) (ds : List GroupInContext)
+    → ((p : GroupInContext) (n : ℕ) → Has p ds → p.choice ≡ Some n → (k : ℕ) × (choice_number c n ≡ Some k))
+    → slice_get (flat_map (choices_at c) ds) 0 ≡ option_and_then (choice_number c) (slice_get (filter_map (λ (p : GroupInContext). p.choice) ds) 0)
+choice_first c [] numbered = refl
+choice_first c (p ∷ ds) numbered =
+    choice_by c p p.choice refl (λ n e. numbered p n (inl refl) e) (flat_map (choices_at c) ds)
+    (filter_map (λ (q : GroupInContext). q.choice) ds) (choice_first c ds (λ q n h e. numbered q n (inr h) e))
+
+pub choice_is : (read : List Group) (name : List ℕ)
+    → (summary_in (contents_of read) (groups_in_context read) name).choice ≡ choice_of_symbol (contents_of read) name
+choice_is read name =
+    choice_first (contents_of read) (definitions_of (contents_of read) name)
+    (λ p n h e. enclosing_numbered read p n (has-filter (defines name) (groups_in_context read) p h).0 e)
+
+pub kind_is : (read : List Group) (name : List ℕ) (a : SymbolSummary) → a ≡ summary_in (contents_of read) (groups_in_context read) name
+    → kind_or_bool a.given (is_some a.choice) ≡ kind_of (contents_of read) name
+kind_is read name a e =
+    ap (λ (x : SymbolSummary). kind_or_bool x.given (is_some x.choice)) e
+    ∙ ap (λ o. kind_or_bool (type_given (contents_of read) name) (is_some o)) (choice_is read name)
+
+-- a statement whose stored form is no `config` defines no name
+pub nameless : (e : Exprs) (names texts : List (List ℕ)) (code : CodeHead) (w : GroupHead) → RepresentsHead e names texts code w
+    → ((s : ℕ) → code ≡ codes.Config s → ⊥) → from_head name_of_head w ≡ None
+nameless e names texts (codes.Config s) w h n = absurd (n s refl)
+nameless e names texts codes.Choice w h n = ap (from_head name_of_head) h
+nameless e names texts (codes.Menu t) w h n = ap (from_head name_of_head) h.2
+nameless e names texts (codes.Condition id) w h n = ap (from_head name_of_head) h.1
+nameless e names texts (codes.Comment t) w h n = ap (from_head name_of_head) h.2
+nameless e names texts (codes.Source t) w h n = ap (from_head name_of_head) h.2
+nameless e names texts codes.Mainmenu w h n = ap (from_head name_of_head) h
+nameless e names texts (codes.Ends b) w h n = ap (from_head name_of_head) h
+nameless e names texts codes.FileEnd w h n = ap (from_head name_of_head) h
+
+-- the symbols as they are kept
+module _ (read : List Group) (symbols : List SymbolSummary) (h : symbols ≡ symbol_summaries (contents_of read) (groups_in_context read)) where
+  pub as_many_symbols : length symbols ≡ length (names_defined read)
+  as_many_symbols = ap length h ∙ length-map (names_defined read) (summary_in (contents_of read) (groups_in_context read))
+
+  pub symbol_below : (s : ℕ) (name : List ℕ) → slice_get (names_defined read) s ≡ Some name → s < length symbols
+  symbol_below s name e = let l = get_below (names_defined read) s name e in let m = as_many_symbols in omega arith
+
+  pub about_is : (s : ℕ) (name : List ℕ) (d : SymbolSummary) → slice_get (names_defined read) s ≡ Some name
+      → get_or symbols s d ≡ summary_in (contents_of read) (groups_in_context read) name
+  about_is s name d e =
+      get_or_from_slice_get symbols s _ d (ap (λ xs. slice_get xs s) h
+      ∙ map-get (summary_in (contents_of read) (groups_in_context read)) (names_defined read) s name e)
+
+-- an attribute with a target is wrong exactly if its symbol isn't bool or tristate, or the target can't be selected
+pub reverse_dependency_some : (c : Contents) (k : Kind) (a : Attribute) (x : List ℕ) → aim_of a ≡ Some x
+    → is_wrong_reverse_dependency c k a ≡ (not (is_tri_kind k) || not (is_selectable c x))
+reverse_dependency_some c k (select s) x e = let same : s.name ≡ x = cc in ap (λ y. not (is_tri_kind k) || not (is_selectable c y)) same
+reverse_dependency_some c k (imply s) x e = let same : s.name ≡ x = cc in ap (λ y. not (is_tri_kind k) || not (is_selectable c y)) same
+reverse_dependency_some c k a x e = cc
+
+pub reverse_dependency_none : (c : Contents) (k : Kind) (a : Attribute) → aim_of a ≡ None → is_wrong_reverse_dependency c k a ≡ false
+reverse_dependency_none c k (select s) e = cc
+reverse_dependency_none c k (imply s) e = cc
+reverse_dependency_none c k a e = refl
+
+-- `name_alone` and `bare_name` find the same name in an expression
+pub bare_is : (e : Expr) → name_alone e ≡ bare_name e
+bare_is (alone (constant t)) = refl
+bare_is (alone (named x)) = refl
+bare_is (alone (quoted x)) = refl
+bare_is e = refl
+
+pub several_name_none : (members : List (List ℕ)) (d : DefaultAttribute) → d.single ≡ false → is_some (member_named members d) ≡ false
+several_name_none members d e = ap (λ b. is_some (cond b (option_and_then (name_among members) (bare_name d.value)) None)) e
+
+no_member_named : (b : Bool) (members : List (List ℕ)) → is_some (cond b (option_and_then (name_among members) None) None) ≡ false
+no_member_named true members = refl
+no_member_named false members = refl
+
+pub no_name_none : (members : List (List ℕ)) (d : DefaultAttribute) → bare_name d.value ≡ None → is_some (member_named members d) ≡ false
+no_name_none members d e = ap (λ o. is_some (cond d.single (option_and_then (name_among members) o) None)) e ∙ no_member_named d.single members
+
+pub name_some : (members : List (List ℕ)) (d : DefaultAttribute) (x : List ℕ) → d.single ≡ true → bare_name d.value ≡ Some x
+    → is_some (member_named members d) ≡ is_some (index_of_name x members)
+name_some members d x s e =
+    ap (λ b. is_some (cond b (option_and_then (name_among members) (bare_name d.value)) None)) s
+    ∙ ap (λ o. is_some (option_and_then (name_among members) o)) e
+    ∙ mapped (index_of_name x members)
+  where
+    mapped : (o : Option ℕ) → is_some (option_map (λ _. x) o) ≡ is_some o
+    mapped None = refl
+    mapped (Some i) = refl
+
+-- the symbols that the first `i` groups define
+module _ (e : Exprs) (texts : List (List ℕ)) (lines : List CodeLine) (groups : List CodeGroup) (read : List Group)
+    (h : RepresentsGroups e (names_defined read) texts lines (length lines) (reverse groups) read) where
+  pub enclosing_at : (i : ℕ) (enclosing : List (Option ℕ)) (p : GroupInContext) → enclosing ≡ map (enclosing_choice (contents_of read)) (groups_in_context read)
+      → slice_get (groups_in_context read) i ≡ Some p → get_or enclosing i None ≡ enclosing_choice (contents_of read) p
+  enclosing_at i enclosing p a at =
+      get_or_from_slice_get enclosing i _ None (ap (λ xs. slice_get xs i) a ∙ map-get (enclosing_choice (contents_of read)) (groups_in_context read) i p at)
+
+  types_at : (m : Group) (own : List CodeLine) → m.attributes ≡ map (line_in e) own → attribute_values type_of m ≡ filter_map (type_in e) own
+  types_at m own a = ap (filter_map (λ (l : Line). type_of l.attribute)) a ∙ types_of_lines e own
+
+  pub symbols_more : (i s : ℕ) (symbols : List SymbolSummary) (enclosing : List (Option ℕ)) (old here : SymbolSummary) → i < length groups
+      → (group_at groups i).head ≡ codes.Config s → symbols ≡ symbol_summaries (contents_of read) (groups_in_context (read_before i read))
+      → enclosing ≡ map (enclosing_choice (contents_of read)) (groups_in_context read) → old ≡ get_or symbols s old
+      → here ≡ record {
+        first = Some i;
+        given = slice_get (filter_map (type_in e)
+            (slice_range lines (group_at groups i).attributes (attributes_end groups lines i))) 0;
+        choice = get_or enclosing i None;
+      }
+      → set symbols s (first_summary old here) ≡ symbol_summaries (contents_of read) (groups_in_context (read_before (i + 1) read))
+  symbols_more i s symbols enclosing old here l w a r o k =
+      let c = contents_of read in
+      let t = shown_at e (names_defined read) texts lines groups read h i l in
+      let n = count_is e (names_defined read) texts lines groups read h in
+      let what = subst (λ v. RepresentsHead e (names_defined read) texts v t.group.head) w t.shown.head in
+      let prior : List Group = read_before i read in
+      let p : GroupInContext = group_in_context (open_blocks 0 prior) t.group in
+      let at = place_numbered read i t.group (omega arith) t.now in
+      let was : old ≡ summary_in c (groups_in_context prior) what.0 = o
+      ∙ get_or_from_slice_get symbols s _ old (ap (λ xs. slice_get xs s) a
+      ∙ map-get (summary_in c (groups_in_context prior)) (names_defined read) s what.0 what.1) in
+      let own = slice_range lines (group_at groups i).attributes (attributes_end groups lines i) in
+      let is : here ≡ about_at c p =
+      k
+      ∙ ap (λ f. let x : SymbolSummary = record { first = Some f; given = slice_get (filter_map (type_in e) own) 0; choice = get_or enclosing i None } in x)
+      (sym t.shown.number_is)
+      ∙ ap (λ f. let x : SymbolSummary = record { first = Some t.group.number; given = slice_get f 0; choice = get_or enclosing i None } in x)
+      (sym (types_at t.group own t.shown.attributes))
+      ∙ ap (λ f. let x : SymbolSummary = record { first = Some t.group.number; given = slice_get (attribute_values type_of t.group) 0; choice = f } in x)
+      (enclosing_at i enclosing p r at) in
+      ap (λ x. set symbols s (first_summary x here)) was
+      ∙ ap (λ x. set symbols s (first_summary (summary_in c (groups_in_context prior) what.0) x)) is
+      ∙ ap (λ xs. set xs s (first_summary (summary_in c (groups_in_context prior) what.0) (about_at c p))) a
+      ∙ sym (ap (symbol_summaries c) (placed_more read i t.group t.now)
+      ∙ abouts_more c (groups_in_context prior) p what.0 s (Differ-once (filter_map defined_name read)) what.2 what.1)
+
+  pub symbols_kept : (i : ℕ) → i < length groups → ((s : ℕ) → (group_at groups i).head ≡ codes.Config s → ⊥)
+      → symbol_summaries (contents_of read) (groups_in_context (read_before i read)) ≡ symbol_summaries (contents_of read)
+      (groups_in_context (read_before (i + 1) read))
+  symbols_kept i l w =
+      let c = contents_of read in
+      let t = shown_at e (names_defined read) texts lines groups read h i l in
+      let prior : List Group = read_before i read in
+      let p : GroupInContext = group_in_context (open_blocks 0 prior) t.group in
+      sym (ap (symbol_summaries c) (placed_more read i t.group t.now) ∙ abouts_same c (groups_in_context prior) p
+      (nameless e (names_defined read) texts (group_at groups i).head t.group.head t.shown.head w))
+
+  pub symbol_there : (i s : ℕ) → i < length groups → (group_at groups i).head ≡ codes.Config s → s < length (names_defined read)
+  symbol_there i s l w =
+      let t = shown_at e (names_defined read) texts lines groups read h i l in
+      let what = subst (λ v. RepresentsHead e (names_defined read) texts v t.group.head) w t.shown.head in
+      get_below (names_defined read) s what.0 what.1
+
+-- before any group is read, the summary of each symbol is empty
+pub none_known : (c : Contents) (names : List (List ℕ))
+    → replicate (length names) (let x : SymbolSummary = record { first = None; given = None; choice = None } in x) ≡ map (summary_in c []) names
+none_known c [] = refl
+none_known c (x ∷ names) = ap (λ xs. (let y : SymbolSummary = record { first = None; given = None; choice = None } in y) ∷ xs) (none_known c names)
+
+pub no_abouts : (read : List Group) → symbol_summaries (contents_of read) [] ≡ symbol_summaries (contents_of read) (groups_in_context (read_before 0 read))
+no_abouts read = sym (ap (λ r. symbol_summaries (contents_of read) (groups_in_context r)) (none_before read))
+
+pub all_abouts : (read : List Group) (i : ℕ) → i ≡ length read
+    → symbol_summaries (contents_of read) (groups_in_context (read_before i read)) ≡ symbol_summaries (contents_of read) (groups_in_context read)
+all_abouts read i e = ap (λ r. symbol_summaries (contents_of read) (groups_in_context r)) (ap (λ n. read_before n read) e ∙ all_before read)
+
+pub as_many_abouts : (c : Contents) (ps : List GroupInContext) (symbols : List SymbolSummary) → symbols ≡ symbol_summaries c ps
+    → length symbols ≡ length c.names
+as_many_abouts c ps symbols e = ap length e ∙ length-map c.names (summary_in c ps)
+
+-- what a function gives for the first `i + 1` groups is what it gives for the first `i` and, after it, for group `i`
+pub statement_by : {A : Type 0} (f : GroupInContext → List A) (read : List Group) (i : ℕ) (m : Group) → read_before (i + 1) read ≡ m ∷ read_before i read
+    → flat_map f (groups_in_context (read_before (i + 1) read)) ≡ flat_map f (groups_in_context (read_before i read)) ++ f
+    (group_in_context (open_blocks 0 (read_before i read)) m)
+statement_by f read i m now =
+    let p : GroupInContext = group_in_context (open_blocks 0 (read_before i read)) m in
+    ap (flat_map f) (placed_more read i m now) ∙ flat_map-append f (groups_in_context (read_before i read)) (p ∷ [])
+    ∙ ap (λ xs. flat_map f (groups_in_context (read_before i read)) ++ xs) (append-nil (f p))
+
+-- the collected members and the numbers of their choices, as a function gives these, are those that the first `i` groups define
+pub record AreMembers (f : GroupInContext → Option ℕ) (read : List Group) (i : ℕ) (keys members : List ℕ) : Type 0 where
+  pub keys_are : keys ≡ flat_map (member_keys_at f (contents_of read)) (groups_in_context (read_before i read))
+  pub members_are : members ≡ flat_map (members_at f (contents_of read)) (groups_in_context (read_before i read))
+
+pub no_members : (f : GroupInContext → Option ℕ) (read : List Group) → AreMembers f read 0 [] []
+no_members f read =
+    let e = none_before read in
+    record {
+      keys_are = sym (ap (λ r. flat_map (member_keys_at f (contents_of read)) (groups_in_context r)) e);
+      members_are = sym (ap (λ r. flat_map (members_at f (contents_of read)) (groups_in_context r)) e);
+    }
+
+pub all_members : (f : GroupInContext → Option ℕ) (read : List Group) (i : ℕ) (keys members : List ℕ) → i ≡ length read → AreMembers f read i keys members
+    → (keys ≡ flat_map (member_keys_at f (contents_of read)) (groups_in_context read))
+    × (members ≡ flat_map (members_at f (contents_of read)) (groups_in_context read))
+all_members f read i keys members e a =
+    let all = ap (λ n. read_before n read) e ∙ all_before read in (
+      a.keys_are ∙ ap (λ r. flat_map (member_keys_at f (contents_of read)) (groups_in_context r)) all,
+      a.members_are
+          ∙ ap (λ r. flat_map (members_at f (contents_of read)) (groups_in_context r)) all,
+    )
+
+-- in a list of distinct names, the index found for the name at index `s` is `s`
+pub place_is : (names : List (List ℕ)) (name : List ℕ) (s : ℕ) → Differ names → slice_get names s ≡ Some name → index_of_name name names ≡ Some s
+place_is names name s differ at =
+    let r = has-place name names (has-at name names s at) in
+    r.1 ∙ ap Some (at_most_once name names r.0 s differ (place-get name names r.0 r.1) at)
+
+module _ (e : Exprs) (texts : List (List ℕ)) (lines : List CodeLine) (groups : List CodeGroup) (read : List Group)
+    (h : RepresentsGroups e (names_defined read) texts lines (length lines) (reverse groups) read) (f : GroupInContext → Option ℕ) where
+  here_more : (i : ℕ) (m : Group) (ks ms keys members : List ℕ) → read_before (i + 1) read ≡ m ∷ read_before i read
+      → member_keys_at f (contents_of read) (group_in_context (open_blocks 0 (read_before i read)) m) ≡ ks
+      → members_at f (contents_of read) (group_in_context (open_blocks 0 (read_before i read)) m) ≡ ms
+      → AreMembers f read i keys members → AreMembers f read (i + 1) (keys ++ ks) (members ++ ms)
+  here_more i m ks ms keys members now k s a =
+      let c = contents_of read in
+      record {
+        keys_are = ap (λ xs. xs ++ ks) a.keys_are ∙ ap (λ xs. flat_map (member_keys_at f c) (groups_in_context (read_before i read)) ++ xs) (sym k)
+            ∙ sym (statement_by (member_keys_at f c) read i m now);
+        members_are = ap (λ xs. xs ++ ms) a.members_are ∙ ap (λ xs. flat_map (members_at f c) (groups_in_context (read_before i read)) ++ xs) (sym s)
+            ∙ sym (statement_by (members_at f c) read i m now);
+      }
+
+  none_more : (i : ℕ) (m : Group) (keys members : List ℕ) → read_before (i + 1) read ≡ m ∷ read_before i read
+      → members_at f (contents_of read) (group_in_context (open_blocks 0 (read_before i read)) m) ≡ []
+      → AreMembers f read i keys members → AreMembers f read (i + 1) keys members
+  none_more i m keys members now s a =
+      let p : GroupInContext = group_in_context (open_blocks 0 (read_before i read)) m in
+      let r = here_more i m [] [] keys members now (ap (map (λ _. member_key f p)) s) s a in
+      record { keys_are = sym (append-nil keys) ∙ r.keys_are; members_are = sym (append-nil members) ∙ r.members_are }
+
+  unnamed : (c : Contents) (o : Option ℕ) → member_in c o None ≡ []
+  unnamed c None = refl
+  unnamed c (Some k) = refl
+
+  -- a `config` to which the function gives a choice adds its symbol to the collected members, under the number of the choice
+  pub member_more : (i s k : ℕ) (keys members : List ℕ) → i < length groups → (group_at groups i).head ≡ codes.Config s
+      → ((p : GroupInContext) → slice_get (groups_in_context read) i ≡ Some p → f p ≡ Some k)
+      → AreMembers f read i keys members → AreMembers f read (i + 1) (keys ++ k ∷ []) (members ++ s ∷ [])
+  member_more i s k keys members l w given m =
+      let c = contents_of read in
+      let t = shown_at e (names_defined read) texts lines groups read h i l in
+      let n = count_is e (names_defined read) texts lines groups read h in
+      let what = subst (λ v. RepresentsHead e (names_defined read) texts v t.group.head) w t.shown.head in
+      let p : GroupInContext = group_in_context (open_blocks 0 (read_before i read)) t.group in
+      let at = place_numbered read i t.group (omega arith) t.now in
+      let chosen : f p ≡ Some k = given p at in
+      let named : defined_name p.group ≡ Some what.0 = ap (from_head name_of_head) what.2 in
+      let is : members_at f c p ≡ s ∷ [] =
+      ap (λ o. member_in c o (defined_name p.group)) chosen ∙ ap (member_in c (Some k)) named
+      ∙ ap option_to_list (place_is (names_defined read) what.0 s (Differ-once (filter_map defined_name read)) what.1) in
+      let key : member_keys_at f c p ≡ k ∷ [] = ap (map (λ _. member_key f p)) is ∙ ap (λ o. elim o as (λ _. ℕ) [ None ↦ 0 | Some j ↦ j ] ∷ []) chosen in
+      here_more i t.group (k ∷ []) (s ∷ []) keys members t.now key is m
+
+  pub outside_more : (i : ℕ) (keys members : List ℕ) → i < length groups
+      → ((p : GroupInContext) → slice_get (groups_in_context read) i ≡ Some p → f p ≡ None) → AreMembers f read i keys members
+      → AreMembers f read (i + 1) keys members
+  outside_more i keys members l given m =
+      let c = contents_of read in
+      let t = shown_at e (names_defined read) texts lines groups read h i l in
+      let n = count_is e (names_defined read) texts lines groups read h in
+      let p : GroupInContext = group_in_context (open_blocks 0 (read_before i read)) t.group in
+      let at = place_numbered read i t.group (omega arith) t.now in
+      none_more i t.group keys members t.now (ap (λ o. member_in c o (defined_name p.group)) (given p at)) m
+
+  pub nameless_more : (i : ℕ) (keys members : List ℕ) → i < length groups → ((s : ℕ) → (group_at groups i).head ≡ codes.Config s → ⊥)
+      → AreMembers f read i keys members → AreMembers f read (i + 1) keys members
+  nameless_more i keys members l w m =
+      let c = contents_of read in
+      let t = shown_at e (names_defined read) texts lines groups read h i l in
+      let p : GroupInContext = group_in_context (open_blocks 0 (read_before i read)) t.group in
+      none_more i t.group keys members t.now (ap (member_in c (f p))
+      (nameless e (names_defined read) texts (group_at groups i).head t.group.head t.shown.head w) ∙ unnamed c (f p)) m
+
+pub members_same : (f : GroupInContext → Option ℕ) (read : List Group) (i : ℕ) (keys members keys2 members2 : List ℕ) → keys2 ≡ keys → members2 ≡ members → AreMembers f read i keys members
+    → AreMembers f read i keys2 members2
+members_same f read i keys members keys2 members2 k m a = record { keys_are = k ∙ a.keys_are; members_are = m ∙ a.members_are }

@@ -1,0 +1,16 @@
+use Rattle.std.proofs.Common.{◌≡◌, ℕ, List, drop, false}
+use Rattle.std.specs.Prelude.{bytes_eq}
+use Rattle.kc_expr.specs.Expr.{modules as modules_name}
+use Rattle.kc_tree_model.specs.Blocks.{Group as ModelGroup}
+use Rattle.kc_tree_model.specs.Contents.{contents_of}
+use Rattle.kc_tree_model.specs.TreeFaults.{attribute_faults}
+use Rattle.kc_listing.specs.between.ListingView.{RepresentsListing}
+use Rattle.kc_checks.proofs.FaultKinds.{first_left}
+use Rattle.kc_checks.proofs.attribute_checks.first_symbol_fault.Given as goal
+
+abbrev pub invariant-loop-i : goal.invariant-loop-i
+invariant-loop-i l =
+    (read : List ModelGroup) (g : ModelGroup) (name : List ℕ) → RepresentsListing l.listing read
+    → l.is_modules ≡ bytes_eq name modules_name → g.at.file ≡ l.file
+    → first_left l.listing.names.arena g (attribute_faults (contents_of read) name l.kind) false l.lines
+    ≡ first_left l.listing.names.arena g (attribute_faults (contents_of read) name l.kind) l.prompted (drop l.i l.lines)

@@ -1,0 +1,8 @@
+use Rattle.std.proofs.Common.{rules}
+use Rattle.kc_checks.proofs.fault_kinds.is_stray_modules.Goals as goal
+
+pub returns-then-is_modules : goal.returns-then-is_modules
+returns-then-is_modules c = search rules
+
+pub returns-else-is_modules : goal.returns-else-is_modules
+returns-else-is_modules c = search rules

@@ -1,0 +1,8 @@
+use Rattle.std.proofs.Common.{rules}
+use Rattle.kc_checks.proofs.fault_kinds.is_stray_range.Goals as goal
+
+pub returns-then-is_range : goal.returns-then-is_range
+returns-then-is_range c = search rules
+
+pub returns-else-is_range : goal.returns-else-is_range
+returns-else-is_range c = search rules

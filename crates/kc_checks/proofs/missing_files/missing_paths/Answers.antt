@@ -1,0 +1,32 @@
+use Rattle.std.proofs.Common.{◌≡◌, ◌⊎◌, ℕ, List, Result, Ok, Err, IfOk, IfErr, map, subst, arith}
+use Rattle.std.proofs.lemmas.Grind.{common_steps, elements}
+use Rattle.std.specs.Prelude.{string_bytes}
+use Rattle.kc_tree_model.specs.declared.fault.TreeFault.{TreeFault}
+use Rattle.kc_listing.specs.between.MemoryFaults.{no_memory}
+use Rattle.kc_checks.specs.checker.MissingPaths.{paths_in}
+use Rattle.kc_checks.proofs.ReadSteps.{wanted_is}
+use Rattle.kc_checks.proofs.missing_files.missing_paths.Goals as goal
+
+pub returns-in-Ok-clause-paths : goal.returns-in-Ok-clause-paths
+returns-in-Ok-clause-paths c =
+    subst (λ (w : Result (List (List ℕ)) TreeFault). IfOk c.wanted_or_fault.result (λ list. w ≡ Ok (map string_bytes list.items)))
+    (wanted_is c.args.texts.now c.args.root.now c.args.listing.now c.args.fault (c.is_out_of_memory.ensures.other c.if-is_out_of_memory.false)
+    (paths_in c.in-Ok.paths) c.requires.fault c.requires.read c.in-Ok.ensures) c.wanted_or_fault.ensures.paths
+
+pub returns-in-Ok-clause-fault : goal.returns-in-Ok-clause-fault
+returns-in-Ok-clause-fault c =
+    subst (λ (w : Result (List (List ℕ)) TreeFault). IfErr c.wanted_or_fault.result (λ f. (f ≡ no_memory) ⊎ (w ≡ Err f)))
+    (wanted_is c.args.texts.now c.args.root.now c.args.listing.now c.args.fault (c.is_out_of_memory.ensures.other c.if-is_out_of_memory.false)
+    (paths_in c.in-Ok.paths) c.requires.fault c.requires.read c.in-Ok.ensures) c.wanted_or_fault.ensures.fault
+
+pub returns-in-Err-clause-paths : goal.returns-in-Err-clause-paths
+returns-in-Err-clause-paths c = grind (arith, common_steps)
+
+pub returns-then-is_out_of_memory-clause-paths : goal.returns-then-is_out_of_memory-clause-paths
+returns-then-is_out_of_memory-clause-paths c = grind (arith, elements)
+
+pub returns-in-Err-clause-fault : goal.returns-in-Err-clause-fault
+returns-in-Err-clause-fault c = grind (arith, common_steps)
+
+pub returns-then-is_out_of_memory-clause-fault : goal.returns-then-is_out_of_memory-clause-fault
+returns-then-is_out_of_memory-clause-fault c = grind (arith, common_steps)

@@ -1,0 +1,4 @@
+pub mod Attributes
+pub mod FaultSearch
+pub mod Summaries
+pub mod Surface

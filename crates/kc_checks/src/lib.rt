@@ -1,0 +1,22 @@
+//! The checks of a listing before its tree is built: missing files, a summary of its symbols and choices, and the first fault of
+//! the checks on the whole tree.
+#![tactic(auto)]
+
+mod attribute;
+mod attribute_checks;
+mod enclosing_choices;
+mod fault_kinds;
+mod group_lines;
+mod marks;
+mod missing_files;
+mod name_checks;
+mod paths;
+mod search;
+mod summary;
+
+pub use attribute::{is_optional, is_prompt};
+pub use enclosing_choices::begins_choice;
+pub use group_lines::{end_of, lines_of, part};
+pub use missing_files::{out_of_memory, wanted};
+pub use search::check;
+pub use summary::{Summary, SymbolSummary, own_members};

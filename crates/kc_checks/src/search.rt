@@ -1,0 +1,226 @@
+//! The first fault of the checks on a listing that was read without a fault.
+ghost use Rattle.std.specs.Prelude.{◌≡◌, ◌⊎◌, ◌<◌, ◌+◌, ◌^◌, ◌&&◌, ℕ, List, IfErr, IfOk, None, Some, bytes_eq, length, slice_get, if◌then◌else◌};
+ghost use Rattle.kc_expr.specs.Expr.{modules as modules_name};
+ghost use Rattle.kc_tokens.specs.declared.language.Language.{Language as AnyLanguage};
+ghost use Rattle.std.specs.List.{list_all};
+ghost use Rattle.kc_tree_model.specs.Blocks.{Group as ModelGroup};
+ghost use Rattle.kc_tree_model.specs.Conditions.{GroupInContext, groups_in_context};
+ghost use Rattle.kc_tree_model.specs.Contents.{contents_of, member_names};
+ghost use Rattle.kc_tree_model.specs.Limits.{names_defined};
+ghost use Rattle.kc_tree_model.specs.TreeFaults.{faults_of_group, is_no_member_kind, is_same_choice, tree_faults};
+ghost use Rattle.kc_listing.specs.between.ListingView.{RepresentsListing};
+ghost use Rattle.kc_listing.specs.between.MemoryFaults.{no_memory};
+ghost use Rattle.kc_listing.specs.declared.listing.GroupHead.TheVariants as codes;
+ghost use Rattle.kc_checks.specs.checker.Marks.{AreMarked};
+ghost use Rattle.kc_checks.specs.between.FaultSearch.{AreSmall, CountsChoices, HasMembers};
+ghost use Rattle.kc_checks.specs.checker.Kinds.{choice_around, is_added_line, may_follow_code};
+ghost use Rattle.kc_checks.specs.between.Summaries.{group_at, is_choice_code, IsRepresented, IsSummed};
+
+use super::attribute::is_added;
+use super::attribute_checks::{fault_at, first_choice_fault, first_symbol_fault};
+use super::enclosing_choices::begins_choice;
+use super::fault_kinds::definition_fault;
+use super::group_lines::lines_of;
+use super::marks::mark_members;
+use super::missing_files::out_of_memory;
+use super::summary::{Summary, is_first, members_of};
+use kc_listing::{GroupHead, Line, Listing};
+use kc_tokens::Language;
+use kc_tree::{ItemsByNumber, is_no_member_kind};
+use kc_tree_model::{Sym, TreeFault};
+use kc_value::Kind;
+use std::alloc::{AllocError, Global};
+
+/// Whether a symbol is that of modules.
+fn is_modules(listing: &Listing, s: u32) -> bool
+    requires shown { IsRepresented listing.now }
+    requires here { s < length listing.now.names.symbols.items }
+    ensures value { (read : List ModelGroup) (name : List ℕ) → RepresentsListing listing.now read → slice_get (names_defined read) s ≡ Some name → result ≡ bytes_eq name modules_name }
+{
+    let id = listing.names.symbols[s as usize];
+    listing.names.arena.name(id) == "MODULES"
+}
+
+/// Whether some lines are of attributes alone that a later definition of a member may have.
+fn are_added(lines: &[Line]) -> bool
+    ensures { result ≡ list_all is_added_line lines.now }
+{
+    lines.iter().all(|line| is_added(&line.attribute))
+}
+
+/// Whether a definition with these attributes may follow that of a member in its choice; `is_again` is set if it is in that choice.
+fn may_follow_member(language: Language, is_member: bool, is_again: bool, lines: &[Line]) -> bool
+    ensures { result ≡ may_follow_code language is_member is_again lines.now }
+{
+    match language {
+        Language::Strict => false,
+        Language::Linux(_) => (!is_member && are_added(lines)) || is_again,
+    }
+}
+
+/// The number of the choice that encloses the group of a number, if there is such a group and it is in a choice.
+fn choice_around(enclosing: &[Option<u32>], number: Option<u32>) -> Option<u32>
+    ensures { result ≡ choice_around enclosing.now number }
+{
+    match number {
+        Some(number) => match enclosing.get(number as usize) {
+            Some(choice) => *choice,
+            None => None,
+        },
+        None => None,
+    }
+}
+
+/// Whether two places are in the same choice, by the numbers of the choices that enclose them.
+fn is_same_choice(a: Option<u32>, b: Option<u32>) -> bool
+    ensures { result ≡ is_same_choice a b }
+{
+    match a {
+        Some(a) => match b {
+            Some(b) => a == b,
+            None => false,
+        },
+        None => false,
+    }
+}
+
+/// Whether a definition of a symbol whose first type is `given` is in a choice, and that type isn't one of a member.
+fn is_misfit(language: Language, is_member: bool, given: Option<Kind>) -> bool
+    ensures { result ≡ (is_member && is_no_member_kind language given) }
+{
+    is_member && is_no_member_kind(language, given)
+}
+
+/// The first fault of a definition and its attributes.
+fn config_fault(
+    listing: &Listing,
+    language: Language,
+    summary: &Summary,
+    s: u32,
+    i: usize,
+) -> Option<TreeFault>
+    requires shown { IsRepresented listing.now }
+    requires summary { IsSummed listing.now summary.now }
+    requires here { i < length listing.now.groups.items }
+    requires head { (group_at listing.now.groups.items i).head ≡ codes.Config s }
+    ensures fault { (read : List ModelGroup) (p : GroupInContext) → RepresentsListing listing.now read → slice_get (groups_in_context read) i ≡ Some p → result ≡ slice_get (faults_of_group language (contents_of read) p) 0 }
+{
+    let about = summary.symbols[s as usize];
+    let is_member = summary.enclosing[i].is_some();
+    let is_modules = is_modules(listing, s);
+    let file = listing.groups[i].file;
+    let lines = lines_of(listing, i);
+    let first_choice = choice_around(&summary.enclosing, about.first);
+    let is_again = is_same_choice(first_choice, summary.enclosing[i]);
+    let may_follow = may_follow_member(language, is_member, is_again, lines);
+    let is_misfit = is_misfit(language, is_member, about.given);
+    let is_first = is_first(about.first, i);
+    let fault = definition_fault(&about, is_misfit, is_first, is_modules, may_follow);
+    if let Some(kind) = fault {
+        return Some(fault_at(file, listing.groups[i].line, kind));
+    }
+    first_symbol_fault(
+        listing,
+        &summary.symbols,
+        about.kind(),
+        is_modules,
+        file,
+        lines,
+    )
+}
+
+/// The first fault of a choice, whose members have this mark.
+fn choice_fault(listing: &Listing, marks: &[u32], mark: u32, i: usize) -> Option<TreeFault>
+    requires shown { IsRepresented listing.now }
+    requires many { length marks.now ≡ length listing.now.names.symbols.items }
+    requires here { i < length listing.now.groups.items }
+    requires head { (group_at listing.now.groups.items i).head ≡ codes.Choice }
+    ensures fault { (read : List ModelGroup) (p : GroupInContext) → RepresentsListing listing.now read → slice_get (groups_in_context read) i ≡ Some p
+        → AreMarked (names_defined read) (member_names (contents_of read) p.group.number) marks.now mark → (language : AnyLanguage) → result ≡ slice_get (faults_of_group language (contents_of read) p) 0 }
+{
+    let file = listing.groups[i].file;
+    first_choice_fault(listing, marks, mark, file, lines_of(listing, i))
+}
+
+/// The first fault of a group; `choices` counts the choices before it. Marks the members of a choice that it opens.
+fn group_fault(
+    listing: &Listing,
+    language: Language,
+    summary: &Summary,
+    members: &ItemsByNumber<Sym>,
+    marks: &mut Vec<u32>,
+    choices: u32,
+    i: usize,
+) -> Option<TreeFault>
+    requires shown { IsRepresented listing.now }
+    requires summary { IsSummed listing.now summary.now }
+    requires here { i < length listing.now.groups.items }
+    requires members { HasMembers listing.now members.now.starts.items members.now.items.items }
+    requires many { length marks.old.items ≡ length listing.now.names.symbols.items }
+    requires small { AreSmall marks.old.items choices }
+    requires counted { CountsChoices listing.now i choices }
+    requires few { choices + 1 < 2 ^ 32 }
+    ensures fault { (read : List ModelGroup) (p : GroupInContext) → RepresentsListing listing.now read → slice_get (groups_in_context read) i ≡ Some p → result ≡ slice_get (faults_of_group language (contents_of read) p) 0 }
+    ensures many { length marks.new.items ≡ length listing.now.names.symbols.items }
+    ensures marks { AreSmall marks.new.items (if is_choice_code (group_at listing.now.groups.items i).head then choices + 1 else choices) }
+{
+    match listing.groups[i].head {
+        GroupHead::Config(s) => config_fault(listing, language, summary, s, i),
+        GroupHead::Choice => {
+            mark_members(marks, members.get(choices as usize), choices + 1);
+            choice_fault(listing, marks, choices + 1, i)
+        }
+        _ => None,
+    }
+}
+
+/// The first fault of the checks on all statements of a listing, which has this summary, in reading order, or `None`. An `Err`
+/// means out of memory.
+fn first_fault(
+    alloc: Global,
+    language: Language,
+    listing: &Listing,
+    summary: &Summary,
+) -> Result<Option<TreeFault>, AllocError>
+    requires shown { IsRepresented listing.now }
+    requires summary { IsSummed listing.now summary.now }
+    requires few { length listing.now.groups.items < 2 ^ 32 }
+    ensures fault { (read : List ModelGroup) → RepresentsListing listing.now read → IfOk result (λ f. f ≡ slice_get (tree_faults language read) 0) }
+{
+    let collected = members_of(alloc, listing, &summary.enclosing)?;
+    let members = collected.grouped(alloc, summary.choices)?;
+    let mut marks = vec![in alloc; 0; listing.names.symbols.len()]?;
+    let mut choices = 0;
+    for i in 0..listing.groups.len() {
+        let fault = group_fault(listing, language, summary, &members, &mut marks, choices, i);
+        if fault.is_some() {
+            return Ok(fault);
+        }
+        if begins_choice(&listing.groups[i].head) {
+            choices += 1;
+        }
+    }
+    Ok(None)
+}
+
+/// The summary of a listing whose statements pass the checks on the whole tree.
+///
+/// # Errors
+///
+/// The first fault of these checks, in reading order; if memory runs out, `OutOfMemory` with no file.
+pub fn check(alloc: Global, language: Language, listing: &Listing) -> Result<Summary, TreeFault>
+    requires shown { IsRepresented listing.now }
+    ensures summary { IfOk result (IsSummed listing.now) }
+    ensures few { IfOk result (λ s. length listing.now.groups.items < 2 ^ 32) }
+    ensures faultless { (read : List ModelGroup) → RepresentsListing listing.now read → IfOk result (λ s. None ≡ slice_get (tree_faults language read) 0) }
+    ensures fault { (read : List ModelGroup) → RepresentsListing listing.now read → IfErr result (λ f. (f ≡ no_memory) ⊎ (Some f ≡ slice_get (tree_faults language read) 0)) }
+{
+    let Ok(summary) = Summary::new(alloc, listing) else {
+        return Err(out_of_memory());
+    };
+    match first_fault(alloc, language, listing, &summary) {
+        Ok(None) => Ok(summary),
+        Ok(Some(fault)) => Err(fault),
+        Err(_) => Err(out_of_memory()),
+    }
+}

@@ -1,0 +1,24 @@
+use Rattle.std.proofs.Common.{false}
+use Rattle.kc_macros_model.specs.TreeExpansion.{tree_read}
+use Rattle.kc_macros.specs.Runs.{end_of}
+use Rattle.kc_expansion.specs.Expansions.{questions_of}
+use Rattle.kc_files.specs.TextViews.{texts_of}
+use Rattle.kc_expansion.specs.checker.ExpansionViews.{with_root}
+use Rattle.kc_expansion.specs.checker.ReadingViews.{file_run_of}
+use Rattle.kc_expansion.proofs.FileProgramLemmas.{if_ok}
+use Rattle.kc_expansion.proofs.ExpansionLemmas.{from_start, unused_of}
+use Rattle.kc_expansion.proofs.expansion.unused.Goals as goal
+
+pub returns-clause-unused : goal.returns-clause-unused
+returns-clause-unused g c =
+    let a = file_run_of (g.F.TreeFiles.contents c.args.files.now) c.new_reading-reading.result in
+    let b = file_run_of (g.F.TreeFiles.contents c.read_root-read.new.files) c.read_root-read.new.reading in
+    let root = c.args.root.now in
+    let answers = c.args.answers.now in
+    let e = end_of (λ text. with_root root text.value.items c.read_root-read.new.reading.expanded) c.read_root-read.result in
+    let s = from_start a b answers false (tree_read root) e c.new_reading-reading.ensures.known c.new_reading-reading.ensures.run
+    c.read_root-read.ensures.reads in
+    unused_of a.contents b answers root s.0 (λ text. with_root root text.value.items c.read_root-read.new.reading.expanded) c.read_root-read.result questions_of
+    c.unused_by.result (texts_of c.in_ok-questions.questions) (texts_of c.args.answered) (texts_of c.keep_not_asked.new.questions)
+    c.in_ok-questions.ensures c.keep_not_asked.ensures s.1 c.unused_by.ensures.ended (if_ok c.unused_by.result _ _
+    (λ w h. h (λ text. with_root root text.value.items c.read_root-read.new.reading.expanded)) c.unused_by.ensures.unused)

@@ -1,0 +1,13 @@
+//! The text that explains a symbol's value.
+#![tactic(auto)]
+
+mod explanation;
+mod part_texts;
+mod spelling;
+mod token_texts;
+mod words;
+
+pub use explanation::push_explanation;
+pub use part_texts::push_alternatives;
+pub use spelling::{SpelledToken, spelled_tokens};
+pub use token_texts::push_expression;

@@ -1,0 +1,125 @@
+-- Answers that a tree doesn't use.
+use Rattle.std.proofs.Common.{◌≡◌, ℕ, Bool, true, false, ◌||◌, cond, List, [], ◌∷◌, ◌++◌, Option, Some, None, Ok, Err, refl, sym, ap, ◌∙◌}
+use Rattle.std.specs.Prelude.{nat_lt, ◌-◌, bytes_eq, filter, is_some, not, reverse}
+use mathlib.Core.List.{reverse-cons}
+use Rattle.std.proofs.lemmas.List.Folds.{list_any-append}
+use Rattle.std.proofs.lemmas.Slice.Eq.{bytes_eq-Decides}
+use Rattle.kc_tree_model.specs.Limits.{is_in_list, without_repeats}
+use Rattle.kc_value.specs.declared.limits.TheConstants.{MAX_WORK}
+use Rattle.kc_macros_model.specs.declared.fault.MacroKind.TheVariants.{TooMany}
+use Rattle.kc_macros_model.specs.Programs.{Place, Answer, spend, report, ask, read_file, find_file, list_folder, Program, returns, fails, stops, does}
+use Rattle.kc_macros_model.specs.ReadingStates.{ExpandedFile}
+use Rattle.kc_macros_model.specs.TreeExpansion.{tree_read}
+use Rattle.kc_macros_model.specs.Worlds.{World, has_file, unless_unanswered, Outcome, after_event, unless_fault, outcome, expansion, not_in, questions_once, if_all_answered, unused}
+use Rattle.kc_macros_model.specs.ProgramLaws.{HasSameFiles}
+use Rattle.kc_macros_model.specs.TreeLaws.{UnusedAnswersChangeNothing}
+
+or_true : (b : Bool) → (b || true) ≡ true
+or_true true = refl
+or_true false = refl
+
+or_at : (c b d : Bool) → c ≡ true → (c || (b || d)) ≡ true
+or_at true b d e = refl
+or_at false b d e = absurd (let z : ⊥ = cc in z)
+
+-- a text of a list is in the list that is turned around, and in the one without repeats
+in_turned : (x : List ℕ) (xs : List (List ℕ)) → is_in_list x xs ≡ true → is_in_list x (reverse xs) ≡ true
+in_turned x [] e = absurd (let z : ⊥ = cc in z)
+in_turned x (y ∷ ys) e =
+    ap (is_in_list x) (reverse-cons y ys) ∙ list_any-append (λ z. bytes_eq z x) (reverse ys) (y ∷ []) ∙ by_test (bytes_eq y x) (in_turned x ys) e
+  where
+    by_test : (b : Bool) → (is_in_list x ys ≡ true → is_in_list x (reverse ys) ≡ true) → (b || is_in_list x ys) ≡ true
+        → (is_in_list x (reverse ys) || (b || false)) ≡ true
+    by_test true ih e = or_true (is_in_list x (reverse ys))
+    by_test false ih e = or_at (is_in_list x (reverse ys)) false false (ih e)
+
+in_once : (x : List ℕ) (xs : List (List ℕ)) → is_in_list x xs ≡ true → is_in_list x (without_repeats xs) ≡ true
+in_once x [] e = absurd (let z : ⊥ = cc in z)
+in_once x (y ∷ ys) e = by_tests (is_in_list y ys) (bytes_eq y x) refl refl (in_once x ys) e
+  where
+    by_tests : (c b : Bool) → is_in_list y ys ≡ c → bytes_eq y x ≡ b → (is_in_list x ys ≡ true → is_in_list x (without_repeats ys) ≡ true)
+        → (b || is_in_list x ys) ≡ true → is_in_list x (cond c (without_repeats ys) (without_repeats ys ++ y ∷ [])) ≡ true
+    by_tests true true f g ih e = ih (ap (λ z. is_in_list z ys) (sym ((bytes_eq-Decides y x).0 g)) ∙ f)
+    by_tests true false f g ih e = ih e
+    by_tests false true f g ih e =
+        list_any-append (λ z. bytes_eq z x) (without_repeats ys) (y ∷ []) ∙ ap (λ b. is_in_list x (without_repeats ys) || (b || false)) g
+        ∙ or_true (is_in_list x (without_repeats ys))
+    by_tests false false f g ih e =
+        list_any-append (λ z. bytes_eq z x) (without_repeats ys) (y ∷ []) ∙ or_at (is_in_list x (without_repeats ys)) (bytes_eq y x) false (ih e)
+
+-- a text that fails a test isn't among those of a list that pass it
+absent_failing : (p : List ℕ → Bool) (x : List ℕ) (xs : List (List ℕ)) → p x ≡ false → is_in_list x (filter p xs) ≡ false
+absent_failing p x [] e = refl
+absent_failing p x (y ∷ ys) e = by_tests (p y) (bytes_eq y x) refl refl (absent_failing p x ys e)
+  where
+    by_tests : (c b : Bool) → p y ≡ c → bytes_eq y x ≡ b → is_in_list x (filter p ys) ≡ false → is_in_list x (cond c (y ∷ filter p ys) (filter p ys)) ≡ false
+    by_tests true true f g ih = absurd (let z : true ≡ false = sym f ∙ ap p ((bytes_eq-Decides y x).0 g) ∙ e in let w : ⊥ = cc in w)
+    by_tests true false f g ih = ap (λ b. b || is_in_list x (filter p ys)) g ∙ ih
+    by_tests false b f g ih = ih
+
+-- the second world answers these questions as the first does
+abbrev SameAnswers : World → World → List (List ℕ) → Type 0
+SameAnswers w less qs = (question : List ℕ) → is_in_list question qs ≡ true → less.answer question ≡ w.answer question
+
+module _ {A : Type 0} (w less : World) (same : HasSameFiles w less) where
+  spent_alike : (left : ℕ) (at : Place) (work : ℕ) (k : Unit {0} → Program A)
+      → ((n : ℕ) → SameAnswers w less (outcome false w n (k (tt {0}))).questions → outcome true less n (k (tt {0})) ≡ outcome true w n (k (tt {0})))
+      → SameAnswers w less (outcome false w left (does (spend at work) k)).questions
+      → outcome true less left (does (spend at work) k) ≡ outcome true w left (does (spend at work) k)
+  spent_alike left at work k ih = by_test (nat_lt left work)
+    where
+      spent : Bool → World → Bool → Outcome A
+      spent all v b = unless_fault left (cond b (Err (record { at = at; kind = TooMany; text = [] })) (Ok (left - work)))
+          (λ n. after_event (spend at work) (outcome all v n (k (tt {0}))))
+
+      by_test : (b : Bool) → SameAnswers w less (spent false w b).questions → spent true less b ≡ spent true w b
+      by_test true h = refl
+      by_test false h = ap (after_event (spend at work)) (ih (left - work) h)
+
+  asked_alike : (left : ℕ) (at : Place) (question : List ℕ) (k : Option Answer → Program A)
+      → (SameAnswers w less (outcome false w left (k (w.answer question))).questions
+      → outcome true less left (k (w.answer question)) ≡ outcome true w left (k (w.answer question)))
+      → SameAnswers w less (question ∷ (outcome false w left (k (w.answer question))).questions)
+      → outcome true less left (does (ask at question) k) ≡ outcome true w left (does (ask at question) k)
+  asked_alike left at question k ih h =
+      let first : is_in_list question (question ∷ (outcome false w left (k (w.answer question))).questions) ≡ true =
+      ap (λ b. b || is_in_list question (outcome false w left (k (w.answer question))).questions) ((bytes_eq-Decides question question).1 refl) in
+      ap (asked less) (h question first) ∙ by_answer (w.answer question) (ih (λ q i. h q (ap (λ b. bytes_eq question q || b) i ∙ or_true (bytes_eq question q))))
+    where
+      asked : World → Option Answer → Outcome A
+      asked v a = unless_fault left (unless_unanswered at question left a) (λ n. after_event (ask at question) (outcome true v n (k a)))
+
+      by_answer : (a : Option Answer) → outcome true less left (k a) ≡ outcome true w left (k a) → asked less a ≡ asked w a
+      by_answer None e = refl
+      by_answer (Some a) e = ap (after_event (ask at question)) e
+
+  -- a program has the same outcome where the questions are answered alike that it asks where some may be open
+  pub alike : (left : ℕ) (p : Program A) → SameAnswers w less (outcome false w left p).questions → outcome true less left p ≡ outcome true w left p
+  alike left (returns x) h = refl
+  alike left (fails f) h = refl
+  alike left stops h = refl
+  alike left (does (report n) k) h = ap (after_event (report n)) (alike left (k (tt {0})) h)
+  alike left (does (read_file path) k) h =
+      ap (λ r. after_event (read_file path) (outcome true less left (k r))) (same.bytes path) ∙ ap (after_event (read_file path))
+      (alike left (k (w.bytes path)) h)
+  alike left (does (find_file path) k) h =
+      ap (λ r. after_event (find_file path) (outcome true less left (k r))) (same_there path) ∙ ap (after_event (find_file path))
+      (alike left (k (has_file w path)) h)
+    where
+      same_there : (path : List ℕ) → has_file less path ≡ has_file w path
+      same_there path = ap (λ o. is_some o || less.unreadable path) (same.bytes path) ∙ ap (λ b. is_some (w.bytes path) || b) (same.unreadable path)
+  alike left (does (list_folder folder) k) h =
+      ap (λ r. after_event (list_folder folder) (outcome true less left (k r))) (same.names folder) ∙ ap (after_event (list_folder folder))
+      (alike left (k (w.names folder)) h)
+  alike left (does (spend at work) k) h = spent_alike left at work k (λ n. alike n (k (tt {0}))) h
+  alike left (does (ask at question) k) h = asked_alike left at question k (alike left (k (w.answer question))) h
+
+pub unused_changes_nothing : UnusedAnswersChangeNothing
+unfolding expansion unused
+unused_changes_nothing w less root answered listed none u same h =
+    let o : Outcome (List ExpandedFile) = outcome false w MAX_WORK (tree_read root) in
+    let are : not_in (questions_once o) answered ≡ listed =
+    (let z : Ok (not_in (questions_once o) answered) ≡ Ok listed = sym (ap (λ r. if_all_answered r (not_in (questions_once o) answered)) none) ∙ u in cc) in
+    alike w less same MAX_WORK (tree_read root)
+    (λ q i. h q (ap (is_in_list q) (sym are)
+    ∙ absent_failing (λ (x : List ℕ). not (is_in_list x (questions_once o))) q answered (ap not (in_once q (reverse o.questions) (in_turned q o.questions i)))))

@@ -1,6 +1,0 @@
-use Rattle.std.proofs.Common.{take}
-use Rattle.kc_tree.specs.checker.Marks.{WereMarked}
-use Rattle.kc_tree.proofs.marks.mark_members.Given as goal
-
-abbrev pub invariant-loop-member : goal.invariant-loop-member
-invariant-loop-member l = WereMarked l.initial.marks.items (take l.member-index l.members) l.mark l.marks.items

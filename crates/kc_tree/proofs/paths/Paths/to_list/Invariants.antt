@@ -1,6 +1,0 @@
-use Rattle.std.proofs.Common.{◌≡◌, map, take}
-use Rattle.std.specs.Prelude.{string_bytes}
-use Rattle.kc_tree.proofs.paths.Paths.to_list.Given as goal
-
-abbrev pub invariant-loop-path : goal.invariant-loop-path
-invariant-loop-path l = map string_bytes l.list.items ≡ map string_bytes (take l.path-index l.path-items)

@@ -1,8 +1,0 @@
-use Rattle.std.proofs.Common.{◌≡◌, drop}
-use Rattle.std.specs.Prelude.{filter_map, slice_get}
-use Rattle.kc_expr.specs.between.Arena.{Exprs}
-use Rattle.kc_tree.specs.checker.Summaries.{type_in}
-use Rattle.kc_tree.proofs.summary.first_type.Given as goal
-
-abbrev pub invariant-loop-i : goal.invariant-loop-i
-invariant-loop-i l = (e : Exprs) → slice_get (filter_map (type_in e) l.lines) 0 ≡ slice_get (filter_map (type_in e) (drop l.i l.lines)) 0

@@ -1,0 +1,6 @@
+pub mod FittingSteps
+pub mod WholeTexts
+pub mod PlainTexts
+pub mod SafeBytes
+pub mod WriterSteps
+pub mod ObjectLines

@@ -1,0 +1,2 @@
+pub mod MessageViews
+pub mod Pieces

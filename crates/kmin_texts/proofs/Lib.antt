@@ -1,0 +1,4 @@
+pub mod CycleTexts
+pub mod ChangeBounds
+pub mod NearSteps
+pub mod OneLines

@@ -1,0 +1,5 @@
+pub mod NearNames
+pub mod Texts
+pub mod LineTexts
+pub mod OneLines
+pub mod between

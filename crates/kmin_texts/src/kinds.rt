@@ -1,0 +1,62 @@
+//! What a message says of a line, by its kind.
+ghost use Rattle.std.specs.Prelude.{◌≡◌, IfOk, string_bytes};
+ghost use Rattle.kc_tokens.specs.Token.{lexemes_from};
+ghost use Rattle.kc_dotconfig_model.specs.between.Prefixes.{prefix_bytes};
+ghost use Rattle.kmin_texts.specs.LineTexts.{tree_line_text, file_line_text};
+ghost use Rattle.kmin_texts.specs.between.NamedSymbols.{notice_text, notice_names};
+ghost use Rattle.kmin_texts.specs.between.Sayings.{said, said_names};
+
+use crate::line_words::{first_run, named_on};
+use crate::sayings::Saying;
+use crate::tree_lines::{bad_token_text, first_token, left_out_text};
+use kc_dotconfig_model::{LoadKind, NoticeKind, Prefix, trimmed, value_parts};
+use kc_tokens::Language;
+use kc_tree_model::TreeKind;
+use std::alloc::{AllocError, Global};
+
+/// What the message of a fault says of the line of a tree that has it. Empty for a kind whose message says nothing of the line.
+pub fn tree_line_text(
+    alloc: Global,
+    language: Language,
+    kind: TreeKind,
+    line: &str,
+) -> Result<String, AllocError>
+    ensures { IfOk result (λ text. string_bytes text ≡ tree_line_text kind line.now (lexemes_from language 0 0 line.now)) }
+{
+    match kind {
+        TreeKind::UnknownStatement | TreeKind::StrayEnd | TreeKind::Malformed => {
+            String::from_str(alloc, first_token(alloc, language, line)?)
+        }
+        TreeKind::LeftOut => left_out_text(alloc, language, line),
+        TreeKind::BadToken => bad_token_text(alloc, language, line),
+        _ => Ok(String::new(alloc)),
+    }
+}
+
+/// What the message of a fault says of the line of a configuration file that has it.
+pub fn file_line_text(alloc: Global, kind: LoadKind, line: &[u8]) -> Result<String, AllocError>
+    ensures { IfOk result (λ text. string_bytes text ≡ file_line_text kind line.now) }
+{
+    match kind {
+        LoadKind::Malformed => first_run(alloc, line),
+        _ => Ok(String::new(alloc)),
+    }
+}
+
+/// What a notice says of its line, without a name that is near.
+pub fn notice_saying<'a>(kind: NoticeKind, prefix: &Prefix, line: &'a str) -> Saying<'a>
+    ensures text { said result ≡ notice_text kind (prefix_bytes prefix.now) line.now }
+    ensures names { said_names result ≡ notice_names kind (prefix_bytes prefix.now) line.now }
+{
+    match kind {
+        NoticeKind::UnknownSymbol => match named_on(prefix, line) {
+            Some(name) => Saying::Unknown { name, near: None },
+            None => Saying::Nothing,
+        },
+        NoticeKind::NotOfType => match value_parts(prefix, trimmed(line)) {
+            Some((name, value)) => Saying::Value { name, value },
+            None => Saying::Nothing,
+        },
+        _ => Saying::Nothing,
+    }
+}
