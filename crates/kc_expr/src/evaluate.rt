@@ -195,7 +195,7 @@ pub(crate) fn value_of<L: Lookup>(store: &Store, index: usize, lookup: &L) -> Tr
     value_at(store, index, lookup)
 }
 
-/// The value of the expression of a node, whatever it is.
+/// The value of the expression of a node, whatever it is. A chain of `&&` or `||`, which group from the left, is gone down by a loop.
 #[inline(never)]
 fn value_at<L: Lookup>(store: &Store, index: usize, lookup: &L) -> Tri
     requires there { index < length store.now.nodes.items }

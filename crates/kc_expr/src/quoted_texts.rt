@@ -26,7 +26,7 @@ fn is_quote(byte: u8) -> bool
 }
 
 /// The text that a quoted token represents: the characters between its quotes, a pair of a `\` and a character being that
-/// character. An `Err` means out of memory.
+/// character. A text without quotes, which no token is, represents itself. An `Err` means out of memory.
 pub fn quoted_text(alloc: Global, text: &str) -> Result<String, AllocError>
     ensures { IfOk result (λ t. string_bytes t ≡ quoted_text text.now) }
 {

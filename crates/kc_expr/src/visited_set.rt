@@ -5,7 +5,8 @@ ghost use Rattle.kc_expr.specs.between.Visits.{is_visited};
 use std::alloc::{AllocError, Global};
 use std::marker::Model;
 
-/// The set of the expressions of an arena that were visited since the last `begin`. Contracts see a flag for each expression.
+/// The set of the expressions of an arena that were visited since the last `begin`. Contracts see a flag for each expression, which
+/// is kept as the number of the turn in which it was last visited; a turn is what comes between one `begin` and the next.
 #[derive(Drop)]
 pub struct VisitedSet {
     stamps: Vec<u32>,

@@ -2,7 +2,7 @@
 ghost use Rattle.std.specs.Prelude.{◌≡◌, ◌<◌, ◌≤◌, IfOk, length};
 ghost use Rattle.std.specs.Cow.{cow_slice_items};
 ghost use Rattle.kc_tree_model.specs.LogicalLines.{is_continued};
-ghost use Rattle.kc_lines.specs.between.LinePlaces.{line_of, IsLineAt, IsLogicalAt};
+ghost use Rattle.kc_lines.specs.between.LinePlaces.{line_of, BeginsAt, IsLineAt, IsLogicalAt};
 
 use bstr::ByteSlice;
 use std::alloc::{AllocError, Global};
@@ -65,6 +65,7 @@ pub struct LogicalLine<'a> {
 pub fn logical_at(alloc: Global, bytes: &[u8], at: usize) -> Result<LogicalLine<'_>, AllocError>
     requires there { at < length bytes.now }
     ensures line { IfOk result (λ l. IsLogicalAt bytes.now at (cow_slice_items l.text) l.next l.lines) }
+    ensures part { IfOk result (λ l. BeginsAt bytes.now at l.text) }
 {
     let line = physical_at(bytes, at);
     if is_joined(bytes, at, line) {

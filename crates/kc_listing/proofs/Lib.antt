@@ -3,6 +3,7 @@ pub mod SymbolSteps
 pub mod ListingGrowth
 pub mod AppendSteps
 pub mod OpenBlockSteps
+pub mod FileTexts
 pub mod FileSteps
 pub mod HeadSteps
 pub mod ReaderSteps

@@ -1,22 +1,25 @@
 //! Reads a line.
 ghost use Rattle.std.specs.Cow.{cow_slice_items};
-ghost use Rattle.std.specs.Prelude.{◌≡◌, List, Some};
+ghost use Rattle.std.specs.Prelude.{◌≡◌, ◌≤◌, List, Some, false, length, nat_lt, slice_range};
+ghost use Rattle.kc_lines.specs.between.LinePlaces.{BeginsAt};
 ghost use Rattle.kc_tokens.specs.Token.{lexemes_of};
 ghost use Rattle.kc_tree_model.specs.Blocks.{Group};
 ghost use Rattle.kc_tree_model.specs.Limits.{FileSource};
 ghost use Rattle.kc_tree_model.specs.LogicalLines.{is_help, is_help_word};
 ghost use Rattle.kc_tree_model.specs.TreeReading.{statement_of_tokens, statement_by_keyword};
+ghost use Rattle.kc_value.specs.declared.limits.TheConstants.{MAX_LINE_BYTES};
 ghost use Rattle.kc_listing.specs.checker.StateViews.{Describes, file_source_of};
 ghost use Rattle.kc_listing.specs.checker.StatementResults.{begins_with, ReturnsStatementRead};
 ghost use Rattle.kc_listing.specs.checker.Steps.{ReturnsLineRead};
 
 use super::placement::fault_before_form;
-use super::state::{ReaderState, SourceFiles, Step};
+use super::state::{ReaderState, SourceFile, SourceFiles, Step};
 use super::statements::push_statement;
-use super::text::text_of;
+use super::text::{text_between, text_of};
 use kc_statements::{keyword_of, statement_of, tree_kind_of};
 use kc_tokens::{Language, Token, push_tokens};
 use kc_tree_model::{Keyword, TreeKind};
+use kc_value::MAX_LINE_BYTES;
 use std::borrow::CowSlice;
 
 /// Whether a keyword begins a help text.
@@ -73,22 +76,19 @@ fn read_tokens(
     read_form(read, language, file, line, keyword, rest)
 }
 
-/// Reads a logical line that isn't of a help text. `found` is emptied and takes its tokens, so that lines can share it.
-pub(crate) fn read_line<'a>(
+/// Reads the text of a logical line that isn't of a help text. `found` is emptied and takes its tokens, so that lines can share it.
+fn read_text<'a>(
     read: &mut ReaderState,
     from: SourceFiles<'_>,
     file: u32,
     line: u32,
-    bytes: &'a [u8],
+    text: &'a str,
     found: &mut Vec<Token<'a>>,
 ) -> Result<Step, TreeKind>
+    requires short { nat_lt MAX_LINE_BYTES (length text.now) ≡ false }
     ensures { (before : List Group) → Describes (file_source_of from.entry) read.old before
-        → ReturnsLineRead (file_source_of from.entry) file line bytes.now before read.new result }
+        → ReturnsLineRead (file_source_of from.entry) file line text.now before read.new result }
 {
-    let text = match text_of(bytes) {
-        Ok(text) => text,
-        Err(kind) => return Err(kind),
-    };
     found.clear();
     let language = from.texts.language();
     match push_tokens(language, text, found) {
@@ -108,24 +108,54 @@ fn read_joined(
     ensures { (before : List Group) → Describes (file_source_of from.entry) read.old before
         → ReturnsLineRead (file_source_of from.entry) file line bytes.now before read.new result }
 {
+    let text = match text_of(bytes) {
+        Ok(text) => text,
+        Err(kind) => return Err(kind),
+    };
     let mut found = Vec::new(read.alloc);
-    read_line(read, from, file, line, bytes, &mut found)
+    read_text(read, from, file, line, text, &mut found)
 }
 
-/// Reads a logical line that isn't of a help text, whether it is one line of the file or joined of several.
+/// Reads a logical line that is one line of a file, from one place in it to another, and isn't of a help text.
+fn read_part<'a>(
+    read: &mut ReaderState,
+    from: SourceFiles<'_>,
+    file: SourceFile<'a>,
+    line: u32,
+    begin: usize,
+    end: usize,
+    found: &mut Vec<Token<'a>>,
+) -> Result<Step, TreeKind>
+    requires order { begin ≤ end }
+    requires within { end ≤ length file.bytes.now }
+    ensures { (before : List Group) → Describes (file_source_of from.entry) read.old before
+        → ReturnsLineRead (file_source_of from.entry) file.entry.number line (slice_range file.entry.bytes.now begin end) before read.new result }
+{
+    match text_between(file, begin, end) {
+        Ok(text) => read_text(read, from, file.number, line, text, found),
+        Err(kind) => Err(kind),
+    }
+}
+
+/// Reads a logical line that begins at a place of a file and isn't of a help text, whether it is one line of the file or joined of
+/// several.
 pub(crate) fn read_logical<'a>(
     read: &mut ReaderState,
     from: SourceFiles<'_>,
-    file: u32,
+    file: SourceFile<'a>,
     line: u32,
+    at: usize,
     text: &CowSlice<'a, u8>,
     found: &mut Vec<Token<'a>>,
 ) -> Result<Step, TreeKind>
+    requires part { BeginsAt file.bytes.now at text.now }
     ensures { (before : List Group) → Describes (file_source_of from.entry) read.old before
-        → ReturnsLineRead (file_source_of from.entry) file line (cow_slice_items text.now) before read.new result }
+        → ReturnsLineRead (file_source_of from.entry) file.entry.number line (cow_slice_items text.now) before read.new result }
 {
     match text {
-        CowSlice::Borrowed(bytes) => read_line(read, from, file, line, bytes, found),
-        CowSlice::Owned(bytes) => read_joined(read, from, file, line, bytes.as_slice()),
+        CowSlice::Borrowed(bytes) => {
+            read_part(read, from, file, line, at, at + bytes.len(), found)
+        }
+        CowSlice::Owned(bytes) => read_joined(read, from, file.number, line, bytes.as_slice()),
     }
 }

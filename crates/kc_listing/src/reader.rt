@@ -10,7 +10,7 @@ use super::fault::{fault_at, fault_or_out_of_memory, out_of_memory};
 use super::line::read_logical;
 use super::sources::{close_source, end_of_file, open_source};
 use super::state::{ReaderState, SourceFile, SourceFiles, Step};
-use super::text::text_of;
+use super::text::text_between;
 use kc_lines::{first_columns, is_of_help, logical_at, physical_at};
 use kc_tokens::Token;
 use kc_tree_model::TreeFault;
@@ -32,11 +32,10 @@ fn read_indented(
     let mut lines = 0;
     'help: while begin < file.bytes.len() {
         let line = physical_at(file.bytes, begin);
-        let text = &file.bytes[begin..line.end];
-        if !is_of_help(text, columns) {
+        if !is_of_help(&file.bytes[begin..line.end], columns) {
             return Ok((begin, lines));
         }
-        if let Err(kind) = text_of(text) {
+        if let Err(kind) = text_between(file, begin, line.end) {
             return Err(fault_at(file.number, number + lines, kind));
         }
         begin = line.next;
@@ -100,7 +99,7 @@ fn read_statement<'a>(
     };
     let next = line.next;
     let lines = line.lines as u32;
-    match read_logical(read, from, file.number, number, &line.text, found) {
+    match read_logical(read, from, file, number, at, &line.text, found) {
         Err(kind) => Err(fault_or_out_of_memory(file.number, number, kind)),
         Ok(Step::Next) => Ok((next, lines)),
         Ok(Step::Help) => {

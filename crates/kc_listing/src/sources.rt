@@ -11,6 +11,7 @@ use super::fault::{fault_at, fault_or_out_of_memory, out_of_memory};
 use super::listing::GroupHead;
 use super::open_blocks::{innermost, is_path_open, open_file_count};
 use super::state::{ReaderState, SourceFile, SourceFiles};
+use super::text::whole_text;
 use kc_tree_model::{TreeFault, TreeKind};
 use kc_value::{MAX_FILES, MAX_OPEN_FILES, MAX_TREE_BYTES, Text};
 
@@ -23,8 +24,16 @@ pub(crate) fn file_of<'a>(from: SourceFiles<'a>, path: &str) -> Result<SourceFil
         return Err(TreeKind::OutOfMemory);
     };
     match from.texts.get(path) {
-        Some(bytes) => Ok(SourceFile { number, bytes }),
-        None if from.absent_is_empty => Ok(SourceFile { number, bytes: b"" }),
+        Some(bytes) => Ok(SourceFile {
+            number,
+            bytes,
+            text: whole_text(bytes),
+        }),
+        None if from.absent_is_empty => Ok(SourceFile {
+            number,
+            bytes: b"",
+            text: "",
+        }),
         None => Err(TreeKind::MissingFile),
     }
 }

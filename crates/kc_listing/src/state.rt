@@ -1,5 +1,5 @@
 //! The state of the reader.
-ghost use Rattle.std.specs.Prelude.{◌≤◌};
+ghost use Rattle.std.specs.Prelude.{◌≡◌, ◌≤◌, length, take};
 ghost use Rattle.kc_value.specs.declared.limits.TheConstants.{MAX_CHOICES, MAX_FILES, MAX_TREE_BYTES};
 
 use super::listing::Listing;
@@ -37,11 +37,13 @@ pub(crate) struct SourceFiles<'a> {
     pub absent_is_empty: bool,
 }
 
-/// A file of a Kconfig tree: its number, and its bytes.
+/// A file of a Kconfig tree: its number, its bytes, and these as a text, which is empty if they aren't UTF-8.
 #[derive(Clone, Copy)]
 pub(crate) struct SourceFile<'a> {
     pub number: u32,
     pub bytes: &'a [u8],
+    pub text: &'a str,
+    ghost front: { text.now ≡ take (length text.now) bytes.now },
 }
 
 /// The next thing to read after a line: the next line, a help text, or a sourced file.

@@ -3,6 +3,7 @@ pub mod Digits
 pub mod EscapedBytes
 pub mod EscapeSteps
 pub mod HexLaws
+pub mod NameHashSteps
 pub mod NumberLaws
 pub mod NumberSpelling
 pub mod QuotedLaws

@@ -1,5 +1,6 @@
 pub mod Kinds
 pub mod Lines
+pub mod NameHash
 pub mod Number
 pub mod NumberGrammar
 pub mod Streams

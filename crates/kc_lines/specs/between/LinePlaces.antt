@@ -1,5 +1,7 @@
 -- Physical lines, logical lines and help texts, by places in the bytes of a file.
 use Rattle.std.specs.Prelude.{◌≡◌, ℕ, suc, ◌+◌, ◌-◌, ◌<◌, ◌≤◌, ◌++◌, Bool, ◌||◌, nat_le, List, ◌∷◌, length, drop, slice_range, take_while, if◌then◌else◌}
+use Rattle.std.specs.declared.borrow.CowSlice.{CowSlice}
+use Rattle.std.specs.declared.borrow.CowSlice.TheVariants as slice
 use Rattle.kc_tree_model.specs.LogicalLines.{PhysicalLine as LineView, split_at_newlines, physical_lines, is_blank, indentation, joined_bytes, continuation_count, help_line_count}
 use Rattle.kc_lines.specs.declared.lines.PhysicalLine.{PhysicalLine}
 
@@ -33,6 +35,11 @@ pub record IsLogicalAt (bytes : List ℕ) (at : ℕ) (text : List ℕ) (next lin
   pub forward : at < next
   pub within : next ≤ length bytes
   pub few : lines ≤ next - at
+
+-- a text that is a part of a file's bytes begins at `at` there; one of its own may be any
+abbrev pub BeginsAt : {Z : Type 0} → (bytes : List ℕ) (at : ℕ) → CowSlice ℕ Z → Type 0
+BeginsAt bytes at (slice.Borrowed text) = (at + length text.now ≤ length bytes) × (text.now ≡ slice_range bytes at (at + length text.now))
+BeginsAt bytes at (slice.Owned text) = Unit {0}
 
 -- the logical line that begins at `at` goes on at `begin`: it has `lines` physical lines before `begin`, each joined with the
 -- next line by a backslash, and `text` is what they give
