@@ -1,14 +1,21 @@
 -- Ends of runs, from what the parts of a run ensure.
-use Rattle.std.proofs.Common.{◌≡◌, ◌≢◌, ◌==◌, eqb-true, true≢false, map, false, ◌⊎◌, ℕ, true, List, [], ◌∷◌, ◌++◌, Option, Ok, length, inl, inr, refl, subst, arith}
+use Rattle.std.proofs.Common.{◌≡◌, ◌≢◌, ◌≤◌, ◌==◌, eqb-true, true≢false, map, Bool, false, ◌⊎◌, ℕ, true, List, [], ◌∷◌, ◌++◌, Option, Ok, length, inl, inr, refl, subst, arith}
 use Rattle.std.proofs.lemmas.Bool.Decides.{eqb_tells}
 use Rattle.std.specs.Io.KnownBytes.{Appends}
 use Rattle.kmin_report.specs.Reports.{last_lines}
-use Rattle.kmin_report.specs.StandardError.{TakesLines}
+use Rattle.kmin_report.specs.StandardError.{TakesLine, TakesLines}
+use Rattle.kmin_report.proofs.WriterLemmas.{lines_append, lines_one}
+use Rattle.kc_files.specs.TreeContents.{FileContent}
+use Rattle.kmin_lines.specs.WordLines.{are_utf8}
+use Rattle.kmin_lines.specs.WordFiles.{files_of}
+use Rattle.kmin_trees.specs.ListFiles.{StopsReadingList, too_large, unread, for_memory, malformed_line}
+use Rattle.kmin_trees.specs.WordFiles.{AreFilesRead, Represent, StopsAtWords, is_input_read_for}
+use Rattle.kmin_trees.specs.WordFiles as stops
 use Rattle.kmin_report.specs.declared.run_error.RunError.{RunError}
 use Rattle.kmin_report.specs.declared.run_error.RunError.TheVariants.{Tree, Configuration, Failed, Memory}
 use Rattle.kmin_report.specs.between.RunErrors.{status_of}
 use Rattle.kmin_words.specs.Jobs.{Settings, Questions, Task}
-use Rattle.kmin_words.specs.Parses.{AreParsedAs, AreReadAs}
+use Rattle.kmin_words.specs.Parses.{AreParsedBeside, AreReadAs}
 use Rattle.kmin_words.specs.WordOrder.{command_first}
 use Rattle.kmin_words.specs.declared.command_line.ParsedWords.{ParsedWords}
 use Rattle.kmin_trees.specs.FileContents.{Surroundings}
@@ -20,7 +27,7 @@ use Rattle.kmin_run.specs.Statuses.{status_of_list}
 use Rattle.kmin_run.specs.Stops.{Stops}
 use Rattle.kmin_run.specs.TidyRuns.{Outputs}
 use Rattle.kmin_run.specs.Runs as runs
-use Rattle.kmin_run.specs.Runs.{AskForChanges, AskForTidying, BundleEnds, Ends, Input, JobEnds, MayChangeFiles, QuestionsEnd, WordsEnd, IsOfFault, IsTidying}
+use Rattle.kmin_run.specs.Runs.{AreReadForChanges, AreReadForTidying, AskForChanges, AskForTidying, BundleEnds, Ends, Input, JobEnds, MayChangeFiles, QuestionsEnd, ReadEnd, WordsEnd, IsOfFault, IsTidying}
 
 -- a status is 0 or 1, or it is another one
 zero_or_one : (status : ℕ) → ((status ≡ 0) ⊎ (status ≡ 1)) ⊎ ((status ≢ 0) × (status ≢ 1))
@@ -119,16 +126,80 @@ module _ (known : Surroundings) (input input_after : Input) (old new : Outputs) 
   with_words f (word ∷ words) some ends = ends
 
 -- words are read as what they are parsed as once the command is first
-pub read_first : (words ordered : List (List ℕ)) (what : ParsedWords) → ordered ≡ command_first words → AreParsedAs ordered what → AreReadAs words what
-read_first words ordered what first are = subst (λ (given : List (List ℕ)). AreParsedAs given what) first are
+pub read_first : (is_input_read : Bool) (words ordered : List (List ℕ)) (what : ParsedWords) → ordered ≡ command_first words
+    → AreParsedBeside is_input_read ordered what → AreReadAs is_input_read words what
+read_first is_input_read words ordered what first are = subst (λ (given : List (List ℕ)). AreParsedBeside is_input_read given what) first are
 
-module _ (P : Type 0) (words : List (List ℕ)) (what : ParsedWords) (are : AreReadAs words what) where
+module _ (P : Type 0) (is_input_read : Bool) (words : List (List ℕ)) (what : ParsedWords) (are : AreReadAs is_input_read words what) where
   -- what was parsed of the words changes files, if anything does
-  pub asked : P ⊎ MayChangeFiles what → P ⊎ AskForChanges words
+  pub asked : P ⊎ MayChangeFiles what → P ⊎ AreReadForChanges is_input_read words
   asked (inl unchanged) = inl unchanged
   asked (inr may) = inr (what, are, may)
 
   -- what was parsed of the words is `tidy`, if something was written beside a refused file
-  pub tidied : P ⊎ IsTidying what → P ⊎ AskForTidying words
+  pub tidied : P ⊎ IsTidying what → P ⊎ AreReadForTidying is_input_read words
   tidied (inl unwritten) = inl unwritten
   tidied (inr tidies) = inr (what, are, tidies)
+
+-- the status of a run that a file of words ended
+list_at_most_six : (content : FileContent) (path : List ℕ) (status : ℕ) (lines : List (List ℕ)) → StopsReadingList content path status lines → status ≤ 6
+list_at_most_six content path status lines (too_large front rest k l s e) = omega arith
+list_at_most_six content path status lines (unread s e) = omega arith
+list_at_most_six content path status lines (for_memory s e) = omega arith
+
+pub words_at_most_six : (content_of : List ℕ → FileContent) (left : Option (List ℕ)) (words : List (List ℕ)) (status : ℕ) (lines : List (List ℕ))
+    → StopsAtWords content_of left words status lines → status ≤ 6
+words_at_most_six content_of left words status lines (stops.twice n s e) = omega arith
+words_at_most_six content_of left words status lines (stops.unread front back files path a r h) = list_at_most_six _ path status lines h
+words_at_most_six content_of left words status lines (stops.malformed files r u s e) = omega arith
+words_at_most_six content_of left words status lines (stops.for_memory s e) = omega arith
+
+module _ (known : Surroundings) (left : Option (List ℕ)) (words : List (List ℕ)) where
+  -- a run that a file of words ended, with its last lines reported
+  pub words_stopped : (old : Outputs) (status : ℕ) (taken taken_after : Option (List ℕ)) (failed failed_after : ℕ)
+      → (lines : List (List ℕ)) × StopsAtWords known.content left words status lines × TakesLines taken failed (lines ++ last_lines status) taken_after failed_after
+      → (lines : List (List ℕ)) × WordsEnd known words left old old lines status × TakesLines taken failed lines taken_after failed_after
+  words_stopped old status taken taken_after failed failed_after h = (h.0 ++ last_lines status, runs.stopped h.0 h.1 refl refl, h.2)
+
+  -- a run that a word in a file ended, which isn't UTF-8
+  pub words_malformed : (old : Outputs) (status : ℕ) (taken middle taken_after : Option (List ℕ)) (failed failed_middle failed_after : ℕ) (files : List (List ℕ))
+      → AreFilesRead known.content left (files_of words) files → are_utf8 files ≡ false → status ≡ 2 → TakesLines taken failed [] middle failed_middle
+      → TakesLine middle failed_middle malformed_line taken_after failed_after
+      → (lines : List (List ℕ)) × WordsEnd known words left old old lines status × TakesLines taken failed lines taken_after failed_after
+  words_malformed old status taken middle taken_after failed failed_middle failed_after files r u s before h = (
+    malformed_line ∷ [],
+    runs.stopped (malformed_line ∷ []) (stops.malformed files r u s refl) refl (rw s refl),
+    lines_append taken middle failed failed_middle [] (malformed_line ∷ []) taken_after failed_after before
+        (lines_one middle taken_after failed_middle failed_after malformed_line h),
+  )
+
+  -- a run that ended since memory ran out after the files of words were read
+  pub words_forgotten : (old : Outputs) (status : ℕ) (taken middle taken_after : Option (List ℕ)) (failed failed_middle failed_after : ℕ) → status ≡ 6
+      → TakesLines taken failed [] middle failed_middle → TakesLines middle failed_middle (last_lines status) taken_after failed_after
+      → (lines : List (List ℕ)) × WordsEnd known words left old old lines status × TakesLines taken failed lines taken_after failed_after
+  words_forgotten old status taken middle taken_after failed failed_middle failed_after s before h = (
+    last_lines status,
+    runs.stopped [] (stops.for_memory s refl) refl refl,
+    lines_append taken middle failed failed_middle [] (last_lines status) taken_after failed_after before h,
+  )
+
+  module _ (is_input_read : Bool) (is : is_input_read ≡ is_input_read_for words) (represented : List (List ℕ))
+      (represent : Represent known.content left words represented) where
+    -- a run ends as one on the words that its words represent does
+    pub words_ended : (old new : Outputs) (status : ℕ) (taken middle taken_after : Option (List ℕ)) (failed failed_middle failed_after : ℕ)
+        (left_after : Option (List ℕ)) → (is_input_read_for words ≡ false → left_after ≡ left) → TakesLines taken failed [] middle failed_middle
+        → (lines : List (List ℕ)) × ReadEnd known is_input_read represented left_after old new lines status
+        × TakesLines middle failed_middle lines taken_after failed_after
+        → (lines : List (List ℕ)) × WordsEnd known words left old new lines status × TakesLines taken failed lines taken_after failed_after
+    words_ended old new status taken middle taken_after failed failed_middle failed_after left_after untouched before h = (
+      h.0,
+      runs.represented represented left_after represent untouched
+          (subst (λ (b : Bool). ReadEnd known b represented left_after old new h.0 status) is h.1),
+      lines_append taken middle failed failed_middle [] h.0 taken_after failed_after before h.2,
+    )
+
+    pub changes_asked : AreReadForChanges is_input_read represented → AskForChanges known left words
+    changes_asked h = (represented, represent, subst (λ (b : Bool). AreReadForChanges b represented) is h)
+
+    pub tidying_asked : AreReadForTidying is_input_read represented → AskForTidying known left words
+    tidying_asked h = (represented, represent, subst (λ (b : Bool). AreReadForTidying b represented) is h)

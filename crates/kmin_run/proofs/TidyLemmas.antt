@@ -1,7 +1,6 @@
 -- Ends of runs over files: their statuses, their lines, and where nothing is written.
 use Rattle.std.proofs.Common.{◌≡◌, ◌≢◌, ℕ, ◌≤◌, ◌⊎◌, inl, inr, List, [], ◌∷◌, ◌++◌, Option, Some, None, refl, sym, ap, ◌∙◌, subst, max, arith, codes, option_map}
 use Rattle.std.specs.Prelude.{bytes_eq, Bool, true, false}
-use Rattle.kc_files.specs.TreeContents.{FileContent}
 use Rattle.kmin_tidy.specs.Options.{Settings, settings_of}
 use Rattle.kmin_disk.specs.Disks.{Disk}
 use Rattle.kmin_tidy.specs.Runs.{DoneFile, status_of, status_with}
@@ -11,13 +10,13 @@ use Rattle.kmin_tidy.specs.declared.outcome.FileOutcome.TheVariants.{Minimal, No
 use Rattle.kmin_tidy.specs.Promises.{IsKeptOrLeft, AreTidy}
 use Rattle.std.specs.Io.KnownBytes.{Appends}
 use Rattle.kmin_report.specs.StandardError.{TakesLine, TakesLines}
-use Rattle.kmin_disk.specs.Contents.{OpensAs}
 use Rattle.kmin_trees.specs.FileContents.{Surroundings}
 use Rattle.kmin_report.specs.Reports.{last_lines}
 use Rattle.kmin_trees.specs.AcceptedTrees.{AreAccepted}
 use Rattle.kmin_trees.specs.JobTexts.{TreeTexts, AreTextsOfJob}
 use Rattle.kmin_trees.specs.Stops.{StopsAtTree}
-use Rattle.kmin_run.specs.TidyRuns.{AreListBytes, AreNamed, AreMalformed, StopsAtList, malformed, PathsEnd, at_tree, over_files, GoesOver, TidyEnds, at_list, over_paths, Outputs, is_ended_by_nul, list_content, listed_paths, malformed_line, options_of, run_settings}
+use Rattle.kmin_run.specs.TidyRuns.{AreListBytes, AreNamed, AreMalformed, StopsAtList, malformed, PathsEnd, at_tree, over_files, GoesOver, TidyEnds, at_list, over_paths, Outputs, is_ended_by_nul, listed_paths, options_of, run_settings}
+use Rattle.kmin_trees.specs.ListFiles.{malformed_line}
 use Rattle.kmin_report.specs.declared.run_error.RunError.{RunError}
 use Rattle.kmin_report.specs.between.RunErrors as errors
 use Rattle.kmin_report.proofs.WriterLemmas.{lines_append, lines_one}
@@ -82,21 +81,6 @@ module _ (s : Settings) (old new : Disk) (paths : List (List ℕ)) (reports : Li
   ]
   ends_unwritten taken taken_after failed failed_after (part text earlier made count t c a f r e) n0 n1 n4 n5 = absurd (n5 e)
   ends_unwritten taken taken_after failed failed_after (stopped k a f) n0 n1 n4 n5 = a
-
--- reading standard input agrees with what is known of it
-pub input_opens : (left : Option (List ℕ)) → OpensAs (option_map (λ (bytes : List ℕ). Some bytes) left) (Some left)
-input_opens None = tt
-input_opens (Some bytes) = refl
-
--- a list of paths whose own path is `-` has the content of standard input
-pub opens_input : (content_of : List ℕ → FileContent) (left : Option (List ℕ)) (path : List ℕ) → bytes_eq path (codes "-") ≡ true
-    → OpensAs (list_content content_of left path) (Some left)
-opens_input content_of left path e = rw e (input_opens left)
-
--- a list of paths whose own path isn't `-` has the content of the file at that path
-pub opens_file : (content_of : List ℕ → FileContent) (left reader : Option (List ℕ)) (path : List ℕ) → bytes_eq path (codes "-") ≡ false
-    → OpensAs (content_of path) (Some reader) → OpensAs (list_content content_of left path) (Some reader)
-opens_file content_of left reader path e o = rw e o
 
 -- the settings of a run of `tidy_files` over a settled tree are those of the command `tidy` over that tree
 pub settings_are : (settled : Settled) (format : Format) (settings : jobs.Settings) (flags : TidyFlags) (options : TidyOptions)

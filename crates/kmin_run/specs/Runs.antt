@@ -1,5 +1,5 @@
 -- What a run of the program does with these words.
-use Rattle.std.specs.Prelude.{◌≡◌, ◌≢◌, ◌<◌, ◌≤◌, ◌⊎◌, ℕ, true, false, List, [], ◌∷◌, ◌++◌, Option, Ok, length, take}
+use Rattle.std.specs.Prelude.{◌≡◌, ◌≢◌, ◌<◌, ◌≤◌, ◌⊎◌, ℕ, Bool, true, false, List, [], ◌∷◌, ◌++◌, Option, Ok, length, take}
 use Rattle.std.specs.Io.KnownBytes.{Appends}
 use Rattle.kc_value.specs.declared.limits.TheConstants.{MAX_BUNDLE_BYTES}
 use Rattle.kmin_report.specs.Reports.{last_lines, output_line}
@@ -10,6 +10,7 @@ use Rattle.kmin_words.specs.declared.command_line.ParsedWords.{ParsedWords}
 use Rattle.kmin_words.specs.declared.command_line.ParsedWords.TheVariants.{Job, Save, Questions as TheQuestions, Tidy, Help, Refused}
 use Rattle.kmin_trees.specs.FileContents.{Surroundings}
 use Rattle.kmin_trees.specs.JobTexts.{TreeTexts, AreTextsOfJob}
+use Rattle.kmin_trees.specs.WordFiles.{Represent, StopsAtWords, is_input_read_for}
 use Rattle.kmin_trees.specs.WantedQuestions.{AreAsked, AsksInPart, StopsWanting, questions_text}
 use Rattle.kmin_run.specs.Answers.{Answer}
 use Rattle.kmin_run.specs.BundleAnswers.{AnswersBundle, StopsOnBundle, WritesPart}
@@ -68,11 +69,21 @@ ParsedEnds known left (Tidy tidy_job) old new lines status =
 ParsedEnds known left (Help text) old new lines status = HelpEnds text.bytes.items old new lines status
 ParsedEnds known left (Refused text) old new lines status = (status ≡ 2) × (new ≡ old) × (lines ≡ text.bytes.items ∷ [])
 
--- A run on words ends as what they are parsed as does, with the command first of them, or memory ran out before, and nothing changes.
+-- A run on words without `@FILE` ends as what they are read as does, or memory ran out before, and nothing changes. Where standard
+-- input was read before for words in a file (`is_input_read`), they are refused if they read it once more.
+pub data ReadEnd (known : Surroundings) (is_input_read : Bool) (words : List (List ℕ)) (left : Option (List ℕ)) (old new : Outputs) (lines : List (List ℕ)) (status : ℕ) : Type 0 where
+  parsed : (what : ParsedWords) → AreReadAs is_input_read words what → ParsedEnds known left what old new lines status
+      → ReadEnd known is_input_read words left old new lines status
+  for_memory : status ≡ 6 → new ≡ old → lines ≡ last_lines status → ReadEnd known is_input_read words left old new lines status
+
+-- A run on words ends as one on the words that they represent does, each `@FILE` those in its file; or such a file ends it, and
+-- nothing changes. Of standard input all is left then but where it is one of these files.
 pub data WordsEnd (known : Surroundings) (words : List (List ℕ)) (left : Option (List ℕ)) (old new : Outputs) (lines : List (List ℕ)) (status : ℕ) : Type 0 where
-  parsed : (what : ParsedWords) → AreReadAs words what → ParsedEnds known left what old new lines status
+  represented : (represented : List (List ℕ)) (left_after : Option (List ℕ)) → Represent known.content left words represented
+      → (is_input_read_for words ≡ false → left_after ≡ left)
+      → ReadEnd known (is_input_read_for words) represented left_after old new lines status → WordsEnd known words left old new lines status
+  stopped : (own : List (List ℕ)) → StopsAtWords known.content left words status own → new ≡ old → lines ≡ own ++ last_lines status
       → WordsEnd known words left old new lines status
-  for_memory : status ≡ 6 → new ≡ old → lines ≡ last_lines status → WordsEnd known words left old new lines status
 
 -- standard input: the bytes that are left, as far as that is known, and the count of its failed reads
 pub record Input : Type 0 where
@@ -111,15 +122,25 @@ MayChangeFiles (Save output_job) = Unit {0}
 MayChangeFiles (Tidy tidy_job) = tidy_job.flags.write ≡ true
 MayChangeFiles what = ⊥
 
--- words are parsed as a command that changes files
-abbrev pub AskForChanges : (words : List (List ℕ)) → Type 0
-AskForChanges words = (what : ParsedWords) × AreReadAs words what × MayChangeFiles what
+-- words without `@FILE` are read as a command that changes files
+abbrev pub AreReadForChanges : (is_input_read : Bool) → (words : List (List ℕ)) → Type 0
+AreReadForChanges is_input_read words = (what : ParsedWords) × AreReadAs is_input_read words what × MayChangeFiles what
+
+-- words represent words that are read as a command that changes files
+abbrev pub AskForChanges : Surroundings → (left : Option (List ℕ)) → (words : List (List ℕ)) → Type 0
+AskForChanges known left words =
+    (represented : List (List ℕ)) × Represent known.content left words represented × AreReadForChanges (is_input_read_for words) represented
 
 -- what was parsed is the command `tidy`
 abbrev pub IsTidying : ParsedWords → Type 0
 IsTidying (Tidy tidy_job) = Unit {0}
 IsTidying what = ⊥
 
--- words are parsed as the command `tidy`
-abbrev pub AskForTidying : (words : List (List ℕ)) → Type 0
-AskForTidying words = (what : ParsedWords) × AreReadAs words what × IsTidying what
+-- words without `@FILE` are read as the command `tidy`
+abbrev pub AreReadForTidying : (is_input_read : Bool) → (words : List (List ℕ)) → Type 0
+AreReadForTidying is_input_read words = (what : ParsedWords) × AreReadAs is_input_read words what × IsTidying what
+
+-- words represent words that are read as the command `tidy`
+abbrev pub AskForTidying : Surroundings → (left : Option (List ℕ)) → (words : List (List ℕ)) → Type 0
+AskForTidying known left words =
+    (represented : List (List ℕ)) × Represent known.content left words represented × AreReadForTidying (is_input_read_for words) represented

@@ -11,3 +11,4 @@ pub mod ListedQuestions
 pub mod JobTrees
 pub mod KnownTrees
 pub mod KnownExpansions
+pub mod ListReads

@@ -8,4 +8,6 @@ pub mod Stops
 pub mod KnownTrees
 pub mod KnownExpansions
 pub mod WantedQuestions
+pub mod ListFiles
+pub mod WordFiles
 pub mod between

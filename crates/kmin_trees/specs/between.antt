@@ -5,3 +5,4 @@ pub mod ExpansionStops
 pub mod ExpandedStops
 pub mod FileNames
 pub mod FilesByPlace
+pub mod ReadFiles

@@ -1,18 +1,27 @@
 use Rattle.std.proofs.Common.{[], refl, arith}
 use Rattle.std.proofs.lemmas.Grind.{common_steps}
 use Rattle.kmin_report.specs.StandardError.{none}
-use Rattle.kmin_run.specs.TidyRuns.{too_large, unread, for_memory}
+use Rattle.kmin_trees.specs.ListFiles.{too_large, unread, for_memory}
 use Rattle.kmin_report.proofs.WriterLemmas.{lines_one}
-use Rattle.kmin_report.proofs.KnownContents.{rest_of}
+use Rattle.kmin_report.proofs.KnownContents.{rest_of, whole_content}
 use Rattle.kmin_report.proofs.Results.{memory_err}
-use Rattle.kmin_run.proofs.tidy_command.read_list.Goals as goal
+use Rattle.kmin_trees.proofs.list_files.read_from.Goals as goal
 
 pub returns-in_err-bytes-clause-stopped : goal.returns-in_err-bytes-clause-stopped
 returns-in_err-bytes-clause-stopped g c =
     memory_err _ _ c.from_residual.ensures (λ stop status. ([], (λ content opens. for_memory status refl), none))
 
+pub returns-in-AtEnd-clause-read : goal.returns-in-AtEnd-clause-read
+returns-in-AtEnd-clause-read g c = λ content opens. record {
+  known = whole_content content _ _ c.in_ok-bytes.field-0.bytes.items opens c.in_ok-bytes.ensures.bytes (c.in_ok-bytes.ensures.at_end c.in-AtEnd.is);
+  within = grind (arith, common_steps);
+}
+
 pub returns-in-AtEnd-clause-unreported : goal.returns-in-AtEnd-clause-unreported
 returns-in-AtEnd-clause-unreported g c = none
+
+pub returns-in-AtEnd-clause-unfailed : goal.returns-in-AtEnd-clause-unfailed
+returns-in-AtEnd-clause-unfailed g c = rw c.in-AtEnd.is at c.in_ok-bytes.ensures.failures
 
 pub returns-in-AtLimit-clause-stopped : goal.returns-in-AtLimit-clause-stopped
 returns-in-AtLimit-clause-stopped g c = (
