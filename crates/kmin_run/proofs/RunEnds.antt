@@ -2,7 +2,7 @@
 use Rattle.std.proofs.Common.{◌≡◌, ◌≢◌, ◌==◌, eqb-true, true≢false, map, false, ◌⊎◌, ℕ, true, List, [], ◌∷◌, ◌++◌, Option, Ok, length, inl, inr, refl, subst, arith}
 use Rattle.std.proofs.lemmas.Bool.Decides.{eqb_tells}
 use Rattle.std.specs.Io.KnownBytes.{Appends}
-use Rattle.kmin_report.specs.Reports.{last_lines}
+use Rattle.kmin_report.specs.Reports.{ErrorLine, last_lines}
 use Rattle.kmin_report.specs.StandardError.{TakesLines}
 use Rattle.kmin_report.specs.declared.run_error.RunError.{RunError}
 use Rattle.kmin_report.specs.declared.run_error.RunError.TheVariants.{Tree, Configuration, Failed, Memory}
@@ -41,13 +41,13 @@ module _ (known : Surroundings) (old new : Outputs) (status : ℕ) (taken taken_
     (unwritten : status ≢ 0 → status ≢ 1 → status ≢ 5 → new.taken ≡ old.taken) where
   -- a command over configuration files ends as `JobEnds` defines, by the clauses of `serve`
   pub job_ended : (settings : Settings) (task : Task)
-      → ((status ≡ 0) ⊎ (status ≡ 1) → (t : TreeTexts) × (text : List ℕ) × (notices : List (List ℕ)) × AreTextsOfJob known settings t
+      → ((status ≡ 0) ⊎ (status ≡ 1) → (t : TreeTexts) × (text : List ℕ) × (notices : List ErrorLine) × AreTextsOfJob known settings t
       × Answer known.content settings t.texts task text status notices × Appends old.taken new.taken text
       × TakesLines taken failed (t.lines ++ notices) taken_after failed_after)
-      → ((status ≢ 0) × (status ≢ 1) → (lines : List (List ℕ)) × Stops known settings task status lines
+      → ((status ≢ 0) × (status ≢ 1) → (lines : List ErrorLine) × Stops known settings task status lines
       × TakesLines taken failed (lines ++ last_lines status) taken_after failed_after)
       → (status ≡ 5 → (new.taken ≡ old.taken) ⊎ AnswersInPart known settings task old.taken new.taken)
-      → (lines : List (List ℕ)) × JobEnds known settings task old new lines status × TakesLines taken failed lines taken_after failed_after
+      → (lines : List ErrorLine) × JobEnds known settings task old new lines status × TakesLines taken failed lines taken_after failed_after
   job_ended settings task done stopped part = elim (zero_or_one status) [
     | inl well ↦
         let w = done well in
@@ -65,10 +65,10 @@ module _ (known : Surroundings) (old new : Outputs) (status : ℕ) (taken taken_
   pub questions_ended : (questions : Questions)
       → ((status ≡ 0) ⊎ (status ≡ 1) → (asked : List (List ℕ)) × AreAsked known questions (Ok asked) × (status ≡ status_of_list true asked)
       × Appends old.taken new.taken (questions_text asked) × TakesLines taken failed [] taken_after failed_after)
-      → ((status ≢ 0) × (status ≢ 1) → (lines : List (List ℕ)) × StopsWanting known questions status lines
+      → ((status ≢ 0) × (status ≢ 1) → (lines : List ErrorLine) × StopsWanting known questions status lines
       × TakesLines taken failed (lines ++ last_lines status) taken_after failed_after)
       → (status ≡ 5 → (new.taken ≡ old.taken) ⊎ AsksInPart known questions old.taken new.taken)
-      → (lines : List (List ℕ)) × QuestionsEnd known questions old new lines status × TakesLines taken failed lines taken_after failed_after
+      → (lines : List ErrorLine) × QuestionsEnd known questions old new lines status × TakesLines taken failed lines taken_after failed_after
   questions_ended questions done stopped part = elim (zero_or_one status) [
     | inl well ↦
         let w = done well in
@@ -105,7 +105,7 @@ bundle_wrote P Q stop status is part (inl failed) = elim (part failed) [
 ]
 bundle_wrote P Q stop status is part (inr nothing) = inl nothing
 
-module _ (known : Surroundings) (input input_after : Input) (old new : Outputs) (lines : List (List ℕ)) (status : ℕ) where
+module _ (known : Surroundings) (input input_after : Input) (old new : Outputs) (lines : List ErrorLine) (status : ℕ) where
   -- a run without words ends as one on a bundle
   pub without_words : {A : Type 0} (f : A → List ℕ) (words : List A) → (length words == 0) ≡ true → BundleEnds input input_after old new lines status
       → Ends known (map f words) input input_after old new lines status

@@ -2,6 +2,7 @@
 ghost use Rattle.std.specs.Prelude.{◌≡◌, ◌≢◌, ◌≤◌, ◌⊎◌, List, ℕ, map};
 ghost use Rattle.std.specs.Borrow.{Bor};
 ghost use Rattle.kmin_report.specs.StandardError.{TakesLine, TakesLines};
+ghost use Rattle.kmin_report.specs.Reports.{ErrorLine, refused_line};
 ghost use Rattle.kmin_disk.specs.Disks.{Disk};
 ghost use Rattle.kmin_run.specs.Runs.{AskForChanges, AskForTidying, BundleEnds, Ends, HasFailed, HelpEnds, IsTidying, MayChangeFiles, ParsedEnds, WordsEnd, input_of};
 ghost use Rattle.kmin_run.specs.TidyRuns.{outputs_of};
@@ -41,7 +42,7 @@ pub fn run<F: Files, D: WriteDisk, I: Source, O: Sink, E: Sink>(
     // Without words the run is on a bundle. Else the words are parsed, the command first of them, and the run ends as
     // what they are parsed as does: a command by the clauses of its own, a help, or a message that refuses them, with
     // status 2; or memory runs out before. Standard error takes just these lines.
-    ensures ends { (lines : List (List ℕ)) × Ends (F.surroundings files.old) (map (λ (word : Bor (List ℕ)). word.now) words.now)
+    ensures ends { (lines : List ErrorLine) × Ends (F.surroundings files.old) (map (λ (word : Bor (List ℕ)). word.now) words.now)
         (input_of (I.left input.old) (I.failures input.old)) (input_of (I.left input.new) (I.failures input.new))
         (outputs_of (D.disk disk.old) (O.taken out.old) (O.failures out.old))
         (outputs_of (D.disk disk.new) (O.taken out.new) (O.failures out.new)) lines result × TakesLines (E.taken err.old) (E.failures err.old) lines (E.taken err.new) (E.failures err.new) }
@@ -76,7 +77,7 @@ fn answer_bundle<I: Source, O: Sink, E: Sink>(
     err: &mut E,
 ) -> u8
     ensures status { result ≤ 6 }
-    ensures ends { (disk : Disk) → (lines : List (List ℕ)) × BundleEnds (input_of (I.left input.old) (I.failures input.old)) (input_of (I.left input.new) (I.failures input.new))
+    ensures ends { (disk : Disk) → (lines : List ErrorLine) × BundleEnds (input_of (I.left input.old) (I.failures input.old)) (input_of (I.left input.new) (I.failures input.new))
         (outputs_of disk (O.taken out.old) (O.failures out.old))
         (outputs_of disk (O.taken out.new) (O.failures out.new)) lines result × TakesLines (E.taken err.old) (E.failures err.old) lines (E.taken err.new) (E.failures err.new) }
     ensures unwritten { result ≢ 0 → result ≢ 5 → O.taken out.new ≡ O.taken out.old }
@@ -98,7 +99,7 @@ fn run_words<F: Files, D: WriteDisk, I: Source, O: Sink, E: Sink>(
     err: &mut E,
 ) -> u8
     ensures status { result ≤ 6 }
-    ensures ends { (lines : List (List ℕ)) × WordsEnd (F.surroundings files.old) (map (λ (word : Bor (List ℕ)). word.now) words.now) (I.left input.old)
+    ensures ends { (lines : List ErrorLine) × WordsEnd (F.surroundings files.old) (map (λ (word : Bor (List ℕ)). word.now) words.now) (I.left input.old)
         (outputs_of (D.disk disk.old) (O.taken out.old) (O.failures out.old))
         (outputs_of (D.disk disk.new) (O.taken out.new) (O.failures out.new)) lines result × TakesLines (E.taken err.old) (E.failures err.old) lines (E.taken err.new) (E.failures err.new) }
     ensures unasked { ((D.disk disk.new).state ≡ (D.disk disk.old).state) ⊎ AskForChanges (map (λ (word : Bor (List ℕ)). word.now) words.now) }
@@ -130,7 +131,7 @@ fn run_parsed<F: Files, D: WriteDisk, I: Source, O: Sink, E: Sink>(
     err: &mut E,
 ) -> u8
     ensures status { result ≤ 6 }
-    ensures ends { (lines : List (List ℕ)) × ParsedEnds (F.surroundings files.old) (I.left input.old) parsed.now
+    ensures ends { (lines : List ErrorLine) × ParsedEnds (F.surroundings files.old) (I.left input.old) parsed.now
         (outputs_of (D.disk disk.old) (O.taken out.old) (O.failures out.old))
         (outputs_of (D.disk disk.new) (O.taken out.new) (O.failures out.new)) lines result × TakesLines (E.taken err.old) (E.failures err.old) lines (E.taken err.new) (E.failures err.new) }
     ensures unasked { ((D.disk disk.new).state ≡ (D.disk disk.old).state) ⊎ MayChangeFiles parsed.now }
@@ -154,7 +155,7 @@ fn run_parsed<F: Files, D: WriteDisk, I: Source, O: Sink, E: Sink>(
 /// Writes the help that was asked for, and returns the exit status.
 fn write_help<O: Sink, E: Sink>(text: &str, out: &mut O, err: &mut E) -> u8
     ensures status { (result ≡ 0) ⊎ (result ≡ 5) }
-    ensures ends { (disk : Disk) → (lines : List (List ℕ)) × HelpEnds text.now
+    ensures ends { (disk : Disk) → (lines : List ErrorLine) × HelpEnds text.now
         (outputs_of disk (O.taken out.old) (O.failures out.old))
         (outputs_of disk (O.taken out.new) (O.failures out.new)) lines result × TakesLines (E.taken err.old) (E.failures err.old) lines (E.taken err.new) (E.failures err.new) }
 {
@@ -167,7 +168,7 @@ fn write_help<O: Sink, E: Sink>(text: &str, out: &mut O, err: &mut E) -> u8
 /// Reports words that are refused by their message, and returns the exit status.
 fn refuse_words<E: Sink>(message: &str, err: &mut E) -> u8
     ensures status { result ≡ 2 }
-    ensures reported { TakesLine (E.taken err.old) (E.failures err.old) message.now (E.taken err.new) (E.failures err.new) }
+    ensures reported { TakesLine (E.taken err.old) (E.failures err.old) (refused_line message.now) (E.taken err.new) (E.failures err.new) }
 {
     write_report(Report::RefusedWords(message), err);
     2

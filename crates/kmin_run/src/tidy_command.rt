@@ -8,7 +8,7 @@ ghost use Rattle.kmin_lines.specs.Lists.{paths_in, is_one_line};
 ghost use Rattle.kmin_words.specs.Jobs.{list_view, settings_view, tidy_job_view};
 ghost use Rattle.kmin_report.specs.KnownBytes.{AreKnownBytes};
 ghost use Rattle.kmin_disk.specs.Contents.{OpensAs};
-ghost use Rattle.kmin_report.specs.Reports.{fault_line};
+ghost use Rattle.kmin_report.specs.Reports.{ErrorLine, fault_line};
 ghost use Rattle.kmin_report.specs.StandardError.{HasRisen, TakesLine, TakesLines};
 ghost use Rattle.kmin_run.specs.TidyRuns.{IsGoneOver, AreListBytes, AreNamed, StopsReadingList, StopsAtList, PathsEnd, TidyEnds, list_content, malformed_line, is_ended_by_nul, options_of, outputs_of};
 ghost use Rattle.kmin_report.specs.between.RunErrors.{status_of};
@@ -41,7 +41,7 @@ pub fn tidy<F: Files, D: WriteDisk, I: Source, O: Sink, E: Sink>(
 
     // The files are tidied as by `tidy_files`; or the list or the tree is refused, which is reported, and nothing
     // changes.
-    ensures ends { (lines : List (List ℕ)) × TidyEnds (F.surroundings files.old) (I.left input.old) (tidy_job_view tidy_job.now)
+    ensures ends { (lines : List ErrorLine) × TidyEnds (F.surroundings files.old) (I.left input.old) (tidy_job_view tidy_job.now)
         (outputs_of (D.disk disk.old) (O.taken out.old) (O.failures out.old))
         (outputs_of (D.disk disk.new) (O.taken out.new) (O.failures out.new)) lines result × TakesLines (E.taken err.old) (E.failures err.old) lines (E.taken err.new) (E.failures err.new) }
 
@@ -73,7 +73,7 @@ fn tidy_listed<F: Files, D: WriteDisk, O: Sink, E: Sink>(
 ) -> u8
     ensures status { result ≤ 6 }
     ensures ends { (left : Option (List ℕ)) → AreListBytes (F.surroundings files.old).content left (tidy_job_view tidy_job.now).list list.now
-        → (lines : List (List ℕ)) × TidyEnds (F.surroundings files.old) left (tidy_job_view tidy_job.now)
+        → (lines : List ErrorLine) × TidyEnds (F.surroundings files.old) left (tidy_job_view tidy_job.now)
         (outputs_of (D.disk disk.old) (O.taken out.old) (O.failures out.old))
         (outputs_of (D.disk disk.new) (O.taken out.new) (O.failures out.new)) lines result × TakesLines (E.taken err.old) (E.failures err.old) lines (E.taken err.new) (E.failures err.new) }
     ensures unasked { tidy_job.now.flags.write ≡ false → (D.disk disk.new).state ≡ (D.disk disk.old).state }
@@ -109,7 +109,7 @@ fn tidy_paths<F: Files, D: WriteDisk, O: Sink, E: Sink>(
     err: &mut E,
 ) -> u8
     ensures status { result ≤ 6 }
-    ensures ends { (lines : List (List ℕ)) × PathsEnd (F.surroundings files.old) (settings_view tidy_job.now.settings) tidy_job.now.flags (map (λ (path : Bor (List ℕ)). path.now) paths.now)
+    ensures ends { (lines : List ErrorLine) × PathsEnd (F.surroundings files.old) (settings_view tidy_job.now.settings) tidy_job.now.flags (map (λ (path : Bor (List ℕ)). path.now) paths.now)
         (outputs_of (D.disk disk.old) (O.taken out.old) (O.failures out.old))
         (outputs_of (D.disk disk.new) (O.taken out.new) (O.failures out.new)) lines result × TakesLines (E.taken err.old) (E.failures err.old) lines (E.taken err.new) (E.failures err.new) }
     ensures unasked { tidy_job.now.flags.write ≡ false → (D.disk disk.new).state ≡ (D.disk disk.old).state }
@@ -194,7 +194,7 @@ fn list_bytes<F: Files, I: Source, E: Sink>(
     ensures same { F.surroundings files.new ≡ F.surroundings files.old }
     ensures bytes { IfOk result (λ bytes. AreListBytes (F.surroundings files.old).content (I.left input.old) (option_map list_view list.entry) bytes.items) }
     ensures unreported { IfOk result (λ bytes. TakesLines (E.taken err.old) (E.failures err.old) [] (E.taken err.new) (E.failures err.new)) }
-    ensures stopped { IfErr result (λ stop. (lines : List (List ℕ)) × StopsAtList (F.surroundings files.old).content (I.left input.old) (option_map list_view list.entry) (status_of stop) lines × TakesLines (E.taken err.old) (E.failures err.old) lines (E.taken err.new) (E.failures err.new)) }
+    ensures stopped { IfErr result (λ stop. (lines : List ErrorLine) × StopsAtList (F.surroundings files.old).content (I.left input.old) (option_map list_view list.entry) (status_of stop) lines × TakesLines (E.taken err.old) (E.failures err.old) lines (E.taken err.new) (E.failures err.new)) }
     ensures rising { F.failures files.old ≤ F.failures files.new }
     ensures failed { IfErr result (λ stop. status_of stop ≡ 5 → HasRisen (F.failures files.old) (F.failures files.new) ⊎ HasRisen (I.failures input.old) (I.failures input.new)) }
 {
@@ -216,7 +216,7 @@ fn named_list<F: Files, I: Source, E: Sink>(
     ensures within { IfOk result (λ bytes. length bytes.items ≤ MAX_LIST_BYTES) }
     ensures bytes { IfOk result (λ bytes. AreKnownBytes (list_content (F.surroundings files.old).content (I.left input.old) path.now) bytes.items) }
     ensures unreported { IfOk result (λ bytes. TakesLines (E.taken err.old) (E.failures err.old) [] (E.taken err.new) (E.failures err.new)) }
-    ensures stopped { IfErr result (λ stop. (lines : List (List ℕ)) × StopsReadingList (list_content (F.surroundings files.old).content (I.left input.old) path.now) path.now (status_of stop) lines × TakesLines (E.taken err.old) (E.failures err.old) lines (E.taken err.new) (E.failures err.new)) }
+    ensures stopped { IfErr result (λ stop. (lines : List ErrorLine) × StopsReadingList (list_content (F.surroundings files.old).content (I.left input.old) path.now) path.now (status_of stop) lines × TakesLines (E.taken err.old) (E.failures err.old) lines (E.taken err.new) (E.failures err.new)) }
     ensures rising { F.failures files.old ≤ F.failures files.new }
     ensures failed { IfErr result (λ stop. status_of stop ≡ 5 → HasRisen (F.failures files.old) (F.failures files.new) ⊎ HasRisen (I.failures input.old) (I.failures input.new)) }
 {
@@ -246,7 +246,7 @@ fn read_list<S: Source, E: Sink>(
     ensures within { IfOk result (λ bytes. length bytes.items ≤ MAX_LIST_BYTES) }
     ensures bytes { IfOk result (λ bytes. (content : FileContent) → OpensAs content (Some (S.left source.old)) → AreKnownBytes content bytes.items) }
     ensures unreported { IfOk result (λ bytes. TakesLines (E.taken err.old) (E.failures err.old) [] (E.taken err.new) (E.failures err.new)) }
-    ensures stopped { IfErr result (λ stop. (lines : List (List ℕ)) × ((content : FileContent) → OpensAs content (Some (S.left source.old)) → StopsReadingList content path.now (status_of stop) lines) × TakesLines (E.taken err.old) (E.failures err.old) lines (E.taken err.new) (E.failures err.new)) }
+    ensures stopped { IfErr result (λ stop. (lines : List ErrorLine) × ((content : FileContent) → OpensAs content (Some (S.left source.old)) → StopsReadingList content path.now (status_of stop) lines) × TakesLines (E.taken err.old) (E.failures err.old) lines (E.taken err.new) (E.failures err.new)) }
     ensures failed { IfErr result (λ stop. status_of stop ≡ 5 → HasRisen (S.failures source.old) (S.failures source.new)) }
 {
     let ReadBytes { bytes, end } = read_up_to(alloc, source, MAX_LIST_BYTES + 1, 0)?;

@@ -8,7 +8,7 @@ ghost use Rattle.kc_files.specs.TextViews.{texts_of};
 ghost use Rattle.kc_tree_model.specs.TreeFiles.{with_file};
 ghost use Rattle.kmin_trees.specs.JobTexts.{expanded_texts};
 ghost use Rattle.kmin_trees.specs.TreeFolders.{contents_below};
-ghost use Rattle.kmin_report.specs.MacroReports.{macro_notice_line};
+ghost use Rattle.kmin_report.specs.Reports.{ErrorLine, macro_notice_line};
 ghost use Rattle.kmin_report.specs.StandardError.{TakesLines};
 ghost use Rattle.kmin_trees.specs.between.FilesByPlace.{with_file_at};
 ghost use Rattle.kmin_trees.specs.between.ExpansionStops.{StopsExpanding};
@@ -44,7 +44,7 @@ pub(crate) fn expanded_tree<F: Files, E: Sink>(
     ensures same { (F.surroundings files.new).content ≡ (F.surroundings files.old).content }
     ensures texts { IfOk result (λ t. t.texts ≡ expanded_texts settings.now.language t.tree) }
     ensures expanded { IfOk result (λ t. (notices : List Notice) × IsExpansion (contents_below (F.surroundings files.old) settings.now.root.now) answers.now settings.now.tree.now notices (Ok t.tree) × TakesLines (E.taken err.old) (E.failures err.old) (map macro_notice_line notices) (E.taken err.new) (E.failures err.new)) }
-    ensures stopped { IfErr result (λ stop. (lines : List (List ℕ)) × StopsExpanding (contents_below (F.surroundings files.old) settings.now.root.now) answers.now settings.now.tree.now (status_of stop) lines × TakesLines (E.taken err.old) (E.failures err.old) lines (E.taken err.new) (E.failures err.new)) }
+    ensures stopped { IfErr result (λ stop. (lines : List ErrorLine) × StopsExpanding (contents_below (F.surroundings files.old) settings.now.root.now) answers.now settings.now.tree.now (status_of stop) lines × TakesLines (E.taken err.old) (E.failures err.old) lines (E.taken err.new) (E.failures err.new)) }
     ensures uncounted { F.failures files.new ≡ F.failures files.old }
 {
     let seed = files.seed();

@@ -10,6 +10,7 @@ ghost use Rattle.kmin_report.specs.StandardError.{HasRisen, TakesLines};
 ghost use Rattle.kmin_trees.specs.Stops.{StopsAtTree, StopsInExpansion};
 ghost use Rattle.kmin_trees.specs.between.ExpandedStops.{StopsAtExpanded};
 ghost use Rattle.kmin_report.specs.between.RunErrors.{status_of};
+ghost use Rattle.kmin_report.specs.Reports.{ErrorLine};
 ghost use Rattle.kmin_trees.specs.between.TreeStops.{StopsAtTexts};
 
 use crate::expanded_trees::{ExpandedTexts, expanded_tree};
@@ -34,7 +35,7 @@ pub fn job_tree<F: Files, E: Sink>(
     ensures same { (F.surroundings files.new).content ≡ (F.surroundings files.old).content }
     ensures accepted { IfOk result (λ settled. (t : TreeTexts) × AreTextsOfJob (F.surroundings files.old) (settings_view settings.now) t × AreAccepted t.texts settings.now.tree.now (tree_of_settled settled) × TakesLines (E.taken err.old) (E.failures err.old) t.lines (E.taken err.new) (E.failures err.new)) }
     ensures profile { IfOk result (λ settled. profile_of settled ≡ settings.now.profile) }
-    ensures stopped { IfErr result (λ stop. (lines : List (List ℕ)) × StopsAtTree (F.surroundings files.old) (settings_view settings.now) (status_of stop) lines × TakesLines (E.taken err.old) (E.failures err.old) lines (E.taken err.new) (E.failures err.new)) }
+    ensures stopped { IfErr result (λ stop. (lines : List ErrorLine) × StopsAtTree (F.surroundings files.old) (settings_view settings.now) (status_of stop) lines × TakesLines (E.taken err.old) (E.failures err.old) lines (E.taken err.new) (E.failures err.new)) }
     ensures rising { F.failures files.old ≤ F.failures files.new }
     ensures failed { IfErr result (λ stop. status_of stop ≡ 5 → HasRisen (F.failures files.old) (F.failures files.new)) }
 {
@@ -55,7 +56,7 @@ fn as_it_is<F: Files, E: Sink>(
     ensures accepted { IfOk result (λ settled. (texts : trees.Files) × AreTextsBelow (F.surroundings files.old).content settings.now.root.now settings.now.language texts × AreAccepted texts settings.now.tree.now (tree_of_settled settled)) }
     ensures profile { IfOk result (λ settled. profile_of settled ≡ settings.now.profile) }
     ensures unreported { IfOk result (λ settled. TakesLines (E.taken err.old) (E.failures err.old) [] (E.taken err.new) (E.failures err.new)) }
-    ensures stopped { IfErr result (λ stop. (texts : trees.Files) × (lines : List (List ℕ)) × AreTextsBelow (F.surroundings files.old).content settings.now.root.now settings.now.language texts × StopsAtTexts texts texts settings.now.tree.now (status_of stop) lines × TakesLines (E.taken err.old) (E.failures err.old) lines (E.taken err.new) (E.failures err.new)) }
+    ensures stopped { IfErr result (λ stop. (texts : trees.Files) × (lines : List ErrorLine) × AreTextsBelow (F.surroundings files.old).content settings.now.root.now settings.now.language texts × StopsAtTexts texts texts settings.now.tree.now (status_of stop) lines × TakesLines (E.taken err.old) (E.failures err.old) lines (E.taken err.new) (E.failures err.new)) }
     ensures rising { F.failures files.old ≤ F.failures files.new }
     ensures failed { IfErr result (λ stop. status_of stop ≡ 5 → HasRisen (F.failures files.old) (F.failures files.new)) }
 {
@@ -89,7 +90,7 @@ fn expanded<F: Files, E: Sink>(
     ensures same { (F.surroundings files.new).content ≡ (F.surroundings files.old).content }
     ensures accepted { IfOk result (λ settled. (t : TreeTexts) × AreExpandedTexts (F.surroundings files.old) settings.now.root.now settings.now.tree.now settings.now.language (expansion_view expansion.now) t × AreAccepted t.texts settings.now.tree.now (tree_of_settled settled) × TakesLines (E.taken err.old) (E.failures err.old) t.lines (E.taken err.new) (E.failures err.new)) }
     ensures profile { IfOk result (λ settled. profile_of settled ≡ settings.now.profile) }
-    ensures stopped { IfErr result (λ stop. (lines : List (List ℕ)) × StopsAtExpanded (F.surroundings files.old) settings.now.root.now settings.now.tree.now settings.now.language (expansion_view expansion.now) (status_of stop) lines × TakesLines (E.taken err.old) (E.failures err.old) lines (E.taken err.new) (E.failures err.new)) }
+    ensures stopped { IfErr result (λ stop. (lines : List ErrorLine) × StopsAtExpanded (F.surroundings files.old) settings.now.root.now settings.now.tree.now settings.now.language (expansion_view expansion.now) (status_of stop) lines × TakesLines (E.taken err.old) (E.failures err.old) lines (E.taken err.new) (E.failures err.new)) }
     ensures rising { F.failures files.old ≤ F.failures files.new }
     ensures failed { IfErr result (λ stop. status_of stop ≡ 5 → HasRisen (F.failures files.old) (F.failures files.new)) }
 {
@@ -107,7 +108,7 @@ fn expanded_files<F: Files, E: Sink>(
 ) -> Result<ExpandedTexts, RunError>
     ensures same { (F.surroundings files.new).content ≡ (F.surroundings files.old).content }
     ensures expanded { IfOk result (λ tree. (t : TreeTexts) × AreExpandedTexts (F.surroundings files.old) settings.now.root.now settings.now.tree.now settings.now.language (expansion_view expansion.now) t × (t.texts ≡ tree.texts) × (t.names ≡ named_texts tree.tree tree.texts) × TakesLines (E.taken err.old) (E.failures err.old) t.lines (E.taken err.new) (E.failures err.new)) }
-    ensures stopped { IfErr result (λ stop. (lines : List (List ℕ)) × StopsInExpansion (F.surroundings files.old) settings.now.root.now settings.now.tree.now (expansion_view expansion.now) (status_of stop) lines × TakesLines (E.taken err.old) (E.failures err.old) lines (E.taken err.new) (E.failures err.new)) }
+    ensures stopped { IfErr result (λ stop. (lines : List ErrorLine) × StopsInExpansion (F.surroundings files.old) settings.now.root.now settings.now.tree.now (expansion_view expansion.now) (status_of stop) lines × TakesLines (E.taken err.old) (E.failures err.old) lines (E.taken err.new) (E.failures err.new)) }
     ensures rising { F.failures files.old ≤ F.failures files.new }
     ensures failed { IfErr result (λ stop. status_of stop ≡ 5 → HasRisen (F.failures files.old) (F.failures files.new)) }
 {
@@ -128,7 +129,7 @@ fn settled_expanded<E: Sink>(
     ensures accepted { IfOk result (λ settled. AreAccepted tree.now.texts first.now (tree_of_settled settled)) }
     ensures profile { IfOk result (λ settled. profile_of settled ≡ profile) }
     ensures unreported { IfOk result (λ settled. TakesLines (E.taken err.old) (E.failures err.old) [] (E.taken err.new) (E.failures err.new)) }
-    ensures stopped { IfErr result (λ stop. (lines : List (List ℕ)) × StopsAtTexts tree.now.texts (named_texts tree.now.tree tree.now.texts) first.now (status_of stop) lines × TakesLines (E.taken err.old) (E.failures err.old) lines (E.taken err.new) (E.failures err.new)) }
+    ensures stopped { IfErr result (λ stop. (lines : List ErrorLine) × StopsAtTexts tree.now.texts (named_texts tree.now.tree tree.now.texts) first.now (status_of stop) lines × TakesLines (E.taken err.old) (E.failures err.old) lines (E.taken err.new) (E.failures err.new)) }
 {
     let names = FileNames::of_expanded(&tree.texts, &tree.tree);
     let read = read_texts(alloc, &tree.texts, first);
