@@ -21,19 +21,19 @@ pub enum Form {
 /// The parts of a message: the name of its kind, its severity, its file, if it is of one, the line there (0 where there is none),
 /// and its detail.
 #[derive(Clone, Copy)]
-pub struct MessageParts<'a> {
+pub struct MessageParts<'a, 'd> {
     pub kind: &'a str,
     pub severity: Severity,
     pub file: Option<&'a [u8]>,
     pub line: u32,
-    pub detail: Detail<'a>,
+    pub detail: Detail<'d>,
 }
 
 /// The line of a message in a form.
 pub fn message_line(
     alloc: Global,
     form: Form,
-    parts: &MessageParts<'_>,
+    parts: &MessageParts<'_, '_>,
 ) -> Result<Vec<u8>, AllocError>
     ensures { IfOk result (λ line. line.items ≡ form_line form (message_of_parts parts.now)) }
 {
