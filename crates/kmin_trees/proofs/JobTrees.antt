@@ -1,5 +1,5 @@
 -- The tree of a job, as it is or expanded: what its texts are, and where a run ends at it.
-use Rattle.std.proofs.Common.{◌≡◌, ℕ, List, [], ◌++◌, Option, Some, None, Result, Ok, Err, IfOk, IfErr, map, refl, sym, ap, ◌∙◌, subst, append-nil}
+use Rattle.std.proofs.Common.{◌≡◌, ℕ, List, [], ◌++◌, Option, Some, None, Result, Ok, Err, IfOk, IfErr, map, refl, sym, ap, ◌∙◌, subst, append-nil, arith}
 use Rattle.kc_tokens.specs.declared.language.Language.{Language}
 use Rattle.kc_tree_model.specs.TreeFiles.{Files}
 use Rattle.kc_macros_model.specs.Programs.{Notice}
@@ -20,6 +20,7 @@ use Rattle.kmin_report.specs.MacroReports.{macro_notice_line}
 use Rattle.kmin_report.specs.StandardError.{TakesLines}
 use Rattle.kmin_trees.specs.Stops.{StopsInExpansion, StopsAtTree}
 use Rattle.kmin_trees.specs.Stops as stops
+use Rattle.kmin_trees.specs.MissingFiles.{MissesOnlyMissing, IsRefusedTree}
 use Rattle.kmin_trees.specs.between.ExpansionStops.{StopsExpanding}
 use Rattle.kmin_trees.specs.between.ExpandedStops.{StopsAtExpanded}
 use Rattle.kmin_trees.specs.between.ExpandedStops as expanded_stops
@@ -45,6 +46,20 @@ texts_stop known settings t status more lines h (tree_stops.at_texts line r s l)
 texts_stop known settings t status more lines h (tree_stops.for_memory s l) e =
     stops.for_memory t h s (e ∙ ap (λ ls. t.lines ++ ls) l ∙ append-nil t.lines)
 
+-- texts of a tree that isn't expanded are refused, where the status is 3
+refused_plain : (known : Surroundings) (settings : Settings) (counted counted_after : ℕ) (texts : Files) (status : ℕ) (lines : List (List ℕ)) → status ≡ 3
+    → AreTextsBelow known.content settings.root settings.language texts → StopsAtTexts texts texts settings.tree status lines
+    → MissesOnlyMissing known.content settings.root settings.tree texts counted counted_after → IsRefusedTree known settings counted counted_after lines
+refused_plain known settings counted counted_after texts status lines three below (tree_stops.at_texts line r s l) missing =
+    record { texts = texts; below = below; line = line; refused = r; lines_are = l; missing = missing }
+refused_plain known settings counted counted_after texts status lines three below (tree_stops.for_memory s l) missing = absurd (omega arith)
+
+-- a tree whose macros are expanded isn't one without expansion
+pub not_plain : (settings : Settings) (P : RunError → Type 0) (expansion : Expansion) → settings.expansion ≡ Some expansion → (r : Result Settled RunError)
+    → IfErr r (λ stop. settings.expansion ≡ None → P stop)
+not_plain settings P expansion e (Ok settled) = tt
+not_plain settings P expansion e (Err stop) = λ none. absurd (let z : ⊥ = cc in z)
+
 module _ (known : Surroundings) (settings : Settings) (taken taken_after : Option (List ℕ)) (failed failed_after : ℕ) where
   -- without the expansion of macros
   module _ (e : settings.expansion ≡ None) where
@@ -57,13 +72,25 @@ module _ (known : Surroundings) (settings : Settings) (taken taken_after : Optio
     plain_accepted (Err stop) h k = tt
     plain_accepted (Ok settled) h k = (plain_texts h.0, are_plain known settings h.0 e h.1, h.2, k)
 
-    pub plain_stopped : (r : Result Settled RunError)
+    pub plain_stopped : (counted counted_after : ℕ) (r : Result Settled RunError)
         → IfErr r (λ stop. (texts : Files) × (lines : List (List ℕ)) × AreTextsBelow known.content settings.root settings.language texts
-        × StopsAtTexts texts texts settings.tree (status_of stop) lines × TakesLines taken failed lines taken_after failed_after)
+        × StopsAtTexts texts texts settings.tree (status_of stop) lines × TakesLines taken failed lines taken_after failed_after
+        × (status_of stop ≡ 3 → MissesOnlyMissing known.content settings.root settings.tree texts counted counted_after))
         → IfErr r (λ stop. (lines : List (List ℕ)) × StopsAtTree known settings (status_of stop) lines × TakesLines taken failed lines taken_after failed_after)
-    plain_stopped (Ok settled) h = tt
-    plain_stopped (Err stop) h =
+    plain_stopped counted counted_after (Ok settled) h = tt
+    plain_stopped counted counted_after (Err stop) h =
         (h.1, texts_stop known settings (plain_texts h.0) (status_of stop) h.1 h.1 (are_plain known settings h.0 e h.2) h.3 refl, h.4)
+
+    -- and a file that is known to be there is missing only where a failure was counted
+    pub plain_missing : (counted counted_after : ℕ) (r : Result Settled RunError)
+        → IfErr r (λ stop. (texts : Files) × (lines : List (List ℕ)) × AreTextsBelow known.content settings.root settings.language texts
+        × StopsAtTexts texts texts settings.tree (status_of stop) lines × TakesLines taken failed lines taken_after failed_after
+        × (status_of stop ≡ 3 → MissesOnlyMissing known.content settings.root settings.tree texts counted counted_after))
+        → IfErr r (λ stop. settings.expansion ≡ None → status_of stop ≡ 3 → (lines : List (List ℕ)) × IsRefusedTree known settings counted counted_after lines
+        × TakesLines taken failed lines taken_after failed_after)
+    plain_missing counted counted_after (Ok settled) h = tt
+    plain_missing counted counted_after (Err stop) h =
+        λ none three. (h.1, refused_plain known settings counted counted_after h.0 (status_of stop) h.1 three h.2 h.3 (h.5 three), h.4)
 
   -- with the expansion of macros
   module _ (expansion : Expansion) (e : settings.expansion ≡ Some expansion) where

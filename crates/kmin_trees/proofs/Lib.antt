@@ -1,5 +1,6 @@
 pub mod TreeResults
 pub mod TextGrowth
+pub mod MissingFiles
 pub mod AnswerReads
 pub mod AnswerFileLists
 pub mod LentAnswers

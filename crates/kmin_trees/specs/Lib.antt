@@ -5,6 +5,7 @@ pub mod JobAnswers
 pub mod JobTexts
 pub mod AnswerStops
 pub mod Stops
+pub mod MissingFiles
 pub mod KnownTrees
 pub mod KnownExpansions
 pub mod WantedQuestions

@@ -1,4 +1,5 @@
 pub mod Readings
+pub mod InsertedFiles
 pub mod TreeStops
 pub mod AnswerSteps
 pub mod ExpansionStops

@@ -1,6 +1,7 @@
 //! Reading and settling a tree, with a report if it is refused.
-ghost use Rattle.std.specs.Prelude.{◌≡◌, [], ℕ, List, IfOk, IfErr, OnOk, unwrap_or, slice_get};
+ghost use Rattle.std.specs.Prelude.{◌≡◌, ◌≢◌, [], ℕ, List, IfOk, IfErr, OnOk, unwrap_or, slice_get};
 ghost use Rattle.kc_tree_model.specs.TreeFiles.{path_at};
+ghost use Rattle.kc_tree_model.specs.declared.fault.TreeKind.TheVariants.{OutOfMemory};
 ghost use Rattle.kc_rules.specs.between.SettledViews.{tree_of_settled, profile_of};
 ghost use Rattle.kmin_trees.specs.AcceptedTrees.{AreAccepted};
 ghost use Rattle.kmin_report.specs.Reports.{tree_fault_line, cycle_line, cycle_place, unit_place};
@@ -41,6 +42,7 @@ pub fn settled_tree<E: Sink>(
     ensures profile { IfOk result (λ settled. profile_of settled ≡ profile) }
     ensures unreported { OnOk result (TakesLines (E.taken err.old) (E.failures err.old) [] (E.taken err.new) (E.failures err.new)) }
     ensures stopped { IfErr result (λ stop. (lines : List (List ℕ)) × StopsAtTexts texts.now (names_of names.now) first.now (status_of stop) lines × TakesLines (E.taken err.old) (E.failures err.old) lines (E.taken err.new) (E.failures err.new)) }
+    ensures remembered { IfErr result (λ stop. status_of stop ≡ 3 → IfErr read (λ fault. fault.kind ≢ OutOfMemory)) }
 {
     let tree = match read {
         Ok(tree) => tree,
