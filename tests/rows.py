@@ -40,6 +40,7 @@ COMMANDS = ("full", "min", "missed", "check", "compare")
 OPTIONS = ("--root", "--tree", "--language", "--prefix", "--strings", "--imply")
 FLAGS = ("--no-prefix",)
 EXPANDING = ("--expand", "--answers", "--define", "--env")
+INPUTS = ("@-", "@/dev/stdin")
 
 
 def unescaped(text):
@@ -127,6 +128,12 @@ def content(how, text):
     if how:
         raise ValueError(f"no part has the form {how}")
     return text.encode()
+
+
+def words_in(data):
+    """The words in a file of words."""
+    lines = (re.sub(r"\r\Z", "", line) for line in os.fsdecode(data).split("\n"))
+    return [line for line in lines if line and not line.startswith("#")]
 
 
 def words_of(options):
@@ -223,17 +230,34 @@ class Row:
             self.place(folder)
             return *self.run(folder), files_in(folder)
 
+    def represented(self):
+        """The words as texts, with the words in its file in place of each `@FILE` before a `--` that the row has."""
+        found, rest = [], iter(map(os.fsdecode, self.words))
+        for word in rest:
+            if word == "--":
+                return [*found, word, *rest]
+            name = "stdin" if word in INPUTS else word[1:]
+            is_file = word.startswith("@") and name in self.parts
+            found += words_in(self.parts[name]) if is_file else [word]
+        return found
+
+    def names_words(self):
+        """Whether one of the words before a `--` is `@FILE`."""
+        words = [*map(os.fsdecode, self.words), "--"]
+        return any(word.startswith("@") for word in words[: words.index("--")])
+
     def is_expanded(self):
         """Whether the words ask for an expansion of the tree."""
-        return self.words[:1] == ["wants"] or any(os.fsdecode(word).partition("=")[0] in EXPANDING for word in self.words)
+        words = self.represented()
+        return words[:1] == ["wants"] or any(word.partition("=")[0] in EXPANDING for word in words)
 
     def is_tidying(self):
         """Whether the words ask to go over files one after another: what is refused of one doesn't end the run."""
-        return self.words[:1] == ["tidy"]
+        return self.represented()[:1] == ["tidy"]
 
     def has_output(self):
         """Whether the words name a file for the answer."""
-        return any(os.fsdecode(word).partition("=")[0] == "--output" or os.fsdecode(word)[:2] == "-o" for word in self.words)
+        return any(word.partition("=")[0] == "--output" or word[:2] == "-o" for word in self.represented())
 
     def is_bundle(self):
         """Whether the program reads a bundle that ends."""
@@ -241,8 +265,8 @@ class Row:
 
     def asked(self):
         """The command that the words give, its options by name (None of a flag), and its configuration files; None where they
-        give none, are refused or ask for a text alone."""
-        if not self.words or self.words[0] not in COMMANDS or self.status == 2:
+        give none, are refused, ask for a text alone or are in a file."""
+        if not self.words or self.words[0] not in COMMANDS or self.status == 2 or self.names_words():
             return None
         options, files, words = {}, [], iter(self.words[1:])
         for word in words:

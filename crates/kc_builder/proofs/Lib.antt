@@ -11,5 +11,6 @@ pub mod ItemViews
 pub mod RepresentedGroups
 pub mod RowSteps
 pub mod SymbolItems
+pub mod TreeLineSteps
 pub mod UnitSteps
 pub mod WalkSteps

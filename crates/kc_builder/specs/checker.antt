@@ -1,4 +1,5 @@
 pub mod Assembly
+pub mod CheckedListings
 pub mod ChoiceDefaults
 pub mod ChoiceRows
 pub mod Conjunctions

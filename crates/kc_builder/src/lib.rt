@@ -12,8 +12,10 @@ mod group_conditions;
 mod group_walk;
 mod listing_walk;
 mod rows;
+mod tree_lines;
 mod tree_reader;
 mod unit_list;
 
 pub use kc_checks::wanted;
-pub use tree_reader::read_tree;
+pub use tree_lines::{TreeLines, TreeWithLines};
+pub use tree_reader::{read_tree, read_tree_with_lines};

@@ -1,6 +1,8 @@
 //! The walk over all groups of a listing.
 ghost use Rattle.std.specs.Prelude.{◌≡◌, ◌≤◌, ◌<◌, ℕ, All, IfOk, List, length, reverse, slice_range};
-ghost use Rattle.kc_expr.specs.between.Arena.{Grows};
+ghost use Rattle.kc_value.specs.declared.tri.Tri.TheVariants.{N};
+ghost use Rattle.kc_expr.specs.Expr.{alone, constant};
+ghost use Rattle.kc_expr.specs.between.Arena.{Grows, Represents};
 ghost use Rattle.kc_listing.specs.between.ListingView.{RepresentsGroups, LineNodesExist, RepresentsListing};
 ghost use Rattle.kc_tree_model.specs.Blocks.{Group as ModelGroup};
 ghost use Rattle.kc_checks.specs.between.Summaries.{attributes_end, group_at, IsRepresented};
@@ -14,13 +16,15 @@ use kc_tokens::{ExprFault, Language};
 use std::alloc::Global;
 
 /// A listing with its conditions joined with the enclosing ones: its arena also has the joined conditions, `groups` has
-/// those of each group, and `conditions` those of all groups' attributes, in reading order; `language` is that of the files.
+/// those of each group, and `conditions` those of all groups' attributes, in reading order; `language` is that of the files, and
+/// `no` is the expression `n`.
 #[derive(Drop)]
 pub(crate) struct WalkedListing {
     pub listing: Listing,
     pub language: Language,
     pub groups: Vec<GroupConditions>,
     pub conditions: Vec<ExprId>,
+    pub no: ExprId,
 }
 
 /// The attributes of a group.
@@ -63,6 +67,7 @@ pub(crate) fn walk_all(
     requires shown { IsRepresented listing }
     ensures language { IfOk result (λ w. w.language ≡ language) }
     ensures groups { IfOk result (λ w. w.listing.groups ≡ listing.groups) }
+    ensures no { IfOk result (λ w. Represents w.listing.names.arena w.no (alone (constant N))) }
     ensures shows { (read : List ModelGroup) → RepresentsListing listing read → IfOk result (λ w. RepresentsListing w.listing read) }
     ensures walked { (read : List ModelGroup) → RepresentsListing listing read
         → IfOk result (λ w. RepresentsAllConditions language w.listing.names.arena w.listing.texts.items w.conditions.items (length w.conditions.items) (reverse w.groups.items) read) }
@@ -94,5 +99,6 @@ pub(crate) fn walk_all(
         language,
         groups: walk.groups,
         conditions: walk.conditions,
+        no: walk.no,
     })
 }

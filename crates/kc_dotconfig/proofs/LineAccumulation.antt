@@ -19,7 +19,7 @@ use Rattle.kc_dotconfig_model.specs.OtherChoices.{choice_line_of}
 use Rattle.std.proofs.lemmas.List.{append-nil}
 use Rattle.kc_tree_model.specs.LogicalLines.{without_white_end}
 use Rattle.kc_dotconfig_model.specs.between.LineMeanings.{line_meaning}
-use Rattle.kc_dotconfig.specs.checker.MeaningViews.{meaning_view, IsWithin}
+use Rattle.kc_dotconfig.specs.between.MeaningViews.{meaning_view, IsWithin}
 use Rattle.kc_dotconfig.specs.checker.Accumulation.{IsGathered}
 use Rattle.kc_dotconfig.specs.checker.GatheredLines.{lines_in, lines_more, IsPlain}
 use Rattle.kc_dotconfig.proofs.Insertions.{gathers_user, gathers_escaped, gathers_unchosen, gathers_line, gathers_nothing, gathers_notice}

@@ -13,7 +13,7 @@ use Rattle.kc_tree_model.specs.TreeLookup.{IsConsistent, symbol_named}
 use Rattle.kc_tree_model.proofs.Lookups.{found_by_name}
 use Rattle.kc_rules_model.specs.Kinds.{is_y}
 use Rattle.kc_dotconfig.specs.declared.meanings.Meaning.{Meaning}
-use Rattle.kc_dotconfig.specs.checker.MeaningViews.{meaning_view, IsWithin}
+use Rattle.kc_dotconfig.specs.between.MeaningViews.{meaning_view, IsWithin}
 use Rattle.kc_rules_model.specs.declared.values.UserValue.TheVariants.{Text as TextUser, Lines as LinesUser}
 use Rattle.kc_rules_model.specs.Rule.{member_user}
 use Rattle.kc_tokens.specs.declared.language.Language.{Language}

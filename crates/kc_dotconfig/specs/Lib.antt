@@ -1,4 +1,5 @@
 pub mod Fragments
 pub mod ReadResults
 pub mod ConfigStates
+pub mod between
 pub mod checker

@@ -1,4 +1,3 @@
-pub mod MeaningViews
 pub mod Accumulation
 pub mod Configs
 pub mod UserValueOrder

@@ -11,7 +11,7 @@ ghost use Rattle.kc_tree_model.specs.LogicalLines.{without_white_end};
 ghost use Rattle.kc_dotconfig_model.specs.between.Formats.{file_format};
 ghost use Rattle.std.specs.BTreeMap.{insert_entry};
 ghost use Rattle.std.specs.Ordering.{nat_cmp};
-ghost use Rattle.kc_dotconfig.specs.checker.MeaningViews.{meaning_view, IsWithin};
+ghost use Rattle.kc_dotconfig.specs.between.MeaningViews.{meaning_view, IsWithin};
 ghost use Rattle.kc_dotconfig.specs.checker.Accumulation.{IsGathered};
 ghost use Rattle.kc_dotconfig.specs.checker.GatheredLines.{lines_in, lines_more, joined};
 

@@ -21,3 +21,5 @@ pub use gathered_lines::last_lines;
 pub use kc_dotconfig_model::{
     ChoiceLine, Format, LoadFault, LoadKind, Notice, NoticeKind, Prefix, Strings,
 };
+pub use meanings::{Meaning, read_line};
+pub use overlaid::user_at;

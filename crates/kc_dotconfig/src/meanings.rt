@@ -10,7 +10,7 @@ ghost use Rattle.kc_tree_model.specs.LogicalLines.{without_white_end};
 ghost use Rattle.kc_dotconfig_model.specs.declared.format.Strings.TheVariants.{Escaped, Raw};
 ghost use Rattle.kc_dotconfig_model.specs.between.Formats.{file_format};
 ghost use Rattle.kc_dotconfig_model.specs.between.LineMeanings.{line_meaning, tri_meaning, string_meaning, number_meaning, meaning_of_kind, value_meaning, string_text, of_named, of_other};
-ghost use Rattle.kc_dotconfig.specs.checker.MeaningViews.{meaning_view, IsWithin};
+ghost use Rattle.kc_dotconfig.specs.between.MeaningViews.{meaning_view, IsWithin};
 
 use kc_dotconfig_model::{
     Format, NoticeKind, Strings, between_quotes, has_other_escape, is_comment, trimmed, unset_name,
@@ -25,7 +25,7 @@ use std::alloc::{AllocError, Global};
 
 /// The meaning of a line of a configuration file.
 #[derive(Drop)]
-pub(crate) enum Meaning {
+pub enum Meaning {
     /// The line assigns a tristate to the unit of this number.
     Tri(u32, Tri),
     /// The line assigns a text to the unit of this number.
@@ -319,7 +319,7 @@ fn read_other_line(line: &str) -> Option<Meaning>
 
 /// Interprets a line of a configuration file; `None` if it is malformed. The symbol of the unit `next` is tried first for the
 /// line's name. An `Err` means out of memory.
-pub(crate) fn read_line(
+pub fn read_line(
     alloc: Global,
     settled: &Settled,
     format: &Format,

@@ -68,7 +68,7 @@ pub(crate) fn user_over(
 }
 
 /// The user value of a unit in an assignment, or none.
-fn user_at(users: &[Option<UserValue>], unit: u32) -> Option<&UserValue>
+pub fn user_at(users: &[Option<UserValue>], unit: u32) -> Option<&UserValue>
     ensures { option_copied result ≡ user_of users.now unit }
 {
     match users.get(unit as usize) {

@@ -19,41 +19,57 @@ use Rattle.kc_macros.specs.Runs.{RunEnd, ends, end_of, fault_of}
 use Rattle.kc_macros.proofs.RunLemmas.{RunsIn}
 use Rattle.kc_macros_model.proofs.BoundedReadings.{files_are_bounded}
 use Rattle.kc_macros_model.proofs.KnownTrees.{expansion_never_stops}
-use Rattle.kc_expansion.specs.Expansions.{ending_of, tree_of, IsExpansion, AreWanted, AreUnused}
-use Rattle.kc_files.specs.TreeContents.{TreeContents}
+use Rattle.kc_expansion.specs.Expansions.{ending_of, tree_of, IsExpansion, IsCountedExpansion, AreWanted, AreCountedWanted, AreUnused, AreCountedUnused}
+use Rattle.kc_files.specs.TreeContents.{TreeContents, StaysKnown, HasRisen, IsWorldOf, IsWholeWorldOf}
 use Rattle.kc_files.specs.between.KnownFiles.{FileRead, missing, KnownFiles, AreBytes, AreAsKnown, Grows}
 use Rattle.kc_expansion.specs.between.Reads.{FileRun, Reaches, Reads}
 use Rattle.kc_expansion.specs.checker.ExpansionViews.{nothing_known, with_root, GoesOn, HasEnded}
 use Rattle.kc_expansion.specs.checker.ProgramSteps.{Leads}
 use Rattle.kc_expansion.specs.checker.ReadingViews.{reader_for, fault_at}
 use Rattle.kc_expansion.proofs.FileProgramLemmas.{reaches_in, leads_read, leads_on, reads_value, reads_early}
-use Rattle.kc_expansion.proofs.WorldLemmas.{world_of, world_agrees, world_allowed, world_answers, first_sight}
+use Rattle.kc_expansion.proofs.WorldLemmas.{world_of, world_agrees, world_allowed, world_whole, world_answers, first_sight}
 
-pub nothing_as_known : (contents : TreeContents) → AreAsKnown contents nothing_known
-nothing_as_known contents = record { files = λ path read e. absurd (let z : ⊥ = cc in z); folders = λ folder read e. absurd (let z : ⊥ = cc in z) }
+nothing_as_known : (contents : TreeContents) (counted : ℕ) → AreAsKnown contents counted nothing_known
+nothing_as_known contents counted = record { files = λ path read e. absurd (let z : ⊥ = cc in z); folders = λ folder read e. absurd (let z : ⊥ = cc in z) }
 
 module _ (contents : TreeContents) (b : FileRun) (answers : RecordedAnswers) (root : List ℕ) where
-  module _ (grows : Grows contents nothing_known b.known) where
-    abbrev as_known : AreAsKnown contents b.known
-    as_known = grows.matched (nothing_as_known contents)
+  module _ (stays : StaysKnown contents b.contents) (grows : Grows contents b.contents nothing_known b.known) where
+    -- what is known of the tree, with the count of failures at the end of the run
+    abbrev later : TreeContents
+    later = record contents { failures = b.contents.failures }
+
+    as_known : AreAsKnown later contents.failures b.known
+    as_known = subst (λ (t : TreeContents). AreAsKnown t contents.failures b.known) stays.same
+        (grows.matched contents.failures (omega arith) (nothing_as_known contents contents.failures))
 
     abbrev here : World
-    here = world_of contents b.known answers as_known
+    here = world_of later contents.failures b.known answers as_known
+
+    here_agrees : IsWorldOf contents here
+    here_agrees =
+        let w = world_allowed later contents.failures b.known answers as_known in record { files = w.files; folders = w.folders }
+
+    here_whole : (HasRisen contents.failures b.contents.failures → ⊥) → IsWholeWorldOf contents here
+    here_whole n =
+        let w = world_whole later contents.failures b.known answers as_known n in record { files = w.files; folders = w.folders }
 
     -- a run of the code that reads a tree to an end gives the expansion of the tree, with the notices of the run
     pub expansion_read : (notices : List Notice) (tree : Result (List ExpandedFile) Fault) → notices ≡ b.run.notices
-        → Reaches b.known (run_at_start answers true) b.run (tree_read root) (ends (ending_of tree)) → IsExpansion contents answers root notices tree
+        → Reaches b.known (run_at_start answers true) b.run (tree_read root) (ends (ending_of tree))
+        → IsCountedExpansion contents contents.failures b.contents.failures answers root notices tree
     unfolding expansion
     expansion_read notices tree h r =
-        let run = reaches_in here b.known (run_at_start answers true) b.run (tree_read root) (ending_of tree) (world_agrees contents b.known answers as_known)
-        (world_answers contents b.known answers as_known) r in
-        record {
-          world = here;
-          of_contents = world_allowed contents b.known answers as_known;
-          answered = world_answers contents b.known answers as_known;
-          has_notices = sym (ap (λ (t : RunState). t.notices) run.state) ∙ sym h;
-          ends_so = run.ending;
-        }
+        let run = reaches_in here b.known (run_at_start answers true) b.run (tree_read root) (ending_of tree) (world_agrees later contents.failures b.known answers as_known)
+        (world_answers later contents.failures b.known answers as_known) r in (
+          record {
+            world = here;
+            of_contents = here_agrees;
+            answered = world_answers later contents.failures b.known answers as_known;
+            has_notices = sym (ap (λ (t : RunState). t.notices) run.state) ∙ sym h;
+            ends_so = run.ending;
+          },
+          here_whole,
+        )
 
     module _ (questions : List (List ℕ)) (e : Ending (List ExpandedFile)) (open_are : questions ≡ open_questions b.run)
         (r : Reaches b.known (run_at_start answers false) b.run (tree_read root) (ends e)) where
@@ -61,8 +77,8 @@ module _ (contents : TreeContents) (b : FileRun) (answers : RecordedAnswers) (ro
       reading_here = outcome false here MAX_WORK (tree_read root)
 
       run_here : RunsIn here (run_at_start answers false) b.run (tree_read root) e
-      run_here = reaches_in here b.known (run_at_start answers false) b.run (tree_read root) e (world_agrees contents b.known answers as_known)
-          (world_answers contents b.known answers as_known) r
+      run_here = reaches_in here b.known (run_at_start answers false) b.run (tree_read root) e (world_agrees later contents.failures b.known answers as_known)
+          (world_answers later contents.failures b.known answers as_known) r
 
       -- the questions of the run are those of the reading
       questions_here : b.run.questions ≡ questions_once reading_here
@@ -78,32 +94,38 @@ module _ (contents : TreeContents) (b : FileRun) (answers : RecordedAnswers) (ro
 
       -- a run of the code that reads a tree to an end gives the wanted answers of the tree: the open questions of the run, or its
       -- fault where there are none
-      pub wanted_read : AreWanted contents answers root (questions_or_fault questions e)
-      wanted_read = record {
-        world = here;
-        of_contents = world_allowed contents b.known answers as_known;
-        answered = world_answers contents b.known answers as_known;
-        are_wanted = wanted_here;
-      }
+      pub wanted_read : AreCountedWanted contents contents.failures b.contents.failures answers root (questions_or_fault questions e)
+      wanted_read = (
+        record {
+          world = here;
+          of_contents = here_agrees;
+          answered = world_answers later contents.failures b.known answers as_known;
+          are_wanted = wanted_here;
+        },
+        here_whole,
+      )
 
       -- and what it doesn't ask of some questions is unused
       pub unused_read : (answered rest : List (List ℕ)) → rest ≡ not_in b.run.questions answered
-          → AreUnused contents answers root answered (if_all_answered (questions_or_fault questions e) rest)
+          → AreCountedUnused contents contents.failures b.contents.failures answers root answered (if_all_answered (questions_or_fault questions e) rest)
       unfolding unused
-      unused_read answered rest h = record {
-        world = here;
-        of_contents = world_allowed contents b.known answers as_known;
-        answered_so = world_answers contents b.known answers as_known;
-        are_unused = ap (λ w. if_all_answered w (not_in (questions_once reading_here) answered)) wanted_here
-            ∙ ap (if_all_answered (questions_or_fault questions e)) (ap (λ qs. not_in qs answered) (sym questions_here) ∙ sym h);
-      }
+      unused_read answered rest h = (
+        record {
+          world = here;
+          of_contents = here_agrees;
+          answered_so = world_answers later contents.failures b.known answers as_known;
+          are_unused = ap (λ w. if_all_answered w (not_in (questions_once reading_here) answered)) wanted_here
+              ∙ ap (if_all_answered (questions_or_fault questions e)) (ap (λ qs. not_in qs answered) (sym questions_here) ∙ sym h);
+        },
+        here_whole,
+      )
 
     -- the reading of a tree for its expansion doesn't stop at a question without an answer
     pub never_stopped : Reaches b.known (run_at_start answers true) b.run (tree_read root) (ends stopped) → ⊥
     unfolding expansion
     never_stopped r =
-        let run = reaches_in here b.known (run_at_start answers true) b.run (tree_read root) stopped (world_agrees contents b.known answers as_known)
-        (world_answers contents b.known answers as_known) r in
+        let run = reaches_in here b.known (run_at_start answers true) b.run (tree_read root) stopped (world_agrees later contents.failures b.known answers as_known)
+        (world_answers later contents.failures b.known answers as_known) r in
         expansion_never_stops here root run.ending
 
     pub goes_on : {X : Type 0} (view : X → List ExpandedFile) (r : Result X Stop) → Reaches b.known (run_at_start answers true) b.run (tree_read root)
@@ -116,9 +138,9 @@ module _ (contents : TreeContents) (b : FileRun) (answers : RecordedAnswers) (ro
 -- a run of a program that begins with no known files grows from no known files, and reaches its end from the state at the start
 pub from_start : {A : Type 0} (a b : FileRun) (answers : RecordedAnswers) (all_answered : Bool) (p : Program A) (e : RunEnd A) → a.known ≡ nothing_known
     → a.run ≡ run_at_start answers all_answered → Reads a b p e
-    → Grows a.contents nothing_known b.known × Reaches b.known (run_at_start answers all_answered) b.run p e
+    → Grows a.contents b.contents nothing_known b.known × Reaches b.known (run_at_start answers all_answered) b.run p e
 from_start a b answers all_answered p e k r h = (
-  subst (λ (x : KnownFiles). Grows a.contents x b.known) k h.grows,
+  subst (λ (x : KnownFiles). Grows a.contents b.contents x b.known) k h.grows,
   subst (λ (x : RunState). Reaches b.known x b.run p e) r h.reaches,
 )
 
@@ -131,30 +153,32 @@ end_there view (Err kinds.OutOfMemory) h = absurd h
 
 -- where the code's result has the questions or the fault of a reading of a tree, it is what is wanted of the tree
 pub wanted_of : {X V E : Type 0} (contents : TreeContents) (b : FileRun) (answers : RecordedAnswers) (root : List ℕ)
-    (grows : Grows contents nothing_known b.known)
+    (stays : StaysKnown contents b.contents) (grows : Grows contents b.contents nothing_known b.known)
     (view : X → List ExpandedFile) (r : Result X Stop) (of : V → Result (List (List ℕ)) Fault) (result : Result V E) (questions : List (List ℕ))
     → questions ≡ open_questions b.run → Reaches b.known (run_at_start answers false) b.run (tree_read root) (end_of view r) → OnOk result (HasEnded r)
     → IfOk result (λ w. (e : Ending (List ExpandedFile)) → end_of view r ≡ ends e → of w ≡ questions_or_fault questions e)
-    → IfOk result (λ w. AreWanted contents answers root (of w))
-wanted_of contents b answers root grows view r of (Ok w) questions q h ended k =
+    → IfOk result (λ w. AreCountedWanted contents contents.failures b.contents.failures answers root (of w))
+wanted_of contents b answers root stays grows view r of (Ok w) questions q h ended k =
     let (e, i) = end_there view r ended in
-    subst (AreWanted contents answers root) (sym (k e i)) (wanted_read contents b answers root grows questions e q
+    subst (AreCountedWanted contents contents.failures b.contents.failures answers root) (sym (k e i))
+    (wanted_read contents b answers root stays grows questions e q
     (subst (Reaches b.known (run_at_start answers false) b.run (tree_read root)) i h))
-wanted_of contents b answers root grows view r of (Err x) questions q h ended k = tt
+wanted_of contents b answers root stays grows view r of (Err x) questions q h ended k = tt
 
 -- and where it has them or the rest of some questions that the run didn't ask, it is what is unused of these
 pub unused_of : {X V E : Type 0} (contents : TreeContents) (b : FileRun) (answers : RecordedAnswers) (root : List ℕ)
-    (grows : Grows contents nothing_known b.known)
+    (stays : StaysKnown contents b.contents) (grows : Grows contents b.contents nothing_known b.known)
     (view : X → List ExpandedFile) (r : Result X Stop) (of : V → Result (List (List ℕ)) Fault) (result : Result V E)
     (questions answered rest : List (List ℕ)) → questions ≡ open_questions b.run → rest ≡ not_in b.run.questions answered
     → Reaches b.known (run_at_start answers false) b.run (tree_read root) (end_of view r) → OnOk result (HasEnded r)
     → IfOk result (λ w. (e : Ending (List ExpandedFile)) → end_of view r ≡ ends e → of w ≡ if_all_answered (questions_or_fault questions e) rest)
-    → IfOk result (λ w. AreUnused contents answers root answered (of w))
-unused_of contents b answers root grows view r of (Ok w) questions answered rest q n h ended k =
+    → IfOk result (λ w. AreCountedUnused contents contents.failures b.contents.failures answers root answered (of w))
+unused_of contents b answers root stays grows view r of (Ok w) questions answered rest q n h ended k =
     let (e, i) = end_there view r ended in
-    subst (AreUnused contents answers root answered) (sym (k e i)) (unused_read contents b answers root grows questions e q
+    subst (AreCountedUnused contents contents.failures b.contents.failures answers root answered) (sym (k e i))
+    (unused_read contents b answers root stays grows questions e q
     (subst (Reaches b.known (run_at_start answers false) b.run (tree_read root)) i h) answered rest n)
-unused_of contents b answers root grows view r of (Err x) questions answered rest q n h ended k = tt
+unused_of contents b answers root stays grows view r of (Err x) questions answered rest q n h ended k = tt
 
 -- where the lines of the first file are read, the expanded files are those that were sourced with the first file after them
 pub root_ends : {X : Type 0} (b c : FileRun) (p : Program Progress) (root : List ℕ) (s : ReadingState) (view : X → List ℕ) (r : Result X Stop)
@@ -201,7 +225,7 @@ counted_first s n len h k =
     ∙ ap (counted len) (sym h)
 
 pub root_leads : (a b : FileRun) (root : List ℕ) (s : ReadingState) (read : FileRead) (q : Program (List ExpandedFile)) → s ≡ initial_state
-    → b.contents ≡ a.contents → Grows a.contents a.known b.known → b.run ≡ a.run
+    → StaysKnown a.contents b.contents → Grows a.contents b.contents a.known b.known → b.run ≡ a.run
     → keyword_in_table b.known.files root ≡ Some read → ((bytes : Option (List ℕ)) → AreBytes read bytes → root_read root s bytes ≡ q)
     → Leads a (tree_read root) b q
 unfolding tree_read

@@ -13,13 +13,13 @@ use Rattle.kc_macros.specs.between.Stops.{FailsWith}
 use Rattle.kc_macros.specs.Runs.{RunEnd, ends, out_of_memory, end_of_stop, end_of, HasAnswers, Runs, fault_of}
 use Rattle.kc_macros.proofs.RunLemmas.{RunsIn, in_world, same_answers}
 use Rattle.kc_expansion.proofs.JoinedRuns.{in_world_then, in_world_failed, in_world_stopped}
-use Rattle.kc_files.specs.TreeContents.{TreeContents}
+use Rattle.kc_files.specs.TreeContents.{TreeContents, StaysKnown}
 use Rattle.kc_files.specs.between.KnownFiles.{FileRead, KnownFiles, AreBytes, Agrees, Grows}
 use Rattle.kc_files.specs.between.FileRuns.{Comes}
 use Rattle.kc_expansion.specs.between.Reads.{FileRun, file_run, Reaches, reached, cut_short, Reads}
 use Rattle.kc_expansion.specs.checker.ProgramSteps.{outcome_in, MeetIn, Leads, Steps}
 use Rattle.kc_files.proofs.ProgramLemmas.{nothing_after}
-use Rattle.kc_files.proofs.StoreLemmas.{grows_same}
+use Rattle.kc_files.proofs.StoreLemmas.{stays_same, stays_twice, grows_same, grows_twice}
 
 -- a program that comes to its end at once
 at_end : {A : Type 0} (w : World) (s : RunState) (p : Program A) (e : Ending A) → outcome_in w s p ≡ ended s.left e → RunsIn w s s p e
@@ -36,23 +36,24 @@ reaches_by : {A : Type 0} (k : KnownFiles) (s t : RunState) (p : Program A) (e :
     → ((w : World) → Agrees w k → HasAnswers w s.answers → RunsIn w s t p e) → Reaches k s t p (ends e)
 reaches_by k s t p e f = reached (λ w a h. let r = f w a h in (r.state, r.ending))
 
-pub grows_then : (a b c : FileRun) (h : b.contents ≡ a.contents) → Grows a.contents a.known b.known → Grows b.contents b.known c.known
-    → Grows a.contents a.known c.known
-grows_then a b c h g k =
-    let later : Grows a.contents b.known c.known = subst (λ (t : TreeContents). Grows t b.known c.known) h k in
-    record { worlds = λ w x. g.worlds w (later.worlds w x); matched = λ x. later.matched (g.matched x) }
+grows_then : (a b c : FileRun) → Grows a.contents b.contents a.known b.known → Grows b.contents c.contents b.known c.known
+    → Grows a.contents c.contents a.known c.known
+grows_then a b c g h = grows_twice a.contents b.contents c.contents a.known b.known c.known g h
+
+stays_then : (a b c : FileRun) → StaysKnown a.contents b.contents → StaysKnown b.contents c.contents → StaysKnown a.contents c.contents
+stays_then a b c g h = stays_twice a.contents b.contents c.contents g h
 
 -- code that runs a program without reading files also runs it as a program that reads files, with the same known files
 pub reads_by_run : {A : Type 0} (contents : TreeContents) (known : KnownFiles) (s t : RunState) (p : Program A) (e : RunEnd A) → Runs s t p e
     → Reads (file_run contents known s) (file_run contents known t) p e
-reads_by_run {A = A} contents known s t p e a = record { same = refl; grows = grows_same contents known; reaches = by_cases e a }
+reads_by_run {A = A} contents known s t p e a = record { same = stays_same contents; grows = grows_same contents known; reaches = by_cases e a }
   where
     by_cases : (e : RunEnd A) → Runs s t p e → Reaches known s t p e
     by_cases (ends e) a = reaches_by known s t p e (λ w _ h. in_world w s t p e h a)
     by_cases out_of_memory a = cut_short
 
 -- code runs a program that only reads files to the end to which the program comes in each world that has those files
-pub reads_by_files : {A : Type 0} (a b : FileRun) (p : Program A) (e : Ending A) → b.contents ≡ a.contents → Grows a.contents a.known b.known → b.run ≡ a.run
+pub reads_by_files : {A : Type 0} (a b : FileRun) (p : Program A) (e : Ending A) → StaysKnown a.contents b.contents → Grows a.contents b.contents a.known b.known → b.run ≡ a.run
     → Comes b.known p e → Reads a b p (ends e)
 reads_by_files a b p e same grows run c = record {
   same = same;
@@ -63,21 +64,21 @@ reads_by_files a b p e same grows run c = record {
 
 pub reads_nothing : {A : Type 0} (a : FileRun) (x : A) → Reads a a (returns x) (ends (returned x))
 reads_nothing a x = record {
-  same = refl;
+  same = stays_same a.contents;
   grows = grows_same a.contents a.known;
   reaches = reaches_by a.known a.run a.run (returns x) (returned x) (λ w _ _. at_end w a.run (returns x) (returned x) refl);
 }
 
 pub reads_fault : {A : Type 0} (a : FileRun) (g : Fault) → Reads {A = A} a a (fails g) (ends (failed g))
 reads_fault a g = record {
-  same = refl;
+  same = stays_same a.contents;
   grows = grows_same a.contents a.known;
   reaches = reaches_by a.known a.run a.run (fails g) (failed g) (λ w _ _. at_end w a.run (fails g) (failed g) refl);
 }
 
 pub reads_stop : {A : Type 0} (a : FileRun) → Reads {A = A} a a stops (ends stopped)
 reads_stop a = record {
-  same = refl;
+  same = stays_same a.contents;
   grows = grows_same a.contents a.known;
   reaches = reaches_by a.known a.run a.run stops stopped (λ w _ _. at_end w a.run stops stopped refl);
 }
@@ -85,7 +86,7 @@ reads_stop a = record {
 -- a program leads to itself, and so to an equal program
 pub leads_same : {A : Type 0} (a : FileRun) (p q : Program A) → p ≡ q → Leads a p a q
 leads_same a p q h = record {
-  same = refl;
+  same = stays_same a.contents;
   grows = grows_same a.contents a.known;
   meet = λ w _ _. record {
     answers = refl;
@@ -96,8 +97,8 @@ leads_same a p q h = record {
 
 pub leads_then : {A : Type 0} (a b c : FileRun) (p q r : Program A) → Leads a p b q → Leads b q c r → Leads a p c r
 leads_then a b c p q r f g = record {
-  same = g.same ∙ f.same;
-  grows = grows_then a b c f.same f.grows g.grows;
+  same = stays_then a b c f.same g.same;
+  grows = grows_then a b c f.grows g.grows;
   meet = λ w k h.
       let one = f.meet w (g.grows.worlds w k) h in
       let two = g.meet w k (subst (λ (es : RecordedAnswers). HasAnswers w es) (sym one.answers) h) in
@@ -130,7 +131,7 @@ module _ {A B : Type 0} (a b : FileRun) (p : Program A) (f : A → Program B) wh
 
 -- a program comes to the end of the program to which it leads
 pub reads_on : {A : Type 0} (a b c : FileRun) (p q : Program A) (e : RunEnd A) → Leads a p b q → Reads b c q e → Reads a c p e
-reads_on {A = A} a b c p q e f r = record { same = r.same ∙ f.same; grows = grows_then a b c f.same f.grows r.grows; reaches = by_cases e r.reaches }
+reads_on {A = A} a b c p q e f r = record { same = stays_then a b c f.same r.same; grows = grows_then a b c f.grows r.grows; reaches = by_cases e r.reaches }
   where
     by_cases : (e : RunEnd A) → Reaches c.known b.run c.run q e → Reaches c.known a.run c.run p e
     by_cases (ends e) h = reaches_by c.known a.run c.run p e (λ w k x.
@@ -175,8 +176,8 @@ steps_stopped a b c p q next stop (Ok x) f h k = absurd h
 steps_stopped a b c p q next stop (Err e) f h k = subst (λ (x : Stop). Reads a c p (end_of_stop x)) (sym h) (reads_on a b c p q (end_of_stop stop) f k)
 
 -- a program that reads a file which was read before leads to the program that goes on with the bytes of the file
-pub leads_read : {A : Type 0} (a b : FileRun) (path : List ℕ) (f : Option (List ℕ) → Program A) (q : Program A) (read : FileRead) → b.contents ≡ a.contents
-    → Grows a.contents a.known b.known → b.run ≡ a.run
+pub leads_read : {A : Type 0} (a b : FileRun) (path : List ℕ) (f : Option (List ℕ) → Program A) (q : Program A) (read : FileRead) → StaysKnown a.contents b.contents
+    → Grows a.contents b.contents a.known b.known → b.run ≡ a.run
     → keyword_in_table b.known.files path ≡ Some read → ((bytes : Option (List ℕ)) → AreBytes read bytes → f bytes ≡ q) → Leads a (does (read_file path) f) b q
 leads_read {A = A} a b path f q read same grows run e h = record {
   same = same;
@@ -203,7 +204,7 @@ reads_fails {A = A} a p f stop h k = reads_on a a a p (fails f) (end_of_stop sto
     by_cases : (stop : Stop) → FailsWith f stop → Reads {A = A} a a (fails f) (end_of_stop stop)
     by_cases (kinds.Fault g) k = subst (λ (g : Fault). Reads {A = A} a a (fails f) (ends (failed g))) (sym k) (reads_fault a f)
     by_cases kinds.Unanswered k = absurd k
-    by_cases kinds.OutOfMemory k = record { same = refl; grows = grows_same a.contents a.known; reaches = cut_short }
+    by_cases kinds.OutOfMemory k = record { same = stays_same a.contents; grows = grows_same a.contents a.known; reaches = cut_short }
 
 pub reads_returns : {A : Type 0} (a : FileRun) (p : Program A) (x : A) → p ≡ returns x → Reads a a p (ends (returned x))
 reads_returns a p x h = reads_on a a a p (returns x) (ends (returned x)) (leads_same a p (returns x) h) (reads_nothing a x)
@@ -216,7 +217,7 @@ fails_by a b p f kinds.Unanswered k r = absurd k
 fails_by a b p f kinds.OutOfMemory k r = record { same = r.same; grows = r.grows; reaches = cut_short }
 
 -- where the code's result is out of memory, code runs any program to that end, with the files that it has read
-pub out_now : {A X : Type 0} (a b : FileRun) (p : Program A) (view : X → A) (r : Result X Stop) → b.contents ≡ a.contents → Grows a.contents a.known b.known
+pub out_now : {A X : Type 0} (a b : FileRun) (p : Program A) (view : X → A) (r : Result X Stop) → StaysKnown a.contents b.contents → Grows a.contents b.contents a.known b.known
     → IsErrAnd r (λ e. e ≡ kinds.OutOfMemory) → Reads a b p (end_of view r)
 out_now a b p view (Ok x) same grows h = absurd h
 out_now a b p view (Err e) same grows h = record {
@@ -225,8 +226,8 @@ out_now a b p view (Err e) same grows h = record {
   reaches = subst (λ (x : Stop). Reaches b.known a.run b.run p (end_of_stop x)) (sym h) cut_short;
 }
 
-pub steps_out_now : {A X : Type 0} (a b : FileRun) (p : Program A) (next : X → Program A) (r : Result X Stop) → b.contents ≡ a.contents
-    → Grows a.contents a.known b.known → IsErrAnd r (λ e. e ≡ kinds.OutOfMemory) → Steps a b p next r
+pub steps_out_now : {A X : Type 0} (a b : FileRun) (p : Program A) (next : X → Program A) (r : Result X Stop) → StaysKnown a.contents b.contents
+    → Grows a.contents b.contents a.known b.known → IsErrAnd r (λ e. e ≡ kinds.OutOfMemory) → Steps a b p next r
 steps_out_now a b p next (Ok x) same grows h = absurd h
 steps_out_now a b p next (Err e) same grows h = record {
   same = same;

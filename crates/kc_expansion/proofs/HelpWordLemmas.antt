@@ -3,7 +3,7 @@ use Rattle.std.proofs.Common.{◌≡◌, ℕ, suc, ◌+◌, ◌<◌, ◌≤◌, 
 use Rattle.std.specs.Prelude.{◌==◌, bytes_eq, codes, take_while}
 use Rattle.std.specs.List.{list_all}
 use Rattle.std.proofs.lemmas.Slice.Eq.{bytes_eq-Decides}
-use Rattle.std.proofs.lemmas.Bool.{eqb-true, and_parts}
+use Rattle.std.proofs.lemmas.Bool.{eqb-true, and_parts, false≢true, true≢false}
 use Rattle.std.proofs.lemmas.List.Sums.{take_while-cons}
 use Rattle.std.proofs.Math.Seq.{take-append_seam}
 use Rattle.kc_tokens.specs.Token.{Lexeme, is_white_byte, is_word_byte, lexemes_from}
@@ -142,7 +142,7 @@ help_of_word p h = by_kind (is_word_kind p.kind) h
   where
     by_kind : (b : Bool) → is_help_word (cond b (keyword_in_table keywords p.text) None) ≡ true → is_help_text p.text ≡ true
     by_kind true t = sym (help_keyword p.text) ∙ t
-    by_kind false t = absurd (let z : ⊥ = cc in z)
+    by_kind false t = absurd (false≢true t)
 
 cut_help : (at : ℕ) (s : List ℕ) (ps : List Lexeme) → IsCut Strict at s ps → is_help ps ≡ true → help_at s ≡ true
 cut_help at s ps ends h = absurd (let z : ⊥ = cc in z)
@@ -180,7 +180,7 @@ word_longest s h k front rest e is = by_first (other_first k front is)
   where
     is_longer : (front : List ℕ) → s ≡ front ++ rest → first_of front ≡ false → length front ≤ length (take_while is_word_byte s)
     is_longer [] e f = omega arith
-    is_longer (c ∷ cs) e f = absurd (let same : first_of s ≡ is_word_byte c = ap first_of e in let z : ⊥ = cc in z)
+    is_longer (c ∷ cs) e f = absurd (let same : first_of s ≡ is_word_byte c = ap first_of e in true≢false (sym h ∙ same ∙ f))
 
     by_first : (k ≡ Word) ⊎ (first_of front ≡ false) → length front ≤ length (take_while is_word_byte s)
     by_first (inl w) = let word : IsToken Strict Word front = subst (λ j. IsToken Strict j front) w is in
@@ -217,7 +217,7 @@ line_help at s h =
 
 help_cut : (at : ℕ) (s : List ℕ) → help_at s ≡ true → HasHelp at s
 unfolding HasHelp
-help_cut at [] h = absurd (let z : ⊥ = cc in z)
+help_cut at [] h = absurd (false≢true h)
 help_cut at (c ∷ s) h = by_white (is_white_byte c) refl (help_cut (at + 1) s)
   where
     by_white : (b : Bool) → is_white_byte c ≡ b → (help_at s ≡ true → HasHelp (at + 1) s) → HasHelp at (c ∷ s)

@@ -1,6 +1,3 @@
-pub mod KeyLemmas
-pub mod PathOfKeyLemmas
-pub mod LastFileLemmas
 pub mod WrittenFileLemmas
 pub mod SourceFaultLemmas
 pub mod FileProgramLemmas

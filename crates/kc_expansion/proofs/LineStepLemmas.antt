@@ -26,7 +26,7 @@ use Rattle.kc_expansion.specs.checker.SameLines.{Stays}
 use Rattle.kc_expansion.specs.checker.ReadingViews.{fault_at, assigned_or_fault, IsNoPath}
 use Rattle.kc_macro_lines.proofs.QuietLemmas.{narrow_is_utf8}
 use Rattle.kc_files.proofs.ProgramLemmas.{grouped}
-use Rattle.kc_files.proofs.StoreLemmas.{grows_same}
+use Rattle.kc_files.proofs.StoreLemmas.{stays_same, grows_same}
 use Rattle.kc_expansion.proofs.FileProgramLemmas.{leads_same, reads_on, reads_stop}
 
 module _ (at : Place) (help : Bool) (text : List ℕ) (s : ReadingState) where
@@ -132,7 +132,7 @@ path_unknown a sub at ts sort path s help kinds.Unanswered h =
     reads_on a a a (form_written sub at ts (sources sort path) s >>= short_line at help) stops (ends stopped)
     (leads_same a (form_written sub at ts (sources sort path) s >>= short_line at help) stops
     (ap (λ v. form_written sub at ts (sources sort v) s >>= short_line at help) h)) (reads_stop a)
-path_unknown a sub at ts sort path s help kinds.OutOfMemory h = record { same = refl; grows = grows_same a.contents a.known; reaches = cut_short }
+path_unknown a sub at ts sort path s help kinds.OutOfMemory h = record { same = stays_same a.contents; grows = grows_same a.contents a.known; reaches = cut_short }
 
 pub path_known : (a : FileRun) (sub : SourceReader) (at : Place) (s : ReadingState) (ts real : List WrittenToken) (sort : SourceSort) (path : Value)
     (given : List ℕ) → is_undecided real ≡ false → form_of real ≡ sources sort path → path ≡ Some given

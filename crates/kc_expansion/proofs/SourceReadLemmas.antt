@@ -15,6 +15,7 @@ use Rattle.kc_macros_model.specs.ReadingStates.{ExpandedFile, ReadingState, Prog
 use Rattle.kc_macros_model.specs.TreeExpansion.{SourceTarget, one_file, file_list, sourced_path, SourceReader, path_meant, list_name, source_line, pattern_read, path_read, source_followed, lines_read, list_read, source_fault, contents_read, sourced_read, source_read}
 use Rattle.kc_macros.specs.declared.stop.Stop.{Stop}
 use Rattle.kc_macros.specs.Runs.{RunEnd, ends, end_of_stop}
+use Rattle.kc_files.specs.TreeContents.{StaysKnown}
 use Rattle.kc_files.specs.between.KnownFiles.{FileRead, whole, AreBytes, Grows}
 use Rattle.kc_expansion.specs.between.Reads.{FileRun, Reads}
 use Rattle.kc_expansion.specs.checker.ProgramSteps.{Leads}
@@ -22,7 +23,7 @@ use Rattle.kc_expansion.specs.checker.ReadingViews.{reader_for, fault_at, after_
 use Rattle.std.specs.Borrow.{Bor}
 use Rattle.std.proofs.lemmas.List.{length-map}
 use Rattle.kc_value.specs.declared.limits.TheConstants.{MAX_OPEN_FILES}
-use Rattle.kc_expansion.specs.checker.ExpandedViews.{with_file}
+use Rattle.kc_files.specs.checker.ExpandedViews.{with_file}
 use Rattle.kc_macros.specs.between.SliceTexts.{texts_of_slices}
 use Rattle.kc_expansion.specs.declared.source_faults.ReadCounts.{ReadCounts}
 use Rattle.kc_files.proofs.ProgramLemmas.{grouped, same_rest, nothing_after}
@@ -66,7 +67,7 @@ module _ (root : List ℕ) (open_files : List (List ℕ)) (few : length open_fil
 module _ (a b : FileRun) (root : List ℕ) (open_files : List (List ℕ)) (few : length open_files ≤ MAX_OPEN_FILES)
     (at : Place) (s : ReadingState) (counts : ReadCounts)
     (c : AreCounts counts s) (path : List ℕ) (read : FileRead)
-    (same : b.contents ≡ a.contents) (grows : Grows a.contents a.known b.known) (run : b.run ≡ a.run)
+    (same : StaysKnown a.contents b.contents) (grows : Grows a.contents b.contents a.known b.known) (run : b.run ≡ a.run)
     (known : keyword_in_table b.known.files path ≡ Some read) where
   -- the reading of a file that may not be read leads to its fault at the `source` line
   pub file_refused : (kind : MacroKind) → MayNotBeRead open_files counts path read kind → Leads a (reader_for root open_files at (one_file path) s) b

@@ -5,13 +5,14 @@ use Rattle.kc_macros_model.specs.Programs.{Program}
 use Rattle.kc_macros.specs.declared.stop.Stop.{Stop}
 use Rattle.kc_macros.specs.declared.stop.Stop.TheVariants as kinds
 use Rattle.kc_macros.specs.Runs.{end_of_stop}
+use Rattle.kc_files.specs.TreeContents.{StaysKnown}
 use Rattle.kc_files.specs.between.KnownFiles.{Grows}
 use Rattle.kc_expansion.specs.between.Reads.{FileRun, Reaches, cut_short, Reads}
 use Rattle.kc_expansion.specs.checker.StepResults.{StepsTo}
 
 -- where memory runs out in a step, it stops the program out of memory
-pub to_out : {A X : Type 0} (a b : FileRun) (p : Program A) (q : X → Type 0) (r : Result X Stop) → b.contents ≡ a.contents
-    → Grows a.contents a.known b.known → IsErrAnd r (λ e. e ≡ kinds.OutOfMemory) → StepsTo a b p q r
+pub to_out : {A X : Type 0} (a b : FileRun) (p : Program A) (q : X → Type 0) (r : Result X Stop) → StaysKnown a.contents b.contents
+    → Grows a.contents b.contents a.known b.known → IsErrAnd r (λ e. e ≡ kinds.OutOfMemory) → StepsTo a b p q r
 to_out a b p q (Ok x) same grows h = absurd h
 to_out a b p q (Err e) same grows h = record {
   same = same;

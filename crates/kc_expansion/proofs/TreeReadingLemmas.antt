@@ -18,9 +18,10 @@ use Rattle.kc_macros.specs.declared.stop.Stop.{Stop}
 use Rattle.kc_macros.specs.Runs.{RunEnd, ends, end_of_stop, end_of}
 use Rattle.kc_lines.specs.between.LinePlaces.{IsLogicalAt}
 use Rattle.kc_files.specs.TextViews.{items_of}
+use Rattle.kc_files.specs.TreeContents.{StaysKnown}
 use Rattle.kc_files.specs.between.KnownFiles.{FileRead, whole, Grows}
 use Rattle.kc_expansion.specs.between.Reads.{FileRun, Reads}
-use Rattle.kc_expansion.specs.checker.ExpandedViews.{with_file}
+use Rattle.kc_files.specs.checker.ExpandedViews.{with_file}
 use Rattle.kc_expansion.specs.checker.SameLines.{Stays}
 use Rattle.kc_expansion.specs.checker.ProgramSteps.{Leads, Steps}
 use Rattle.kc_expansion.specs.checker.LineViews.{is_first_continued, IsHelpPassed}
@@ -68,7 +69,7 @@ module _ (a b : FileRun) (sub : SourceReader) (at : Place) (ts : List WrittenTok
 module _ (a b c : FileRun) (root : List ℕ) (open_files : List (List ℕ)) (few : length open_files ≤ MAX_OPEN_FILES)
     (at : Place) (s : ReadingState) (counts : ReadCounts)
     (are : AreCounts counts s) (path : List ℕ) (read : FileRead)
-    (same : b.contents ≡ a.contents) (grows : Grows a.contents a.known b.known) (run : b.run ≡ a.run) (known : keyword_in_table b.known.files path ≡ Some read)
+    (same : StaysKnown a.contents b.contents) (grows : Grows a.contents b.contents a.known b.known) (run : b.run ≡ a.run) (known : keyword_in_table b.known.files path ≡ Some read)
     (bytes : List ℕ) (m : MayBeRead open_files counts path read bytes)
     (paths : List (List ℕ)) (t : ReadingState) (h : paths ≡ path ∷ open_files) (k : t ≡ counted (length bytes) s) where
   abbrev keeping_file : Progress → Program Progress

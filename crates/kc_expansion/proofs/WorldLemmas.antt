@@ -10,7 +10,7 @@ use Rattle.kc_value.specs.declared.limits.TheConstants.{MAX_TREE_BYTES, MAX_LIST
 use Rattle.kc_macros_model.specs.Worlds.{World}
 use Rattle.kc_answers.specs.RunStates.{with_questions}
 use Rattle.kc_macros.specs.Runs.{HasAnswers}
-use Rattle.kc_files.specs.TreeContents.{FileContent, FolderContent, TreeContents, IsContentRead, IsFolderRead, IsWorldOf}
+use Rattle.kc_files.specs.TreeContents.{FileContent, FolderContent, TreeContents, IsContentRead, IsFolderRead, IsContent, IsFolder, HasRisen, IsWorldOf, IsWholeWorldOf}
 use Rattle.kc_files.specs.between.KnownFiles.{FileRead, missing, unreadable, whole, too_long, FolderRead, names, too_many, unlisted, KnownFiles, AreBytes, IsUnreadable, AreNames, Agrees, MatchFile, MatchFolder, AreAsKnown}
 
 -- a list that is longer than this
@@ -45,14 +45,14 @@ names_of None (Some too_many) = Some (longer {A = List ℕ} [] MAX_LISTED_NAMES)
 names_of (Some known) None = Some known
 names_of None None = Some []
 
-bytes_agree : (content : FileContent) (read : FileRead) → MatchFile content read → AreBytes read (bytes_of content (Some read))
+bytes_agree : (content : FileContent) (a b : ℕ) (read : FileRead) → MatchFile content a b read → AreBytes read (bytes_of content (Some read))
 unfolding bytes_of
-bytes_agree content missing m = refl
-bytes_agree content unreadable m = refl
-bytes_agree content (whole bytes) m = refl
-bytes_agree (Some (Some known)) too_long m = (known, refl, m)
-bytes_agree (Some None) too_long m = absurd (let z : ⊥ = cc in z)
-bytes_agree None too_long m = ((longer 0 MAX_TREE_BYTES).0, refl, (longer 0 MAX_TREE_BYTES).1)
+bytes_agree content a b missing m = refl
+bytes_agree content a b unreadable m = refl
+bytes_agree content a b (whole bytes) m = refl
+bytes_agree (Some (Some known)) a b too_long m = (known, refl, m)
+bytes_agree (Some None) a b too_long m = absurd (let z : ⊥ = cc in z)
+bytes_agree None a b too_long m = ((longer 0 MAX_TREE_BYTES).0, refl, (longer 0 MAX_TREE_BYTES).1)
 
 unread_agrees : (read : FileRead) → IsUnreadable read (unread_of (Some read))
 unfolding unread_of
@@ -61,38 +61,63 @@ unread_agrees unreadable = refl
 unread_agrees (whole bytes) = tt
 unread_agrees too_long = tt
 
-bytes_allowed : (content : FileContent) (read : Option FileRead) → ((r : FileRead) → read ≡ Some r → MatchFile content r)
+bytes_allowed : (content : FileContent) (a b : ℕ) (read : Option FileRead) → ((r : FileRead) → read ≡ Some r → MatchFile content a b r)
     → IsContentRead content (bytes_of content read) (unread_of read)
 unfolding bytes_of unread_of
-bytes_allowed None read m = tt
-bytes_allowed (Some None) None m = (refl, refl)
-bytes_allowed (Some None) (Some missing) m = (refl, refl)
-bytes_allowed (Some None) (Some unreadable) m = absurd (let e : unreadable ≡ missing = m unreadable refl in let z : ⊥ = cc in z)
-bytes_allowed (Some None) (Some (whole bytes)) m = absurd (let e : whole bytes ≡ missing = m (whole bytes) refl in let z : ⊥ = cc in z)
-bytes_allowed (Some None) (Some too_long) m = (refl, refl)
-bytes_allowed (Some (Some known)) None m = inl refl
-bytes_allowed (Some (Some known)) (Some missing) m = absurd (m missing refl)
-bytes_allowed (Some (Some known)) (Some unreadable) m = inr (refl, refl)
-bytes_allowed (Some (Some known)) (Some (whole bytes)) m = inl (ap Some (m (whole bytes) refl))
-bytes_allowed (Some (Some known)) (Some too_long) m = inl refl
+bytes_allowed None a b read m = tt
+bytes_allowed (Some None) a b None m = (refl, refl)
+bytes_allowed (Some None) a b (Some missing) m = (refl, refl)
+bytes_allowed (Some None) a b (Some unreadable) m = absurd (let e : unreadable ≡ missing = m unreadable refl in let z : ⊥ = cc in z)
+bytes_allowed (Some None) a b (Some (whole bytes)) m = absurd (let e : whole bytes ≡ missing = m (whole bytes) refl in let z : ⊥ = cc in z)
+bytes_allowed (Some None) a b (Some too_long) m = (refl, refl)
+bytes_allowed (Some (Some known)) a b None m = inl refl
+bytes_allowed (Some (Some known)) a b (Some missing) m = absurd (m missing refl)
+bytes_allowed (Some (Some known)) a b (Some unreadable) m = inr (refl, refl)
+bytes_allowed (Some (Some known)) a b (Some (whole bytes)) m = inl (ap Some (m (whole bytes) refl))
+bytes_allowed (Some (Some known)) a b (Some too_long) m = inl refl
 
-names_agree : (content : FolderContent) (read : FolderRead) → MatchFolder content read → AreNames read (names_of content (Some read))
+names_agree : (content : FolderContent) (a b : ℕ) (read : FolderRead) → MatchFolder content a b read → AreNames read (names_of content (Some read))
 unfolding names_of
-names_agree content (names ns) m = refl
-names_agree content unlisted m = refl
-names_agree (Some known) too_many m = (known, refl, m)
-names_agree None too_many m = ((longer {A = List ℕ} [] MAX_LISTED_NAMES).0, refl, (longer {A = List ℕ} [] MAX_LISTED_NAMES).1)
+names_agree content a b (names ns) m = refl
+names_agree content a b unlisted m = refl
+names_agree (Some known) a b too_many m = (known, refl, m)
+names_agree None a b too_many m = ((longer {A = List ℕ} [] MAX_LISTED_NAMES).0, refl, (longer {A = List ℕ} [] MAX_LISTED_NAMES).1)
 
-names_allowed : (content : FolderContent) (read : Option FolderRead) → ((r : FolderRead) → read ≡ Some r → MatchFolder content r)
+names_allowed : (content : FolderContent) (a b : ℕ) (read : Option FolderRead) → ((r : FolderRead) → read ≡ Some r → MatchFolder content a b r)
     → IsFolderRead content (names_of content read)
 unfolding names_of
-names_allowed None read m = tt
-names_allowed (Some known) None m = inl refl
-names_allowed (Some known) (Some (names ns)) m = inl (ap Some (m (names ns) refl))
-names_allowed (Some known) (Some too_many) m = inl refl
-names_allowed (Some known) (Some unlisted) m = inr refl
+names_allowed None a b read m = tt
+names_allowed (Some known) a b None m = inl refl
+names_allowed (Some known) a b (Some (names ns)) m = inl (ap Some (m (names ns) refl))
+names_allowed (Some known) a b (Some too_many) m = inl refl
+names_allowed (Some known) a b (Some unlisted) m = inr refl
 
-module _ (contents : TreeContents) (known : KnownFiles) (answers : RecordedAnswers) (m : AreAsKnown contents known) where
+-- where the count of failures didn't rise, each known file has its bytes, and each known folder its names
+bytes_whole : (content : FileContent) (a b : ℕ) (read : Option FileRead) → (HasRisen a b → ⊥) → ((r : FileRead) → read ≡ Some r → MatchFile content a b r)
+    → IsContent content (bytes_of content read) (unread_of read)
+unfolding bytes_of unread_of
+bytes_whole None a b read n m = tt
+bytes_whole (Some None) a b None n m = (refl, refl)
+bytes_whole (Some None) a b (Some missing) n m = (refl, refl)
+bytes_whole (Some None) a b (Some unreadable) n m = absurd (let e : unreadable ≡ missing = m unreadable refl in let z : ⊥ = cc in z)
+bytes_whole (Some None) a b (Some (whole bytes)) n m = absurd (let e : whole bytes ≡ missing = m (whole bytes) refl in let z : ⊥ = cc in z)
+bytes_whole (Some None) a b (Some too_long) n m = (refl, refl)
+bytes_whole (Some (Some known)) a b None n m = (refl, refl)
+bytes_whole (Some (Some known)) a b (Some missing) n m = absurd (m missing refl)
+bytes_whole (Some (Some known)) a b (Some unreadable) n m = absurd (n (m unreadable refl))
+bytes_whole (Some (Some known)) a b (Some (whole bytes)) n m = (ap Some (m (whole bytes) refl), refl)
+bytes_whole (Some (Some known)) a b (Some too_long) n m = (refl, refl)
+
+names_whole : (content : FolderContent) (a b : ℕ) (read : Option FolderRead) → (HasRisen a b → ⊥)
+    → ((r : FolderRead) → read ≡ Some r → MatchFolder content a b r) → IsFolder content (names_of content read)
+unfolding names_of
+names_whole None a b read n m = tt
+names_whole (Some known) a b None n m = refl
+names_whole (Some known) a b (Some (names ns)) n m = ap Some (m (names ns) refl)
+names_whole (Some known) a b (Some too_many) n m = refl
+names_whole (Some known) a b (Some unlisted) n m = absurd (n (m unlisted refl))
+
+module _ (contents : TreeContents) (failed : ℕ) (known : KnownFiles) (answers : RecordedAnswers) (m : AreAsKnown contents failed known) where
   abbrev pub world_of : World
   world_of = record {
     answer = keyword_in_table answers;
@@ -103,19 +128,25 @@ module _ (contents : TreeContents) (known : KnownFiles) (answers : RecordedAnswe
 
   pub world_agrees : Agrees world_of known
   world_agrees = record {
-    files = λ path read e. let f : AreBytes read (bytes_of (contents.file path) (Some read)) = bytes_agree (contents.file path) read (m.files path read e) in
+    files = λ path read e. let f : AreBytes read (bytes_of (contents.file path) (Some read)) = bytes_agree (contents.file path) failed contents.failures read (m.files path read e) in
         subst (λ (o : Option FileRead). AreBytes read (bytes_of (contents.file path) o)) (sym e) f;
     there = λ path read e. let f : IsUnreadable read (unread_of (Some read)) = unread_agrees read in
         subst (λ (o : Option FileRead). IsUnreadable read (unread_of o)) (sym e) f;
     folders = λ folder read e. let f : AreNames read (names_of (contents.folder folder) (Some read)) =
-        names_agree (contents.folder folder) read (m.folders folder read e) in
+        names_agree (contents.folder folder) failed contents.failures read (m.folders folder read e) in
         subst (λ (o : Option FolderRead). AreNames read (names_of (contents.folder folder) o)) (sym e) f;
   }
 
   pub world_allowed : IsWorldOf contents world_of
   world_allowed = record {
-    files = λ path. bytes_allowed (contents.file path) (keyword_in_table known.files path) (m.files path);
-    folders = λ folder. names_allowed (contents.folder folder) (keyword_in_table known.folders folder) (m.folders folder);
+    files = λ path. bytes_allowed (contents.file path) failed contents.failures (keyword_in_table known.files path) (m.files path);
+    folders = λ folder. names_allowed (contents.folder folder) failed contents.failures (keyword_in_table known.folders folder) (m.folders folder);
+  }
+
+  pub world_whole : (HasRisen failed contents.failures → ⊥) → IsWholeWorldOf contents world_of
+  world_whole n = record {
+    files = λ path. bytes_whole (contents.file path) failed contents.failures (keyword_in_table known.files path) n (m.files path);
+    folders = λ folder. names_whole (contents.folder folder) failed contents.failures (keyword_in_table known.folders folder) n (m.folders folder);
   }
 
   pub world_answers : HasAnswers world_of answers

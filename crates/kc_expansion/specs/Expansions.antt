@@ -9,7 +9,7 @@ use Rattle.kc_macros_model.specs.Worlds.{World, Ending, returned, failed, expans
 use Rattle.kc_macros.specs.declared.stop.MacroFault.{MacroFault}
 use Rattle.kc_macros.specs.Runs.{HasAnswers, fault_of}
 use Rattle.kc_files.specs.TextViews.{texts_of}
-use Rattle.kc_files.specs.TreeContents.{FileContent, TreeContents, IsWorldOf}
+use Rattle.kc_files.specs.TreeContents.{FileContent, TreeContents, HasRisen, IsWorldOf, IsWholeWorldOf}
 
 -- what an expansion by the code ends with: the expanded files, or the fault as one of `kc_macros_model`
 abbrev pub tree_of : Result (List ExpandedFile) MacroFault → Result (List ExpandedFile) Fault
@@ -60,6 +60,24 @@ pub record AreUnused (contents : TreeContents) (answers : RecordedAnswers) (root
   pub of_contents : IsWorldOf contents world
   pub answered_so : HasAnswers world answers
   pub are_unused : unused world root answered ≡ questions
+
+-- Where a count of failures went from `counted` to `counted_after` and didn't rise, each known file and folder is as it is known in a world.
+abbrev pub IsWholeUnlessFailed : TreeContents → (counted counted_after : ℕ) → World → Type 0
+IsWholeUnlessFailed contents counted counted_after w = (HasRisen counted counted_after → ⊥) → IsWholeWorldOf contents w
+
+-- an expansion, questions that are wanted and answers that are unused, each in a world in which known files and folders are as they are
+-- known unless a failure was counted
+abbrev pub IsCountedExpansion : TreeContents → (counted counted_after : ℕ) → RecordedAnswers → (root : List ℕ) → List Notice → Result (List ExpandedFile) Fault → Type 0
+IsCountedExpansion contents counted counted_after answers root notices tree =
+    (e : IsExpansion contents answers root notices tree) × IsWholeUnlessFailed contents counted counted_after e.world
+
+abbrev pub AreCountedWanted : TreeContents → (counted counted_after : ℕ) → RecordedAnswers → (root : List ℕ) → Result (List (List ℕ)) Fault → Type 0
+AreCountedWanted contents counted counted_after answers root questions =
+    (w : AreWanted contents answers root questions) × IsWholeUnlessFailed contents counted counted_after w.world
+
+abbrev pub AreCountedUnused : TreeContents → (counted counted_after : ℕ) → RecordedAnswers → (root : List ℕ) → (answered : List (List ℕ)) → Result (List (List ℕ)) Fault → Type 0
+AreCountedUnused contents counted counted_after answers root answered questions =
+    (u : AreUnused contents answers root answered questions) × IsWholeUnlessFailed contents counted counted_after u.world
 
 -- Where each file and each folder of a tree is known, each expansion that returns files returns those of the known tree, with its
 -- notices: what can't be read is a fault, and is never passed over.

@@ -1,6 +1,4 @@
 pub mod between
 pub mod checker
 pub mod Expansions
-pub mod ExpandedTexts
-pub mod PathsOfKeys
 pub mod TreeLaws

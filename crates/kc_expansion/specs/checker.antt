@@ -1,4 +1,3 @@
-pub mod ExpandedViews
 pub mod WrittenViews
 pub mod Sizes
 pub mod ProgramSteps

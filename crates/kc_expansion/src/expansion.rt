@@ -4,9 +4,10 @@ ghost use Rattle.std.specs.declared.alloc.Global.{Global};
 ghost use Rattle.kc_macros_model.specs.ReadingStates.{ExpandedFile, initial_state};
 ghost use Rattle.kc_macros_model.specs.TreeExpansion.{tree_read};
 ghost use Rattle.kc_macros_model.specs.Worlds.{Ending, questions_or_fault, if_all_answered};
-ghost use Rattle.kc_answers.specs.RunStates.{run_at_start};
+ghost use Rattle.kc_answers.specs.RunStates.{open_questions, run_at_start};
 ghost use Rattle.kc_macros.specs.Runs.{end_of, ends, notice_of};
-ghost use Rattle.kc_expansion.specs.Expansions.{ending_of, tree_of, questions_of, IsExpansion, AreWanted, AreUnused};
+ghost use Rattle.kc_expansion.specs.Expansions.{ending_of, tree_of, questions_of, IsCountedExpansion, AreCountedWanted, AreCountedUnused};
+ghost use Rattle.kc_files.specs.TreeContents.{StaysKnown};
 ghost use Rattle.kc_files.specs.TextViews.{texts_of};
 ghost use Rattle.kc_expansion.specs.between.Reads.{Reads};
 ghost use Rattle.kc_files.specs.checker.FileViews.{known_of};
@@ -14,8 +15,6 @@ ghost use Rattle.kc_expansion.specs.checker.ExpansionViews.{nothing_known, with_
 ghost use Rattle.kc_expansion.specs.checker.ReadingViews.{state_of, file_run_of};
 
 use super::choice_names::ChoiceNames;
-use super::expanded_files::ExpandedFiles;
-use super::expanded_tree::ExpandedTree;
 use super::faults::fault;
 use super::line_steps::LineState;
 use super::open_files::{OpenFiles, with_path};
@@ -23,7 +22,7 @@ use super::reading_state::Reading;
 use super::source_faults::ReadCounts;
 use super::tree_reading::read_lines;
 use kc_answers::Answers;
-use kc_files::{FileRead, Store, TreeFiles};
+use kc_files::{ExpandedFiles, ExpandedTree, FileRead, Store, TreeFiles};
 use kc_macros::{Bindings, MacroFault, MacroKind, MacroNotice, Place, Run, Stop};
 use kc_value::{MAX_FILES, MAX_TREE_BYTES, Seed};
 use std::alloc::{AllocError, Global};
@@ -91,6 +90,27 @@ fn read_root<F: TreeFiles>(
     read_lines(reading, files, &opened, root, bytes)
 }
 
+/// The notices of a reading, and its expanded files. Nothing else of it is kept, and it is dropped here and in `into_questions` alone.
+fn into_notices(reading: Reading<'_>) -> (Vec<MacroNotice>, ExpandedFiles)
+    ensures notices { map notice_of result.0.items ≡ reading.entry.lines.run.notices }
+    ensures files { result.1 ≡ reading.entry.expanded }
+{
+    let Reading {
+        lines,
+        expanded,
+        ..
+    } = reading;
+    (lines.run.into_notices(), expanded)
+}
+
+/// The questions without an answer that a reading asked.
+fn into_questions(reading: Reading<'_>) -> Result<Vec<Vec<u8>>, AllocError>
+    ensures { IfOk result (λ questions. texts_of questions ≡ open_questions reading.entry.lines.run) }
+{
+    let Reading { lines, .. } = reading;
+    lines.run.into_open_questions()
+}
+
 /// The expanded files of a reading that isn't stopped, the first file of the tree last, or the fault of the reading.
 fn read_tree(
     alloc: Global,
@@ -125,22 +145,15 @@ pub fn expand<F: TreeFiles>(
     root: &[u8],
     answers: &Answers,
 ) -> Result<Expansion, AllocError>
-    ensures same { F.contents files.new ≡ F.contents files.old }
-    ensures expanded { IfOk result (λ e. IsExpansion (F.contents files.old) answers.now root.now (map notice_of e.notices.items) (tree_of e.tree)) }
+    ensures same { StaysKnown (F.contents files.old) (F.contents files.new) }
+    ensures expanded { IfOk result (λ e. IsCountedExpansion (F.contents files.old) (F.contents files.old).failures (F.contents files.new).failures answers.now root.now (map notice_of e.notices.items) (tree_of e.tree)) }
     ensures few { IfOk result (λ e. IfOk e.tree (λ expanded. length expanded ≤ MAX_FILES)) }
 {
     let mut reading = new_reading(alloc, files.seed(), answers, true);
     let read = read_root(&mut reading, files, root);
-    let Reading {
-        lines,
-        expanded,
-        ..
-    } = reading;
-    let tree = read_tree(alloc, read, expanded, root)?;
-    Ok(Expansion {
-        notices: lines.run.into_notices(),
-        tree,
-    })
+    let (notices, sourced) = into_notices(reading);
+    let tree = read_tree(alloc, read, sourced, root)?;
+    Ok(Expansion { notices, tree })
 }
 
 /// The questions of a reading, or its fault where it asked none.
@@ -170,13 +183,12 @@ pub fn wants<F: TreeFiles>(
     root: &[u8],
     answers: &Answers,
 ) -> Result<Result<Vec<Vec<u8>>, MacroFault>, AllocError>
-    ensures same { F.contents files.new ≡ F.contents files.old }
-    ensures wanted { IfOk result (λ w. AreWanted (F.contents files.old) answers.now root.now (questions_of w)) }
+    ensures same { StaysKnown (F.contents files.old) (F.contents files.new) }
+    ensures wanted { IfOk result (λ w. AreCountedWanted (F.contents files.old) (F.contents files.old).failures (F.contents files.new).failures answers.now root.now (questions_of w)) }
 {
     let mut reading = new_reading(alloc, files.seed(), answers, false);
     let read = read_root(&mut reading, files, root);
-    let Reading { lines, .. } = reading;
-    let questions = lines.run.into_open_questions()?;
+    let questions = into_questions(reading)?;
     wanted_by(read, questions)
 }
 
@@ -215,15 +227,14 @@ pub fn unused<F: TreeFiles>(
     answers: &Answers,
     answered: Vec<Vec<u8>>,
 ) -> Result<Result<Vec<Vec<u8>>, MacroFault>, AllocError>
-    ensures same { F.contents files.new ≡ F.contents files.old }
-    ensures unused { IfOk result (λ w. AreUnused (F.contents files.old) answers.now root.now (texts_of answered) (questions_of w)) }
+    ensures same { StaysKnown (F.contents files.old) (F.contents files.new) }
+    ensures unused { IfOk result (λ w. AreCountedUnused (F.contents files.old) (F.contents files.old).failures (F.contents files.new).failures answers.now root.now (texts_of answered) (questions_of w)) }
 {
     let seed = files.seed();
     let mut reading = new_reading(alloc, seed, answers, false);
     let read = read_root(&mut reading, files, root);
-    let Reading { lines, .. } = reading;
     let mut rest = answered;
-    lines.run.keep_not_asked(&mut rest);
-    let questions = lines.run.into_open_questions()?;
+    reading.lines.run.keep_not_asked(&mut rest);
+    let questions = into_questions(reading)?;
     unused_by(read, questions, rest)
 }

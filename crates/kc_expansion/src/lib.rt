@@ -2,8 +2,6 @@
 #![tactic(auto)]
 
 mod choice_names;
-mod expanded_files;
-mod expanded_tree;
 mod expansion;
 mod faults;
 mod file_lines;
@@ -21,7 +19,7 @@ mod source_reads;
 mod tree_reading;
 mod written_file;
 
-pub use expanded_tree::{ExpandedText, ExpandedTree};
 pub use expansion::{Expansion, expand, unused, wants};
+pub use kc_files::{ExpandedText, ExpandedTree};
 pub use kc_value::{MAX_FILES, MAX_LINE_BYTES, MAX_LISTED_NAMES, MAX_OPEN_FILES, MAX_TREE_BYTES};
 pub use laws::{accepted_lines_stay, accepted_trees_stay, expanded_trees_stay};

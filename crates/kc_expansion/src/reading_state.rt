@@ -1,8 +1,7 @@
 //! The state of a reading of a tree.
-use super::expanded_files::ExpandedFiles;
 use super::line_steps::LineState;
 use super::source_faults::ReadCounts;
-use kc_files::Store;
+use kc_files::{ExpandedFiles, Store};
 use std::alloc::Global;
 
 /// A reading of a tree: the state that its lines change, the files and folders that were read, the expanded files, and how

@@ -11,6 +11,7 @@ ghost use Rattle.kc_files.specs.between.KnownFiles.{Grows};
 ghost use Rattle.kc_files.specs.checker.FileViews.{known_of};
 ghost use Rattle.kc_expansion.specs.checker.ProgramSteps.{Steps};
 ghost use Rattle.kc_expansion.specs.checker.ReadingViews.{state_of, file_run_of, paths_left, pattern_followed};
+ghost use Rattle.kc_files.specs.TreeContents.{StaysKnown};
 
 use super::faults::fault;
 use super::reading_state::Reading;
@@ -66,8 +67,8 @@ fn path_if_there<F: TreeFiles>(
     files: &mut F,
     path: &[u8],
 ) -> Result<Vec<Vec<u8>>, AllocError>
-    ensures same { F.contents files.new ≡ F.contents files.old }
-    ensures grows { Grows (F.contents files.old) (known_of store.old) (known_of store.new) }
+    ensures same { StaysKnown (F.contents files.old) (F.contents files.new) }
+    ensures grows { Grows (F.contents files.old) (F.contents files.new) (known_of store.old) (known_of store.new) }
     ensures reads { IfOk result (λ found. Comes (known_of store.new) (paths_with_files (path.now ∷ [])) (returned (texts_of found))) }
 {
     let mut paths = Vec::new(alloc);

@@ -1,3 +1,4 @@
 pub mod Explained
+pub mod Located
 pub mod between
 pub mod checker

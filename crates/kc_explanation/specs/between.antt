@@ -1,1 +1,2 @@
 pub mod SpelledTokens
+pub mod ReasonPlacesView

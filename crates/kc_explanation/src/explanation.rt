@@ -19,7 +19,7 @@ use kc_tree::{ReverseDependency, Sym, Symbol};
 use std::alloc::{AllocError, Global};
 
 /// Appends what gives a unit its value.
-fn push_case(out: &mut Vec<u8>, case: Case) -> Result<(), AllocError>
+pub(crate) fn push_case(out: &mut Vec<u8>, case: Case) -> Result<(), AllocError>
     ensures { OnOk result (out.new.items ≡ out.old.items ++ case_text case) }
 {
     match case {
@@ -33,7 +33,7 @@ fn push_case(out: &mut Vec<u8>, case: Case) -> Result<(), AllocError>
 }
 
 /// The name of a symbol; empty where the tree has no such symbol.
-fn name_of<'a>(under: &Valuation<'a>, s: Sym) -> &'a str
+pub(crate) fn name_of<'a>(under: &Valuation<'a>, s: Sym) -> &'a str
     ensures { result.now ≡ name_of_symbol (valuation_tree under.now) s }
 {
     if s.number() < under.rules.tree.symbol_count() {
@@ -44,7 +44,7 @@ fn name_of<'a>(under: &Valuation<'a>, s: Sym) -> &'a str
 }
 
 /// Appends that another member of the choice is selected, if one is.
-fn push_chosen(
+pub(crate) fn push_chosen(
     out: &mut Vec<u8>,
     under: &Valuation<'_>,
     chosen: Option<Sym>,
@@ -84,7 +84,10 @@ fn push_first_line(
 }
 
 /// Appends a line that says that a user value isn't taken, and why; nothing without a hindrance.
-fn push_hindrance_line(out: &mut Vec<u8>, hindrance: Option<Hindrance>) -> Result<(), AllocError>
+pub(crate) fn push_hindrance_line(
+    out: &mut Vec<u8>,
+    hindrance: Option<Hindrance>,
+) -> Result<(), AllocError>
     ensures { OnOk result (out.new.items ≡ out.old.items ++ hindrance_line hindrance) }
 {
     match hindrance {
@@ -155,7 +158,7 @@ fn push_forcing_lines(
 }
 
 /// Whether a hindrance is a missing visibility.
-fn is_hidden(hindrance: Option<Hindrance>) -> bool
+pub(crate) fn is_hidden(hindrance: Option<Hindrance>) -> bool
     ensures { result ≡ is_hidden hindrance }
 {
     matches!(hindrance, Some(Hindrance::Hidden | Hindrance::MemberHidden))

@@ -2,12 +2,16 @@
 #![tactic(auto)]
 
 mod explanation;
+mod located_explanation;
+mod located_texts;
 mod part_texts;
 mod spelling;
 mod token_texts;
 mod words;
 
 pub use explanation::push_explanation;
+pub use located_explanation::{ReasonPlaces, push_located_explanation};
+pub use located_texts::push_located_alternatives;
 pub use part_texts::push_alternatives;
 pub use spelling::{SpelledToken, spelled_tokens};
 pub use token_texts::push_expression;

@@ -13,7 +13,7 @@ use kc_reasons::LowPart;
 use std::alloc::{AllocError, Global};
 
 /// Appends a part that is too low.
-fn push_low_part(
+pub(crate) fn push_low_part(
     alloc: Global,
     out: &mut Vec<u8>,
     under: &Valuation<'_>,

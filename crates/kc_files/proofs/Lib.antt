@@ -5,3 +5,6 @@ pub mod StoreLemmas
 pub mod ProgramLemmas
 pub mod PatternLemmas
 pub mod SortLemmas
+pub mod KeyLemmas
+pub mod PathOfKeyLemmas
+pub mod LastFileLemmas

@@ -158,13 +158,13 @@ module _ (at : Place) (piece : List ℕ) where
   all_stop T known whole folder folders before after OutOfMemory s h = tt
 
   -- where the code's search in a folder finds its paths, the whole search goes on in the folders after it with these paths added
-  pub all_go_on : (T : Type 0) (contents : TreeContents) (old known : KnownFiles) → Grows contents old known
+  pub all_go_on : (T : Type 0) (k l : TreeContents) (old known : KnownFiles) → Grows k l old known
       → (whole : Program FoundPaths) (folder : List ℕ) (folders : List (List ℕ)) (before after : FoundPaths) (x : T)
       → HaveSameOutcome old whole (rest_of_paths (folder ∷ folders) before) → FindsMore {T = T} known at
       (paths_in_folder at piece folder before.listed) before after (Ok x) → HaveSameOutcome known whole (rest_of_paths folders after)
-  all_go_on T contents old known g whole folder folders before after x s (more, e, c) =
+  all_go_on T k l old known g whole folder folders before after x s (more, e, c) =
       same_twice known whole (rest_of_paths (folder ∷ folders) before) (rest_of_paths folders after)
-      (same_later contents old known g whole (rest_of_paths (folder ∷ folders) before) s) (more_paths known folder folders before after more e c)
+      (same_later k l old known g whole (rest_of_paths (folder ∷ folders) before) s) (more_paths known folder folders before after more e c)
 
 -- the texts of a list of vectors from place `i` on are the text of the vector at `i` and those from the next place on
 pub cut_items : (vs : List (Vec ℕ Global)) (i : ℕ) (v : Vec ℕ Global) → i < length vs → v ≡ get_or vs i v

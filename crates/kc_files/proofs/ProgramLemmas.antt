@@ -55,7 +55,7 @@ same_twice known p q r a b = record { in_world = λ w h all left. a.in_world w h
 pub comes_as : {A : Type 0} (known : KnownFiles) (p q : Program A) (e : Ending A) → HaveSameOutcome known p q → Comes known q e → Comes known p e
 comes_as known p q e a b = record { in_world = λ w h all left. a.in_world w h all left ∙ b.in_world w h all left }
 
-module _ {A : Type 0} (contents : TreeContents) (old new : KnownFiles) (g : Grows contents old new) where
+module _ {A : Type 0} (k l : TreeContents) (old new : KnownFiles) (g : Grows k l old new) where
   pub comes_later : (p : Program A) (e : Ending A) → Comes old p e → Comes new p e
   comes_later p e c = record { in_world = λ w h. c.in_world w (g.worlds w h) }
 

@@ -1,72 +1,173 @@
 -- The files and folders that a store has.
-use Rattle.std.proofs.Common.{◌≡◌, ℕ, Bool, ◌||◌, List, [], ◌∷◌, ◌++◌, Option, Some, None, refl, sym, ap, ◌∙◌, subst, ⊎_elim}
-use Rattle.std.specs.Prelude.{is_some}
+use Rattle.std.proofs.Common.{◌≡◌, ℕ, ◌-◌, ◌^◌, ◌<◌, ◌≤◌, Bool, ◌||◌, List, [], ◌∷◌, ◌++◌, Option, Some, None, refl, sym, ap, ◌∙◌, subst, ⊎_elim, arith}
+use Rattle.std.specs.Prelude.{is_some, Result, Ok, Err, IfOk}
+use Rattle.kc_value.specs.Streams.{one_failure_more}
+use Rattle.kc_files.specs.declared.file_bytes.FileRead.{FileRead as CodeFile}
+use Rattle.kc_files.specs.checker.FileViews.{file_of}
 use Rattle.kc_value.specs.declared.limits.TheConstants.{MAX_LISTED_NAMES}
 use Rattle.kc_tree_model.specs.Keywords.{keyword_in_table}
 use Rattle.kc_macros_model.specs.Worlds.{World, has_file}
-use Rattle.kc_files.specs.TreeContents.{TreeContents, FileContent, OpensAs, FolderContent, ListsAs}
-use Rattle.kc_files.specs.between.KnownFiles.{FileRead, missing, unreadable, whole, too_long, is_there, FolderRead, names, too_many, unlisted, KnownFiles, AreBytes, IsUnreadable, Agrees, MatchFile, content_of_reader, MatchFolder, Grows}
+use Rattle.kc_files.specs.TreeContents.{TreeContents, StaysKnown, HasRisen, FileContent, OpensAs, FolderContent, ListsAs}
+use Rattle.kc_files.specs.between.KnownFiles.{FileRead, missing, unreadable, whole, too_long, is_there, FolderRead, names, too_many, unlisted, KnownFiles, AreBytes, IsUnreadable, Agrees, MatchFile, content_of_reader, MatchFolder, AreAsKnown, Grows}
 use Rattle.kc_files.proofs.TableLemmas.{stays_found, found_or_new}
 
-pub grows_same : (contents : TreeContents) (known : KnownFiles) → Grows contents known known
-grows_same contents known = record { worlds = λ w h. h; matched = λ h. h }
+pub stays_same : (t : TreeContents) → StaysKnown t t
+stays_same t = record { same = refl; rising = omega arith }
 
-pub grows_twice : (contents : TreeContents) (a b c : KnownFiles) → Grows contents a b → Grows contents b c → Grows contents a c
-grows_twice contents a b c g h = record { worlds = λ w k. g.worlds w (h.worlds w k); matched = λ k. h.matched (g.matched k) }
+pub stays_twice : (a b c : TreeContents) → StaysKnown a b → StaysKnown b c → StaysKnown a c
+stays_twice a b c g h = record {
+  same = h.same ∙ ap (λ (t : TreeContents). let u : TreeContents = record t { failures = c.failures } in u) g.same;
+  rising = omega (arith, g.rising, h.rising);
+}
+
+-- what is known of a file or a folder is the same afterwards
+pub file_stays : (a b : TreeContents) (path : List ℕ) → StaysKnown a b → b.file path ≡ a.file path
+file_stays a b path g = ap (λ (t : TreeContents). t.file path) g.same
+
+pub folder_stays : (a b : TreeContents) (folder : List ℕ) → StaysKnown a b → b.folder folder ≡ a.folder folder
+folder_stays a b folder g = ap (λ (t : TreeContents). t.folder folder) g.same
+
+not_over : (a b c d : ℕ) → a ≤ b → b ≤ c → c ≤ d → HasRisen b c → a < 2 ^ 64 - 1 → d ≤ a → ⊥
+not_over a b c d l m n h lt k = omega (arith, h (omega arith))
+
+-- a count that rose meanwhile
+pub rises_over : (a b c d : ℕ) → a ≤ b → b ≤ c → c ≤ d → HasRisen b c → HasRisen a d
+rises_over a b c d l m n h = λ lt. (let over = not_over a b c d l m n h lt in omega (arith, over))
+
+file_over : (content : FileContent) (a b c d : ℕ) (read : FileRead) → a ≤ b → b ≤ c → c ≤ d → MatchFile content b c read → MatchFile content a d read
+file_over None a b c d read l m n h = tt
+file_over (Some None) a b c d read l m n h = h
+file_over (Some (Some known)) a b c d missing l m n h = h
+file_over (Some (Some known)) a b c d unreadable l m n h = rises_over a b c d l m n h
+file_over (Some (Some known)) a b c d (whole bytes) l m n h = h
+file_over (Some (Some known)) a b c d too_long l m n h = h
+
+folder_over : (content : FolderContent) (a b c d : ℕ) (read : FolderRead) → a ≤ b → b ≤ c → c ≤ d → MatchFolder content b c read
+    → MatchFolder content a d read
+folder_over None a b c d read l m n h = tt
+folder_over (Some known) a b c d (names ns) l m n h = h
+folder_over (Some known) a b c d too_many l m n h = h
+folder_over (Some known) a b c d unlisted l m n h = rises_over a b c d l m n h
+
+pub grows_same : (contents : TreeContents) (known : KnownFiles) → Grows contents contents known known
+grows_same contents known = record { rising = omega arith; worlds = λ w h. h; matched = λ failed le h. h }
+
+pub grows_twice : (k l m : TreeContents) (a b c : KnownFiles) → Grows k l a b → Grows l m b c → Grows k m a c
+grows_twice k l m a b c g h = record {
+  rising = omega (arith, g.rising, h.rising);
+  worlds = λ w x. g.worlds w (h.worlds w x);
+  matched = λ failed le x. h.matched failed (omega (arith, le, g.rising)) (g.matched failed le x);
+}
+
+-- files and folders that were read agree with what is known of the tree afterwards
+as_known_later : (k l : TreeContents) (failed : ℕ) (known : KnownFiles) → StaysKnown k l → failed ≤ k.failures → AreAsKnown k failed known
+    → AreAsKnown l failed known
+as_known_later k l failed known stays le h = record {
+  files = λ p r e. subst (λ (content : FileContent). MatchFile content failed l.failures r) (sym (file_stays k l p stays))
+      (file_over (k.file p) failed failed k.failures l.failures r (omega arith) le stays.rising (h.files p r e));
+  folders = λ p r e. subst (λ (content : FolderContent). MatchFolder content failed l.failures r) (sym (folder_stays k l p stays))
+      (folder_over (k.folder p) failed failed k.failures l.failures r (omega arith) le stays.rising (h.folders p r e));
+}
+
+pub grows_later : (k l : TreeContents) (known : KnownFiles) → StaysKnown k l → Grows k l known known
+grows_later k l known stays = record { rising = stays.rising; worlds = λ w h. h; matched = λ failed le h. as_known_later k l failed known stays le h }
 
 -- the known files grow by one more file whose result of reading agrees with its known content
-pub file_more : (contents : TreeContents) (known : KnownFiles) (path : List ℕ) (read : FileRead) → MatchFile (contents.file path) read
-    → Grows contents known (record known { files = known.files ++ (path, read) ∷ [] })
-file_more contents known path read m = record {
+pub file_more : (k l : TreeContents) (known : KnownFiles) (path : List ℕ) (read : FileRead) → StaysKnown k l
+    → MatchFile (k.file path) k.failures l.failures read
+    → Grows k l known (record known { files = known.files ++ (path, read) ∷ [] })
+file_more k l known path read stays m = record {
+  rising = stays.rising;
   worlds = λ w h. record { files = λ p r e. h.files p r (stays_found known.files (path, read) p r e); there = λ p r e. h.there p r (stays_found known.files (path, read) p r e); folders = h.folders };
-  matched = λ h. record {
-    files = λ p r e. ⊎_elim (λ f. h.files p r f) (λ f. subst (λ q. MatchFile (contents.file q) r) (sym f.0)
-        (subst (λ (s : FileRead). MatchFile (contents.file path) s) (sym f.1) m)) (found_or_new known.files path p read r e);
-    folders = h.folders;
-  };
+  matched = λ failed le h.
+      let later = as_known_later k l failed known stays le h in
+      let new : MatchFile (l.file path) failed l.failures read = subst (λ (content : FileContent). MatchFile content failed l.failures read)
+      (sym (file_stays k l path stays))
+      (file_over (k.file path) failed k.failures l.failures l.failures read le stays.rising (omega arith) m) in
+      record {
+        files = λ p r e. ⊎_elim (λ f. later.files p r f) (λ f. subst (λ q. MatchFile (l.file q) failed l.failures r) (sym f.0)
+            (subst (λ (s : FileRead). MatchFile (l.file path) failed l.failures s) (sym f.1) new)) (found_or_new known.files path p read r e);
+        folders = later.folders;
+      };
 }
 
 -- the result of listing a folder as it is known agrees with its known content
-pub names_matched : (content : FolderContent) (ns : List (List ℕ)) → ListsAs content MAX_LISTED_NAMES (Some ns) → MatchFolder content (names ns)
-names_matched None ns h = tt
-names_matched (Some known) ns h = h
+pub names_matched : (content : FolderContent) (a b : ℕ) (ns : List (List ℕ)) → ListsAs content MAX_LISTED_NAMES (Some ns)
+    → MatchFolder content a b (names ns)
+names_matched None a b ns h = tt
+names_matched (Some known) a b ns h = h
 
-pub many_matched : (content : FolderContent) → ListsAs content MAX_LISTED_NAMES None → MatchFolder content too_many
-many_matched None h = tt
-many_matched (Some known) h = h
+pub many_matched : (content : FolderContent) (a b : ℕ) → ListsAs content MAX_LISTED_NAMES None → MatchFolder content a b too_many
+many_matched None a b h = tt
+many_matched (Some known) a b h = h
 
-pub unlisted_matched : (content : FolderContent) → MatchFolder content unlisted
-unlisted_matched None = tt
-unlisted_matched (Some known) = tt
+pub unlisted_matched : (content : FolderContent) (a b : ℕ) → HasRisen a b → MatchFolder content a b unlisted
+unlisted_matched None a b h = tt
+unlisted_matched (Some known) a b h = h
 
 -- the result of opening a file as it is known agrees with its known content
-pub missing_matched : (content : FileContent) → OpensAs content None → MatchFile content missing
-missing_matched None h = tt
-missing_matched (Some None) h = refl
-missing_matched (Some (Some known)) h = absurd (let z : ⊥ = cc in z)
+pub missing_matched : (content : FileContent) (a b : ℕ) → OpensAs content None → MatchFile content a b missing
+missing_matched None a b h = tt
+missing_matched (Some None) a b h = refl
+missing_matched (Some (Some known)) a b h = absurd (let z : ⊥ = cc in z)
 
-pub unreadable_matched : (content : FileContent) → (content ≡ Some None → ⊥) → MatchFile content unreadable
-unreadable_matched None h = tt
-unreadable_matched (Some None) h = absurd (h refl)
-unreadable_matched (Some (Some known)) h = tt
+pub unreadable_matched : (content : FileContent) (a b : ℕ) → (content ≡ Some None → ⊥) → HasRisen a b → MatchFile content a b unreadable
+unreadable_matched None a b h k = tt
+unreadable_matched (Some None) a b h k = absurd (h refl)
+unreadable_matched (Some (Some known)) a b h k = k
 
 -- the result of reading the file of a reader that is opened agrees with the known content of the file
-pub opened_matched : (content : FileContent) (left : Option (List ℕ)) (read : FileRead) → OpensAs content (Some left) → MatchFile (content_of_reader left) read
-    → MatchFile content read
-opened_matched None left read h m = tt
-opened_matched (Some None) left read h m = absurd (let z : ⊥ = cc in z)
-opened_matched (Some (Some known)) left read h m = subst (λ (o : Option (List ℕ)). MatchFile (content_of_reader o) read) (let e : left ≡ Some known = cc in e) m
+pub opened_matched : (content : FileContent) (left : Option (List ℕ)) (a b : ℕ) (read : FileRead) → OpensAs content (Some left)
+    → MatchFile (content_of_reader left) a b read → MatchFile content a b read
+opened_matched None left a b read h m = tt
+opened_matched (Some None) left a b read h m = absurd (let z : ⊥ = cc in z)
+opened_matched (Some (Some known)) left a b read h m =
+    subst (λ (o : Option (List ℕ)). MatchFile (content_of_reader o) a b read) (let e : left ≡ Some known = cc in e) m
+
+-- and so it does once the file is closed, and its failures are counted
+pub closed_matched : (content : FileContent) (own own_after before opened closed : ℕ) (read : FileRead) → own ≡ 0 → before ≤ opened → opened ≤ closed
+    → (0 < own_after → HasRisen opened closed) → MatchFile content own own_after read → MatchFile content before closed read
+closed_matched None own own_after before opened closed read z l m up h = tt
+closed_matched (Some None) own own_after before opened closed read z l m up h = h
+closed_matched (Some (Some known)) own own_after before opened closed missing z l m up h = h
+closed_matched (Some (Some known)) own own_after before opened closed unreadable z l m up h =
+    rises_over before opened closed closed l m (omega arith) (up (let own_rose : own < own_after = h (omega arith) in omega arith))
+closed_matched (Some (Some known)) own own_after before opened closed (whole bytes) z l m up h = h
+closed_matched (Some (Some known)) own own_after before opened closed too_long z l m up h = h
+
+pub read_matched : {E : Type 0} (content : FileContent) (own own_after before opened closed : ℕ) (r : Result CodeFile E) → own ≡ 0 → before ≤ opened
+    → opened ≤ closed → (0 < own_after → HasRisen opened closed) → IfOk r (λ read. MatchFile content own own_after (file_of read))
+    → IfOk r (λ read. MatchFile content before closed (file_of read))
+read_matched content own own_after before opened closed (Err e) z l m up h = tt
+read_matched content own own_after before opened closed (Ok read) z l m up h =
+    closed_matched content own own_after before opened closed (file_of read) z l m up h
+
+pub if_opened : {E : Type 0} (content : FileContent) (left : Option (List ℕ)) (a b c d : ℕ) (r : Result CodeFile E) → OpensAs content (Some left) → a ≤ b → b ≤ c
+    → c ≤ d → IfOk r (λ read. MatchFile (content_of_reader left) b c (file_of read)) → IfOk r (λ read. MatchFile content a d (file_of read))
+if_opened content left a b c d (Err e) o l m n h = tt
+if_opened content left a b c d (Ok read) o l m n h = file_over content a b c d (file_of read) l m n (opened_matched content left b c (file_of read) o h)
+
+-- the count of a reader's failures rises by a read that fails
+pub one_more_rises : (n m k : ℕ) → m ≡ n → k ≡ one_failure_more m → HasRisen n k
+one_more_rises n m k e h = λ lt. omega (arith, e, h)
 
 -- the known folders grow by one more folder whose result of listing agrees with its known content
-pub folder_more : (contents : TreeContents) (known : KnownFiles) (folder : List ℕ) (read : FolderRead) → MatchFolder (contents.folder folder) read
-    → Grows contents known (record known { folders = known.folders ++ (folder, read) ∷ [] })
-folder_more contents known folder read m = record {
+pub folder_more : (k l : TreeContents) (known : KnownFiles) (folder : List ℕ) (read : FolderRead) → StaysKnown k l
+    → MatchFolder (k.folder folder) k.failures l.failures read
+    → Grows k l known (record known { folders = known.folders ++ (folder, read) ∷ [] })
+folder_more k l known folder read stays m = record {
+  rising = stays.rising;
   worlds = λ w h. record { files = h.files; there = h.there; folders = λ p r e. h.folders p r (stays_found known.folders (folder, read) p r e) };
-  matched = λ h. record {
-    files = h.files;
-    folders = λ p r e. ⊎_elim (λ f. h.folders p r f) (λ f. subst (λ q. MatchFolder (contents.folder q) r) (sym f.0)
-        (subst (λ (s : FolderRead). MatchFolder (contents.folder folder) s) (sym f.1) m)) (found_or_new known.folders folder p read r e);
-  };
+  matched = λ failed le h.
+      let later = as_known_later k l failed known stays le h in
+      let new : MatchFolder (l.folder folder) failed l.failures read = subst (λ (content : FolderContent). MatchFolder content failed l.failures read)
+      (sym (folder_stays k l folder stays))
+      (folder_over (k.folder folder) failed k.failures l.failures l.failures read le stays.rising (omega arith) m) in
+      record {
+        files = later.files;
+        folders = λ p r e. ⊎_elim (λ f. later.folders p r f) (λ f. subst (λ q. MatchFolder (l.folder q) failed l.failures r) (sym f.0)
+            (subst (λ (s : FolderRead). MatchFolder (l.folder folder) failed l.failures s) (sym f.1) new)) (found_or_new known.folders folder p read r e);
+      };
 }
 
 there_by_read : (read : FileRead) (bytes : Option (List ℕ)) (unread : Bool) → AreBytes read bytes → IsUnreadable read unread

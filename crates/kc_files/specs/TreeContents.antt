@@ -1,5 +1,5 @@
 -- The known contents of the files and folders of a tree, before they are read.
-use Rattle.std.specs.Prelude.{◌≡◌, ℕ, ◌<◌, ◌⊎◌, Bool, true, false, List, length, Option, Some, None}
+use Rattle.std.specs.Prelude.{◌≡◌, ℕ, ◌-◌, ◌^◌, ◌<◌, ◌≤◌, ◌⊎◌, Bool, true, false, List, length, Option, Some, None}
 use Rattle.kc_macros_model.specs.Worlds.{World}
 
 -- what is known of the file of a path before it is read: nothing, that there is no regular file (`Some None`), or its bytes
@@ -35,9 +35,23 @@ abbrev pub IsFolderRead : FolderContent → Option (List (List ℕ)) → Type 0
 IsFolderRead None names = Unit {0}
 IsFolderRead (Some known) names = (names ≡ Some known) ⊎ (names ≡ None)
 
--- what is known of a tree and doesn't change while it is read: the contents of its files and folders; and of the paths beside the
--- tree, which an expansion doesn't read, their contents and the count of calls on them that failed; and the number of the reference
--- through which files are read, if there is one
+-- a count of failures rose, unless it was at its limit, 2 ^ 64 - 1
+abbrev pub HasRisen : (before after : ℕ) → Type 0
+HasRisen before after = before < 2 ^ 64 - 1 → before < after
+
+-- the bytes of the file of a path, and whether it is there and can't be read, are those of its known content
+abbrev pub IsContent : FileContent → (bytes : Option (List ℕ)) → (unreadable : Bool) → Type 0
+IsContent None bytes unreadable = Unit {0}
+IsContent (Some None) bytes unreadable = (bytes ≡ None) × (unreadable ≡ false)
+IsContent (Some (Some known)) bytes unreadable = (bytes ≡ Some known) × (unreadable ≡ false)
+
+-- the names in a folder are those of its known content
+abbrev pub IsFolder : FolderContent → Option (List (List ℕ)) → Type 0
+IsFolder None names = Unit {0}
+IsFolder (Some known) names = names ≡ Some known
+
+-- what is known of a tree: the contents of its files and folders; of the paths beside the tree, which an expansion doesn't read, their
+-- contents; the count of calls on files that failed; and the number of the reference through which files are read, if there is one
 pub record TreeContents : Type 0 where
   pub file : List ℕ → FileContent
   pub folder : List ℕ → FolderContent
@@ -49,3 +63,13 @@ pub record TreeContents : Type 0 where
 pub record IsWorldOf (contents : TreeContents) (w : World) : Type 0 where
   pub files : (path : List ℕ) → IsContentRead (contents.file path) (w.bytes path) (w.unreadable path)
   pub folders : (folder : List ℕ) → IsFolderRead (contents.folder folder) (w.names folder)
+
+-- each file and each folder of a world is as it is known, where it is known: none of them can't be read
+pub record IsWholeWorldOf (contents : TreeContents) (w : World) : Type 0 where
+  pub files : (path : List ℕ) → IsContent (contents.file path) (w.bytes path) (w.unreadable path)
+  pub folders : (folder : List ℕ) → IsFolder (contents.folder folder) (w.names folder)
+
+-- what is known of a tree before and after some of it was read: the same, but for the count of failures, which didn't fall
+pub record StaysKnown (before after : TreeContents) : Type 0 where
+  pub same : after ≡ record before { failures = after.failures }
+  pub rising : before.failures ≤ after.failures

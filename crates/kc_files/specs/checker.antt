@@ -2,3 +2,4 @@ pub mod PathViews
 pub mod EndMatches
 pub mod FileViews
 pub mod PatternRuns
+pub mod ExpandedViews

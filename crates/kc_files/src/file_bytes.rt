@@ -1,8 +1,9 @@
 //! The bytes of a file, as far as they are read.
-ghost use Rattle.std.specs.Prelude.{◌≡◌, ◌⊎◌, ◌≤◌, IfOk, IfSome, length};
+ghost use Rattle.std.specs.Prelude.{◌≡◌, ◌⊎◌, ◌≤◌, IfOk, IfNone, IfSome, length};
 ghost use Rattle.std.specs.Io.KnownBytes.{Consumes, IsAtEnd};
 ghost use Rattle.kc_files.specs.between.KnownFiles.{MatchFile, content_of_reader};
 ghost use Rattle.kc_files.specs.checker.FileViews.{file_of};
+ghost use Rattle.kc_files.specs.TreeContents.{HasRisen, StaysKnown};
 
 use super::files::{FileStop, TreeFiles};
 use kc_value::{MAX_BLOCK_BYTES, MAX_FILE_BYTES, Source};
@@ -27,6 +28,7 @@ fn read_front<S: Source>(
     block: &mut [u8; MAX_BLOCK_BYTES],
 ) -> Result<Option<Vec<u8>>, AllocError>
     ensures bytes { IfOk result (λ found. IfSome found (λ bytes. Consumes (S.left source.old) (S.left source.new) bytes.items × (length bytes.items ≤ MAX_FILE_BYTES) × ((length bytes.items ≡ MAX_FILE_BYTES) ⊎ IsAtEnd (S.left source.new)))) }
+    ensures failed { IfOk result (λ found. IfNone found (HasRisen (S.failures source.old) (S.failures source.new))) }
 {
     let mut bytes = Vec::with_capacity(alloc, room)?;
     while bytes.len() < MAX_FILE_BYTES {
@@ -49,7 +51,7 @@ fn read_bytes<S: Source>(
     room: usize,
     block: &mut [u8; MAX_BLOCK_BYTES],
 ) -> Result<FileRead, AllocError>
-    ensures { IfOk result (λ read. MatchFile (content_of_reader (S.left source.old)) (file_of read)) }
+    ensures { IfOk result (λ read. MatchFile (content_of_reader (S.left source.old)) (S.failures source.old) (S.failures source.new) (file_of read)) }
 {
     match read_front(alloc, source, room, block)? {
         None => Ok(FileRead::Unreadable),
@@ -58,7 +60,24 @@ fn read_bytes<S: Source>(
     }
 }
 
-/// Opens the file of a path, and reads it block by block into `block`.
+/// The result of reading an open file, which is closed.
+fn read_opened<F: TreeFiles>(
+    alloc: Global,
+    files: &mut F,
+    mut reader: F::File,
+    block: &mut [u8; MAX_BLOCK_BYTES],
+) -> Result<FileRead, AllocError>
+    requires unread { F.File.Source.failures reader ≡ 0 }
+    ensures same { StaysKnown (F.contents files.old) (F.contents files.new) }
+    ensures matched { IfOk result (λ read. MatchFile (content_of_reader (F.File.Source.left reader)) (F.contents files.old).failures (F.contents files.new).failures (file_of read)) }
+{
+    let room = files.size_of(&reader).min(MAX_FILE_BYTES);
+    let read = read_bytes(alloc, &mut reader, room, block);
+    files.close(reader);
+    read
+}
+
+/// Opens the file of a path, and reads it block by block into `block`. What fails is counted.
 ///
 /// # Errors
 ///
@@ -69,14 +88,11 @@ pub(crate) fn read_file<F: TreeFiles>(
     path: &[u8],
     block: &mut [u8; MAX_BLOCK_BYTES],
 ) -> Result<FileRead, AllocError>
-    ensures same { F.contents files.new ≡ F.contents files.old }
-    ensures matched { IfOk result (λ read. MatchFile ((F.contents files.old).file path.now) (file_of read)) }
+    ensures same { StaysKnown (F.contents files.old) (F.contents files.new) }
+    ensures matched { IfOk result (λ read. MatchFile ((F.contents files.old).file path.now) (F.contents files.old).failures (F.contents files.new).failures (file_of read)) }
 {
     match files.open(alloc, path) {
-        Ok(Some(mut reader)) => {
-            let room = files.size_of(&reader).min(MAX_FILE_BYTES);
-            read_bytes(alloc, &mut reader, room, block)
-        }
+        Ok(Some(reader)) => read_opened(alloc, files, reader, block),
         Ok(None) => Ok(FileRead::Missing),
         Err(FileStop::Failed) => Ok(FileRead::Unreadable),
         Err(FileStop::OutOfMemory) => Err(AllocError),

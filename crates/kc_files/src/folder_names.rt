@@ -2,6 +2,7 @@
 ghost use Rattle.std.specs.Prelude.{◌≡◌, IfOk};
 ghost use Rattle.kc_files.specs.between.KnownFiles.{MatchFolder};
 ghost use Rattle.kc_files.specs.checker.FileViews.{folder_of};
+ghost use Rattle.kc_files.specs.TreeContents.{StaysKnown};
 
 use super::files::{FileStop, TreeFiles};
 use kc_value::MAX_LISTED_NAMES;
@@ -25,8 +26,8 @@ pub(crate) fn list_folder<F: TreeFiles>(
     files: &mut F,
     folder: &[u8],
 ) -> Result<FolderRead, AllocError>
-    ensures same { F.contents files.new ≡ F.contents files.old }
-    ensures matched { IfOk result (λ read. MatchFolder ((F.contents files.old).folder folder.now) (folder_of read)) }
+    ensures same { StaysKnown (F.contents files.old) (F.contents files.new) }
+    ensures matched { IfOk result (λ read. MatchFolder ((F.contents files.old).folder folder.now) (F.contents files.old).failures (F.contents files.new).failures (folder_of read)) }
 {
     match files.names_in(alloc, folder, MAX_LISTED_NAMES) {
         Ok(Some(names)) => Ok(FolderRead::Names(names)),

@@ -1,6 +1,9 @@
-//! The files of a tree: each is opened at most once, each folder is listed at most once, and patterns find files in order.
+//! The files of a tree: each is opened at most once, each folder is listed at most once, and patterns find files in order; and the
+//! expanded files, by their keys.
 #![tactic(auto)]
 
+mod expanded_files;
+mod expanded_tree;
 mod file_bytes;
 mod file_table;
 mod files;
@@ -11,6 +14,8 @@ mod paths;
 mod patterns;
 mod store;
 
+pub use expanded_files::ExpandedFiles;
+pub use expanded_tree::{ExpandedText, ExpandedTree};
 pub use file_bytes::FileRead;
 pub use files::{FileStop, TreeFiles};
 pub use name_matches::is_utf8;

@@ -8,6 +8,7 @@ ghost use Rattle.kc_files.specs.between.KnownFiles.{Grows};
 ghost use Rattle.kc_files.specs.between.FileRuns.{Comes};
 ghost use Rattle.kc_files.specs.checker.FileViews.{known_of};
 ghost use Rattle.kc_files.specs.checker.PatternRuns.{found_of, slashed, IsCut, Finds, FindsMore};
+ghost use Rattle.kc_files.specs.TreeContents.{StaysKnown};
 
 use super::files::TreeFiles;
 use super::name_matches::matches_name;
@@ -79,8 +80,8 @@ fn push_listed<F: TreeFiles>(
     folder: &[u8],
     found: &mut FoundPaths,
 ) -> Result<(), PatternStop>
-    ensures same { F.contents files.new ≡ F.contents files.old }
-    ensures grows { Grows (F.contents files.old) (known_of store.old) (known_of store.new) }
+    ensures same { StaysKnown (F.contents files.old) (F.contents files.new) }
+    ensures grows { Grows (F.contents files.old) (F.contents files.new) (known_of store.old) (known_of store.new) }
     ensures finds { (at : Place) → FindsMore (known_of store.new) at (does (list_folder folder.now) (matching_listed at piece.now folder.now found.old.listed)) (found_of found.old) (found_of found.new) result }
 {
     store.list(alloc, files, folder)?;
@@ -106,8 +107,8 @@ fn push_paths<F: TreeFiles>(
     folder: &[u8],
     found: &mut FoundPaths,
 ) -> Result<(), PatternStop>
-    ensures same { F.contents files.new ≡ F.contents files.old }
-    ensures grows { Grows (F.contents files.old) (known_of store.old) (known_of store.new) }
+    ensures same { StaysKnown (F.contents files.old) (F.contents files.new) }
+    ensures grows { Grows (F.contents files.old) (F.contents files.new) (known_of store.old) (known_of store.new) }
     ensures finds { (at : Place) → FindsMore (known_of store.new) at (paths_in_folder at piece.now folder.now found.old.listed) (found_of found.old) (found_of found.new) result }
 {
     if is_pattern(piece) {
@@ -129,8 +130,8 @@ fn paths_in_folders<F: TreeFiles>(
     folders: &[Vec<u8>],
     listed: usize,
 ) -> Result<FoundPaths, PatternStop>
-    ensures same { F.contents files.new ≡ F.contents files.old }
-    ensures grows { Grows (F.contents files.old) (known_of store.old) (known_of store.new) }
+    ensures same { StaysKnown (F.contents files.old) (F.contents files.new) }
+    ensures grows { Grows (F.contents files.old) (F.contents files.new) (known_of store.old) (known_of store.new) }
     ensures finds { (at : Place) → Finds (known_of store.new) at (paths_in_folders at piece.now (items_of folders.now) listed) result }
 {
     let mut found = FoundPaths {
@@ -209,8 +210,8 @@ fn folders_in_folders<F: TreeFiles>(
     folders: &[Vec<u8>],
     listed: usize,
 ) -> Result<FoundPaths, PatternStop>
-    ensures same { F.contents files.new ≡ F.contents files.old }
-    ensures grows { Grows (F.contents files.old) (known_of store.old) (known_of store.new) }
+    ensures same { StaysKnown (F.contents files.old) (F.contents files.new) }
+    ensures grows { Grows (F.contents files.old) (F.contents files.new) (known_of store.old) (known_of store.new) }
     ensures finds { (at : Place) → Finds (known_of store.new) at (slashed (paths_in_folders at piece.now (items_of folders.now) listed)) result }
 {
     match paths_in_folders(alloc, store, files, piece, folders, listed) {
@@ -230,8 +231,8 @@ fn matching_paths<F: TreeFiles>(
     pattern: &[u8],
     listed: usize,
 ) -> Result<FoundPaths, PatternStop>
-    ensures same { F.contents files.new ≡ F.contents files.old }
-    ensures grows { Grows (F.contents files.old) (known_of store.old) (known_of store.new) }
+    ensures same { StaysKnown (F.contents files.old) (F.contents files.new) }
+    ensures grows { Grows (F.contents files.old) (F.contents files.new) (known_of store.old) (known_of store.new) }
     ensures finds { (at : Place) → Finds (known_of store.new) at (paths_below at (path_pieces pattern.now) ([] ∷ []) listed) result }
 {
     let mut rest = pattern;
@@ -272,8 +273,8 @@ pub fn paths_with_files<F: TreeFiles>(
     files: &mut F,
     paths: &[Vec<u8>],
 ) -> Result<Vec<Vec<u8>>, AllocError>
-    ensures same { F.contents files.new ≡ F.contents files.old }
-    ensures grows { Grows (F.contents files.old) (known_of store.old) (known_of store.new) }
+    ensures same { StaysKnown (F.contents files.old) (F.contents files.new) }
+    ensures grows { Grows (F.contents files.old) (F.contents files.new) (known_of store.old) (known_of store.new) }
     ensures reads { IfOk result (λ found. Comes (known_of store.new) (paths_with_files (items_of paths.now)) (returned (texts_of found))) }
 {
     let mut found = Vec::new(alloc);
@@ -292,8 +293,8 @@ pub fn files_of_pattern<F: TreeFiles>(
     pattern: &[u8],
     listed: usize,
 ) -> Result<FoundPaths, PatternStop>
-    ensures same { F.contents files.new ≡ F.contents files.old }
-    ensures grows { Grows (F.contents files.old) (known_of store.old) (known_of store.new) }
+    ensures same { StaysKnown (F.contents files.old) (F.contents files.new) }
+    ensures grows { Grows (F.contents files.old) (F.contents files.new) (known_of store.old) (known_of store.new) }
     ensures finds { (at : Place) → Finds (known_of store.new) at (files_of_pattern at pattern.now listed) result }
 {
     let found = match matching_paths(alloc, store, files, pattern, listed) {

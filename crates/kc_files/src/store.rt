@@ -6,6 +6,7 @@ ghost use Rattle.kc_files.specs.between.KnownFiles.{names, is_there, Agrees, Gro
 ghost use Rattle.kc_files.specs.checker.FileViews.{file_of, known_of};
 ghost use Rattle.kc_files.specs.checker.PatternRuns.{StopsAtFolder};
 ghost use Rattle.kc_files.specs.TextViews.{items_of};
+ghost use Rattle.kc_files.specs.TreeContents.{StaysKnown};
 
 use super::file_bytes::{FileRead, read_file};
 use super::file_table::FileTable;
@@ -74,8 +75,8 @@ impl Store {
         files: &mut F,
         path: &[u8],
     ) -> Result<FileRead, AllocError>
-        ensures same { F.contents files.new ≡ F.contents files.old }
-        ensures grows { Grows (F.contents files.old) (known_of self.old) (known_of self.new) }
+        ensures same { StaysKnown (F.contents files.old) (F.contents files.new) }
+        ensures grows { Grows (F.contents files.old) (F.contents files.new) (known_of self.old) (known_of self.new) }
         ensures read { IfOk result (λ read. keyword_in_table (known_of self.new).files path.now ≡ Some (file_of read)) }
         ensures once { keyword_in_table (known_of self.old).files path.now ≢ None → files.new ≡ files.old }
     {
@@ -99,8 +100,8 @@ impl Store {
         files: &mut F,
         folder: &[u8],
     ) -> Result<(), AllocError>
-        ensures same { F.contents files.new ≡ F.contents files.old }
-        ensures grows { Grows (F.contents files.old) (known_of self.old) (known_of self.new) }
+        ensures same { StaysKnown (F.contents files.old) (F.contents files.new) }
+        ensures grows { Grows (F.contents files.old) (F.contents files.new) (known_of self.old) (known_of self.new) }
         ensures listed { IfOk result (λ _. keyword_in_table (known_of self.new).folders folder.now ≢ None) }
         ensures once { keyword_in_table (known_of self.old).folders folder.now ≢ None → files.new ≡ files.old }
     {
@@ -140,8 +141,8 @@ impl Store {
         files: &mut F,
         path: &[u8],
     ) -> Result<bool, AllocError>
-        ensures same { F.contents files.new ≡ F.contents files.old }
-        ensures grows { Grows (F.contents files.old) (known_of self.old) (known_of self.new) }
+        ensures same { StaysKnown (F.contents files.old) (F.contents files.new) }
+        ensures grows { Grows (F.contents files.old) (F.contents files.new) (known_of self.old) (known_of self.new) }
         ensures there { IfOk result (λ there. (w : World) → Agrees w (known_of self.new) → has_file w path.now ≡ there) }
     {
         let read = self.file(alloc, files, path)?;

@@ -17,13 +17,14 @@ enum Failing {
 }
 
 /// A tree in memory: the texts of paths, the names in folders, and what fails. It counts how often a path is tried, also a missing
-/// one.
+/// one, and how many calls failed.
 #[derive(Drop)]
 struct MemoryTree {
     texts: &'static [(&'static str, &'static str)],
     names: &'static [(&'static str, &'static str)],
     failing: Failing,
     opened: usize,
+    failed: u64,
 }
 
 /// Whether the file of a path can't be opened.
@@ -84,7 +85,7 @@ impl TreeFiles for MemoryTree {
 
     type File = Script;
 
-    ghost contents = { λ _. record { file = λ _. None; folder = λ _. None; beside = λ _. None; failures = 0; reference = 0 } };
+    ghost contents = { λ t. record { file = λ _. None; folder = λ _. None; beside = λ _. None; failures = t.failed; reference = 0 } };
 
     fn seed(&self) -> Seed {
         Seed::fixed()
@@ -93,12 +94,17 @@ impl TreeFiles for MemoryTree {
     fn open(&mut self, alloc: Global, path: &[u8]) -> Result<Option<Script>, FileStop> {
         self.opened = self.opened.saturating_add(1);
         if fails_to_open(self.failing, path) {
+            self.failed = self.failed.saturating_add(1);
             return Err(FileStop::Failed);
         }
         match bytes_at(alloc, self.texts, path)? {
             Some(bytes) => Ok(Some(Script::new(bytes, 100, end_of(self.failing, path)))),
             None => Ok(None),
         }
+    }
+
+    fn close(&mut self, file: Script) {
+        self.failed = self.failed.saturating_add(file.failed());
     }
 
     fn names_in(
@@ -108,6 +114,7 @@ impl TreeFiles for MemoryTree {
         _most: usize,
     ) -> Result<Option<Vec<Vec<u8>>>, FileStop> {
         if fails_to_list(self.failing, folder) {
+            self.failed = self.failed.saturating_add(1);
             return Err(FileStop::Failed);
         }
         Ok(Some(names_at(alloc, self.names, folder)?))
@@ -189,6 +196,7 @@ fn memory_tree(
         names,
         failing: Failing::Nothing,
         opened: 0,
+        failed: 0,
     }
 }
 
@@ -269,31 +277,34 @@ const SOURCING: &[&[(&str, &str)]] = &[
     ],
 ];
 
-/// The fault of a tree in which something fails, if it has one.
+/// The fault of a tree in which something fails, if it has one, and how many calls failed.
 fn fault_where(
     alloc: Global,
     texts: &'static [(&'static str, &'static str)],
     failing: Failing,
-) -> Result<Option<MacroFault>, AllocError> {
+) -> Result<(Option<MacroFault>, u64), AllocError> {
     let mut files = memory_tree(texts, &[("b/", "K1")]);
     files.failing = failing;
     let answers = Answers::new(alloc, Seed::fixed());
     let Expansion { tree, .. } = expand(alloc, &mut files, b"Kconfig", &answers)?;
     match tree {
-        Ok(_) => Ok(None),
-        Err(fault) => Ok(Some(fault)),
+        Ok(_) => Ok((None, files.failed)),
+        Err(fault) => Ok((Some(fault), files.failed)),
     }
 }
 
-/// Whether a tree in which something fails is refused with `MissingFile` at this line.
+/// Whether a tree in which one call fails, which is counted, is refused with `MissingFile` at this line.
 fn misses_a_file(
     alloc: Global,
     texts: &'static [(&'static str, &'static str)],
     failing: Failing,
     line: u32,
 ) -> Result<bool, AllocError> {
-    match fault_where(alloc, texts, failing)? {
-        Some(fault) => Ok(fault.line == line && matches!(fault.kind, MacroKind::MissingFile)),
+    let (fault, failed) = fault_where(alloc, texts, failing)?;
+    match fault {
+        Some(fault) => {
+            Ok(failed == 1 && fault.line == line && matches!(fault.kind, MacroKind::MissingFile))
+        }
         None => Ok(false),
     }
 }
@@ -301,7 +312,8 @@ fn misses_a_file(
 #[test]
 fn files_that_fail_are_never_passed_over(rt: HostRuntime) -> Result<(), std::test::Fail> {
     for texts in SOURCING {
-        assert!(rt; twice!(fault_where(rt.alloc(), texts, Failing::Nothing)).is_none());
+        let (fault, failed) = twice!(fault_where(rt.alloc(), texts, Failing::Nothing));
+        assert!(rt; fault.is_none() && failed == 0);
         assert!(rt; twice!(misses_a_file(rt.alloc(), texts, Failing::Opening("b/K1"), 3)));
         assert!(rt; twice!(misses_a_file(rt.alloc(), texts, Failing::Reading("b/K1"), 3)));
         assert!(rt; twice!(misses_a_file(rt.alloc(), texts, Failing::Opening("Kconfig"), 0)));

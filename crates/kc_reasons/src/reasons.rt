@@ -8,8 +8,8 @@ ghost use Rattle.kc_rules_model.specs.Shapes.{user_fits};
 ghost use Rattle.kc_rules_model.specs.Reports.{is_unmet_symbol};
 ghost use Rattle.kc_reasons_model.specs.DecisiveLimits.{decisive_numbers};
 ghost use Rattle.kc_reasons_model.specs.Hindrances.{hindrance_to};
-ghost use Rattle.kc_reasons_model.specs.Reasons.{is_by_imply};
-ghost use Rattle.kc_reasons_model.specs.PlainReasons.{other_than, chosen_in, is_by_select, plain_reasons_at};
+ghost use Rattle.kc_reasons_model.specs.Reasons.{is_by_select, is_by_imply};
+ghost use Rattle.kc_reasons_model.specs.PlainReasons.{other_than, chosen_in, plain_reasons_at};
 ghost use Rattle.kc_reasons.specs.between.Parts.{AreThere};
 ghost use Rattle.kc_reasons.specs.between.ReasonsView.{reasons_view};
 

@@ -18,8 +18,9 @@ use Rattle.kc_rules_model.specs.MemberLines.{is_listed, laid_over}
 use Rattle.kc_rules_model.specs.Shapes.{user_fits, unit_user_fits, symbol_user_fits, choice_user_fits}
 use Rattle.std.specs.Option.{option_or}
 use Rattle.kc_dotconfig_model.specs.ConfigLines.{LineMeaning, assigns, assigns_escaped, unchosen, notice, silent}
-use Rattle.kc_dotconfig_model.specs.ConfigFiles.{over, assigned, assigned_over}
-use Rattle.kc_reasons_model.specs.AssigningLines.{if_any, said_of, said_to, user_by_line, AssigningLine, line_giving, assigning_line, AssigningPlace, place_giving, assigning_place, all_over}
+use Rattle.kc_dotconfig_model.proofs.Overlays.{file_over as lie_over}
+use Rattle.kc_dotconfig_model.specs.ConfigFiles.{over, assigned, assigned_over, overlaid_by}
+use Rattle.kc_reasons_model.specs.AssigningLines.{if_any, said_of, said_to, user_by_line, AssigningLine, line_giving, assigning_line, AssigningPlace, place_giving, assigning_place, all_over, FilesAreOverAssignments}
 use Rattle.kc_reasons_model.specs.Laws.{IsLastAssigning, FitUnit, LinesAssign, IsLastAssigningPlace, FilesAssign}
 
 -- ---- the units that have assignments of members
@@ -308,3 +309,8 @@ pub files_assign : FilesAssign
 files_assign tree u s first files users inside fits held =
     let found = find_place (has_lines tree (slice_get tree.units u)) u s first files users inside (each_file_sorted tree u s files (recursion_from_All _ _ fits)) (sorted tree u (user_of users u) held) in
     (λ e. (found.none e).0, found.some)
+
+pub files_over : FilesAreOverAssignments
+files_over tree [] users long = refl
+files_over tree (meanings ∷ files) users long =
+    files_over tree files (assigned_over meanings users) (file_length meanings users ∙ long) ∙ ap (λ us. overlaid_by tree us files) (lie_over tree meanings users long)

@@ -18,3 +18,5 @@ pub mod TextLaws
 pub mod CaseRows
 mod HindranceRows
 pub mod FittingLines
+pub mod PlainReasonLaws
+pub mod OverriddenLaws

@@ -1,11 +1,12 @@
 -- The line that assigns a symbol's user value.
-use Rattle.std.specs.Prelude.{ℕ, ◌+◌, List, [], ◌∷◌, Option, Some, None, ◌==◌, filter, if◌then◌else◌}
+use Rattle.std.specs.Prelude.{◌≡◌, ℕ, ◌+◌, length, List, [], ◌∷◌, Option, Some, None, ◌==◌, filter, if◌then◌else◌}
 use Rattle.std.specs.Option.{option_or, option_and_then}
+use Rattle.kc_tree_model.specs.Trees.{Tree}
 use Rattle.kc_rules_model.specs.declared.values.UserValue.{UserValue}
 use Rattle.kc_rules_model.specs.declared.values.UserValue.TheVariants.{Tri as TriUser, Text as TextUser, Member as MemberUser, Lines as LinesUser}
 use Rattle.kc_rules_model.specs.declared.values.MemberLine.{MemberLine}
 use Rattle.kc_dotconfig_model.specs.ConfigLines.{LineMeaning, assigns, assigns_escaped, unchosen, notice, silent}
-use Rattle.kc_dotconfig_model.specs.ConfigFiles.{assigned_over}
+use Rattle.kc_dotconfig_model.specs.ConfigFiles.{assigned_over, overlaid_by}
 
 -- assignments of members, if there are any
 abbrev pub if_any : List MemberLine → Option UserValue
@@ -64,3 +65,8 @@ assigning_place u s f (meanings ∷ files) = option_or (assigning_place u s (f +
 abbrev pub all_over : List (List LineMeaning) → List (Option UserValue) → List (Option UserValue)
 all_over [] users = users
 all_over (meanings ∷ files) users = all_over files (assigned_over meanings users)
+
+-- law: that is what the files' own assignments give, each laid over those before it
+abbrev pub FilesAreOverAssignments : Type 0
+FilesAreOverAssignments = (tree : Tree) (files : List (List LineMeaning)) (users : List (Option UserValue)) → length users ≡ length tree.units
+    → all_over files users ≡ overlaid_by tree users files

@@ -13,3 +13,5 @@ pub mod SymbolLines
 pub mod Reasons
 pub mod PlainReasons
 pub mod ReasonLaws
+pub mod PlainReasonLaws
+pub mod OverriddenLines

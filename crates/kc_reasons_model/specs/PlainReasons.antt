@@ -14,15 +14,12 @@ use Rattle.kc_rules_model.specs.SymbolValues.{environment, condition, member_of}
 use Rattle.kc_rules_model.specs.Rule.{assigned_tri, selected, is_from_environment}
 use Rattle.kc_rules_model.specs.Reports.{is_unmet_symbol}
 use Rattle.kc_reasons_model.specs.declared.cases.Case.{Case}
-use Rattle.kc_reasons_model.specs.declared.cases.Case.TheVariants.{Tri as TriGiven}
-use Rattle.kc_reasons_model.specs.declared.cases.TriCase.TheVariants.{Select as SelectTri}
 use Rattle.kc_reasons_model.specs.declared.cases.Hindrance.{Hindrance}
-use Rattle.kc_reasons_model.specs.declared.cases.Hindrance.TheVariants.{BelowSelected}
 use Rattle.kc_reasons_model.specs.Conjuncts.{Part, lacking}
 use Rattle.kc_reasons_model.specs.DecisiveLimits.{decisive_numbers}
 use Rattle.kc_reasons_model.specs.Cases.{case_of}
 use Rattle.kc_reasons_model.specs.Hindrances.{hindrance_to, wanted_for}
-use Rattle.kc_reasons_model.specs.Reasons.{unless_one_lacks_nothing, is_by_imply}
+use Rattle.kc_reasons_model.specs.Reasons.{unless_one_lacks_nothing, is_by_select, is_by_imply}
 
 -- what gives a symbol's value; the number of the selected member of its choice, if that is another; what hinders that it has what
 -- its user value asks; for each prompt what it lacks (nothing where one lacks nothing); for each definition what its dependency
@@ -59,12 +56,6 @@ abbrev pub dependencies_lack : Tree → List UnitValue → Symbol → List (List
 dependencies_lack tree values symbol = if is_unmet_symbol tree values symbol
     then map (lacking (environment tree values) (selected tree values symbol)) symbol.direct
     else []
-
--- whether the selects are given: they give the value, or more is selected than is assigned
-abbrev pub is_by_select : Case → Option Hindrance → Bool
-is_by_select (TriGiven SelectTri lift) h = true
-is_by_select c (Some BelowSelected) = true
-is_by_select c h = false
 
 -- the reasons of symbol s, its unit having this user value, or none
 abbrev pub plain_reasons : Profile → Tree → ℕ → Symbol → Option UserValue → List UnitValue → PlainReasons

@@ -203,11 +203,15 @@ forcing_symbols run fs places =
     map (λ (p : ReverseDependency × Position). record { name = name_of_symbol run.tree p.0.by; value = text_of_symbol run p.0.by; at = source_line run p.1 })
     (filter (λ (p : ReverseDependency × Position). is_decisive run.tree run.values fs p.0) (zip fs places))
 
+-- what hinders that a symbol has what the last line that says something of it asks, if there is one
+abbrev pub hindrance_in : Option AskedValue → Option Hindrance
+hindrance_in asked = option_and_then (λ (a : AskedValue). a.hindrance) asked
+
 -- whether the selects are given: they give the value, or more is selected than is assigned
-abbrev pub is_by_select : Case → Option AskedValue → Bool
-is_by_select (TriGiven SelectTri lift) asked = true
-is_by_select c (Some a) = elim a.hindrance [ None ↦ false | Some h ↦ elim h [ BelowSelected ↦ true | _ ↦ false ] ]
-is_by_select c None = false
+abbrev pub is_by_select : Case → Option Hindrance → Bool
+is_by_select (TriGiven SelectTri lift) h = true
+is_by_select c (Some BelowSelected) = true
+is_by_select c h = false
 
 -- whether the implies are given: they give the value
 abbrev pub is_by_imply : Case → Bool
@@ -249,7 +253,7 @@ reasons_of run lines s symbol =
     let wanted = wanted_of_prompts run s symbol in
     let needs = needs_of run wanted symbol lines in
     let unmet = unmet_parts run symbol lines in
-    let forced = is_by_select case asked || is_unmet_symbol run.tree run.values symbol in
+    let forced = is_by_select case (hindrance_in asked) || is_unmet_symbol run.tree run.values symbol in
     record {
       name = symbol.name;
       value = text_of_symbol run s;

@@ -1,5 +1,8 @@
 //! Laws of reasons.
 ghost use Rattle.kc_reasons_model.specs.ReasonLaws.{HiddenNeedsAreGiven, NothingIsNeededIfVisible, UnmetPartsAreGiven, NextAreDependencies, MemberNextAreDependencies, NextNamesHide};
+ghost use Rattle.kc_reasons_model.specs.PlainReasonLaws.{PlainReasonsAgree};
+ghost use Rattle.kc_reasons_model.specs.AssigningLines.{FilesAreOverAssignments};
+ghost use Rattle.kc_reasons_model.specs.OverriddenLines.{ListedAreOverridden, OverriddenAreListed};
 ghost use Rattle.kc_reasons_model.specs.Laws.{CasesGiveValues, HindrancesAreMissed, HindrancesHold, HindrancesSuffice, PromptsLetInWhatIsWanted, ConjunctsDecide, NothingLacksIfHigh, RaisingSuffices, EachLackingIsNeeded, BlamedNamesKeep, WeakerForceLess, LinesAssign, ClaimsHold, BlamedAreNamed, RuleGivesWhatIf, SpelledIsReadBack, SpellingIsReadAsTokens, PrintedExpressionsAreReadBack, OperandsAreReadBack, DecisiveForceAll, HiddenPromptsLack, UnmetDependenciesLack, AssignableIsTaken, MissedAreHindered, PromptPartsAreLocated, ConditionPartsAreLocated, DependencyPartsAreLocated, FilesAssign, BlamedAreDependencies, ChoiceBlamedAreDependencies, LinesAreOfSymbol, SelectableAreTaken, MembersHaveOneLine, LinesGiveOne, LinesFitUnits, NumbersAreDecisive};
 
 /// The case of each unit, given its value by the case's own formula.
@@ -210,4 +213,20 @@ pub fn lines_fit_units()
 /// The numbers of the decisive selects or implies are those of the selects or implies that force as much as all together.
 pub fn numbers_are_decisive()
     ensures { NumbersAreDecisive }
+{}
+
+/// The reasons of a symbol without places are its reasons with places, but for these.
+pub fn plain_reasons_agree()
+    ensures { PlainReasonsAgree }
+{}
+
+/// Of several files those lines are listed as overridden after which a file asks for another value, each with the first such file.
+pub fn overridden_lines_are_listed()
+    ensures listed { ListedAreOverridden }
+    ensures all { OverriddenAreListed }
+{}
+
+/// The lines of several files, one after another, give what their own assignments give, each laid over those before it.
+pub fn files_are_over_assignments()
+    ensures { FilesAreOverAssignments }
 {}

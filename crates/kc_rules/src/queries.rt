@@ -9,7 +9,7 @@ ghost use Rattle.kc_rules.specs.between.SettledViews.{tree_model_of, tree_of_set
 ghost use Rattle.kc_system.specs.Dependencies.{IsOrder};
 
 use super::rules::Settled;
-use kc_evaluation::Valuation;
+use kc_evaluation::{Rules, Valuation};
 use kc_expr::{ExprId, Looked};
 use kc_rules_model::{Profile, UnitValue};
 use kc_system::Order;
@@ -24,6 +24,14 @@ impl Settled {
     {
         let _ = self.rules.tree.arena();
         &self.rules.tree
+    }
+
+    /// The rules of the settled tree, which give each unit its value: the tree, with the profile and the units' dependencies.
+    pub fn rules(&self) -> &Rules
+        ensures tree { result.now.tree ≡ tree_model_of self.now }
+        ensures profile { result.now.profile ≡ profile_of self.now }
+    {
+        &self.rules
     }
 
     /// The profile of the settled tree: how `imply` acts in it.

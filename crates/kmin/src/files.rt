@@ -1,5 +1,5 @@
 //! The files of the system.
-ghost use Rattle.std.specs.Prelude.{◌≡◌, None, IfSome};
+ghost use Rattle.std.specs.Prelude.{◌≡◌, ◌-◌, ◌^◌, ◌<◌, ◌≤◌, None, IfOk, IfSome};
 
 use kc_value::{Failed, FromRead, Seed, Source};
 use kmin_run::{FileStop, Files};
@@ -31,17 +31,39 @@ impl<'a> Disk<'a> {
         }
     }
 
+    /// Counts one more failed call.
+    fn count_failure(&mut self)
+        ensures same { self.new ≡ record self.old { failed = self.new.failed } }
+        ensures rising { self.old.failed ≤ self.new.failed }
+        ensures failed { self.old.failed < 2 ^ 64 - 1 → self.old.failed < self.new.failed }
+    {
+        self.failed = self.failed.saturating_add(1);
+    }
+
     /// A reader of the file at a path; `None` if it can't be opened.
     fn open(&self, path: &str) -> Option<OpenFile>
-        ensures { IfSome result (λ file. file.failed ≡ 0) }
+        ensures { IfSome result (λ file. file.failed_reads ≡ 0) }
     {
         let file = File::open(self.runtime, path).ok()?;
         let size = size_now(&file);
         Some(OpenFile {
             reader: FromRead::new(file),
             size,
-            failed: 0,
+            failed_reads: 0,
         })
+    }
+
+    /// A reader of the regular file at a path; `None` where none is there.
+    fn open_regular(&self, path: &str) -> Result<Option<OpenFile>, Failed>
+        ensures { IfOk result (λ reader. IfSome reader (λ file. file.failed_reads ≡ 0)) }
+    {
+        if !is_regular(self.runtime, path)? {
+            return Ok(None);
+        }
+        match self.open(path) {
+            Some(file) => Ok(Some(file)),
+            None => Err(Failed),
+        }
     }
 }
 
@@ -60,19 +82,19 @@ pub(crate) fn new_seed(runtime: &HostRuntime) -> Seed {
 pub(crate) struct OpenFile {
     reader: FromRead<File>,
     size: usize,
-    failed: u64,
+    failed_reads: u64,
 }
 
 impl Source for OpenFile {
     ghost left = { λ s. ⟦<FromRead<File> as Source>⟧.left s.reader };
 
-    ghost failures = { λ s. s.failed };
+    ghost failures = { λ s. s.failed_reads };
 
     fn read_some(&mut self, buf: &mut [u8]) -> Result<usize, Failed> {
         match self.reader.read_some(buf) {
             Ok(count) => Ok(count),
             Err(failed) => {
-                self.failed = self.failed.saturating_add(1);
+                self.failed_reads = self.failed_reads.saturating_add(1);
                 Err(failed)
             }
         }
@@ -126,6 +148,33 @@ fn name_of(alloc: Global, entry: io::Result<DirEntry>) -> Result<Option<Vec<u8>>
     }
 }
 
+/// The names in a folder that are UTF-8; `None` if there are more than `most`. What isn't there has no names.
+fn names_listed(
+    runtime: &HostRuntime,
+    alloc: Global,
+    folder: &str,
+    most: usize,
+) -> Result<Option<Vec<Vec<u8>>>, FileStop> {
+    let mut names = Vec::new(alloc);
+    let entries = match fs::read_dir(runtime, folder) {
+        Ok(entries) => entries,
+        Err(error) if says_absent(error.kind()) => return Ok(Some(names)),
+        Err(error) => return Err(stop_of(error.kind())),
+    };
+    for entry in entries {
+        let Some(name) = name_of(alloc, entry)? else {
+            continue;
+        };
+        if names.len() == most {
+            return Ok(None);
+        }
+        if names.push(name).is_err() {
+            return Err(FileStop::OutOfMemory);
+        }
+    }
+    Ok(Some(names))
+}
+
 impl Files for Disk<'_> {
     type File = OpenFile;
 
@@ -141,7 +190,7 @@ impl Files for Disk<'_> {
         match self.open(path) {
             Some(file) => Some(file),
             None => {
-                self.failed = self.failed.saturating_add(1);
+                self.count_failure();
                 None
             }
         }
@@ -152,16 +201,16 @@ impl Files for Disk<'_> {
     }
 
     fn close(&mut self, file: OpenFile) {
-        self.failed = self.failed.saturating_add(file.failed);
+        self.failed = self.failed.saturating_add(file.failed_reads);
     }
 
     fn regular_reader_for(&mut self, path: &str) -> Result<Option<OpenFile>, Failed> {
-        if !is_regular(self.runtime, path)? {
-            return Ok(None);
-        }
-        match self.open(path) {
-            Some(file) => Ok(Some(file)),
-            None => Err(Failed),
+        match self.open_regular(path) {
+            Ok(file) => Ok(file),
+            Err(failed) => {
+                self.count_failure();
+                Err(failed)
+            }
         }
     }
 
@@ -171,24 +220,13 @@ impl Files for Disk<'_> {
         folder: &str,
         most: usize,
     ) -> Result<Option<Vec<Vec<u8>>>, FileStop> {
-        let mut names = Vec::new(alloc);
-        let entries = match fs::read_dir(self.runtime, folder) {
-            Ok(entries) => entries,
-            Err(error) if says_absent(error.kind()) => return Ok(Some(names)),
-            Err(error) => return Err(stop_of(error.kind())),
-        };
-        for entry in entries {
-            let Some(name) = name_of(alloc, entry)? else {
-                continue;
-            };
-            if names.len() == most {
-                return Ok(None);
+        match names_listed(self.runtime, alloc, folder, most) {
+            Err(FileStop::Failed) => {
+                self.count_failure();
+                Err(FileStop::Failed)
             }
-            if names.push(name).is_err() {
-                return Err(FileStop::OutOfMemory);
-            }
+            listed => listed,
         }
-        Ok(Some(names))
     }
 
     fn variable(&mut self, _alloc: Global, name: &str) -> Result<Option<String>, AllocError> {

@@ -121,10 +121,11 @@ macro_rules! tables {
                 "Malformed" "  env: Malformed            --env isn't a letter or `_`, then letters, digits, `_`: correct it"
                 "Malformed" "  tree: Malformed           --tree of a tree that is expanded has a newline: rename the file"
                 "NamedTwice" "  stdin: NamedTwice         /dev/stdin is named twice: store one; paths are compared as texts"
-                "Read" "  LIST:0: Read              the file of --from can't be opened or read: check the path"
-                "TooLarge" "  LIST:0: TooLarge          more than 67,108,864 bytes in the file of --from: split it"
+                "Read" "  LIST:0: Read              the file of --from or @FILE can't be opened or read: check the path"
+                "TooLarge" "  LIST:0: TooLarge          more than 67,108,864 bytes in the file of --from or @FILE: split it"
                 "Malformed" "  file: Malformed           a FILE of tidy or of -o has a newline: rename it"
-                "Malformed" "  from: Malformed           a path in the file of --from isn't UTF-8 or has a newline: correct it"
+                "Malformed" "  from: Malformed           a path in the file of --from isn't UTF-8 or has a newline, or a word in
+                            @FILE isn't UTF-8: correct it"
                 "UTF-8" "  kmin: a word isn't UTF-8  a word of the command line isn't: give the file another name"
                 "error" "  error: ..                 the command line is refused: correct the named word"
                 "memory" "  out of memory             memory was refused: free some, or raise a limit that was set"
@@ -160,8 +161,10 @@ Exit status:
 
 Without a word, kmin reads a bundle on standard input, a tree, a line `%%` and a configuration
 file, and writes its full file. Options stand after the command or before it: `kmin help COMMAND`
-lists them. `kmin help KIND` explains a kind of message, `kmin help FORM` a form that LeftOut
-leaves out, and share/doc/kmin/FAULTS.md all of them.
+lists them. A word @FILE stands for the words in FILE, a line each: a line is a word, spaces and
+all, empty lines and those that begin with # are none, and @- is standard input. `kmin help KIND`
+explains a kind of message, `kmin help FORM` a form that LeftOut leaves out, and
+share/doc/kmin/FAULTS.md all of them.
 
 ",
             $($text),*

@@ -44,6 +44,13 @@ impl Script {
             failed: 0,
         }
     }
+
+    /// How many reads failed so far.
+    pub fn failed(&self) -> u64
+        ensures { result ≡ ⟦<Script as Source>⟧.failures self.now }
+    {
+        self.failed
+    }
 }
 
 impl Source for Script {

@@ -1,3 +1,6 @@
 pub mod Lines
 pub mod Lists
+pub mod WordLines
+pub mod WordFiles
+pub mod between
 pub mod checker

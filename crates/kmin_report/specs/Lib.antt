@@ -1,5 +1,5 @@
 pub mod StandardError
 pub mod KnownBytes
 pub mod Reports
-pub mod MacroReports
+pub mod PlainLines
 pub mod between

@@ -1,60 +1,57 @@
 -- The lines of standard error.
 use Rattle.std.specs.Prelude.{ℕ, List, [], ◌∷◌, ◌++◌, Option, Some, None, codes, map, slice_get, unwrap_or, option_and_then, ◌==◌, if◌then◌else◌}
 use Rattle.std.specs.List.{flat_map}
-use Rattle.std.specs.Fmt.{decimal}
 use Rattle.kc_tree_model.specs.TreeFiles.{Files, path_at}
 use Rattle.kc_tree_model.specs.Trees.{Tree, Symbol, Choice}
 use Rattle.kc_tree_model.specs.declared.ids.Unit.TheVariants.{Symbol as of_symbol, Choice as of_choice}
 use Rattle.kc_tree_model.specs.declared.ids.Unit.{Unit as TreeUnit}
 use Rattle.kc_tree_model.specs.declared.fault.TreeFault.{TreeFault}
-use Rattle.kc_dotconfig_model.specs.KindNames.{load_kind_name, notice_kind_name}
+use Rattle.kc_tree_model.specs.declared.fault.TreeKind.{TreeKind}
 use Rattle.kc_dotconfig_model.specs.declared.fault.LoadKind.{LoadKind}
 use Rattle.kc_dotconfig_model.specs.declared.notice.NoticeKind.{NoticeKind}
 use Rattle.kc_dotconfig_model.specs.declared.notice.NoticeKind.TheVariants.{OtherChoice}
 use Rattle.kc_dotconfig_model.specs.ConfigLines.{LineMeaning}
 use Rattle.kc_dotconfig_model.specs.ConfigFiles.{notices_from}
-use Rattle.kc_tree_model.specs.FaultNames.{tree_kind_name}
+use Rattle.kc_macros_model.specs.declared.fault.AnswersKind.{AnswersKind}
+use Rattle.kc_macros_model.specs.Programs.{Fault, Notice}
 
--- the line of standard error for a fault or a notice at a line of a file: `FILE:LINE: KIND`
-abbrev pub place_line : (path : List ℕ) (number : ℕ) (kind : List ℕ) → List ℕ
-place_line path number kind = path ++ (codes ":" ++ (decimal number ++ (codes ": " ++ (kind ++ codes "\n"))))
-
--- the line of standard error for a fault of a configuration file: `FILE:LINE: KIND`
-abbrev pub fault_line : (path : List ℕ) (number : ℕ) → LoadKind → List ℕ
-fault_line path number kind = place_line path number (load_kind_name kind)
-
--- the line of standard error for a notice of a configuration file: `FILE:LINE: KIND`
-abbrev pub notice_line : (path : List ℕ) → ℕ × NoticeKind → List ℕ
-notice_line path notice = place_line path notice.0 (notice_kind_name notice.1)
-
--- the line of standard error for a path that leads to a link, a folder, a pipe or a device: `FILE:0: NotRegular`
-abbrev pub not_regular_line : (path : List ℕ) → List ℕ
-not_regular_line path = place_line path 0 (codes "NotRegular")
-
--- the line of standard error for a file that couldn't be replaced, or whose folder couldn't be synced after it: `FILE: Write`
-abbrev pub write_line : (path : List ℕ) → List ℕ
-write_line path = path ++ codes ": Write\n"
-
--- the line of standard error for a new file that couldn't be removed: `NEWFILE: Left`
-abbrev pub left_line : (new_path : List ℕ) → List ℕ
-left_line new_path = new_path ++ codes ": Left\n"
-
--- the line of standard error where standard output can't be written: `output: Write`
-abbrev pub output_line : List ℕ
-output_line = codes "output: Write\n"
-
--- the line of standard error where memory ran out: `out of memory`
-abbrev pub memory_line : List ℕ
-memory_line = codes "out of memory\n"
+-- a line of standard error, by what it reports; `plain_line` has its bytes
+pub data ErrorLine : Type 0 where
+  -- a fault of a tree, at a line of a file
+  tree_line : (path : List ℕ) (number : ℕ) (kind : TreeKind) → ErrorLine
+  -- symbols and choices of a tree that depend on each other in a circle, by their numbers as units, at a line of a file
+  cycle_line : (path : List ℕ) (number : ℕ) (tree : Tree) (units : List ℕ) → ErrorLine
+  -- a fault of a configuration file, of a list of paths or of a bundle
+  fault_line : (path : List ℕ) (number : ℕ) (kind : LoadKind) → ErrorLine
+  -- a notice of a configuration file, by the number of its line and its kind
+  notice_line : (path : List ℕ) (notice : ℕ × NoticeKind) → ErrorLine
+  -- a fault of an answer file
+  answers_line : (path : List ℕ) (number : ℕ) (kind : AnswersKind) → ErrorLine
+  -- a notice of an expansion of macros
+  macro_notice_line : (notice : Notice) → ErrorLine
+  -- a fault of an expansion of macros
+  macro_fault_line : (fault : Fault) → ErrorLine
+  -- standard output can't be written
+  output_line : ErrorLine
+  -- a path that leads to a link, a folder, a pipe or a device
+  not_regular_line : (path : List ℕ) → ErrorLine
+  -- a file that couldn't be replaced, or whose folder couldn't be synced after it
+  write_line : (path : List ℕ) → ErrorLine
+  -- a new file that couldn't be removed
+  left_line : (new_path : List ℕ) → ErrorLine
+  -- memory ran out
+  memory_line : ErrorLine
+  -- words that are refused, by their message, which may have several lines
+  refused_line : (message : List ℕ) → ErrorLine
 
 -- the path of the file of this number in a tree; the path `first` of the first file if there is no number, or no such file
 abbrev pub path_or_first : Files → (first : List ℕ) → Option ℕ → List ℕ
 path_or_first texts first None = first
 path_or_first texts first (Some number) = unwrap_or (path_at texts number) first
 
--- the line of standard error for a fault of a tree: `FILE:LINE: KIND`
-abbrev pub tree_fault_line : Files → (first : List ℕ) → TreeFault → List ℕ
-tree_fault_line texts first fault = place_line (path_or_first texts first fault.file) fault.line (tree_kind_name fault.kind)
+-- the line of standard error for a fault of a tree, whose files have their names in `texts`
+abbrev pub tree_fault_line : Files → (first : List ℕ) → TreeFault → ErrorLine
+tree_fault_line texts first fault = tree_line (path_or_first texts first fault.file) fault.line fault.kind
 
 -- the name of the symbol of this number in a tree; empty if there is none
 abbrev pub name_at : Tree → ℕ → List ℕ
@@ -95,26 +92,26 @@ units_text tree units = flat_map (λ u. unit_text tree (slice_get tree.units u))
 abbrev pub cycle_place : Tree → List ℕ → ℕ × ℕ
 cycle_place tree units = unit_place tree (option_and_then (slice_get tree.units) (slice_get units 0))
 
--- the line of standard error for a cycle: `FILE:LINE: Cycle A B`
-abbrev pub cycle_line : Files → (first : List ℕ) → Tree → List ℕ → List ℕ
-cycle_line texts first tree units =
-    place_line (path_or_first texts first (Some (cycle_place tree units).0)) (cycle_place tree units).1 (codes "Cycle" ++ units_text tree units)
+-- the line of standard error for a cycle, at its first symbol or choice
+abbrev pub tree_cycle_line : Files → (first : List ℕ) → Tree → List ℕ → ErrorLine
+tree_cycle_line texts first tree units =
+    cycle_line (path_or_first texts first (Some (cycle_place tree units).0)) (cycle_place tree units).1 tree units
 
 -- the lines of standard error for the notices of a configuration file, from the meanings of its lines
-abbrev pub file_notices : (path : List ℕ) → List LineMeaning → List (List ℕ)
+abbrev pub file_notices : (path : List ℕ) → List LineMeaning → List ErrorLine
 file_notices path meanings = map (notice_line path) (notices_from 1 meanings)
 
 -- the lines of standard error for the notices of several configuration files, in order, from the meanings of their lines
-abbrev pub notice_lines : (paths : List (List ℕ)) → List (List LineMeaning) → List (List ℕ)
+abbrev pub notice_lines : (paths : List (List ℕ)) → List (List LineMeaning) → List ErrorLine
 notice_lines [] meanings = []
 notice_lines (path ∷ paths) [] = []
 notice_lines (path ∷ paths) (meanings ∷ others) = file_notices path meanings ++ notice_lines paths others
 
 -- the lines of standard error for the notices on choices in configuration files at these paths, in order, each from its place: the
 -- number of its file, from 0, and of its line
-abbrev pub choice_notice_lines : (paths : List (List ℕ)) → List (ℕ × ℕ) → List (List ℕ)
+abbrev pub choice_notice_lines : (paths : List (List ℕ)) → List (ℕ × ℕ) → List ErrorLine
 choice_notice_lines paths places = map (λ (p : ℕ × ℕ). notice_line (unwrap_or (slice_get paths p.0) []) (p.1, OtherChoice)) places
 
 -- the last lines of standard error of a run, by its exit status: `out of memory` for 6, and none for any other
-abbrev pub last_lines : (status : ℕ) → List (List ℕ)
+abbrev pub last_lines : (status : ℕ) → List ErrorLine
 last_lines status = if status == 6 then memory_line ∷ [] else []

@@ -3,8 +3,8 @@ ghost use Rattle.std.specs.Prelude.{◌≡◌, ◌++◌, ℕ, List, codes, slice
 ghost use Rattle.std.specs.List.{flat_map};
 ghost use Rattle.std.specs.Borrow.{Bor};
 ghost use Rattle.kc_macros.specs.Runs.{fault_of, notice_of};
-ghost use Rattle.kmin_report.specs.MacroReports.{macro_fault_line, macro_notice_line, message_line};
-ghost use Rattle.kmin_report.specs.Reports.{first_member_name, unit_text, units_text, place_line};
+ghost use Rattle.kmin_report.specs.PlainLines.{message_line, place_line, plain_line};
+ghost use Rattle.kmin_report.specs.Reports.{first_member_name, macro_fault_line, macro_notice_line, unit_text, units_text};
 ghost use Rattle.kmin_report.specs.StandardError.{TakesWhole, TakesPart, TakesLine};
 ghost use Rattle.kmin_report.specs.between.ReportLines.{report_line};
 
@@ -78,8 +78,8 @@ pub fn write_report<W: Sink>(report: Report<'_>, sink: &mut W)
 
 /// Writes the line of a report.
 fn write_line<W: Sink>(report: &Report<'_>, sink: &mut W) -> Result<(), WriteFault>
-    ensures whole { OnOk result (TakesWhole (W.taken sink.old) (W.failures sink.old) (report_line report.now) (W.taken sink.new) (W.failures sink.new)) }
-    ensures part { OnErr result (TakesPart (W.taken sink.old) (W.failures sink.old) (report_line report.now) (W.taken sink.new) (W.failures sink.new)) }
+    ensures whole { OnOk result (TakesWhole (W.taken sink.old) (W.failures sink.old) (plain_line (report_line report.now)) (W.taken sink.new) (W.failures sink.new)) }
+    ensures part { OnErr result (TakesPart (W.taken sink.old) (W.failures sink.old) (plain_line (report_line report.now)) (W.taken sink.new) (W.failures sink.new)) }
 {
     match report {
         Report::TreeFault { path, line, kind } => write_place(path, *line, kind.name(), sink),
@@ -155,8 +155,8 @@ fn write_message<'a, W: Sink>(
 
 /// Writes the line of a notice of macros.
 fn write_macro_notice<W: Sink>(notice: &MacroNotice, sink: &mut W) -> Result<(), WriteFault>
-    ensures whole { OnOk result (TakesWhole (W.taken sink.old) (W.failures sink.old) (macro_notice_line (notice_of notice.now)) (W.taken sink.new) (W.failures sink.new)) }
-    ensures part { OnErr result (TakesPart (W.taken sink.old) (W.failures sink.old) (macro_notice_line (notice_of notice.now)) (W.taken sink.new) (W.failures sink.new)) }
+    ensures whole { OnOk result (TakesWhole (W.taken sink.old) (W.failures sink.old) (plain_line (macro_notice_line (notice_of notice.now))) (W.taken sink.new) (W.failures sink.new)) }
+    ensures part { OnErr result (TakesPart (W.taken sink.old) (W.failures sink.old) (plain_line (macro_notice_line (notice_of notice.now))) (W.taken sink.new) (W.failures sink.new)) }
 {
     let path = notice.file.as_slice();
     let kind = notice.kind.name();
@@ -165,8 +165,8 @@ fn write_macro_notice<W: Sink>(notice: &MacroNotice, sink: &mut W) -> Result<(),
 
 /// Writes the line of a fault of macros.
 fn write_macro_fault<W: Sink>(fault: &MacroFault, sink: &mut W) -> Result<(), WriteFault>
-    ensures whole { OnOk result (TakesWhole (W.taken sink.old) (W.failures sink.old) (macro_fault_line (fault_of fault.now)) (W.taken sink.new) (W.failures sink.new)) }
-    ensures part { OnErr result (TakesPart (W.taken sink.old) (W.failures sink.old) (macro_fault_line (fault_of fault.now)) (W.taken sink.new) (W.failures sink.new)) }
+    ensures whole { OnOk result (TakesWhole (W.taken sink.old) (W.failures sink.old) (plain_line (macro_fault_line (fault_of fault.now))) (W.taken sink.new) (W.failures sink.new)) }
+    ensures part { OnErr result (TakesPart (W.taken sink.old) (W.failures sink.old) (plain_line (macro_fault_line (fault_of fault.now))) (W.taken sink.new) (W.failures sink.new)) }
 {
     let path = fault.file.as_slice();
     let kind = fault.kind.name();

@@ -23,7 +23,7 @@ use Rattle.kc_dotconfig.specs.ReadResults.{IsReadAs}
 use Rattle.kc_minimal_model.specs.FullFile.{full_file}
 use Rattle.kmin_words.specs.declared.job.Verb.TheVariants.{Full}
 use Rattle.kmin_report.specs.declared.run_error.RunError.{RunError}
-use Rattle.kmin_report.specs.Reports.{notice_lines, choice_notice_lines, last_lines}
+use Rattle.kmin_report.specs.Reports.{ErrorLine, notice_lines, choice_notice_lines, last_lines}
 use Rattle.kmin_report.specs.StandardError.{TakesLines}
 use Rattle.kmin_trees.specs.AcceptedTrees.{AreAccepted}
 use Rattle.kmin_run.specs.Answers.{Resolve, of_files}
@@ -52,7 +52,7 @@ strict_choices tree values meanings e = ap (λ language. cond (has_no_version la
 pub memory_stops : (text : List ℕ) (left : Option (List ℕ)) (format plain : FileFormat) (tree : Tree) (path : List ℕ) (after : Option (List ℕ))
     (read_failed read_failed_after status : ℕ) (taken taken_after : Option (List ℕ)) (failed failed_after : ℕ)
     → format ≡ plain → left ≡ Some text → StopsLoad format tree path left after read_failed read_failed_after status taken failed taken_after failed_after
-    → (lines : List (List ℕ)) × StopsAmongFiles (bundle_content text) plain false tree (path ∷ []) status lines × TakesLines taken failed lines taken_after
+    → (lines : List ErrorLine) × StopsAmongFiles (bundle_content text) plain false tree (path ∷ []) status lines × TakesLines taken failed lines taken_after
     failed_after
 memory_stops text left format plain tree path after f g status taken taken_after failed failed_after p e h =
     let k : StopsLoad plain tree path (Some text) after f g status taken failed taken_after failed_after = rw (p, e) at h in
@@ -92,16 +92,16 @@ full_answers text format bytes config settled taken taken_after failed failed_af
 )
 
 -- a bundle ends where its tree does
-tree_stops_bundle : (bundle tree configuration : List ℕ) (status : ℕ) (lines : List (List ℕ)) → IsBundle bundle tree configuration
+tree_stops_bundle : (bundle tree configuration : List ℕ) (status : ℕ) (lines : List ErrorLine) → IsBundle bundle tree configuration
     → StopsAtTexts (bundle_files tree) (bundle_files tree) (codes "Kconfig") status lines → StopsInBundle bundle status lines
 tree_stops_bundle bundle tree configuration status lines parts (at_texts line r s e) = at_tree tree configuration line parts r s e
 tree_stops_bundle bundle tree configuration status lines parts (for_memory s e) = bundles.for_memory s e
 
 module _ (bundle tree configuration : List ℕ) (parts : IsBundle bundle tree configuration) where
   pub tree_stopped : (status : ℕ) (taken taken_after : Option (List ℕ)) (failed failed_after : ℕ)
-      → (lines : List (List ℕ)) × StopsAtTexts (bundle_files tree) (bundle_files tree) (codes "Kconfig") status lines
+      → (lines : List ErrorLine) × StopsAtTexts (bundle_files tree) (bundle_files tree) (codes "Kconfig") status lines
       × TakesLines taken failed lines taken_after failed_after
-      → (lines : List (List ℕ)) × StopsInBundle bundle status lines × TakesLines taken failed lines taken_after failed_after
+      → (lines : List ErrorLine) × StopsInBundle bundle status lines × TakesLines taken failed lines taken_after failed_after
   tree_stopped status taken taken_after failed failed_after h = (h.0, tree_stops_bundle bundle tree configuration status h.0 parts h.1, h.2)
 
   module _ (rules : Settled) (accepted : AreAccepted (bundle_files tree) (codes "Kconfig") (tree_of_settled rules)) (profile : profile_of rules ≡ Present)
@@ -111,7 +111,7 @@ module _ (bundle tree configuration : List ℕ) (parts : IsBundle bundle tree co
         (record bundle_settings { profile = profile_of rules }) (tree_of_settled rules) (codes "config" ∷ []) meanings values
         × (text.items ≡ full_file plain_format (tree_of_settled rules) values) × TakesLines middle failed_middle
         (notice_lines (codes "config" ∷ []) meanings) taken_after failed_after)
-        → IfOk r (λ text. (notices : List (List ℕ)) × AnswersBundle bundle text.items notices × TakesLines taken failed notices taken_after failed_after)
+        → IfOk r (λ text. (notices : List ErrorLine) × AnswersBundle bundle text.items notices × TakesLines taken failed notices taken_after failed_after)
     bundle_answers (Err stop) h = tt
     bundle_answers (Ok text) h =
         let resolve : Resolve (bundle_content configuration) bundle_settings (tree_of_settled rules) (codes "config" ∷ []) h.0 h.1 = rw profile at h.2 in (
@@ -129,9 +129,9 @@ module _ (bundle tree configuration : List ℕ) (parts : IsBundle bundle tree co
         )
 
     pub configuration_stopped : (r : Result (Vec ℕ Global) RunError)
-        → IfErr r (λ stop. (lines : List (List ℕ)) × StopsAmongFiles (bundle_content configuration) plain_format false (tree_of_settled rules)
+        → IfErr r (λ stop. (lines : List ErrorLine) × StopsAmongFiles (bundle_content configuration) plain_format false (tree_of_settled rules)
         (codes "config" ∷ []) (status_of stop) lines × TakesLines middle failed_middle lines taken_after failed_after)
-        → IfErr r (λ stop. (lines : List (List ℕ)) × StopsInBundle bundle (status_of stop) lines × TakesLines taken failed lines taken_after failed_after)
+        → IfErr r (λ stop. (lines : List ErrorLine) × StopsInBundle bundle (status_of stop) lines × TakesLines taken failed lines taken_after failed_after)
     configuration_stopped (Ok text) h = tt
     configuration_stopped (Err stop) h = (
       h.0,
@@ -144,9 +144,9 @@ module _ (bundle tree configuration : List ℕ) (parts : IsBundle bundle tree co
 pub bundle_ends : (left left_after : Option (List ℕ)) (stop : RunError) (status : ℕ) (taken middle taken_after : Option (List ℕ))
     (failed failed_middle failed_after : ℕ)
     → status ≡ status_of stop
-    → (lines : List (List ℕ)) × StopsOnBundle left left_after (status_of stop) lines × TakesLines taken failed lines middle failed_middle
+    → (lines : List ErrorLine) × StopsOnBundle left left_after (status_of stop) lines × TakesLines taken failed lines middle failed_middle
     → TakesLines middle failed_middle (last_lines status) taken_after failed_after
-    → (lines : List (List ℕ)) × StopsOnBundle left left_after status lines × TakesLines taken failed (lines ++ last_lines status) taken_after failed_after
+    → (lines : List ErrorLine) × StopsOnBundle left left_after status lines × TakesLines taken failed (lines ++ last_lines status) taken_after failed_after
 bundle_ends left left_after stop status taken middle taken_after failed failed_middle failed_after e w h = (
   w.0,
   subst (λ n. StopsOnBundle left left_after n w.0) (sym e) w.1,

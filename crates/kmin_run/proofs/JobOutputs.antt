@@ -25,7 +25,7 @@ use Rattle.kmin_report.specs.declared.run_error.RunError.{RunError}
 use Rattle.kmin_run.specs.declared.verb_texts.AnswerText.{AnswerText}
 use Rattle.kmin_trees.specs.FileContents.{Surroundings}
 use Rattle.kmin_trees.specs.JobTexts.{TreeTexts, AreTextsOfJob}
-use Rattle.kmin_report.specs.Reports.{notice_lines, choice_notice_lines, last_lines, output_line}
+use Rattle.kmin_report.specs.Reports.{ErrorLine, notice_lines, choice_notice_lines, last_lines, output_line}
 use Rattle.kc_dotconfig_model.specs.declared.choice_line.ChoiceLine.{ChoiceLine}
 use Rattle.kc_dotconfig_model.specs.OtherChoices.{choice_lines_from, placed_from, other_choices_of, other_choices}
 use Rattle.kmin_run.specs.Strictness.{AllowsNotices, RefusesNotices}
@@ -100,7 +100,7 @@ pub answers_files : (content_of : List ℕ → FileContent) (settings : Settings
     → TakesLines middle failed_middle (choice_notice_lines paths (other_choices_of (tree_in config) config.values (placed_from 0 lists))) taken_after failed_after
     → IsTextOfVerb settings (tree_in config) config.users config.values verb text
     → status ≡ status_of_verb (tree_in config) config.users config.values verb
-    → (notices : List (List ℕ)) × ((texts : Files) → AreAccepted texts settings.tree (tree_of_settled settled)
+    → (notices : List ErrorLine) × ((texts : Files) → AreAccepted texts settings.tree (tree_of_settled settled)
     → Answer content_of settings texts (over verb paths) text status notices)
     × TakesLines taken failed notices taken_after failed_after
 answers_files content_of settings verb config settled paths lists text status taken middle taken_after failed failed_middle failed_after e p s l a k t n =
@@ -161,7 +161,7 @@ module _ (content_of : List ℕ → FileContent) (settings : Settings) (left rig
   abbrev right_choices : List (ℕ × ℕ)
   right_choices = other_choices tree right.values hr.loaded.meanings
 
-  abbrev of_lines : List (List ℕ)
+  abbrev of_lines : List ErrorLine
   of_lines = notice_lines (a ∷ []) hl.loaded.meanings ++ notice_lines (b ∷ []) hr.loaded.meanings
 
   lines_read : TakesLines taken failed of_lines middle failed_middle
@@ -183,7 +183,7 @@ module _ (content_of : List ℕ → FileContent) (settings : Settings) (left rig
   -- the first configuration is refused for the notices on its choices, or memory runs out
   pub stopped_left : (status : ℕ) (after : Option (List ℕ)) (failed_after : ℕ)
       → StopsNoticing (tree_in left) left.values settings.strict (a ∷ []) left_lists status middle failed_middle after failed_after
-      → (lines : List (List ℕ)) × StopsOverTree content_of settings tree (compare a b) status lines × TakesLines taken failed lines after failed_after
+      → (lines : List ErrorLine) × StopsOverTree content_of settings tree (compare a b) status lines × TakesLines taken failed lines after failed_after
   stopped_left status after failed_after (noticing.refused given s t) = (
     of_lines ++ choice_notice_lines (a ∷ []) left_choices,
     inr (stops.refused (hl.loaded.meanings ++ hr.loaded.meanings) [] ((b ∷ []) ∷ []) [] (a ∷ []) hl.loaded.meanings left.values both_mean refl stops.none
@@ -214,7 +214,7 @@ module _ (content_of : List ℕ → FileContent) (settings : Settings) (left rig
     -- the second configuration is refused for the notices on its choices, or memory runs out
     pub stopped_right : (status : ℕ) (after : Option (List ℕ)) (failed_after : ℕ)
         → StopsNoticing (tree_in right) right.values settings.strict (b ∷ []) right_lists status later failed_later after failed_after
-        → (lines : List (List ℕ)) × StopsOverTree content_of settings tree (compare a b) status lines × TakesLines taken failed lines after failed_after
+        → (lines : List ErrorLine) × StopsOverTree content_of settings tree (compare a b) status lines × TakesLines taken failed lines after failed_after
     stopped_right status after failed_after (noticing.refused given s t) = (
       of_lines ++ (choice_notice_lines (a ∷ []) left_choices ++ choice_notice_lines (b ∷ []) right_choices),
       inr (stops.refused (hl.loaded.meanings ++ hr.loaded.meanings) ((a ∷ []) ∷ []) [] (choice_notice_lines (a ∷ []) left_choices ++ []) (b ∷ [])
@@ -249,7 +249,7 @@ module _ (content_of : List ℕ → FileContent) (settings : Settings) (left rig
 
       -- memory runs out for the output
       pub stopped_output : (status : ℕ) → status ≡ 6
-          → (lines : List (List ℕ)) × StopsOverTree content_of settings tree (compare a b) status lines × TakesLines taken failed lines after failed_after
+          → (lines : List ErrorLine) × StopsOverTree content_of settings tree (compare a b) status lines × TakesLines taken failed lines after failed_after
       stopped_output status s = (
         of_lines ++ (choice_notice_lines (a ∷ []) left_choices ++ choice_notice_lines (b ∷ []) right_choices),
         inr (stops.for_memory (hl.loaded.meanings ++ hr.loaded.meanings) ((a ∷ []) ∷ (b ∷ []) ∷ []) []
@@ -265,7 +265,7 @@ module _ (content_of : List ℕ → FileContent) (settings : Settings) (left rig
       pub answers_comparison : (text : List ℕ) (status : ℕ)
           → text ≡ flat_map (difference_line settings.format.strings (tree_in left)) (differences (tree_in left) left.values right.values)
           → status ≡ status_of_list true (differences (tree_in left) left.values right.values)
-          → (notices : List (List ℕ)) × ((texts : Files) → AreAccepted texts settings.tree tree → Answer content_of settings texts (compare a b) text status notices)
+          → (notices : List ErrorLine) × ((texts : Files) → AreAccepted texts settings.tree tree → Answer content_of settings texts (compare a b) text status notices)
           × TakesLines taken failed notices after failed_after
       answers_comparison text status t s = (
         of_lines ++ (choice_notice_lines (a ∷ []) left_choices ++ choice_notice_lines (b ∷ []) right_choices),
@@ -283,7 +283,7 @@ module _ (content_of : List ℕ → FileContent) (settings : Settings) (verb : V
   -- the configuration is refused for them, or memory runs out
   pub stopped_noticing : (status : ℕ) (after : Option (List ℕ)) (failed_after : ℕ)
       → StopsNoticing (tree_in config) config.values settings.strict paths lists status middle failed_middle after failed_after
-      → (lines : List (List ℕ)) × StopsOverTree content_of settings (tree_of_settled settled) (over verb paths) status lines × TakesLines taken failed lines after failed_after
+      → (lines : List ErrorLine) × StopsOverTree content_of settings (tree_of_settled settled) (over verb paths) status lines × TakesLines taken failed lines after failed_after
   stopped_noticing status after failed_after (noticing.refused given e t) = (
     notice_lines paths l.loaded.meanings ++ choice_notice_lines paths (other_choices (tree_of_settled settled) config.values l.loaded.meanings),
     inr (stops.refused l.loaded.meanings [] [] [] paths l.loaded.meanings config.values l.loaded.mean refl stops.none
@@ -302,7 +302,7 @@ module _ (content_of : List ℕ → FileContent) (settings : Settings) (verb : V
   pub stopped_after : (status : ℕ) (after : Option (List ℕ)) (failed_after : ℕ) → status ≡ 6
       → AllowsNotices settings.strict (other_choices_of (tree_in config) config.values (placed_from 0 lists))
       → TakesLines middle failed_middle (choice_notice_lines paths (other_choices_of (tree_in config) config.values (placed_from 0 lists))) after failed_after
-      → (lines : List (List ℕ)) × StopsOverTree content_of settings (tree_of_settled settled) (over verb paths) status lines × TakesLines taken failed lines after failed_after
+      → (lines : List ErrorLine) × StopsOverTree content_of settings (tree_of_settled settled) (over verb paths) status lines × TakesLines taken failed lines after failed_after
   stopped_after status after failed_after e allowed t =
       let own = choice_notice_lines paths (other_choices (tree_of_settled settled) config.values l.loaded.meanings) in (
         notice_lines paths l.loaded.meanings ++ own,
@@ -325,7 +325,7 @@ module _ (content_of : List ℕ → FileContent) (settings : Settings) (verb : V
       → IsTextOfVerb given (tree_in read.config) read.config.users read.config.values verb answer.text.items)
       → IfOk r (λ answer. answer.status ≡ status_of_verb (tree_in read.config) read.config.users read.config.values verb)
       → IfOk r (λ answer. AreNoticed settings.strict paths read middle failed_middle after failed_after)
-      → IfOk r (λ answer. (notices : List (List ℕ)) × ((texts : Files) → AreAccepted texts settings.tree (tree_of_settled settled)
+      → IfOk r (λ answer. (notices : List ErrorLine) × ((texts : Files) → AreAccepted texts settings.tree (tree_of_settled settled)
       → Answer content_of settings texts (over verb paths) answer.text.items answer.status notices) × TakesLines taken failed notices after failed_after)
   verb_answers (Err stop) t n k = tt
   verb_answers (Ok answer) t n k =
@@ -333,7 +333,7 @@ module _ (content_of : List ℕ → FileContent) (settings : Settings) (verb : V
       failed_middle failed_after same p s l k.allowed k.noticed (t settings refl (sym (ap profile_of same ∙ p))) n
 
   answering_stops : (status : ℕ) → StopsAnswering settings.strict paths read status middle failed_middle after failed_after
-      → (lines : List (List ℕ)) × StopsOverTree content_of settings (tree_of_settled settled) (over verb paths) status lines × TakesLines taken failed lines after failed_after
+      → (lines : List ErrorLine) × StopsOverTree content_of settings (tree_of_settled settled) (over verb paths) status lines × TakesLines taken failed lines after failed_after
   answering_stops status (at_the_choices n) =
       stopped_noticing content_of settings verb read.config settled paths (lists_of read.chosen.items) taken middle failed failed_middle same p s l status after
       failed_after n
@@ -343,7 +343,7 @@ module _ (content_of : List ℕ → FileContent) (settings : Settings) (verb : V
 
   pub verb_stops : (r : Result AnswerText RunError)
       → IfErr r (λ stop. StopsAnswering settings.strict paths read (status_of stop) middle failed_middle after failed_after)
-      → IfErr r (λ stop. (lines : List (List ℕ)) × StopsOverTree content_of settings (tree_of_settled settled) (over verb paths) (status_of stop) lines
+      → IfErr r (λ stop. (lines : List ErrorLine) × StopsOverTree content_of settings (tree_of_settled settled) (over verb paths) (status_of stop) lines
       × TakesLines taken failed lines after failed_after)
   verb_stops (Ok answer) h = tt
   verb_stops (Err stop) h = answering_stops (status_of stop) h
@@ -358,7 +358,7 @@ module _ (content_of : List ℕ → FileContent) (settings : Settings) (before a
       → IfOk r (λ answer. answer.text.items ≡ flat_map (difference_line settings.format.strings (tree_in before.config)) (differences (tree_in before.config) before.config.values after.config.values))
       → IfOk r (λ answer. answer.status ≡ status_of_list true (differences (tree_in before.config) before.config.values after.config.values))
       → IfOk r (λ answer. AreBothNoticed settings.strict a b before after middle failed_middle taken_after failed_after)
-      → IfOk r (λ answer. (notices : List (List ℕ)) × ((texts : Files) → AreAccepted texts settings.tree (tree_of_settled settled)
+      → IfOk r (λ answer. (notices : List ErrorLine) × ((texts : Files) → AreAccepted texts settings.tree (tree_of_settled settled)
       → Answer content_of settings texts (compare a b) answer.text.items answer.status notices) × TakesLines taken failed notices taken_after failed_after)
   comparison_answers (Err stop) t n k = tt
   comparison_answers (Ok answer) t n k =
@@ -367,7 +367,7 @@ module _ (content_of : List ℕ → FileContent) (settings : Settings) (before a
       k.right_noticed.allowed k.right_noticed.noticed answer.text.items answer.status t n
 
   comparing_stops : (status : ℕ) → StopsComparing settings.strict a b before after status middle failed_middle taken_after failed_after
-      → (lines : List (List ℕ)) × StopsOverTree content_of settings (tree_of_settled settled) (compare a b) status lines
+      → (lines : List ErrorLine) × StopsOverTree content_of settings (tree_of_settled settled) (compare a b) status lines
       × TakesLines taken failed lines taken_after failed_after
   comparing_stops status (at_left n) =
       stopped_left content_of settings before.config after.config settled a b _ _ taken l.between middle failed l.failed_between failed_middle
@@ -382,7 +382,7 @@ module _ (content_of : List ℕ → FileContent) (settings : Settings) (before a
 
   pub comparison_stops : (r : Result AnswerText RunError)
       → IfErr r (λ stop. StopsComparing settings.strict a b before after (status_of stop) middle failed_middle taken_after failed_after)
-      → IfErr r (λ stop. (lines : List (List ℕ)) × StopsOverTree content_of settings (tree_of_settled settled) (compare a b) (status_of stop) lines
+      → IfErr r (λ stop. (lines : List ErrorLine) × StopsOverTree content_of settings (tree_of_settled settled) (compare a b) (status_of stop) lines
       × TakesLines taken failed lines taken_after failed_after)
   comparison_stops (Ok answer) h = tt
   comparison_stops (Err stop) h = comparing_stops (status_of stop) h
@@ -405,9 +405,9 @@ module _ (known : Surroundings) (settings : Settings) (task : Task) (tree : Tree
     (are : AreTextsOfJob known settings t) (accepted : AreAccepted t.texts settings.tree tree)
     (taken middle taken_after : Option (List ℕ)) (failed failed_middle failed_after : ℕ) (before : TakesLines taken failed t.lines middle failed_middle) where
   pub job_answers : (r : Result AnswerText RunError)
-      → IfOk r (λ answer. (notices : List (List ℕ)) × ((texts : Files) → AreAccepted texts settings.tree tree
+      → IfOk r (λ answer. (notices : List ErrorLine) × ((texts : Files) → AreAccepted texts settings.tree tree
       → Answer known.content settings texts task answer.text.items answer.status notices) × TakesLines middle failed_middle notices taken_after failed_after)
-      → IfOk r (λ answer. (t : TreeTexts) × (notices : List (List ℕ)) × AreTextsOfJob known settings t × Answer known.content settings t.texts task
+      → IfOk r (λ answer. (t : TreeTexts) × (notices : List ErrorLine) × AreTextsOfJob known settings t × Answer known.content settings t.texts task
       answer.text.items answer.status notices × TakesLines taken failed (t.lines ++ notices) taken_after failed_after)
   job_answers (Err stop) h = tt
   job_answers (Ok answer) h = (
@@ -419,9 +419,9 @@ module _ (known : Surroundings) (settings : Settings) (task : Task) (tree : Tree
   )
 
   pub job_stops : (r : Result AnswerText RunError)
-      → IfErr r (λ stop. (lines : List (List ℕ)) × StopsOverTree known.content settings tree task (status_of stop) lines
+      → IfErr r (λ stop. (lines : List ErrorLine) × StopsOverTree known.content settings tree task (status_of stop) lines
       × TakesLines middle failed_middle lines taken_after failed_after)
-      → IfErr r (λ stop. (lines : List (List ℕ)) × StopsBefore known settings task (status_of stop) lines × TakesLines taken failed lines taken_after
+      → IfErr r (λ stop. (lines : List ErrorLine) × StopsBefore known settings task (status_of stop) lines × TakesLines taken failed lines taken_after
       failed_after)
   job_stops (Ok answer) h = tt
   job_stops (Err stop) h = (
@@ -434,7 +434,7 @@ module _ (known : Surroundings) (settings : Settings) (task : Task) (tree : Tree
     either (inr k) = at_choices t tree h.0 are accepted k refl
 
 -- a writer that took some lines, and then nothing, took these lines
-pub lines_kept : (before middle after : Option (List ℕ)) (failed failed_middle failed_after : ℕ) (lines : List (List ℕ))
+pub lines_kept : (before middle after : Option (List ℕ)) (failed failed_middle failed_after : ℕ) (lines : List ErrorLine)
     → TakesLines before failed lines middle failed_middle → TakesLines middle failed_middle [] after failed_after
     → TakesLines before failed lines after failed_after
 lines_kept before middle after failed failed_middle failed_after lines h k =
@@ -454,10 +454,10 @@ no_other_status n h k = elim (small n h) [ inl e ↦ k.0 e | inr e ↦ k.1 e ]
 pub write_stops : (known : Surroundings) (settings : Settings) (task : Task) (text : List ℕ) (made status : ℕ) (taken middle taken_after : Option (List ℕ))
     (failed failed_middle failed_after : ℕ)
     → status ≡ 5
-    → (t : TreeTexts) × (notices : List (List ℕ)) × AreTextsOfJob known settings t × Answer known.content settings t.texts task text made notices
+    → (t : TreeTexts) × (notices : List ErrorLine) × AreTextsOfJob known settings t × Answer known.content settings t.texts task text made notices
     × TakesLines taken failed (t.lines ++ notices) middle failed_middle
     → TakesLines middle failed_middle (output_line ∷ []) taken_after failed_after
-    → (lines : List (List ℕ)) × Stops known settings task status lines × TakesLines taken failed (lines ++ last_lines status) taken_after failed_after
+    → (lines : List ErrorLine) × Stops known settings task status lines × TakesLines taken failed (lines ++ last_lines status) taken_after failed_after
 write_stops known settings task text made status taken middle taken_after failed failed_middle failed_after e w h = (
   (w.0.lines ++ w.1) ++ output_line ∷ [],
   stops.at_write w.0 text made w.1 w.2 w.3 e refl,
@@ -469,9 +469,9 @@ write_stops known settings task text made status taken middle taken_after failed
 pub job_ends : (known : Surroundings) (settings : Settings) (task : Task) (stop : RunError) (status : ℕ) (taken middle taken_after : Option (List ℕ))
     (failed failed_middle failed_after : ℕ)
     → status ≡ status_of stop
-    → (lines : List (List ℕ)) × StopsBefore known settings task (status_of stop) lines × TakesLines taken failed lines middle failed_middle
+    → (lines : List ErrorLine) × StopsBefore known settings task (status_of stop) lines × TakesLines taken failed lines middle failed_middle
     → TakesLines middle failed_middle (last_lines status) taken_after failed_after
-    → (lines : List (List ℕ)) × Stops known settings task status lines × TakesLines taken failed (lines ++ last_lines status) taken_after failed_after
+    → (lines : List ErrorLine) × Stops known settings task status lines × TakesLines taken failed (lines ++ last_lines status) taken_after failed_after
 job_ends known settings task stop status taken middle taken_after failed failed_middle failed_after e w h = (
   w.0,
   stops.before_answer (subst (λ n. StopsBefore known settings task n w.0) (sym e) w.1),

@@ -6,7 +6,7 @@ use Rattle.kc_files.specs.TextViews.{items_of}
 use Rattle.kmin_words.specs.Jobs.{Questions}
 use Rattle.kmin_report.specs.declared.run_error.RunError.{RunError}
 use Rattle.kmin_trees.specs.FileContents.{Surroundings}
-use Rattle.kmin_report.specs.Reports.{last_lines, output_line}
+use Rattle.kmin_report.specs.Reports.{ErrorLine, last_lines, output_line}
 use Rattle.kmin_report.specs.StandardError.{TakesLines}
 use Rattle.kmin_trees.specs.WantedQuestions.{AreAsked, StopsWanting, at_write, question_line, questions_text}
 use Rattle.kmin_report.specs.between.RunErrors.{status_of}
@@ -17,7 +17,7 @@ pub write_stops : (known : Surroundings) (questions : Questions) (asked : List (
     (failed failed_middle failed_after : ℕ)
     → status ≡ 5 → AreAsked known questions (Ok asked) → TakesLines taken failed [] middle failed_middle
     → TakesLines middle failed_middle (output_line ∷ []) taken_after failed_after
-    → (lines : List (List ℕ)) × StopsWanting known questions status lines × TakesLines taken failed (lines ++ last_lines status) taken_after failed_after
+    → (lines : List ErrorLine) × StopsWanting known questions status lines × TakesLines taken failed (lines ++ last_lines status) taken_after failed_after
 write_stops known questions asked status taken middle taken_after failed failed_middle failed_after e a before h = (
   output_line ∷ [],
   at_write asked a e refl,
@@ -28,9 +28,9 @@ write_stops known questions asked status taken middle taken_after failed failed_
 pub questions_end : (known : Surroundings) (questions : Questions) (stop : RunError) (status : ℕ) (taken middle taken_after : Option (List ℕ))
     (failed failed_middle failed_after : ℕ)
     → status ≡ status_of stop
-    → (lines : List (List ℕ)) × StopsWanting known questions (status_of stop) lines × TakesLines taken failed lines middle failed_middle
+    → (lines : List ErrorLine) × StopsWanting known questions (status_of stop) lines × TakesLines taken failed lines middle failed_middle
     → TakesLines middle failed_middle (last_lines status) taken_after failed_after
-    → (lines : List (List ℕ)) × StopsWanting known questions status lines × TakesLines taken failed (lines ++ last_lines status) taken_after failed_after
+    → (lines : List ErrorLine) × StopsWanting known questions status lines × TakesLines taken failed (lines ++ last_lines status) taken_after failed_after
 questions_end known questions stop status taken middle taken_after failed failed_middle failed_after e w h = (
   w.0,
   subst (λ n. StopsWanting known questions n w.0) (sym e) w.1,

@@ -1,14 +1,21 @@
 -- Ends of runs, from what the parts of a run ensure.
-use Rattle.std.proofs.Common.{◌≡◌, ◌≢◌, ◌==◌, eqb-true, true≢false, map, false, ◌⊎◌, ℕ, true, List, [], ◌∷◌, ◌++◌, Option, Ok, length, inl, inr, refl, subst, arith}
+use Rattle.std.proofs.Common.{◌≡◌, ◌≢◌, ◌≤◌, ◌==◌, eqb-true, true≢false, map, Bool, false, ◌⊎◌, ℕ, true, List, [], ◌∷◌, ◌++◌, Option, Ok, length, inl, inr, refl, subst, arith}
 use Rattle.std.proofs.lemmas.Bool.Decides.{eqb_tells}
 use Rattle.std.specs.Io.KnownBytes.{Appends}
-use Rattle.kmin_report.specs.Reports.{last_lines}
-use Rattle.kmin_report.specs.StandardError.{TakesLines}
+use Rattle.kmin_report.specs.Reports.{ErrorLine, last_lines}
+use Rattle.kmin_report.specs.StandardError.{TakesLine, TakesLines}
+use Rattle.kmin_report.proofs.WriterLemmas.{lines_append, lines_one}
+use Rattle.kc_files.specs.TreeContents.{FileContent}
+use Rattle.kmin_lines.specs.WordLines.{are_utf8}
+use Rattle.kmin_lines.specs.WordFiles.{files_of}
+use Rattle.kmin_trees.specs.ListFiles.{StopsReadingList, too_large, unread, for_memory, malformed_line}
+use Rattle.kmin_trees.specs.WordFiles.{AreFilesRead, Represent, StopsAtWords, is_input_read_for}
+use Rattle.kmin_trees.specs.WordFiles as stops
 use Rattle.kmin_report.specs.declared.run_error.RunError.{RunError}
 use Rattle.kmin_report.specs.declared.run_error.RunError.TheVariants.{Tree, Configuration, Failed, Memory}
 use Rattle.kmin_report.specs.between.RunErrors.{status_of}
 use Rattle.kmin_words.specs.Jobs.{Settings, Questions, Task}
-use Rattle.kmin_words.specs.Parses.{AreParsedAs, AreReadAs}
+use Rattle.kmin_words.specs.Parses.{AreParsedBeside, AreReadAs}
 use Rattle.kmin_words.specs.WordOrder.{command_first}
 use Rattle.kmin_words.specs.declared.command_line.ParsedWords.{ParsedWords}
 use Rattle.kmin_trees.specs.FileContents.{Surroundings}
@@ -20,7 +27,7 @@ use Rattle.kmin_run.specs.Statuses.{status_of_list}
 use Rattle.kmin_run.specs.Stops.{Stops}
 use Rattle.kmin_run.specs.TidyRuns.{Outputs}
 use Rattle.kmin_run.specs.Runs as runs
-use Rattle.kmin_run.specs.Runs.{AskForChanges, AskForTidying, BundleEnds, Ends, Input, JobEnds, MayChangeFiles, QuestionsEnd, WordsEnd, IsOfFault, IsTidying}
+use Rattle.kmin_run.specs.Runs.{AreReadForChanges, AreReadForTidying, AskForChanges, AskForTidying, BundleEnds, Ends, Input, JobEnds, MayChangeFiles, QuestionsEnd, ReadEnd, WordsEnd, IsOfFault, IsTidying}
 
 -- a status is 0 or 1, or it is another one
 zero_or_one : (status : ℕ) → ((status ≡ 0) ⊎ (status ≡ 1)) ⊎ ((status ≢ 0) × (status ≢ 1))
@@ -41,13 +48,13 @@ module _ (known : Surroundings) (old new : Outputs) (status : ℕ) (taken taken_
     (unwritten : status ≢ 0 → status ≢ 1 → status ≢ 5 → new.taken ≡ old.taken) where
   -- a command over configuration files ends as `JobEnds` defines, by the clauses of `serve`
   pub job_ended : (settings : Settings) (task : Task)
-      → ((status ≡ 0) ⊎ (status ≡ 1) → (t : TreeTexts) × (text : List ℕ) × (notices : List (List ℕ)) × AreTextsOfJob known settings t
+      → ((status ≡ 0) ⊎ (status ≡ 1) → (t : TreeTexts) × (text : List ℕ) × (notices : List ErrorLine) × AreTextsOfJob known settings t
       × Answer known.content settings t.texts task text status notices × Appends old.taken new.taken text
       × TakesLines taken failed (t.lines ++ notices) taken_after failed_after)
-      → ((status ≢ 0) × (status ≢ 1) → (lines : List (List ℕ)) × Stops known settings task status lines
+      → ((status ≢ 0) × (status ≢ 1) → (lines : List ErrorLine) × Stops known settings task status lines
       × TakesLines taken failed (lines ++ last_lines status) taken_after failed_after)
       → (status ≡ 5 → (new.taken ≡ old.taken) ⊎ AnswersInPart known settings task old.taken new.taken)
-      → (lines : List (List ℕ)) × JobEnds known settings task old new lines status × TakesLines taken failed lines taken_after failed_after
+      → (lines : List ErrorLine) × JobEnds known settings task old new lines status × TakesLines taken failed lines taken_after failed_after
   job_ended settings task done stopped part = elim (zero_or_one status) [
     | inl well ↦
         let w = done well in
@@ -65,10 +72,10 @@ module _ (known : Surroundings) (old new : Outputs) (status : ℕ) (taken taken_
   pub questions_ended : (questions : Questions)
       → ((status ≡ 0) ⊎ (status ≡ 1) → (asked : List (List ℕ)) × AreAsked known questions (Ok asked) × (status ≡ status_of_list true asked)
       × Appends old.taken new.taken (questions_text asked) × TakesLines taken failed [] taken_after failed_after)
-      → ((status ≢ 0) × (status ≢ 1) → (lines : List (List ℕ)) × StopsWanting known questions status lines
+      → ((status ≢ 0) × (status ≢ 1) → (lines : List ErrorLine) × StopsWanting known questions status lines
       × TakesLines taken failed (lines ++ last_lines status) taken_after failed_after)
       → (status ≡ 5 → (new.taken ≡ old.taken) ⊎ AsksInPart known questions old.taken new.taken)
-      → (lines : List (List ℕ)) × QuestionsEnd known questions old new lines status × TakesLines taken failed lines taken_after failed_after
+      → (lines : List ErrorLine) × QuestionsEnd known questions old new lines status × TakesLines taken failed lines taken_after failed_after
   questions_ended questions done stopped part = elim (zero_or_one status) [
     | inl well ↦
         let w = done well in
@@ -105,7 +112,7 @@ bundle_wrote P Q stop status is part (inl failed) = elim (part failed) [
 ]
 bundle_wrote P Q stop status is part (inr nothing) = inl nothing
 
-module _ (known : Surroundings) (input input_after : Input) (old new : Outputs) (lines : List (List ℕ)) (status : ℕ) where
+module _ (known : Surroundings) (input input_after : Input) (old new : Outputs) (lines : List ErrorLine) (status : ℕ) where
   -- a run without words ends as one on a bundle
   pub without_words : {A : Type 0} (f : A → List ℕ) (words : List A) → (length words == 0) ≡ true → BundleEnds input input_after old new lines status
       → Ends known (map f words) input input_after old new lines status
@@ -119,16 +126,80 @@ module _ (known : Surroundings) (input input_after : Input) (old new : Outputs) 
   with_words f (word ∷ words) some ends = ends
 
 -- words are read as what they are parsed as once the command is first
-pub read_first : (words ordered : List (List ℕ)) (what : ParsedWords) → ordered ≡ command_first words → AreParsedAs ordered what → AreReadAs words what
-read_first words ordered what first are = subst (λ (given : List (List ℕ)). AreParsedAs given what) first are
+pub read_first : (is_input_read : Bool) (words ordered : List (List ℕ)) (what : ParsedWords) → ordered ≡ command_first words
+    → AreParsedBeside is_input_read ordered what → AreReadAs is_input_read words what
+read_first is_input_read words ordered what first are = subst (λ (given : List (List ℕ)). AreParsedBeside is_input_read given what) first are
 
-module _ (P : Type 0) (words : List (List ℕ)) (what : ParsedWords) (are : AreReadAs words what) where
+module _ (P : Type 0) (is_input_read : Bool) (words : List (List ℕ)) (what : ParsedWords) (are : AreReadAs is_input_read words what) where
   -- what was parsed of the words changes files, if anything does
-  pub asked : P ⊎ MayChangeFiles what → P ⊎ AskForChanges words
+  pub asked : P ⊎ MayChangeFiles what → P ⊎ AreReadForChanges is_input_read words
   asked (inl unchanged) = inl unchanged
   asked (inr may) = inr (what, are, may)
 
   -- what was parsed of the words is `tidy`, if something was written beside a refused file
-  pub tidied : P ⊎ IsTidying what → P ⊎ AskForTidying words
+  pub tidied : P ⊎ IsTidying what → P ⊎ AreReadForTidying is_input_read words
   tidied (inl unwritten) = inl unwritten
   tidied (inr tidies) = inr (what, are, tidies)
+
+-- the status of a run that a file of words ended
+list_at_most_six : (content : FileContent) (path : List ℕ) (status : ℕ) (lines : List ErrorLine) → StopsReadingList content path status lines → status ≤ 6
+list_at_most_six content path status lines (too_large front rest k l s e) = omega arith
+list_at_most_six content path status lines (unread s e) = omega arith
+list_at_most_six content path status lines (for_memory s e) = omega arith
+
+pub words_at_most_six : (content_of : List ℕ → FileContent) (left : Option (List ℕ)) (words : List (List ℕ)) (status : ℕ) (lines : List ErrorLine)
+    → StopsAtWords content_of left words status lines → status ≤ 6
+words_at_most_six content_of left words status lines (stops.twice n s e) = omega arith
+words_at_most_six content_of left words status lines (stops.unread front back files path a r h) = list_at_most_six _ path status lines h
+words_at_most_six content_of left words status lines (stops.malformed files r u s e) = omega arith
+words_at_most_six content_of left words status lines (stops.for_memory s e) = omega arith
+
+module _ (known : Surroundings) (left : Option (List ℕ)) (words : List (List ℕ)) where
+  -- a run that a file of words ended, with its last lines reported
+  pub words_stopped : (old : Outputs) (status : ℕ) (taken taken_after : Option (List ℕ)) (failed failed_after : ℕ)
+      → (lines : List ErrorLine) × StopsAtWords known.content left words status lines × TakesLines taken failed (lines ++ last_lines status) taken_after failed_after
+      → (lines : List ErrorLine) × WordsEnd known words left old old lines status × TakesLines taken failed lines taken_after failed_after
+  words_stopped old status taken taken_after failed failed_after h = (h.0 ++ last_lines status, runs.stopped h.0 h.1 refl refl, h.2)
+
+  -- a run that a word in a file ended, which isn't UTF-8
+  pub words_malformed : (old : Outputs) (status : ℕ) (taken middle taken_after : Option (List ℕ)) (failed failed_middle failed_after : ℕ) (files : List (List ℕ))
+      → AreFilesRead known.content left (files_of words) files → are_utf8 files ≡ false → status ≡ 2 → TakesLines taken failed [] middle failed_middle
+      → TakesLine middle failed_middle malformed_line taken_after failed_after
+      → (lines : List ErrorLine) × WordsEnd known words left old old lines status × TakesLines taken failed lines taken_after failed_after
+  words_malformed old status taken middle taken_after failed failed_middle failed_after files r u s before h = (
+    malformed_line ∷ [],
+    runs.stopped (malformed_line ∷ []) (stops.malformed files r u s refl) refl (rw s refl),
+    lines_append taken middle failed failed_middle [] (malformed_line ∷ []) taken_after failed_after before
+        (lines_one middle taken_after failed_middle failed_after malformed_line h),
+  )
+
+  -- a run that ended since memory ran out after the files of words were read
+  pub words_forgotten : (old : Outputs) (status : ℕ) (taken middle taken_after : Option (List ℕ)) (failed failed_middle failed_after : ℕ) → status ≡ 6
+      → TakesLines taken failed [] middle failed_middle → TakesLines middle failed_middle (last_lines status) taken_after failed_after
+      → (lines : List ErrorLine) × WordsEnd known words left old old lines status × TakesLines taken failed lines taken_after failed_after
+  words_forgotten old status taken middle taken_after failed failed_middle failed_after s before h = (
+    last_lines status,
+    runs.stopped [] (stops.for_memory s refl) refl refl,
+    lines_append taken middle failed failed_middle [] (last_lines status) taken_after failed_after before h,
+  )
+
+  module _ (is_input_read : Bool) (is : is_input_read ≡ is_input_read_for words) (represented : List (List ℕ))
+      (represent : Represent known.content left words represented) where
+    -- a run ends as one on the words that its words represent does
+    pub words_ended : (old new : Outputs) (status : ℕ) (taken middle taken_after : Option (List ℕ)) (failed failed_middle failed_after : ℕ)
+        (left_after : Option (List ℕ)) → (is_input_read_for words ≡ false → left_after ≡ left) → TakesLines taken failed [] middle failed_middle
+        → (lines : List ErrorLine) × ReadEnd known is_input_read represented left_after old new lines status
+        × TakesLines middle failed_middle lines taken_after failed_after
+        → (lines : List ErrorLine) × WordsEnd known words left old new lines status × TakesLines taken failed lines taken_after failed_after
+    words_ended old new status taken middle taken_after failed failed_middle failed_after left_after untouched before h = (
+      h.0,
+      runs.represented represented left_after represent untouched
+          (subst (λ (b : Bool). ReadEnd known b represented left_after old new h.0 status) is h.1),
+      lines_append taken middle failed failed_middle [] h.0 taken_after failed_after before h.2,
+    )
+
+    pub changes_asked : AreReadForChanges is_input_read represented → AskForChanges known left words
+    changes_asked h = (represented, represent, subst (λ (b : Bool). AreReadForChanges b represented) is h)
+
+    pub tidying_asked : AreReadForTidying is_input_read represented → AskForTidying known left words
+    tidying_asked h = (represented, represent, subst (λ (b : Bool). AreReadForTidying b represented) is h)

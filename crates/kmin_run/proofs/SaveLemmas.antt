@@ -6,7 +6,7 @@ use Rattle.kmin_words.specs.Jobs.{Settings, Task}
 use Rattle.kmin_trees.specs.FileContents.{Surroundings}
 use Rattle.kmin_trees.specs.JobTexts.{TreeTexts, AreTextsOfJob}
 use Rattle.kmin_run.specs.Answers.{Answer}
-use Rattle.kmin_report.specs.Reports.{last_lines}
+use Rattle.kmin_report.specs.Reports.{ErrorLine, last_lines}
 use Rattle.kmin_report.specs.StandardError.{TakesLines}
 use Rattle.kmin_run.specs.Stops.{StopsBefore}
 use Rattle.kmin_run.specs.Saves.{IsUnsaved, SaveEnds, at_file, before_answer, update_lines, update_status}
@@ -19,9 +19,9 @@ module _ (known : Surroundings) (settings : Settings) (task : Task) (path : List
     (taken : Option (List ℕ)) (failed : ℕ) (last : Option (List ℕ)) (failed_last : ℕ) where
   -- a command with an output file that ended before it had an output, and then reported its last line, ends as `SaveEnds` defines
   pub ends_before : (middle : Option (List ℕ)) (failed_middle : ℕ) → new ≡ old
-      → (own : List (List ℕ)) × StopsBefore known settings task (status_of stop) own × TakesLines taken failed own middle failed_middle
+      → (own : List ErrorLine) × StopsBefore known settings task (status_of stop) own × TakesLines taken failed own middle failed_middle
       → TakesLines middle failed_middle (last_lines status) last failed_last
-      → (lines : List (List ℕ)) × SaveEnds known settings task path old new lines status × TakesLines taken failed lines last failed_last
+      → (lines : List ErrorLine) × SaveEnds known settings task path old new lines status × TakesLines taken failed lines last failed_last
   ends_before middle failed_middle same w h = (
     w.0 ++ last_lines status,
     before_answer w.0 (subst (λ n. StopsBefore known settings task n w.0) (sym is) w.1) same refl,
@@ -30,12 +30,12 @@ module _ (known : Surroundings) (settings : Settings) (task : Task) (path : List
 
   -- a command that couldn't update its output file, and reported why, ends as `SaveEnds` defines
   pub ends_at_file : (text : List ℕ) (made : ℕ) (answered reported : Option (List ℕ)) (failed_answered failed_reported : ℕ)
-      → (t : TreeTexts) × (notices : List (List ℕ)) × AreTextsOfJob known settings t × Answer known.content settings t.texts task text made notices
+      → (t : TreeTexts) × (notices : List ErrorLine) × AreTextsOfJob known settings t × Answer known.content settings t.texts task text made notices
       × TakesLines taken failed (t.lines ++ notices) answered failed_answered
       → (fault : UpdateFault) × IsUnsaved old new path text fault × (status_of stop ≡ update_status fault)
       × TakesLines answered failed_answered (update_lines path fault) reported failed_reported
       → TakesLines reported failed_reported (last_lines status) last failed_last
-      → (lines : List (List ℕ)) × SaveEnds known settings task path old new lines status × TakesLines taken failed lines last failed_last
+      → (lines : List ErrorLine) × SaveEnds known settings task path old new lines status × TakesLines taken failed lines last failed_last
   ends_at_file text made answered reported failed_answered failed_reported w f h =
       let own = (w.0.lines ++ w.1) ++ update_lines path f.0 in
       let lines_taken = lines_append taken answered failed failed_answered (w.0.lines ++ w.1) (update_lines path f.0) reported failed_reported w.4 f.3 in (

@@ -17,7 +17,7 @@ use Rattle.kc_dotconfig.specs.ReadResults.{IsReadAs, IsRefused, ReportsFault}
 use Rattle.kc_files.specs.TreeContents.{FileContent}
 use Rattle.kmin_report.specs.declared.run_error.RunError.{RunError}
 use Rattle.kmin_disk.specs.Contents.{OpensAs}
-use Rattle.kmin_report.specs.Reports.{file_notices, notice_lines, notice_line, fault_line}
+use Rattle.kmin_report.specs.Reports.{ErrorLine, file_notices, notice_lines, notice_line, fault_line}
 use Rattle.kmin_report.specs.StandardError.{TakesLines}
 use Rattle.kmin_report.specs.StandardError as taking
 use Rattle.kmin_run.specs.Answers.{FilesMean, none, file}
@@ -89,7 +89,7 @@ module _ (content : FileContent) (format : FileFormat) (tree : Tree) (path : Lis
   -- a configuration file that was opened, but not accepted, ends a run with the lines that were reported
   pub stopped_at : (strict : Bool) (read_failed read_failed_after status : ℕ) (taken taken_after : Option (List ℕ)) (failed failed_after : ℕ)
       → StopsLoad format tree path before after read_failed read_failed_after status taken failed taken_after failed_after
-      → (lines : List (List ℕ)) × StopsAtPath content format strict tree path status lines × TakesLines taken failed lines taken_after failed_after
+      → (lines : List ErrorLine) × StopsAtPath content format strict tree path status lines × TakesLines taken failed lines taken_after failed_after
   stopped_at strict f g status taken taken_after failed failed_after s = (
     load_lines path s.number s.kind,
     subst (λ n. StopsAtPath content format strict tree path n (load_lines path s.number s.kind)) (sym s.status_is)
@@ -109,7 +109,7 @@ notices_there fragment meanings e h n = h (map_nil notice_pair fragment.notices.
 pub stopped_noticed : (content : FileContent) (format : FileFormat) (strict : Bool) (tree : Tree) (path : List ℕ) (fragment : Fragment) (status : ℕ)
     (taken taken_after : Option (List ℕ)) (failed failed_after : ℕ)
     → IsLoaded content format tree path fragment taken failed taken_after failed_after → strict ≡ true → fragment.notices.items ≢ [] → status ≡ 4
-    → (lines : List (List ℕ)) × StopsAtPath content format strict tree path status lines × TakesLines taken failed lines taken_after failed_after
+    → (lines : List ErrorLine) × StopsAtPath content format strict tree path status lines × TakesLines taken failed lines taken_after failed_after
 stopped_noticed content format strict tree path fragment status taken taken_after failed failed_after l s h e = (
   file_notices path l.meanings,
   at_file (noticed l.bytes l.meanings l.matches l.accepted l.means (s, notices_there fragment l.meanings l.noted h) e refl),
@@ -216,14 +216,14 @@ module _ (content_of : List ℕ → FileContent) (format : FileFormat) (strict :
       failed_middle failed_after h k)
 
 -- at the one file of these
-path_stops : (content_of : List ℕ → FileContent) (format : FileFormat) (strict : Bool) (tree : Tree) (path : List ℕ) (status : ℕ) (lines : List (List ℕ))
+path_stops : (content_of : List ℕ → FileContent) (format : FileFormat) (strict : Bool) (tree : Tree) (path : List ℕ) (status : ℕ) (lines : List ErrorLine)
     → StopsAtPath (content_of path) format strict tree path status lines → StopsAmongFiles content_of format strict tree (path ∷ []) status lines
 path_stops content_of format strict tree path status lines (at_file s) = stops.at_file [] [] path lines [] refl none s refl
 path_stops content_of format strict tree path status lines (for_memory s e) = stops.for_memory [] (path ∷ []) [] refl none s e
 
 -- with more files after these
 more_stops : (content_of : List ℕ → FileContent) (format : FileFormat) (strict : Bool) (tree : Tree) (xs more : List (List ℕ)) (status : ℕ)
-    (lines : List (List ℕ))
+    (lines : List ErrorLine)
     → StopsAmongFiles content_of format strict tree xs status lines → StopsAmongFiles content_of format strict tree (xs ++ more) status lines
 more_stops content_of format strict tree xs more status lines (stops.at_file front back path own meanings p m s e) =
     stops.at_file front (back ++ more) path own meanings (ap (λ ps. ps ++ more) p ∙ append_assoc front (path ∷ back) more) m s e
@@ -232,7 +232,7 @@ more_stops content_of format strict tree xs more status lines (stops.for_memory 
 
 -- after files that were accepted
 later_stops : (content_of : List ℕ → FileContent) (format : FileFormat) (strict : Bool) (tree : Tree) (xs ys : List (List ℕ))
-    (ms : List (List LineMeaning)) (status : ℕ) (lines : List (List ℕ))
+    (ms : List (List LineMeaning)) (status : ℕ) (lines : List ErrorLine)
     → FilesMean content_of format strict tree xs ms
     → StopsAmongFiles content_of format strict tree ys status lines → StopsAmongFiles content_of format strict tree (xs ++ ys) status (notice_lines xs ms ++ lines)
 later_stops content_of format strict tree xs ys ms status lines h (stops.at_file front back path own meanings p m s e) =
@@ -248,20 +248,20 @@ later_stops content_of format strict tree xs ys ms status lines h (stops.for_mem
 module _ (content_of : List ℕ → FileContent) (format : FileFormat) (strict : Bool) (tree : Tree) (status : ℕ) (taken : Option (List ℕ)) (failed : ℕ)
     (taken_after : Option (List ℕ)) (failed_after : ℕ) where
   pub stopped_path : (path : List ℕ)
-      → (lines : List (List ℕ)) × StopsAtPath (content_of path) format strict tree path status lines × TakesLines taken failed lines taken_after failed_after
-      → (lines : List (List ℕ)) × StopsAmongFiles content_of format strict tree (path ∷ []) status lines
+      → (lines : List ErrorLine) × StopsAtPath (content_of path) format strict tree path status lines × TakesLines taken failed lines taken_after failed_after
+      → (lines : List ErrorLine) × StopsAmongFiles content_of format strict tree (path ∷ []) status lines
       × TakesLines taken failed lines taken_after failed_after
   stopped_path path h = (h.0, path_stops content_of format strict tree path status h.0 h.1, h.2)
 
   pub stopped_more : (xs more all : List (List ℕ)) → all ≡ xs ++ more
-      → (lines : List (List ℕ)) × StopsAmongFiles content_of format strict tree xs status lines × TakesLines taken failed lines taken_after failed_after
-      → (lines : List (List ℕ)) × StopsAmongFiles content_of format strict tree all status lines × TakesLines taken failed lines taken_after failed_after
+      → (lines : List ErrorLine) × StopsAmongFiles content_of format strict tree xs status lines × TakesLines taken failed lines taken_after failed_after
+      → (lines : List ErrorLine) × StopsAmongFiles content_of format strict tree all status lines × TakesLines taken failed lines taken_after failed_after
   stopped_more xs more all e h = (h.0, rw e (more_stops content_of format strict tree xs more status h.0 h.1), h.2)
 
   pub stopped_later : (xs ys all : List (List ℕ)) (before users : List (Option UserValue)) (middle : Option (List ℕ)) (failed_middle : ℕ) → all ≡ xs ++ ys
       → AreLoaded content_of format strict tree xs before users taken failed middle failed_middle
-      → (lines : List (List ℕ)) × StopsAmongFiles content_of format strict tree ys status lines × TakesLines middle failed_middle lines taken_after failed_after
-      → (lines : List (List ℕ)) × StopsAmongFiles content_of format strict tree all status lines × TakesLines taken failed lines taken_after failed_after
+      → (lines : List ErrorLine) × StopsAmongFiles content_of format strict tree ys status lines × TakesLines middle failed_middle lines taken_after failed_after
+      → (lines : List ErrorLine) × StopsAmongFiles content_of format strict tree all status lines × TakesLines taken failed lines taken_after failed_after
   stopped_later xs ys all before users middle failed_middle e l h = (
     notice_lines xs l.meanings ++ h.0,
     rw e (later_stops content_of format strict tree xs ys l.meanings status h.0 l.mean h.1),
@@ -270,7 +270,7 @@ module _ (content_of : List ℕ → FileContent) (format : FileFormat) (strict :
 
   pub stopped_for_memory : (xs more all : List (List ℕ)) (before users : List (Option UserValue)) → all ≡ xs ++ more → status ≡ 6
       → AreLoaded content_of format strict tree xs before users taken failed taken_after failed_after
-      → (lines : List (List ℕ)) × StopsAmongFiles content_of format strict tree all status lines × TakesLines taken failed lines taken_after failed_after
+      → (lines : List ErrorLine) × StopsAmongFiles content_of format strict tree all status lines × TakesLines taken failed lines taken_after failed_after
   stopped_for_memory xs more all before users e s l = (notice_lines xs l.meanings, stops.for_memory xs more l.meanings e l.mean s refl, l.reported)
 
 pub mapped : (paths : List (Bor (List ℕ))) (first : Bor (List ℕ)) (rest : List (Bor (List ℕ))) → paths ≡ first ∷ rest

@@ -1,7 +1,6 @@
 -- Ends of runs over files: their statuses, their lines, and where nothing is written.
 use Rattle.std.proofs.Common.{◌≡◌, ◌≢◌, ℕ, ◌≤◌, ◌⊎◌, inl, inr, List, [], ◌∷◌, ◌++◌, Option, Some, None, refl, sym, ap, ◌∙◌, subst, max, arith, codes, option_map}
 use Rattle.std.specs.Prelude.{bytes_eq, Bool, true, false}
-use Rattle.kc_files.specs.TreeContents.{FileContent}
 use Rattle.kmin_tidy.specs.Options.{Settings, settings_of}
 use Rattle.kmin_disk.specs.Disks.{Disk}
 use Rattle.kmin_tidy.specs.Runs.{DoneFile, status_of, status_with}
@@ -11,13 +10,13 @@ use Rattle.kmin_tidy.specs.declared.outcome.FileOutcome.TheVariants.{Minimal, No
 use Rattle.kmin_tidy.specs.Promises.{IsKeptOrLeft, AreTidy}
 use Rattle.std.specs.Io.KnownBytes.{Appends}
 use Rattle.kmin_report.specs.StandardError.{TakesLine, TakesLines}
-use Rattle.kmin_disk.specs.Contents.{OpensAs}
 use Rattle.kmin_trees.specs.FileContents.{Surroundings}
-use Rattle.kmin_report.specs.Reports.{last_lines}
+use Rattle.kmin_report.specs.Reports.{ErrorLine, last_lines}
 use Rattle.kmin_trees.specs.AcceptedTrees.{AreAccepted}
 use Rattle.kmin_trees.specs.JobTexts.{TreeTexts, AreTextsOfJob}
 use Rattle.kmin_trees.specs.Stops.{StopsAtTree}
-use Rattle.kmin_run.specs.TidyRuns.{AreListBytes, AreNamed, AreMalformed, StopsAtList, malformed, PathsEnd, at_tree, over_files, GoesOver, TidyEnds, at_list, over_paths, Outputs, is_ended_by_nul, list_content, listed_paths, malformed_line, options_of, run_settings}
+use Rattle.kmin_run.specs.TidyRuns.{AreListBytes, AreNamed, AreMalformed, StopsAtList, malformed, PathsEnd, at_tree, over_files, GoesOver, TidyEnds, at_list, over_paths, Outputs, is_ended_by_nul, listed_paths, options_of, run_settings}
+use Rattle.kmin_trees.specs.ListFiles.{malformed_line}
 use Rattle.kmin_report.specs.declared.run_error.RunError.{RunError}
 use Rattle.kmin_report.specs.between.RunErrors as errors
 use Rattle.kmin_report.proofs.WriterLemmas.{lines_append, lines_one}
@@ -57,7 +56,7 @@ small n (inr (inl e)) = omega arith
 small n (inr (inr (inl e))) = omega arith
 small n (inr (inr (inr e))) = omega arith
 
-module _ (s : Settings) (old new : Disk) (paths : List (List ℕ)) (reports : List (List ℕ)) (status : ℕ) where
+module _ (s : Settings) (old new : Disk) (paths : List (List ℕ)) (reports : List ErrorLine) (status : ℕ) where
   stops_small : Stops s old new paths reports status → status ≤ 6
   stops_small (before_write between front back text earlier made p t n r e) = omega arith
   stops_small (at_write between front back path text earlier made p t b u r e) = omega arith
@@ -83,21 +82,6 @@ module _ (s : Settings) (old new : Disk) (paths : List (List ℕ)) (reports : Li
   ends_unwritten taken taken_after failed failed_after (part text earlier made count t c a f r e) n0 n1 n4 n5 = absurd (n5 e)
   ends_unwritten taken taken_after failed failed_after (stopped k a f) n0 n1 n4 n5 = a
 
--- reading standard input agrees with what is known of it
-pub input_opens : (left : Option (List ℕ)) → OpensAs (option_map (λ (bytes : List ℕ). Some bytes) left) (Some left)
-input_opens None = tt
-input_opens (Some bytes) = refl
-
--- a list of paths whose own path is `-` has the content of standard input
-pub opens_input : (content_of : List ℕ → FileContent) (left : Option (List ℕ)) (path : List ℕ) → bytes_eq path (codes "-") ≡ true
-    → OpensAs (list_content content_of left path) (Some left)
-opens_input content_of left path e = rw e (input_opens left)
-
--- a list of paths whose own path isn't `-` has the content of the file at that path
-pub opens_file : (content_of : List ℕ → FileContent) (left reader : Option (List ℕ)) (path : List ℕ) → bytes_eq path (codes "-") ≡ false
-    → OpensAs (content_of path) (Some reader) → OpensAs (list_content content_of left path) (Some reader)
-opens_file content_of left reader path e o = rw e o
-
 -- the settings of a run of `tidy_files` over a settled tree are those of the command `tidy` over that tree
 pub settings_are : (settled : Settled) (format : Format) (settings : jobs.Settings) (flags : TidyFlags) (options : TidyOptions)
     → profile_of settled ≡ settings.profile → file_format format ≡ settings.format → options ≡ options_of settings.strict flags
@@ -111,9 +95,9 @@ module _ (taken middle taken_after : Option (List ℕ)) (failed failed_middle fa
   -- a run of `tidy` that ended at its tree, and then reported its last line, ends as `PathsEnd` defines
   pub tree_ends : (known : Surroundings) (settings : jobs.Settings) (flags : TidyFlags) (paths : List (List ℕ)) (old : Outputs) (stop : RunError)
       → status ≡ errors.status_of stop
-      → (lines : List (List ℕ)) × StopsAtTree known settings (errors.status_of stop) lines × TakesLines taken failed lines middle failed_middle
+      → (lines : List ErrorLine) × StopsAtTree known settings (errors.status_of stop) lines × TakesLines taken failed lines middle failed_middle
       → TakesLines middle failed_middle (last_lines status) taken_after failed_after
-      → (lines : List (List ℕ)) × PathsEnd known settings flags paths old old lines status × TakesLines taken failed lines taken_after failed_after
+      → (lines : List ErrorLine) × PathsEnd known settings flags paths old old lines status × TakesLines taken failed lines taken_after failed_after
   tree_ends known settings flags paths old stop e w h = (
     w.0 ++ last_lines status,
     at_tree w.0 (subst (λ n. StopsAtTree known settings n w.0) (sym e) w.1) refl refl,
@@ -126,13 +110,13 @@ module _ (taken middle taken_after : Option (List ℕ)) (failed failed_middle fa
       → profile_of settled ≡ settings.profile → file_format format ≡ settings.format → options ≡ options_of settings.strict flags
       → (t : TreeTexts) × AreTextsOfJob known settings t × AreAccepted t.texts settings.tree (tree_of_settled settled)
       × TakesLines taken failed t.lines middle failed_middle
-      → (reports : List (List ℕ)) × Ends (settings_of settled format options) old.disk new.disk paths old.taken new.taken old.failures new.failures
+      → (reports : List ErrorLine) × Ends (settings_of settled format options) old.disk new.disk paths old.taken new.taken old.failures new.failures
       reports status
       × TakesLines middle failed_middle reports taken_after failed_after
       → ((place : List ℕ) → IsKeptOrLeft (settings_of settled format options) (old.disk.state.history place) (new.disk.state.history place))
       → (AreTidy (settings_of settled format options) old.disk.state paths → new.disk.state ≡ old.disk.state)
       → (AreTidy (settings_of settled format options) old.disk.state paths → Appends old.taken new.taken [])
-      → (lines : List (List ℕ)) × PathsEnd known settings flags paths old new lines status × TakesLines taken failed lines taken_after failed_after
+      → (lines : List ErrorLine) × PathsEnd known settings flags paths old new lines status × TakesLines taken failed lines taken_after failed_after
   went_over known settings flags settled format options paths old new p q o accepted ends became again silent =
       let run : GoesOver (settings_of settled format options) old new paths ends.0 status =
       record { ends = ends.1; became = became; again = again; silent = silent } in
@@ -146,9 +130,9 @@ module _ (taken middle taken_after : Option (List ℕ)) (failed failed_middle fa
   -- a run of `tidy` that ended at its list, and then reported its last line, ends as `TidyEnds` defines
   pub list_ends : (known : Surroundings) (left : Option (List ℕ)) (t : TidyJob) (old : Outputs) (stop : RunError)
       → status ≡ errors.status_of stop
-      → (lines : List (List ℕ)) × StopsAtList known.content left t.list (errors.status_of stop) lines × TakesLines taken failed lines middle failed_middle
+      → (lines : List ErrorLine) × StopsAtList known.content left t.list (errors.status_of stop) lines × TakesLines taken failed lines middle failed_middle
       → TakesLines middle failed_middle (last_lines status) taken_after failed_after
-      → (lines : List (List ℕ)) × TidyEnds known left t old old lines status × TakesLines taken failed lines taken_after failed_after
+      → (lines : List ErrorLine) × TidyEnds known left t old old lines status × TakesLines taken failed lines taken_after failed_after
   list_ends known left t old stop e w h = (
     w.0 ++ last_lines status,
     at_list w.0 (subst (λ n. StopsAtList known.content left t.list n w.0) (sym e) w.1) refl refl,
@@ -159,8 +143,8 @@ module _ (taken middle taken_after : Option (List ℕ)) (failed failed_middle fa
   pub read_before : (known : Surroundings) (left : Option (List ℕ)) (t : TidyJob) (bytes : List ℕ) (old new : Outputs)
       → AreListBytes known.content left t.list bytes → TakesLines taken failed [] middle failed_middle
       → (AreListBytes known.content left t.list bytes
-      → (lines : List (List ℕ)) × TidyEnds known left t old new lines status × TakesLines middle failed_middle lines taken_after failed_after)
-      → (lines : List (List ℕ)) × TidyEnds known left t old new lines status × TakesLines taken failed lines taken_after failed_after
+      → (lines : List ErrorLine) × TidyEnds known left t old new lines status × TakesLines middle failed_middle lines taken_after failed_after)
+      → (lines : List ErrorLine) × TidyEnds known left t old new lines status × TakesLines taken failed lines taken_after failed_after
   read_before known left t bytes old new b before h =
       let ended = h b in (ended.0, ended.1, lines_append taken middle failed failed_middle [] ended.0 taken_after failed_after before ended.2)
 
@@ -168,7 +152,7 @@ module _ (taken middle taken_after : Option (List ℕ)) (failed failed_middle fa
 pub malformed_ends : (taken taken_after : Option (List ℕ)) (failed failed_after status : ℕ) (known : Surroundings) (left : Option (List ℕ)) (t : TidyJob)
     (bytes : List ℕ) (old : Outputs) → AreListBytes known.content left t.list bytes → AreMalformed (listed_paths t.list bytes) → status ≡ 2
     → TakesLine taken failed malformed_line taken_after failed_after
-    → (lines : List (List ℕ)) × TidyEnds known left t old old lines status × TakesLines taken failed lines taken_after failed_after
+    → (lines : List ErrorLine) × TidyEnds known left t old old lines status × TakesLines taken failed lines taken_after failed_after
 malformed_ends taken taken_after failed failed_after status known left t bytes old b m e h = (
   malformed_line ∷ [],
   at_list (malformed_line ∷ []) (malformed bytes b m e refl) (rw e refl) refl,
@@ -176,7 +160,7 @@ malformed_ends taken taken_after failed failed_after status known left t bytes o
 )
 
 -- a run of `tidy` over its files and the paths in its list, as one list of paths, ends as `TidyEnds` defines
-pub over_all : (known : Surroundings) (left : Option (List ℕ)) (t : TidyJob) (bytes : List ℕ) (old new : Outputs) (lines : List (List ℕ)) (status : ℕ)
+pub over_all : (known : Surroundings) (left : Option (List ℕ)) (t : TidyJob) (bytes : List ℕ) (old new : Outputs) (lines : List ErrorLine) (status : ℕ)
     (ended_by_nul : Bool) (files paths : List (List ℕ)) → ended_by_nul ≡ is_ended_by_nul t.list → files ≡ t.files
     → AreListBytes known.content left t.list bytes → AreNamed (paths_in ended_by_nul bytes) → paths ≡ files ++ paths_in ended_by_nul bytes
     → PathsEnd known t.settings t.flags paths old new lines status → TidyEnds known left t old new lines status

@@ -24,7 +24,7 @@ use Rattle.kmin_words.specs.Jobs.{Settings, Task, over, compare}
 use Rattle.kmin_words.specs.declared.job.Verb.{Verb}
 use Rattle.kmin_words.specs.declared.job.Verb.TheVariants.{Min, Full, Missed, Check}
 use Rattle.kmin_report.specs.KnownBytes.{AreKnownBytes}
-use Rattle.kmin_report.specs.Reports.{name_at, notice_lines, choice_notice_lines}
+use Rattle.kmin_report.specs.Reports.{ErrorLine, name_at, notice_lines, choice_notice_lines}
 use Rattle.kmin_trees.specs.AcceptedTrees.{AreAccepted}
 use Rattle.kmin_run.specs.Strictness.{AllowsNotices}
 use Rattle.kmin_run.specs.Statuses.{status_of_list, status_of_verb}
@@ -63,7 +63,7 @@ IsTextOfVerb settings tree users values (Check exit_code) text = text ≡ flat_m
 -- A command has this output, this status and these lines of notices: a verb over one configuration of all its files, or the
 -- comparison of two configurations of one file each. The notices of the lines of all files come first, and then those on choices,
 -- which are known with the values.
-pub data Answer (content_of : List ℕ → FileContent) (settings : Settings) (texts : Files) (task : Task) (text : List ℕ) (status : ℕ) (notices : List (List ℕ)) : Type 0 where
+pub data Answer (content_of : List ℕ → FileContent) (settings : Settings) (texts : Files) (task : Task) (text : List ℕ) (status : ℕ) (notices : List ErrorLine) : Type 0 where
   of_files : (tree : Tree) (verb : Verb) (paths : List (List ℕ)) (meanings : List (List LineMeaning)) (values : List UnitValue)
       → task ≡ over verb paths → AreAccepted texts settings.tree tree → Resolve content_of settings tree paths meanings values
       → IsTextOfVerb settings tree (files_assignment tree meanings) values verb text

@@ -12,7 +12,7 @@ use Rattle.kc_dotconfig_model.specs.declared.fault.LoadKind.TheVariants.{Read, T
 use Rattle.kc_files.specs.TreeContents.{FileContent}
 use Rattle.kmin_words.specs.Jobs.{Settings, Task, over}
 use Rattle.kmin_words.specs.declared.job.Verb.TheVariants.{Full}
-use Rattle.kmin_report.specs.Reports.{fault_line, output_line}
+use Rattle.kmin_report.specs.Reports.{ErrorLine, fault_line, output_line}
 use Rattle.kmin_run.specs.Bundles.{IsBundle, ReadsToEnd}
 use Rattle.kmin_run.specs.Answers.{Answer}
 use Rattle.kmin_trees.specs.AcceptedTrees.{AreAccepted}
@@ -36,19 +36,19 @@ abbrev pub bundle_content : List ℕ → List ℕ → FileContent
 bundle_content configuration path = Some (Some configuration)
 
 -- the line of standard error for a fault of a bundle as a whole: `bundle:0: KIND`
-abbrev pub bundle_line : LoadKind → List ℕ
+abbrev pub bundle_line : LoadKind → ErrorLine
 bundle_line kind = fault_line (codes "bundle") 0 kind
 
 -- the line of standard error for a bundle that has too many bytes
-abbrev pub large_line : List ℕ
+abbrev pub large_line : ErrorLine
 large_line = bundle_line TooLarge
 
 -- the line of standard error for a bundle that can't be read to its end
-abbrev pub unread_line : List ℕ
+abbrev pub unread_line : ErrorLine
 unread_line = bundle_line Read
 
 -- A run on this bundle has this output, the full file of its configuration over its tree, and these lines of notices.
-pub record AnswersBundle (bundle text : List ℕ) (notices : List (List ℕ)) : Type 0 where
+pub record AnswersBundle (bundle text : List ℕ) (notices : List ErrorLine) : Type 0 where
   pub tree : List ℕ
   pub configuration : List ℕ
   pub parts : IsBundle bundle tree configuration
@@ -56,8 +56,8 @@ pub record AnswersBundle (bundle text : List ℕ) (notices : List (List ℕ)) : 
 
 -- A run on this bundle ends without an output, with this status and these lines of standard error before those of `last_lines`:
 -- its tree or its configuration is refused, or memory ran out.
-pub data StopsInBundle (bundle : List ℕ) (status : ℕ) (lines : List (List ℕ)) : Type 0 where
-  at_tree : (tree configuration line : List ℕ) → IsBundle bundle tree configuration
+pub data StopsInBundle (bundle : List ℕ) (status : ℕ) (lines : List ErrorLine) : Type 0 where
+  at_tree : (tree configuration : List ℕ) (line : ErrorLine) → IsBundle bundle tree configuration
       → RefusesTexts (bundle_files tree) (bundle_files tree) (codes "Kconfig") line → status ≡ 3 → lines ≡ line ∷ [] → StopsInBundle bundle status lines
   in_configuration : (tree configuration : List ℕ) (whole : Tree) → IsBundle bundle tree configuration
       → AreAccepted (bundle_files tree) (codes "Kconfig") whole
@@ -67,13 +67,13 @@ pub data StopsInBundle (bundle : List ℕ) (status : ℕ) (lines : List (List �
 
 -- A run on a bundle ends early, with this status and these lines of standard error before those of `last_lines`: the bundle is
 -- too large, a read fails, there is no output, a write fails, or memory ran out.
-pub data StopsOnBundle (left left_after : Option (List ℕ)) (status : ℕ) (lines : List (List ℕ)) : Type 0 where
+pub data StopsOnBundle (left left_after : Option (List ℕ)) (status : ℕ) (lines : List ErrorLine) : Type 0 where
   too_large : (bytes : List ℕ) → Consumes left left_after bytes → MAX_BUNDLE_BYTES < length bytes → status ≡ 4 → lines ≡ large_line ∷ []
       → StopsOnBundle left left_after status lines
   unread : status ≡ 5 → lines ≡ unread_line ∷ [] → StopsOnBundle left left_after status lines
   in_bundle : (bundle : List ℕ) → ReadsToEnd left left_after bundle → StopsInBundle bundle status lines
       → StopsOnBundle left left_after status lines
-  at_write : (bundle text : List ℕ) (notices : List (List ℕ)) → ReadsToEnd left left_after bundle
+  at_write : (bundle text : List ℕ) (notices : List ErrorLine) → ReadsToEnd left left_after bundle
       → AnswersBundle bundle text notices → status ≡ 5 → lines ≡ notices ++ output_line ∷ []
       → StopsOnBundle left left_after status lines
   for_memory : status ≡ 6 → lines ≡ [] → StopsOnBundle left left_after status lines
@@ -83,7 +83,7 @@ pub record WritesPart (left_before left_after taken_before taken_after : Option 
   pub bundle : List ℕ
   pub whole : ReadsToEnd left_before left_after bundle
   pub text : List ℕ
-  pub notices : List (List ℕ)
+  pub notices : List ErrorLine
   pub answers : AnswersBundle bundle text notices
   pub written : ℕ
   pub taken : Appends taken_before taken_after (take written text)

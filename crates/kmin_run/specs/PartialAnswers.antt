@@ -5,6 +5,7 @@ use Rattle.kmin_words.specs.Jobs.{Settings, Task}
 use Rattle.kmin_trees.specs.FileContents.{Surroundings}
 use Rattle.kmin_trees.specs.JobTexts.{TreeTexts, AreTextsOfJob}
 use Rattle.kmin_run.specs.Answers.{Answer}
+use Rattle.kmin_report.specs.Reports.{ErrorLine}
 
 -- standard output took the first bytes of the output of a command over the texts of its tree, but not all of them
 pub record AnswersInPart (known : Surroundings) (settings : Settings) (task : Task) (taken taken_after : Option (List ℕ)) : Type 0 where
@@ -12,7 +13,7 @@ pub record AnswersInPart (known : Surroundings) (settings : Settings) (task : Ta
   pub are : AreTextsOfJob known settings read
   pub text : List ℕ
   pub status : ℕ
-  pub notices : List (List ℕ)
+  pub notices : List ErrorLine
   pub answers : Answer known.content settings read.texts task text status notices
   pub written : ℕ
   pub part : written < length text

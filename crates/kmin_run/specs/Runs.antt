@@ -1,8 +1,8 @@
 -- What a run of the program does with these words.
-use Rattle.std.specs.Prelude.{◌≡◌, ◌≢◌, ◌<◌, ◌≤◌, ◌⊎◌, ℕ, true, false, List, [], ◌∷◌, ◌++◌, Option, Ok, length, take}
+use Rattle.std.specs.Prelude.{◌≡◌, ◌≢◌, ◌<◌, ◌≤◌, ◌⊎◌, ℕ, Bool, true, false, List, [], ◌∷◌, ◌++◌, Option, Ok, length, take}
 use Rattle.std.specs.Io.KnownBytes.{Appends}
 use Rattle.kc_value.specs.declared.limits.TheConstants.{MAX_BUNDLE_BYTES}
-use Rattle.kmin_report.specs.Reports.{last_lines, output_line}
+use Rattle.kmin_report.specs.Reports.{ErrorLine, last_lines, output_line, refused_line}
 use Rattle.kmin_report.specs.StandardError.{HasRisen}
 use Rattle.kmin_words.specs.Jobs.{Settings, Questions, Task, settings_view, questions_view, task_view, tidy_job_view}
 use Rattle.kmin_words.specs.Parses.{AreReadAs}
@@ -10,6 +10,7 @@ use Rattle.kmin_words.specs.declared.command_line.ParsedWords.{ParsedWords}
 use Rattle.kmin_words.specs.declared.command_line.ParsedWords.TheVariants.{Job, Save, Questions as TheQuestions, Tidy, Help, Refused}
 use Rattle.kmin_trees.specs.FileContents.{Surroundings}
 use Rattle.kmin_trees.specs.JobTexts.{TreeTexts, AreTextsOfJob}
+use Rattle.kmin_trees.specs.WordFiles.{Represent, StopsAtWords, is_input_read_for}
 use Rattle.kmin_trees.specs.WantedQuestions.{AreAsked, AsksInPart, StopsWanting, questions_text}
 use Rattle.kmin_run.specs.Answers.{Answer}
 use Rattle.kmin_run.specs.BundleAnswers.{AnswersBundle, StopsOnBundle, WritesPart}
@@ -30,26 +31,26 @@ WritesAtMost part old new status = (new.taken ≡ old.taken) ⊎ ((status ≡ 5)
 
 -- A command over configuration files ends: its output is written, and no write failed; or it ended without its whole output. The
 -- disk is unchanged.
-pub data JobEnds (known : Surroundings) (settings : Settings) (task : Task) (old new : Outputs) (lines : List (List ℕ)) (status : ℕ) : Type 0 where
-  done : (t : TreeTexts) (text : List ℕ) (notices : List (List ℕ)) → AreTextsOfJob known settings t
+pub data JobEnds (known : Surroundings) (settings : Settings) (task : Task) (old new : Outputs) (lines : List ErrorLine) (status : ℕ) : Type 0 where
+  done : (t : TreeTexts) (text : List ℕ) (notices : List ErrorLine) → AreTextsOfJob known settings t
       → Answer known.content settings t.texts task text status notices → (status ≡ 0) ⊎ (status ≡ 1) → Appends old.taken new.taken text
       → new.failures ≡ old.failures → new.disk ≡ old.disk → lines ≡ t.lines ++ notices → JobEnds known settings task old new lines status
-  stopped : (own : List (List ℕ)) → Stops known settings task status own → IsOfFault status
+  stopped : (own : List ErrorLine) → Stops known settings task status own → IsOfFault status
       → WritesAtMost (AnswersInPart known settings task old.taken new.taken) old new status → new.disk ≡ old.disk → lines ≡ own ++ last_lines status
       → JobEnds known settings task old new lines status
 
 -- The command `wants` ends: the open questions are written, and no write failed; or it ended without all of them. The disk is
 -- unchanged.
-pub data QuestionsEnd (known : Surroundings) (questions : Questions) (old new : Outputs) (lines : List (List ℕ)) (status : ℕ) : Type 0 where
+pub data QuestionsEnd (known : Surroundings) (questions : Questions) (old new : Outputs) (lines : List ErrorLine) (status : ℕ) : Type 0 where
   done : (asked : List (List ℕ)) → AreAsked known questions (Ok asked) → status ≡ status_of_list true asked
       → Appends old.taken new.taken (questions_text asked) → new.failures ≡ old.failures → new.disk ≡ old.disk → lines ≡ []
       → QuestionsEnd known questions old new lines status
-  stopped : (own : List (List ℕ)) → StopsWanting known questions status own → IsOfFault status
+  stopped : (own : List ErrorLine) → StopsWanting known questions status own → IsOfFault status
       → WritesAtMost (AsksInPart known questions old.taken new.taken) old new status → new.disk ≡ old.disk → lines ≡ own ++ last_lines status
       → QuestionsEnd known questions old new lines status
 
 -- A help ends: its text is written, or the first bytes of it before a write that failed. The disk is unchanged.
-pub data HelpEnds (text : List ℕ) (old new : Outputs) (lines : List (List ℕ)) (status : ℕ) : Type 0 where
+pub data HelpEnds (text : List ℕ) (old new : Outputs) (lines : List ErrorLine) (status : ℕ) : Type 0 where
   done : status ≡ 0 → Appends old.taken new.taken text → new.failures ≡ old.failures → new.disk ≡ old.disk → lines ≡ []
       → HelpEnds text old new lines status
   stopped : (written : ℕ) → written < length text → status ≡ 5 → Appends old.taken new.taken (take written text) → HasRisen old.failures new.failures
@@ -57,7 +58,7 @@ pub data HelpEnds (text : List ℕ) (old new : Outputs) (lines : List (List ℕ)
 
 -- What was parsed ends: a command as its job does, a help, or a message that refuses the words, with status 2. Only `tidy --write`
 -- and an output file change the disk.
-abbrev pub ParsedEnds : Surroundings → (left : Option (List ℕ)) → ParsedWords → (old new : Outputs) → (lines : List (List ℕ)) → (status : ℕ) → Type 0
+abbrev pub ParsedEnds : Surroundings → (left : Option (List ℕ)) → ParsedWords → (old new : Outputs) → (lines : List ErrorLine) → (status : ℕ) → Type 0
 ParsedEnds known left (Job job) old new lines status = JobEnds known (settings_view job.settings) (task_view job.task) old new lines status
 ParsedEnds known left (Save output_job) old new lines status =
     SaveEnds known (settings_view output_job.job.settings) (task_view output_job.job.task) output_job.output.now old.disk new.disk lines status
@@ -66,13 +67,23 @@ ParsedEnds known left (TheQuestions questions) old new lines status = QuestionsE
 ParsedEnds known left (Tidy tidy_job) old new lines status =
     TidyEnds known left (tidy_job_view tidy_job) old new lines status × (tidy_job.flags.write ≡ false → new.disk.state ≡ old.disk.state)
 ParsedEnds known left (Help text) old new lines status = HelpEnds text.bytes.items old new lines status
-ParsedEnds known left (Refused text) old new lines status = (status ≡ 2) × (new ≡ old) × (lines ≡ text.bytes.items ∷ [])
+ParsedEnds known left (Refused text) old new lines status = (status ≡ 2) × (new ≡ old) × (lines ≡ refused_line text.bytes.items ∷ [])
 
--- A run on words ends as what they are parsed as does, with the command first of them, or memory ran out before, and nothing changes.
-pub data WordsEnd (known : Surroundings) (words : List (List ℕ)) (left : Option (List ℕ)) (old new : Outputs) (lines : List (List ℕ)) (status : ℕ) : Type 0 where
-  parsed : (what : ParsedWords) → AreReadAs words what → ParsedEnds known left what old new lines status
+-- A run on words without `@FILE` ends as what they are read as does, or memory ran out before, and nothing changes. Where standard
+-- input was read before for words in a file (`is_input_read`), they are refused if they read it once more.
+pub data ReadEnd (known : Surroundings) (is_input_read : Bool) (words : List (List ℕ)) (left : Option (List ℕ)) (old new : Outputs) (lines : List ErrorLine) (status : ℕ) : Type 0 where
+  parsed : (what : ParsedWords) → AreReadAs is_input_read words what → ParsedEnds known left what old new lines status
+      → ReadEnd known is_input_read words left old new lines status
+  for_memory : status ≡ 6 → new ≡ old → lines ≡ last_lines status → ReadEnd known is_input_read words left old new lines status
+
+-- A run on words ends as one on the words that they represent does, each `@FILE` those in its file; or such a file ends it, and
+-- nothing changes. Of standard input all is left then but where it is one of these files.
+pub data WordsEnd (known : Surroundings) (words : List (List ℕ)) (left : Option (List ℕ)) (old new : Outputs) (lines : List ErrorLine) (status : ℕ) : Type 0 where
+  represented : (represented : List (List ℕ)) (left_after : Option (List ℕ)) → Represent known.content left words represented
+      → (is_input_read_for words ≡ false → left_after ≡ left)
+      → ReadEnd known (is_input_read_for words) represented left_after old new lines status → WordsEnd known words left old new lines status
+  stopped : (own : List ErrorLine) → StopsAtWords known.content left words status own → new ≡ old → lines ≡ own ++ last_lines status
       → WordsEnd known words left old new lines status
-  for_memory : status ≡ 6 → new ≡ old → lines ≡ last_lines status → WordsEnd known words left old new lines status
 
 -- standard input: the bytes that are left, as far as that is known, and the count of its failed reads
 pub record Input : Type 0 where
@@ -91,17 +102,17 @@ HasFailed failed failed_after input input_after old new =
 
 -- A run on a bundle ends: it was read to its end, has an allowed size, its full file is written, and no read or write failed; or
 -- the run ended without the whole file, on status 5 since a read or a write failed. The disk is unchanged.
-pub data BundleEnds (input input_after : Input) (old new : Outputs) (lines : List (List ℕ)) (status : ℕ) : Type 0 where
+pub data BundleEnds (input input_after : Input) (old new : Outputs) (lines : List ErrorLine) (status : ℕ) : Type 0 where
   done : (bundle text : List ℕ) → status ≡ 0 → ReadsToEnd input.left input_after.left bundle → length bundle ≤ MAX_BUNDLE_BYTES
       → AnswersBundle bundle text lines → Appends old.taken new.taken text → input_after.failures ≡ input.failures
       → new.failures ≡ old.failures → new.disk ≡ old.disk → BundleEnds input input_after old new lines status
-  stopped : (own : List (List ℕ)) → StopsOnBundle input.left input_after.left status own → IsOfFault status
+  stopped : (own : List ErrorLine) → StopsOnBundle input.left input_after.left status own → IsOfFault status
       → WritesAtMost (WritesPart input.left input_after.left old.taken new.taken) old new status
       → (status ≡ 5 → HasRisen input.failures input_after.failures ⊎ HasRisen old.failures new.failures)
       → new.disk ≡ old.disk → lines ≡ own ++ last_lines status → BundleEnds input input_after old new lines status
 
 -- a run ends, without words on a bundle, and with words as they are parsed
-abbrev pub Ends : Surroundings → (words : List (List ℕ)) → (input input_after : Input) → (old new : Outputs) → (lines : List (List ℕ)) → (status : ℕ) → Type 0
+abbrev pub Ends : Surroundings → (words : List (List ℕ)) → (input input_after : Input) → (old new : Outputs) → (lines : List ErrorLine) → (status : ℕ) → Type 0
 Ends known [] input input_after old new lines status = BundleEnds input input_after old new lines status
 Ends known (word ∷ words) input input_after old new lines status = WordsEnd known (word ∷ words) input.left old new lines status
 
@@ -111,15 +122,25 @@ MayChangeFiles (Save output_job) = Unit {0}
 MayChangeFiles (Tidy tidy_job) = tidy_job.flags.write ≡ true
 MayChangeFiles what = ⊥
 
--- words are parsed as a command that changes files
-abbrev pub AskForChanges : (words : List (List ℕ)) → Type 0
-AskForChanges words = (what : ParsedWords) × AreReadAs words what × MayChangeFiles what
+-- words without `@FILE` are read as a command that changes files
+abbrev pub AreReadForChanges : (is_input_read : Bool) → (words : List (List ℕ)) → Type 0
+AreReadForChanges is_input_read words = (what : ParsedWords) × AreReadAs is_input_read words what × MayChangeFiles what
+
+-- words represent words that are read as a command that changes files
+abbrev pub AskForChanges : Surroundings → (left : Option (List ℕ)) → (words : List (List ℕ)) → Type 0
+AskForChanges known left words =
+    (represented : List (List ℕ)) × Represent known.content left words represented × AreReadForChanges (is_input_read_for words) represented
 
 -- what was parsed is the command `tidy`
 abbrev pub IsTidying : ParsedWords → Type 0
 IsTidying (Tidy tidy_job) = Unit {0}
 IsTidying what = ⊥
 
--- words are parsed as the command `tidy`
-abbrev pub AskForTidying : (words : List (List ℕ)) → Type 0
-AskForTidying words = (what : ParsedWords) × AreReadAs words what × IsTidying what
+-- words without `@FILE` are read as the command `tidy`
+abbrev pub AreReadForTidying : (is_input_read : Bool) → (words : List (List ℕ)) → Type 0
+AreReadForTidying is_input_read words = (what : ParsedWords) × AreReadAs is_input_read words what × IsTidying what
+
+-- words represent words that are read as the command `tidy`
+abbrev pub AskForTidying : Surroundings → (left : Option (List ℕ)) → (words : List (List ℕ)) → Type 0
+AskForTidying known left words =
+    (represented : List (List ℕ)) × Represent known.content left words represented × AreReadForTidying (is_input_read_for words) represented

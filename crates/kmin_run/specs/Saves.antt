@@ -9,7 +9,7 @@ use Rattle.kmin_disk.specs.declared.fault.ReplaceFault.{ReplaceFault}
 use Rattle.kmin_disk.specs.declared.fault.ReplaceFault.TheVariants.{NotRegular, Left, OutOfMemory}
 use Rattle.kmin_disk.specs.declared.fault.UpdateFault.{UpdateFault}
 use Rattle.kmin_disk.specs.declared.fault.UpdateFault.TheVariants.{Unread, Replace}
-use Rattle.kmin_report.specs.Reports.{not_regular_line, write_line, left_line, last_lines}
+use Rattle.kmin_report.specs.Reports.{ErrorLine, not_regular_line, write_line, left_line, last_lines}
 use Rattle.kmin_words.specs.Jobs.{Settings, Task}
 use Rattle.kmin_trees.specs.FileContents.{Surroundings}
 use Rattle.kmin_trees.specs.JobTexts.{TreeTexts, AreTextsOfJob}
@@ -17,14 +17,14 @@ use Rattle.kmin_run.specs.Answers.{Answer}
 use Rattle.kmin_run.specs.Stops.{StopsBefore}
 
 -- the lines of standard error for an output file that wasn't replaced, or not for good; none where memory ran out
-abbrev pub replace_lines : (path : List ℕ) → ReplaceFault → List (List ℕ)
+abbrev pub replace_lines : (path : List ℕ) → ReplaceFault → List ErrorLine
 replace_lines path NotRegular = not_regular_line path ∷ []
 replace_lines path (Left new_path) = left_line (string_bytes new_path) ∷ []
 replace_lines path OutOfMemory = []
 replace_lines path fault = write_line path ∷ []
 
 -- the lines of standard error for an output file that wasn't updated, or not for good; none where memory ran out
-abbrev pub update_lines : (path : List ℕ) → UpdateFault → List (List ℕ)
+abbrev pub update_lines : (path : List ℕ) → UpdateFault → List ErrorLine
 update_lines path Unread = write_line path ∷ []
 update_lines path (Replace fault) = replace_lines path fault
 
@@ -55,13 +55,13 @@ pub record IsUnsaved (old new : Disk) (path text : List ℕ) (fault : UpdateFaul
 
 -- A command with an output file ends, with this status and these lines of standard error: the file has the output, or the command
 -- ended without one and the disk is unchanged, or the file couldn't be updated.
-pub data SaveEnds (known : Surroundings) (settings : Settings) (task : Task) (path : List ℕ) (old new : Disk) (lines : List (List ℕ)) (status : ℕ) : Type 0 where
-  saved : (t : TreeTexts) (text : List ℕ) (notices : List (List ℕ)) → AreTextsOfJob known settings t
+pub data SaveEnds (known : Surroundings) (settings : Settings) (task : Task) (path : List ℕ) (old new : Disk) (lines : List ErrorLine) (status : ℕ) : Type 0 where
+  saved : (t : TreeTexts) (text : List ℕ) (notices : List ErrorLine) → AreTextsOfJob known settings t
       → Answer known.content settings t.texts task text status notices → IsSaved old new path text → lines ≡ t.lines ++ notices
       → SaveEnds known settings task path old new lines status
-  before_answer : (own : List (List ℕ)) → StopsBefore known settings task status own → new ≡ old → lines ≡ own ++ last_lines status
+  before_answer : (own : List ErrorLine) → StopsBefore known settings task status own → new ≡ old → lines ≡ own ++ last_lines status
       → SaveEnds known settings task path old new lines status
-  at_file : (t : TreeTexts) (text : List ℕ) (answer_status : ℕ) (notices : List (List ℕ)) (fault : UpdateFault) → AreTextsOfJob known settings t
+  at_file : (t : TreeTexts) (text : List ℕ) (answer_status : ℕ) (notices : List ErrorLine) (fault : UpdateFault) → AreTextsOfJob known settings t
       → Answer known.content settings t.texts task text answer_status notices → IsUnsaved old new path text fault → status ≡ update_status fault
       → lines ≡ ((t.lines ++ notices) ++ update_lines path fault) ++ last_lines status
       → SaveEnds known settings task path old new lines status

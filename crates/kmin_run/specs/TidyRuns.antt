@@ -1,11 +1,9 @@
 -- The command `tidy`: the list of further paths, and the ends of a run over files.
-use Rattle.std.specs.Prelude.{◌≡◌, ℕ, ◌<◌, ◌≤◌, Bool, true, false, List, [], ◌∷◌, ◌++◌, Option, Some, None, codes, length, bytes_eq, option_map, if◌then◌else◌, ◌⊎◌}
+use Rattle.std.specs.Prelude.{◌≡◌, ℕ, Bool, true, false, List, [], ◌∷◌, ◌++◌, Option, Some, None, ◌⊎◌}
 use Rattle.std.specs.List.{list_all}
 use Rattle.std.specs.Str.{is_utf8}
 use Rattle.std.specs.Io.KnownBytes.{Appends}
-use Rattle.kc_value.specs.declared.limits.TheConstants.{MAX_LIST_BYTES}
 use Rattle.kc_tree_model.specs.Trees.{Tree}
-use Rattle.kc_dotconfig_model.specs.declared.fault.LoadKind.TheVariants.{Read, TooLarge}
 use Rattle.kc_files.specs.TreeContents.{FileContent}
 use Rattle.kmin_lines.specs.Lists.{paths_in, is_one_line}
 use Rattle.kmin_tidy.specs.declared.options.TidyOptions.{TidyOptions}
@@ -16,26 +14,16 @@ use Rattle.kmin_tidy.specs.Promises.{IsKeptOrLeft, AreTidy}
 use Rattle.kmin_words.specs.declared.job.TidyFlags.{TidyFlags}
 use Rattle.kmin_words.specs.Jobs.{Settings, PathList, TidyJob}
 use Rattle.kmin_trees.specs.FileContents.{Surroundings}
-use Rattle.kmin_report.specs.KnownBytes.{AreKnownBytes}
+use Rattle.kmin_trees.specs.ListFiles.{IsListRead, StopsReadingList, list_content, malformed_line}
 use Rattle.kmin_trees.specs.JobTexts.{TreeTexts, AreTextsOfJob}
 use Rattle.kmin_trees.specs.AcceptedTrees.{AreAccepted}
-use Rattle.kmin_report.specs.Reports.{last_lines, fault_line}
+use Rattle.kmin_report.specs.Reports.{ErrorLine, last_lines}
 use Rattle.kmin_trees.specs.Stops.{StopsAtTree}
 
--- what is known of the list of `tidy --from`: its content is that of standard input if its path is `-`, or that of the file at
--- its path
-abbrev pub list_content : (content_of : List ℕ → FileContent) → (left : Option (List ℕ)) → (path : List ℕ) → FileContent
-list_content content_of left path = if bytes_eq path (codes "-") then option_map (λ (bytes : List ℕ). Some bytes) left else content_of path
-
--- these bytes agree with what is known of the list of `tidy --from`; without a list there are none
-abbrev pub MatchList : (content_of : List ℕ → FileContent) → (left : Option (List ℕ)) → Option PathList → (bytes : List ℕ) → Type 0
-MatchList content_of left None bytes = bytes ≡ []
-MatchList content_of left (Some list) bytes = AreKnownBytes (list_content content_of left list.path) bytes
-
 -- these bytes are those of the list of `tidy --from`, and no more than `MAX_LIST_BYTES`; without a list there are none
-pub record AreListBytes (content_of : List ℕ → FileContent) (left : Option (List ℕ)) (list : Option PathList) (bytes : List ℕ) : Type 0 where
-  pub known : MatchList content_of left list bytes
-  pub within : length bytes ≤ MAX_LIST_BYTES
+abbrev pub AreListBytes : (content_of : List ℕ → FileContent) → (left : Option (List ℕ)) → Option PathList → (bytes : List ℕ) → Type 0
+AreListBytes content_of left None bytes = bytes ≡ []
+AreListBytes content_of left (Some list) bytes = IsListRead (list_content content_of left list.path) bytes
 
 -- whether the paths in the list of `tidy --from` end with the byte 0 in place of a newline; false without a list
 abbrev pub is_ended_by_nul : Option PathList → Bool
@@ -55,21 +43,9 @@ pub record AreNamed (paths : List (List ℕ)) : Type 0 where
 abbrev pub AreMalformed : (paths : List (List ℕ)) → Type 0
 AreMalformed paths = (list_all is_utf8 paths ≡ false) ⊎ (list_all is_one_line paths ≡ false)
 
--- the line of standard error for a list with a path that isn't UTF-8 or has a newline: `from: Malformed`
-abbrev pub malformed_line : List ℕ
-malformed_line = codes "from: Malformed\n"
-
--- The list of `tidy --from` can't be read, with this status and these lines of standard error: it has too many bytes, it can't be
--- opened or read, or memory ran out.
-pub data StopsReadingList (content : FileContent) (path : List ℕ) (status : ℕ) (lines : List (List ℕ)) : Type 0 where
-  too_large : (front rest : List ℕ) → AreKnownBytes content (front ++ rest) → MAX_LIST_BYTES < length front → status ≡ 4
-      → lines ≡ fault_line path 0 TooLarge ∷ [] → StopsReadingList content path status lines
-  unread : status ≡ 5 → lines ≡ fault_line path 0 Read ∷ [] → StopsReadingList content path status lines
-  for_memory : status ≡ 6 → lines ≡ [] → StopsReadingList content path status lines
-
 -- The list of `tidy --from` ends a run, with this status and these lines of standard error before those of `last_lines`: it can't
 -- be read, a path in it is refused, or memory ran out.
-pub data StopsAtList (content_of : List ℕ → FileContent) (left : Option (List ℕ)) (list : Option PathList) (status : ℕ) (lines : List (List ℕ)) : Type 0 where
+pub data StopsAtList (content_of : List ℕ → FileContent) (left : Option (List ℕ)) (list : Option PathList) (status : ℕ) (lines : List ErrorLine) : Type 0 where
   reading : (named : PathList) → list ≡ Some named → StopsReadingList (list_content content_of left named.path) named.path status lines
       → StopsAtList content_of left list status lines
   malformed : (bytes : List ℕ) → AreListBytes content_of left list bytes → AreMalformed (listed_paths list bytes) → status ≡ 2
@@ -96,7 +72,7 @@ outputs_of disk taken failures = record { disk = disk; taken = taken; failures =
 
 -- A run over files ended as `tidy_files` promises: at each path all is as it was, or a file was replaced by its minimal file, or
 -- an unfinished new file was left; and nothing changes if each file is minimal or refused.
-pub record GoesOver (s : RunSettings) (old new : Outputs) (paths : List (List ℕ)) (reports : List (List ℕ)) (status : ℕ) : Type 0 where
+pub record GoesOver (s : RunSettings) (old new : Outputs) (paths : List (List ℕ)) (reports : List ErrorLine) (status : ℕ) : Type 0 where
   pub ends : Ends s old.disk new.disk paths old.taken new.taken old.failures new.failures reports status
   pub became : (place : List ℕ) → IsKeptOrLeft s (old.disk.state.history place) (new.disk.state.history place)
   pub again : AreTidy s old.disk.state paths → new.disk.state ≡ old.disk.state
@@ -104,20 +80,20 @@ pub record GoesOver (s : RunSettings) (old new : Outputs) (paths : List (List �
 
 -- a run over some files ended as `tidy_files` promises, with this status
 abbrev pub IsGoneOver : (old new : Outputs) → (status : ℕ) → Type 0
-IsGoneOver old new status = (s : RunSettings) × (paths : List (List ℕ)) × (reports : List (List ℕ)) × GoesOver s old new paths reports status
+IsGoneOver old new status = (s : RunSettings) × (paths : List (List ℕ)) × (reports : List ErrorLine) × GoesOver s old new paths reports status
 
 -- The command `tidy` over these paths ends: the files are tidied; or its tree is refused or memory ran out, and nothing changes.
-pub data PathsEnd (known : Surroundings) (settings : Settings) (flags : TidyFlags) (paths : List (List ℕ)) (old new : Outputs) (lines : List (List ℕ)) (status : ℕ) : Type 0 where
-  at_tree : (own : List (List ℕ)) → StopsAtTree known settings status own → lines ≡ own ++ last_lines status → new ≡ old
+pub data PathsEnd (known : Surroundings) (settings : Settings) (flags : TidyFlags) (paths : List (List ℕ)) (old new : Outputs) (lines : List ErrorLine) (status : ℕ) : Type 0 where
+  at_tree : (own : List ErrorLine) → StopsAtTree known settings status own → lines ≡ own ++ last_lines status → new ≡ old
       → PathsEnd known settings flags paths old new lines status
-  over_files : (texts : TreeTexts) (tree : Tree) (reports : List (List ℕ)) → AreTextsOfJob known settings texts
+  over_files : (texts : TreeTexts) (tree : Tree) (reports : List ErrorLine) → AreTextsOfJob known settings texts
       → AreAccepted texts.texts settings.tree tree → GoesOver (run_settings settings flags tree) old new paths reports status
       → lines ≡ texts.lines ++ reports → PathsEnd known settings flags paths old new lines status
 
 -- The command `tidy` ends: its files are tidied, and then those that its list names; or the list or the tree is refused or memory
 -- ran out, and nothing changes.
-pub data TidyEnds (known : Surroundings) (left : Option (List ℕ)) (t : TidyJob) (old new : Outputs) (lines : List (List ℕ)) (status : ℕ) : Type 0 where
-  at_list : (own : List (List ℕ)) → StopsAtList known.content left t.list status own → lines ≡ own ++ last_lines status → new ≡ old
+pub data TidyEnds (known : Surroundings) (left : Option (List ℕ)) (t : TidyJob) (old new : Outputs) (lines : List ErrorLine) (status : ℕ) : Type 0 where
+  at_list : (own : List ErrorLine) → StopsAtList known.content left t.list status own → lines ≡ own ++ last_lines status → new ≡ old
       → TidyEnds known left t old new lines status
   over_paths : (bytes : List ℕ) → AreListBytes known.content left t.list bytes → AreNamed (listed_paths t.list bytes)
       → PathsEnd known t.settings t.flags (t.files ++ listed_paths t.list bytes) old new lines status

@@ -2,3 +2,4 @@ pub mod Lines
 pub mod LoadStops
 pub mod LoadResults
 pub mod Comparisons
+pub mod WordRuns

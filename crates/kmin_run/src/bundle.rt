@@ -4,6 +4,7 @@ ghost use Rattle.kmin_run.specs.Bundles.{IsBundle, ReadsToEnd};
 ghost use Rattle.kmin_run.specs.BundleAnswers.{StopsOnBundle, bundle_line};
 ghost use Rattle.kmin_report.specs.StandardError.{HasRisen, TakesLine, TakesLines};
 ghost use Rattle.kmin_report.specs.between.RunErrors.{status_of};
+ghost use Rattle.kmin_report.specs.Reports.{ErrorLine};
 
 use kc_dotconfig::LoadKind;
 use kc_value::{MAX_BUNDLE_BYTES, ReadBytes, ReadEnd, Sink, Source, read_up_to};
@@ -25,7 +26,7 @@ pub(crate) fn read_whole<S: Source, E: Sink>(
     ensures unfailed { OnOk result (S.failures source.new ≡ S.failures source.old) }
     ensures unreported { OnOk result (TakesLines (E.taken err.old) (E.failures err.old) [] (E.taken err.new) (E.failures err.new)) }
     ensures failures { result ≡ Err RunError.Failed → HasRisen (S.failures source.old) (S.failures source.new) }
-    ensures stopped { IfErr result (λ stop. (lines : List (List ℕ)) × StopsOnBundle (S.left source.old) (S.left source.new) (status_of stop) lines × TakesLines (E.taken err.old) (E.failures err.old) lines (E.taken err.new) (E.failures err.new)) }
+    ensures stopped { IfErr result (λ stop. (lines : List ErrorLine) × StopsOnBundle (S.left source.old) (S.left source.new) (status_of stop) lines × TakesLines (E.taken err.old) (E.failures err.old) lines (E.taken err.new) (E.failures err.new)) }
 {
     let ReadBytes { bytes, end } = read_up_to(alloc, source, MAX_BUNDLE_BYTES + 1, 0)?;
     match end {

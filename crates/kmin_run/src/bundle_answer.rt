@@ -12,7 +12,7 @@ ghost use Rattle.kmin_trees.specs.AcceptedTrees.{AreAccepted};
 ghost use Rattle.kmin_run.specs.Answers.{Resolve};
 ghost use Rattle.kmin_run.specs.Bundles.{ReadsToEnd};
 ghost use Rattle.kmin_run.specs.BundleAnswers.{AnswersBundle, StopsInBundle, StopsOnBundle, WritesPart, bundle_content, bundle_files, bundle_settings};
-ghost use Rattle.kmin_report.specs.Reports.{notice_lines};
+ghost use Rattle.kmin_report.specs.Reports.{ErrorLine, notice_lines};
 ghost use Rattle.kmin_report.specs.StandardError.{HasRisen, TakesLines};
 ghost use Rattle.kmin_run.specs.Stops.{StopsAmongFiles};
 ghost use Rattle.kmin_report.specs.between.RunErrors.{status_of};
@@ -39,12 +39,12 @@ pub(crate) fn run_bundle<I: Source, O: Sink, E: Sink>(
     out: &mut O,
     err: &mut E,
 ) -> Result<(), RunError>
-    ensures ok { OnOk result ((bundle text : List ℕ) × (notices : List (List ℕ)) × ReadsToEnd (I.left input.old) (I.left input.new) bundle × (length bundle ≤ MAX_BUNDLE_BYTES) × AnswersBundle bundle text notices × Appends (O.taken out.old) (O.taken out.new) text × TakesLines (E.taken err.old) (E.failures err.old) notices (E.taken err.new) (E.failures err.new)) }
+    ensures ok { OnOk result ((bundle text : List ℕ) × (notices : List ErrorLine) × ReadsToEnd (I.left input.old) (I.left input.new) bundle × (length bundle ≤ MAX_BUNDLE_BYTES) × AnswersBundle bundle text notices × Appends (O.taken out.old) (O.taken out.new) text × TakesLines (E.taken err.old) (E.failures err.old) notices (E.taken err.new) (E.failures err.new)) }
     ensures unfailed { OnOk result ((I.failures input.new ≡ I.failures input.old) × (O.failures out.new ≡ O.failures out.old)) }
     ensures failures { result ≡ Err RunError.Failed → HasRisen (I.failures input.old) (I.failures input.new) ⊎ HasRisen (O.failures out.old) (O.failures out.new) }
     ensures part { result ≡ Err RunError.Failed → (O.taken out.new ≡ O.taken out.old) ⊎ WritesPart (I.left input.old) (I.left input.new) (O.taken out.old) (O.taken out.new) }
     ensures unwritten { IfErr result (λ stop. (stop ≡ RunError.Failed) ⊎ (O.taken out.new ≡ O.taken out.old)) }
-    ensures stopped { IfErr result (λ stop. (lines : List (List ℕ)) × StopsOnBundle (I.left input.old) (I.left input.new) (status_of stop) lines × TakesLines (E.taken err.old) (E.failures err.old) lines (E.taken err.new) (E.failures err.new)) }
+    ensures stopped { IfErr result (λ stop. (lines : List ErrorLine) × StopsOnBundle (I.left input.old) (I.left input.new) (status_of stop) lines × TakesLines (E.taken err.old) (E.failures err.old) lines (E.taken err.new) (E.failures err.new)) }
 {
     let bundle = read_whole(alloc, input, err)?;
     let text = bundle_text(alloc, seed, &bundle, err)?;
@@ -61,9 +61,9 @@ fn bundle_text<E: Sink>(
     bundle: &[u8],
     err: &mut E,
 ) -> Result<Vec<u8>, RunError>
-    ensures ok { IfOk result (λ text. (notices : List (List ℕ)) × AnswersBundle bundle.now text.items notices × TakesLines (E.taken err.old) (E.failures err.old) notices (E.taken err.new) (E.failures err.new)) }
+    ensures ok { IfOk result (λ text. (notices : List ErrorLine) × AnswersBundle bundle.now text.items notices × TakesLines (E.taken err.old) (E.failures err.old) notices (E.taken err.new) (E.failures err.new)) }
     ensures unfailed { result ≢ Err RunError.Failed }
-    ensures stopped { IfErr result (λ stop. (lines : List (List ℕ)) × StopsInBundle bundle.now (status_of stop) lines × TakesLines (E.taken err.old) (E.failures err.old) lines (E.taken err.new) (E.failures err.new)) }
+    ensures stopped { IfErr result (λ stop. (lines : List ErrorLine) × StopsInBundle bundle.now (status_of stop) lines × TakesLines (E.taken err.old) (E.failures err.old) lines (E.taken err.new) (E.failures err.new)) }
 {
     let (tree, configuration) = cut(bundle);
     let settled = bundle_tree(alloc, seed, tree, err)?;
@@ -82,7 +82,7 @@ fn bundle_tree<E: Sink>(
     ensures accepted { IfOk result (λ settled. AreAccepted (bundle_files tree.now) (codes "Kconfig") (tree_of_settled settled)) }
     ensures profile { IfOk result (λ settled. profile_of settled ≡ Present) }
     ensures unreported { OnOk result (TakesLines (E.taken err.old) (E.failures err.old) [] (E.taken err.new) (E.failures err.new)) }
-    ensures stopped { IfErr result (λ stop. (lines : List (List ℕ)) × StopsAtTexts (bundle_files tree.now) (bundle_files tree.now) (codes "Kconfig") (status_of stop) lines × TakesLines (E.taken err.old) (E.failures err.old) lines (E.taken err.new) (E.failures err.new)) }
+    ensures stopped { IfErr result (λ stop. (lines : List ErrorLine) × StopsAtTexts (bundle_files tree.now) (bundle_files tree.now) (codes "Kconfig") (status_of stop) lines × TakesLines (E.taken err.old) (E.failures err.old) lines (E.taken err.new) (E.failures err.new)) }
 {
     let mut texts = Texts::with_seed(alloc, seed);
     texts.insert("Kconfig", tree)?;
@@ -109,7 +109,7 @@ fn full_over<E: Sink>(
 ) -> Result<Vec<u8>, RunError>
     ensures ok { IfOk result (λ text. (meanings : List (List LineMeaning)) × (values : List UnitValue) × Resolve (bundle_content configuration.now) (record bundle_settings { profile = profile_of settled.now }) (tree_of_settled settled.now) (codes "config" ∷ []) meanings values × (text.items ≡ full_file plain_format (tree_of_settled settled.now) values) × TakesLines (E.taken err.old) (E.failures err.old) (notice_lines (codes "config" ∷ []) meanings) (E.taken err.new) (E.failures err.new)) }
     ensures unfailed { result ≢ Err RunError.Failed }
-    ensures stopped { IfErr result (λ stop. (lines : List (List ℕ)) × StopsAmongFiles (bundle_content configuration.now) plain_format false (tree_of_settled settled.now) (codes "config" ∷ []) (status_of stop) lines × TakesLines (E.taken err.old) (E.failures err.old) lines (E.taken err.new) (E.failures err.new)) }
+    ensures stopped { IfErr result (λ stop. (lines : List ErrorLine) × StopsAmongFiles (bundle_content configuration.now) plain_format false (tree_of_settled settled.now) (codes "config" ∷ []) (status_of stop) lines × TakesLines (E.taken err.old) (E.failures err.old) lines (E.taken err.new) (E.failures err.new)) }
 {
     let format = Format::plain();
     let mut reader = MemoryReader::new(configuration);

@@ -8,7 +8,7 @@ ghost use Rattle.kc_dotconfig_model.specs.OtherChoices.{other_choices_of, placed
 ghost use Rattle.kc_dotconfig.specs.ConfigStates.{IsSolved, tree_in};
 ghost use Rattle.kc_dotconfig.specs.Fragments.{FitsTree, notice_pair, users_of};
 ghost use Rattle.kc_dotconfig.specs.ReadResults.{IsReadAs};
-ghost use Rattle.kmin_report.specs.Reports.{notice_line, choice_notice_lines};
+ghost use Rattle.kmin_report.specs.Reports.{ErrorLine, notice_line, choice_notice_lines};
 ghost use Rattle.kmin_report.specs.StandardError.{HasRisen, TakesLines};
 ghost use Rattle.kmin_run.specs.Stops.{StopsAmongFiles};
 ghost use Rattle.kmin_run.specs.Strictness.{AllowsNotices, RefusesNotices};
@@ -112,7 +112,7 @@ fn load_path<F: Files, E: Sink>(
     ensures fits { IfOk result (λ f. FitsTree (tree_of_settled settled.now) f.assigns.items) }
     ensures loaded { IfOk result (λ f. IsLoaded ((F.surroundings files.old).content path.now) (file_format settings.now.format) (tree_of_settled settled.now) path.now f (E.taken err.old) (E.failures err.old) (E.taken err.new) (E.failures err.new)) }
     ensures allowed { IfOk result (λ f. AllowsNotices settings.now.strict (map notice_pair f.notices.items)) }
-    ensures stopped { IfErr result (λ stop. (lines : List (List ℕ)) × StopsAtPath ((F.surroundings files.old).content path.now) (file_format settings.now.format) settings.now.strict (tree_of_settled settled.now) path.now (status_of stop) lines × TakesLines (E.taken err.old) (E.failures err.old) lines (E.taken err.new) (E.failures err.new)) }
+    ensures stopped { IfErr result (λ stop. (lines : List ErrorLine) × StopsAtPath ((F.surroundings files.old).content path.now) (file_format settings.now.format) settings.now.strict (tree_of_settled settled.now) path.now (status_of stop) lines × TakesLines (E.taken err.old) (E.failures err.old) lines (E.taken err.new) (E.failures err.new)) }
     ensures rising { F.failures files.old ≤ F.failures files.new }
     ensures failed { IfErr result (λ stop. status_of stop ≡ 5 → HasRisen (F.failures files.old) (F.failures files.new)) }
 {
@@ -153,7 +153,7 @@ pub(crate) fn configured_by<'a, F: Files, E: Sink>(
     ensures settled { IfOk result (λ read. read.config.system ≡ settled.now) }
     ensures solved { IfOk result (λ read. IsSolved read.config) }
     ensures loaded { IfOk result (λ read. AreRead (F.surroundings files.old).content (file_format settings.now.format) settings.now.strict (tree_of_settled settled.now) (path.now ∷ []) (empty_assignment (tree_of_settled settled.now)) read.config.users [] (lists_of read.chosen.items) (E.taken err.old) (E.failures err.old) (E.taken err.new) (E.failures err.new)) }
-    ensures stopped { IfErr result (λ stop. (lines : List (List ℕ)) × StopsAmongFiles (F.surroundings files.old).content (file_format settings.now.format) settings.now.strict (tree_of_settled settled.now) (path.now ∷ []) (status_of stop) lines × TakesLines (E.taken err.old) (E.failures err.old) lines (E.taken err.new) (E.failures err.new)) }
+    ensures stopped { IfErr result (λ stop. (lines : List ErrorLine) × StopsAmongFiles (F.surroundings files.old).content (file_format settings.now.format) settings.now.strict (tree_of_settled settled.now) (path.now ∷ []) (status_of stop) lines × TakesLines (E.taken err.old) (E.failures err.old) lines (E.taken err.new) (E.failures err.new)) }
     ensures rising { F.failures files.old ≤ F.failures files.new }
     ensures failed { IfErr result (λ stop. status_of stop ≡ 5 → HasRisen (F.failures files.old) (F.failures files.new)) }
 {
@@ -205,7 +205,7 @@ fn overlaid<'a, F: Files, E: Sink>(
     ensures settled { IfOk result (λ read. read.config.system ≡ settled.now) }
     ensures solved { IfOk result (λ read. IsSolved read.config) }
     ensures loaded { IfOk result (λ read. AreRead (F.surroundings files.old).content (file_format settings.now.format) settings.now.strict (tree_of_settled settled.now) (map (λ (path : Bor (List ℕ)). path.now) paths.now) begun.entry.config.users read.config.users (lists_of begun.entry.chosen.items) (lists_of read.chosen.items) (E.taken err.old) (E.failures err.old) (E.taken err.new) (E.failures err.new)) }
-    ensures stopped { IfErr result (λ stop. (lines : List (List ℕ)) × StopsAmongFiles (F.surroundings files.old).content (file_format settings.now.format) settings.now.strict (tree_of_settled settled.now) (map (λ (path : Bor (List ℕ)). path.now) paths.now) (status_of stop) lines × TakesLines (E.taken err.old) (E.failures err.old) lines (E.taken err.new) (E.failures err.new)) }
+    ensures stopped { IfErr result (λ stop. (lines : List ErrorLine) × StopsAmongFiles (F.surroundings files.old).content (file_format settings.now.format) settings.now.strict (tree_of_settled settled.now) (map (λ (path : Bor (List ℕ)). path.now) paths.now) (status_of stop) lines × TakesLines (E.taken err.old) (E.failures err.old) lines (E.taken err.new) (E.failures err.new)) }
     ensures rising { F.failures files.old ≤ F.failures files.new }
     ensures failed { IfErr result (λ stop. status_of stop ≡ 5 → HasRisen (F.failures files.old) (F.failures files.new)) }
 {
@@ -231,7 +231,7 @@ fn overlay_file<F: Files, E: Sink>(
     ensures settled { OnOk result (read.new.config.system ≡ settled.now) }
     ensures solved { OnOk result (IsSolved read.new.config) }
     ensures loaded { OnOk result (AreRead (F.surroundings files.old).content (file_format settings.now.format) settings.now.strict (tree_of_settled settled.now) (path.now ∷ []) read.old.config.users read.new.config.users (lists_of read.old.chosen.items) (lists_of read.new.chosen.items) (E.taken err.old) (E.failures err.old) (E.taken err.new) (E.failures err.new)) }
-    ensures stopped { IfErr result (λ stop. (lines : List (List ℕ)) × StopsAmongFiles (F.surroundings files.old).content (file_format settings.now.format) settings.now.strict (tree_of_settled settled.now) (path.now ∷ []) (status_of stop) lines × TakesLines (E.taken err.old) (E.failures err.old) lines (E.taken err.new) (E.failures err.new)) }
+    ensures stopped { IfErr result (λ stop. (lines : List ErrorLine) × StopsAmongFiles (F.surroundings files.old).content (file_format settings.now.format) settings.now.strict (tree_of_settled settled.now) (path.now ∷ []) (status_of stop) lines × TakesLines (E.taken err.old) (E.failures err.old) lines (E.taken err.new) (E.failures err.new)) }
     ensures rising { F.failures files.old ≤ F.failures files.new }
     ensures failed { IfErr result (λ stop. status_of stop ≡ 5 → HasRisen (F.failures files.old) (F.failures files.new)) }
 {
@@ -267,7 +267,7 @@ pub(crate) fn configured<'a, F: Files, E: Sink>(
     ensures settled { IfOk result (λ read. read.config.system ≡ settled.now) }
     ensures solved { IfOk result (λ read. IsSolved read.config) }
     ensures loaded { IfOk result (λ read. AreRead (F.surroundings files.old).content (file_format settings.now.format) settings.now.strict (tree_of_settled settled.now) (map (λ (path : Bor (List ℕ)). path.now) paths.now) (empty_assignment (tree_of_settled settled.now)) read.config.users [] (lists_of read.chosen.items) (E.taken err.old) (E.failures err.old) (E.taken err.new) (E.failures err.new)) }
-    ensures stopped { IfErr result (λ stop. (lines : List (List ℕ)) × StopsAmongFiles (F.surroundings files.old).content (file_format settings.now.format) settings.now.strict (tree_of_settled settled.now) (map (λ (path : Bor (List ℕ)). path.now) paths.now) (status_of stop) lines × TakesLines (E.taken err.old) (E.failures err.old) lines (E.taken err.new) (E.failures err.new)) }
+    ensures stopped { IfErr result (λ stop. (lines : List ErrorLine) × StopsAmongFiles (F.surroundings files.old).content (file_format settings.now.format) settings.now.strict (tree_of_settled settled.now) (map (λ (path : Bor (List ℕ)). path.now) paths.now) (status_of stop) lines × TakesLines (E.taken err.old) (E.failures err.old) lines (E.taken err.new) (E.failures err.new)) }
     ensures rising { F.failures files.old ≤ F.failures files.new }
     ensures failed { IfErr result (λ stop. status_of stop ≡ 5 → HasRisen (F.failures files.old) (F.failures files.new)) }
 {

@@ -14,7 +14,7 @@ ghost use Rattle.kmin_run.specs.Statuses.{status_of_list, status_of_verb};
 ghost use Rattle.kmin_trees.specs.AcceptedTrees.{AreAccepted};
 ghost use Rattle.kmin_trees.specs.JobTexts.{TreeTexts, AreTextsOfJob};
 ghost use Rattle.kmin_run.specs.PartialAnswers.{AnswersInPart};
-ghost use Rattle.kmin_report.specs.Reports.{last_lines};
+ghost use Rattle.kmin_report.specs.Reports.{ErrorLine, last_lines};
 ghost use Rattle.kmin_report.specs.StandardError.{HasRisen, TakesLines};
 ghost use Rattle.kmin_run.specs.Stops.{Stops, StopsAmongFiles, StopsBefore};
 ghost use Rattle.kmin_run.specs.between.Comparisons.{AreBothNoticed, AreBothRead, AreNoticed, StopsAnswering, StopsComparing};
@@ -52,12 +52,12 @@ pub fn serve<F: Files, O: Sink, E: Sink>(
 
     // The tree and the files are accepted, exactly the output is written, no write failed, and the notices of the
     // tree's expansion and of the files are reported.
-    ensures done { (result ≡ 0) ⊎ (result ≡ 1) → (t : TreeTexts) × (text : List ℕ) × (notices : List (List ℕ)) × AreTextsOfJob (F.surroundings files.old) (settings_view job.now.settings) t × Answer (F.surroundings files.old).content (settings_view job.now.settings) t.texts (task_view job.now.task) text result notices × Appends (O.taken out.old) (O.taken out.new) text × TakesLines (E.taken err.old) (E.failures err.old) (t.lines ++ notices) (E.taken err.new) (E.failures err.new) }
+    ensures done { (result ≡ 0) ⊎ (result ≡ 1) → (t : TreeTexts) × (text : List ℕ) × (notices : List ErrorLine) × AreTextsOfJob (F.surroundings files.old) (settings_view job.now.settings) t × Answer (F.surroundings files.old).content (settings_view job.now.settings) t.texts (task_view job.now.task) text result notices × Appends (O.taken out.old) (O.taken out.new) text × TakesLines (E.taken err.old) (E.failures err.old) (t.lines ++ notices) (E.taken err.new) (E.failures err.new) }
     ensures unfailed { (result ≡ 0) ⊎ (result ≡ 1) → O.failures out.new ≡ O.failures out.old }
 
     // On every other status the fault that ended the run is reported, after the notices of the tree's expansion and of
     // the files accepted before.
-    ensures stopped { (result ≢ 0) × (result ≢ 1) → (lines : List (List ℕ)) × Stops (F.surroundings files.old) (settings_view job.now.settings) (task_view job.now.task) result lines × TakesLines (E.taken err.old) (E.failures err.old) (lines ++ last_lines result) (E.taken err.new) (E.failures err.new) }
+    ensures stopped { (result ≢ 0) × (result ≢ 1) → (lines : List ErrorLine) × Stops (F.surroundings files.old) (settings_view job.now.settings) (task_view job.now.task) result lines × TakesLines (E.taken err.old) (E.failures err.old) (lines ++ last_lines result) (E.taken err.new) (E.failures err.new) }
 
     // On status 5 the writer took the first bytes of the output, or nothing.
     ensures part { result ≡ 5 → (O.taken out.new ≡ O.taken out.old) ⊎ AnswersInPart (F.surroundings files.old) (settings_view job.now.settings) (task_view job.now.task) (O.taken out.old) (O.taken out.new) }
@@ -84,8 +84,8 @@ pub(crate) fn answer_job<F: Files, E: Sink>(
     err: &mut E,
 ) -> Result<AnswerText, RunError>
     ensures status { IfOk result (λ answer. answer.status ≤ 1) }
-    ensures answer { IfOk result (λ answer. (t : TreeTexts) × (notices : List (List ℕ)) × AreTextsOfJob (F.surroundings files.old) (settings_view job.now.settings) t × Answer (F.surroundings files.old).content (settings_view job.now.settings) t.texts (task_view job.now.task) answer.text.items answer.status notices × TakesLines (E.taken err.old) (E.failures err.old) (t.lines ++ notices) (E.taken err.new) (E.failures err.new)) }
-    ensures stopped { IfErr result (λ stop. (lines : List (List ℕ)) × StopsBefore (F.surroundings files.old) (settings_view job.now.settings) (task_view job.now.task) (status_of stop) lines × TakesLines (E.taken err.old) (E.failures err.old) lines (E.taken err.new) (E.failures err.new)) }
+    ensures answer { IfOk result (λ answer. (t : TreeTexts) × (notices : List ErrorLine) × AreTextsOfJob (F.surroundings files.old) (settings_view job.now.settings) t × Answer (F.surroundings files.old).content (settings_view job.now.settings) t.texts (task_view job.now.task) answer.text.items answer.status notices × TakesLines (E.taken err.old) (E.failures err.old) (t.lines ++ notices) (E.taken err.new) (E.failures err.new)) }
+    ensures stopped { IfErr result (λ stop. (lines : List ErrorLine) × StopsBefore (F.surroundings files.old) (settings_view job.now.settings) (task_view job.now.task) (status_of stop) lines × TakesLines (E.taken err.old) (E.failures err.old) lines (E.taken err.new) (E.failures err.new)) }
     ensures failed { IfErr result (λ stop. status_of stop ≡ 5 → HasRisen (F.failures files.old) (F.failures files.new)) }
 {
     let settled = job_tree(alloc, &job.settings, files, err)?;
@@ -105,8 +105,8 @@ fn answer_over<F: Files, E: Sink>(
 ) -> Result<AnswerText, RunError>
     requires profile { profile_of settled.now ≡ settings.now.profile }
     ensures status { IfOk result (λ answer. answer.status ≤ 1) }
-    ensures answer { IfOk result (λ answer. (notices : List (List ℕ)) × ((texts : trees.Files) → AreAccepted texts settings.now.tree.now (tree_of_settled settled.now) → Answer (F.surroundings files.old).content (settings_view settings.now) texts (task_view task.now) answer.text.items answer.status notices) × TakesLines (E.taken err.old) (E.failures err.old) notices (E.taken err.new) (E.failures err.new)) }
-    ensures stopped { IfErr result (λ stop. (lines : List (List ℕ)) × StopsOverTree (F.surroundings files.old).content (settings_view settings.now) (tree_of_settled settled.now) (task_view task.now) (status_of stop) lines × TakesLines (E.taken err.old) (E.failures err.old) lines (E.taken err.new) (E.failures err.new)) }
+    ensures answer { IfOk result (λ answer. (notices : List ErrorLine) × ((texts : trees.Files) → AreAccepted texts settings.now.tree.now (tree_of_settled settled.now) → Answer (F.surroundings files.old).content (settings_view settings.now) texts (task_view task.now) answer.text.items answer.status notices) × TakesLines (E.taken err.old) (E.failures err.old) notices (E.taken err.new) (E.failures err.new)) }
+    ensures stopped { IfErr result (λ stop. (lines : List ErrorLine) × StopsOverTree (F.surroundings files.old).content (settings_view settings.now) (tree_of_settled settled.now) (task_view task.now) (status_of stop) lines × TakesLines (E.taken err.old) (E.failures err.old) lines (E.taken err.new) (E.failures err.new)) }
     ensures failed { IfErr result (λ stop. status_of stop ≡ 5 → HasRisen (F.failures files.old) (F.failures files.new)) }
     ensures rising { F.failures files.old ≤ F.failures files.new }
 {
@@ -133,8 +133,8 @@ fn answer_files<F: Files, E: Sink>(
 ) -> Result<AnswerText, RunError>
     requires profile { profile_of settled.now ≡ settings.now.profile }
     ensures status { IfOk result (λ answer. answer.status ≤ 1) }
-    ensures answer { IfOk result (λ answer. (notices : List (List ℕ)) × ((texts : trees.Files) → AreAccepted texts settings.now.tree.now (tree_of_settled settled.now) → Answer (F.surroundings files.old).content (settings_view settings.now) texts (over verb (map (λ (path : Bor (List ℕ)). path.now) paths.now)) answer.text.items answer.status notices) × TakesLines (E.taken err.old) (E.failures err.old) notices (E.taken err.new) (E.failures err.new)) }
-    ensures stopped { IfErr result (λ stop. (lines : List (List ℕ)) × StopsOverTree (F.surroundings files.old).content (settings_view settings.now) (tree_of_settled settled.now) (over verb (map (λ (path : Bor (List ℕ)). path.now) paths.now)) (status_of stop) lines × TakesLines (E.taken err.old) (E.failures err.old) lines (E.taken err.new) (E.failures err.new)) }
+    ensures answer { IfOk result (λ answer. (notices : List ErrorLine) × ((texts : trees.Files) → AreAccepted texts settings.now.tree.now (tree_of_settled settled.now) → Answer (F.surroundings files.old).content (settings_view settings.now) texts (over verb (map (λ (path : Bor (List ℕ)). path.now) paths.now)) answer.text.items answer.status notices) × TakesLines (E.taken err.old) (E.failures err.old) notices (E.taken err.new) (E.failures err.new)) }
+    ensures stopped { IfErr result (λ stop. (lines : List ErrorLine) × StopsOverTree (F.surroundings files.old).content (settings_view settings.now) (tree_of_settled settled.now) (over verb (map (λ (path : Bor (List ℕ)). path.now) paths.now)) (status_of stop) lines × TakesLines (E.taken err.old) (E.failures err.old) lines (E.taken err.new) (E.failures err.new)) }
     ensures failed { IfErr result (λ stop. status_of stop ≡ 5 → HasRisen (F.failures files.old) (F.failures files.new)) }
     ensures rising { F.failures files.old ≤ F.failures files.new }
 {
@@ -176,8 +176,8 @@ fn answer_comparison<F: Files, E: Sink>(
 ) -> Result<AnswerText, RunError>
     requires profile { profile_of settled.now ≡ settings.now.profile }
     ensures status { IfOk result (λ answer. answer.status ≤ 1) }
-    ensures answer { IfOk result (λ answer. (notices : List (List ℕ)) × ((texts : trees.Files) → AreAccepted texts settings.now.tree.now (tree_of_settled settled.now) → Answer (F.surroundings files.old).content (settings_view settings.now) texts (compare left.now right.now) answer.text.items answer.status notices) × TakesLines (E.taken err.old) (E.failures err.old) notices (E.taken err.new) (E.failures err.new)) }
-    ensures stopped { IfErr result (λ stop. (lines : List (List ℕ)) × StopsOverTree (F.surroundings files.old).content (settings_view settings.now) (tree_of_settled settled.now) (compare left.now right.now) (status_of stop) lines × TakesLines (E.taken err.old) (E.failures err.old) lines (E.taken err.new) (E.failures err.new)) }
+    ensures answer { IfOk result (λ answer. (notices : List ErrorLine) × ((texts : trees.Files) → AreAccepted texts settings.now.tree.now (tree_of_settled settled.now) → Answer (F.surroundings files.old).content (settings_view settings.now) texts (compare left.now right.now) answer.text.items answer.status notices) × TakesLines (E.taken err.old) (E.failures err.old) notices (E.taken err.new) (E.failures err.new)) }
+    ensures stopped { IfErr result (λ stop. (lines : List ErrorLine) × StopsOverTree (F.surroundings files.old).content (settings_view settings.now) (tree_of_settled settled.now) (compare left.now right.now) (status_of stop) lines × TakesLines (E.taken err.old) (E.failures err.old) lines (E.taken err.new) (E.failures err.new)) }
     ensures failed { IfErr result (λ stop. status_of stop ≡ 5 → HasRisen (F.failures files.old) (F.failures files.new)) }
     ensures rising { F.failures files.old ≤ F.failures files.new }
 {
@@ -202,7 +202,7 @@ fn read_both<'a, F: Files, E: Sink>(
     ensures settled { IfOk result (λ both. (both.0.config.system ≡ settled.now) × (both.1.config.system ≡ settled.now)) }
     ensures solved { IfOk result (λ both. IsSolved both.0.config × IsSolved both.1.config) }
     ensures loaded { IfOk result (λ both. AreBothRead (F.surroundings files.old).content (file_format settings.now.format) settings.now.strict (tree_of_settled settled.now) left.now right.now both.0 both.1 (E.taken err.old) (E.failures err.old) (E.taken err.new) (E.failures err.new)) }
-    ensures stopped { IfErr result (λ stop. (lines : List (List ℕ)) × StopsAmongFiles (F.surroundings files.old).content (file_format settings.now.format) settings.now.strict (tree_of_settled settled.now) (left.now ∷ right.now ∷ []) (status_of stop) lines × TakesLines (E.taken err.old) (E.failures err.old) lines (E.taken err.new) (E.failures err.new)) }
+    ensures stopped { IfErr result (λ stop. (lines : List ErrorLine) × StopsAmongFiles (F.surroundings files.old).content (file_format settings.now.format) settings.now.strict (tree_of_settled settled.now) (left.now ∷ right.now ∷ []) (status_of stop) lines × TakesLines (E.taken err.old) (E.failures err.old) lines (E.taken err.new) (E.failures err.new)) }
     ensures rising { F.failures files.old ≤ F.failures files.new }
     ensures failed { IfErr result (λ stop. status_of stop ≡ 5 → HasRisen (F.failures files.old) (F.failures files.new)) }
 {

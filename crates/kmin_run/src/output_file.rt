@@ -6,6 +6,7 @@ ghost use Rattle.kmin_report.specs.StandardError.{HasRisen, TakesLine, TakesLine
 ghost use Rattle.kmin_run.specs.Saves.{IsSaved, IsUnsaved, SaveEnds, replace_lines, replace_status, update_lines, update_status};
 ghost use Rattle.kmin_report.specs.between.ReportLines.{report_line};
 ghost use Rattle.kmin_report.specs.between.RunErrors.{status_of};
+ghost use Rattle.kmin_report.specs.Reports.{ErrorLine};
 
 use crate::job_output::answer_job;
 use kc_value::Sink;
@@ -33,7 +34,7 @@ pub fn save<F: Files, D: WriteDisk, E: Sink>(
 
     // The file has exactly the output, or there is no output, or the file can't be written; and the reason is reported,
     // after the notices of the files that were accepted.
-    ensures ends { (lines : List (List ℕ)) × SaveEnds (F.surroundings files.old) (settings_view output_job.now.job.settings) (task_view output_job.now.job.task) output_job.now.output.now
+    ensures ends { (lines : List ErrorLine) × SaveEnds (F.surroundings files.old) (settings_view output_job.now.job.settings) (task_view output_job.now.job.task) output_job.now.output.now
         (D.disk disk.old) (D.disk disk.new) lines result × TakesLines (E.taken err.old) (E.failures err.old) lines (E.taken err.new) (E.failures err.new) }
 
     // On status 5 a file couldn't be opened, or a read of a file failed, or the output file wasn't updated, or not for good.

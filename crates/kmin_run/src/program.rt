@@ -1,30 +1,34 @@
 //! The program as a whole: from words or a bundle to the output and the exit status.
-ghost use Rattle.std.specs.Prelude.{◌≡◌, ◌≢◌, ◌≤◌, ◌⊎◌, List, ℕ, map};
+ghost use Rattle.std.specs.Prelude.{◌≡◌, ◌≢◌, ◌≤◌, ◌⊎◌, List, ℕ, Option, map};
 ghost use Rattle.std.specs.Borrow.{Bor};
+ghost use Rattle.kc_files.specs.TextViews.{texts_of};
 ghost use Rattle.kmin_report.specs.StandardError.{TakesLine, TakesLines};
+ghost use Rattle.kmin_report.specs.Reports.{ErrorLine, refused_line};
 ghost use Rattle.kmin_disk.specs.Disks.{Disk};
-ghost use Rattle.kmin_run.specs.Runs.{AskForChanges, AskForTidying, BundleEnds, Ends, HasFailed, HelpEnds, IsTidying, MayChangeFiles, ParsedEnds, WordsEnd, input_of};
+ghost use Rattle.kmin_run.specs.Runs.{AreReadForChanges, AreReadForTidying, AskForChanges, AskForTidying, BundleEnds, Ends, HasFailed, HelpEnds, IsTidying, MayChangeFiles, ParsedEnds, ReadEnd, WordsEnd, input_of};
 ghost use Rattle.kmin_run.specs.TidyRuns.{outputs_of};
+ghost use Rattle.kmin_run.specs.between.WordRuns.{AreWordsRead};
 
 use crate::bundle_answer::run_bundle;
 use crate::job_output::serve;
 use crate::output_file::save;
-use crate::tidy_command::tidy;
+use crate::tidy_command::{refuse_list, tidy};
 use crate::wants_command::list_questions;
 use kc_value::{Seed, Sink, Source};
 use kmin_disk::WriteDisk;
+use kmin_lines::{WordFault, with_files};
 use kmin_report::{Report, RunError, exit_status, write_answer, write_report};
-use kmin_trees::Files;
-use kmin_words::{ParsedWords, command_first, read_words};
+use kmin_trees::{Files, WordFiles, read_word_files};
+use kmin_words::{ParsedWords, command_first, read_words_beside};
 use std::alloc::Global;
 
 /// Runs the program on its words, the files, the disk, a reader and two writers, and returns the exit status.
 ///
 /// Without words it reads a bundle, a Kconfig tree, a line `%%` and a configuration file, and writes the full file.
-/// Else the words are a command, before which options may stand. Statuses: 0 done, 1 a comparison found differences, symbols are listed with
-/// `--exit-code`, a file isn't minimal or a tree has open questions, 2 words or a list of paths refused, 3 tree
-/// refused, also by its expansion, 4 configuration file or answer file refused, or bundle or list too large, 5 a read
-/// or write failed, 6 out of memory.
+/// Else the words, each `@FILE` read as the words in its file, are a command, before which options may stand. Statuses: 0
+/// done, 1 a comparison found differences, symbols are listed with `--exit-code`, a file isn't minimal or a tree has open
+/// questions, 2 words or a list of paths refused, 3 tree refused, also by its expansion, 4 configuration file or answer
+/// file refused, or bundle, list or file of words too large, 5 a read or write failed, 6 out of memory.
 ///
 /// Only `tidy` and a command with an output file use `disk`; all other files are read by `files`.
 pub fn run<F: Files, D: WriteDisk, I: Source, O: Sink, E: Sink>(
@@ -38,19 +42,20 @@ pub fn run<F: Files, D: WriteDisk, I: Source, O: Sink, E: Sink>(
 ) -> u8
     ensures status { result ≤ 6 }
 
-    // Without words the run is on a bundle. Else the words are parsed, the command first of them, and the run ends as
-    // what they are parsed as does: a command by the clauses of its own, a help, or a message that refuses them, with
-    // status 2; or memory runs out before. Standard error takes just these lines.
-    ensures ends { (lines : List (List ℕ)) × Ends (F.surroundings files.old) (map (λ (word : Bor (List ℕ)). word.now) words.now)
+    // Without words the run is on a bundle. Else each `@FILE` represents the words in its file, what they represent is
+    // parsed, the command first, and the run ends as what it is parsed as does: a command by the clauses of its own, a
+    // help, or a message that refuses the words, with status 2; or such a file can't be read or is refused, or memory runs
+    // out before. Standard error takes just these lines.
+    ensures ends { (lines : List ErrorLine) × Ends (F.surroundings files.old) (map (λ (word : Bor (List ℕ)). word.now) words.now)
         (input_of (I.left input.old) (I.failures input.old)) (input_of (I.left input.new) (I.failures input.new))
         (outputs_of (D.disk disk.old) (O.taken out.old) (O.failures out.old))
         (outputs_of (D.disk disk.new) (O.taken out.new) (O.failures out.new)) lines result × TakesLines (E.taken err.old) (E.failures err.old) lines (E.taken err.new) (E.failures err.new) }
 
-    // The disk changes only if the words are parsed as `tidy --write`, or have an output file.
-    ensures unasked { ((D.disk disk.new).state ≡ (D.disk disk.old).state) ⊎ AskForChanges (map (λ (word : Bor (List ℕ)). word.now) words.now) }
+    // The disk changes only if the words, with those in files, are parsed as `tidy --write`, or have an output file.
+    ensures unasked { ((D.disk disk.new).state ≡ (D.disk disk.old).state) ⊎ AskForChanges (F.surroundings files.old) (I.left input.old) (map (λ (word : Bor (List ℕ)). word.now) words.now) }
 
     // On status 4 something was written only if the words are parsed as `tidy`, of which a file is refused.
-    ensures refused { result ≡ 4 → (O.taken out.new ≡ O.taken out.old) ⊎ AskForTidying (map (λ (word : Bor (List ℕ)). word.now) words.now) }
+    ensures refused { result ≡ 4 → (O.taken out.new ≡ O.taken out.old) ⊎ AskForTidying (F.surroundings files.old) (I.left input.old) (map (λ (word : Bor (List ℕ)). word.now) words.now) }
     ensures unwritten { result ≢ 0 → result ≢ 1 → result ≢ 4 → result ≢ 5 → O.taken out.new ≡ O.taken out.old }
 
     // On status 5 a file couldn't be opened, or a read or a write failed; or the words are parsed as `tidy`, or have an output
@@ -59,7 +64,7 @@ pub fn run<F: Files, D: WriteDisk, I: Source, O: Sink, E: Sink>(
         (input_of (I.left input.old) (I.failures input.old)) (input_of (I.left input.new) (I.failures input.new))
         (outputs_of (D.disk disk.old) (O.taken out.old) (O.failures out.old))
         (outputs_of (D.disk disk.new) (O.taken out.new) (O.failures out.new))
-        ⊎ (AskForTidying (map (λ (word : Bor (List ℕ)). word.now) words.now) ⊎ AskForChanges (map (λ (word : Bor (List ℕ)). word.now) words.now)) }
+        ⊎ (AskForTidying (F.surroundings files.old) (I.left input.old) (map (λ (word : Bor (List ℕ)). word.now) words.now) ⊎ AskForChanges (F.surroundings files.old) (I.left input.old) (map (λ (word : Bor (List ℕ)). word.now) words.now)) }
 {
     if words.is_empty() {
         return answer_bundle(alloc, files.seed(), input, out, err);
@@ -76,7 +81,7 @@ fn answer_bundle<I: Source, O: Sink, E: Sink>(
     err: &mut E,
 ) -> u8
     ensures status { result ≤ 6 }
-    ensures ends { (disk : Disk) → (lines : List (List ℕ)) × BundleEnds (input_of (I.left input.old) (I.failures input.old)) (input_of (I.left input.new) (I.failures input.new))
+    ensures ends { (disk : Disk) → (lines : List ErrorLine) × BundleEnds (input_of (I.left input.old) (I.failures input.old)) (input_of (I.left input.new) (I.failures input.new))
         (outputs_of disk (O.taken out.old) (O.failures out.old))
         (outputs_of disk (O.taken out.new) (O.failures out.new)) lines result × TakesLines (E.taken err.old) (E.failures err.old) lines (E.taken err.new) (E.failures err.new) }
     ensures unwritten { result ≢ 0 → result ≢ 5 → O.taken out.new ≡ O.taken out.old }
@@ -87,7 +92,7 @@ fn answer_bundle<I: Source, O: Sink, E: Sink>(
     }
 }
 
-/// Runs the command that the words name, behind options or before them, and returns the exit status.
+/// Runs the words, each `@FILE` read as the words in its file, and returns the exit status.
 fn run_words<F: Files, D: WriteDisk, I: Source, O: Sink, E: Sink>(
     alloc: Global,
     words: &[&str],
@@ -98,22 +103,91 @@ fn run_words<F: Files, D: WriteDisk, I: Source, O: Sink, E: Sink>(
     err: &mut E,
 ) -> u8
     ensures status { result ≤ 6 }
-    ensures ends { (lines : List (List ℕ)) × WordsEnd (F.surroundings files.old) (map (λ (word : Bor (List ℕ)). word.now) words.now) (I.left input.old)
+    ensures ends { (lines : List ErrorLine) × WordsEnd (F.surroundings files.old) (map (λ (word : Bor (List ℕ)). word.now) words.now) (I.left input.old)
         (outputs_of (D.disk disk.old) (O.taken out.old) (O.failures out.old))
         (outputs_of (D.disk disk.new) (O.taken out.new) (O.failures out.new)) lines result × TakesLines (E.taken err.old) (E.failures err.old) lines (E.taken err.new) (E.failures err.new) }
-    ensures unasked { ((D.disk disk.new).state ≡ (D.disk disk.old).state) ⊎ AskForChanges (map (λ (word : Bor (List ℕ)). word.now) words.now) }
-    ensures refused { result ≡ 4 → (O.taken out.new ≡ O.taken out.old) ⊎ AskForTidying (map (λ (word : Bor (List ℕ)). word.now) words.now) }
+    ensures unasked { ((D.disk disk.new).state ≡ (D.disk disk.old).state) ⊎ AskForChanges (F.surroundings files.old) (I.left input.old) (map (λ (word : Bor (List ℕ)). word.now) words.now) }
+    ensures refused { result ≡ 4 → (O.taken out.new ≡ O.taken out.old) ⊎ AskForTidying (F.surroundings files.old) (I.left input.old) (map (λ (word : Bor (List ℕ)). word.now) words.now) }
     ensures unwritten { result ≢ 0 → result ≢ 1 → result ≢ 4 → result ≢ 5 → O.taken out.new ≡ O.taken out.old }
     ensures failed { result ≡ 5 → HasFailed (F.failures files.old) (F.failures files.new)
         (input_of (I.left input.old) (I.failures input.old)) (input_of (I.left input.new) (I.failures input.new))
         (outputs_of (D.disk disk.old) (O.taken out.old) (O.failures out.old))
         (outputs_of (D.disk disk.new) (O.taken out.new) (O.failures out.new))
-        ⊎ (AskForTidying (map (λ (word : Bor (List ℕ)). word.now) words.now) ⊎ AskForChanges (map (λ (word : Bor (List ℕ)). word.now) words.now)) }
+        ⊎ (AskForTidying (F.surroundings files.old) (I.left input.old) (map (λ (word : Bor (List ℕ)). word.now) words.now) ⊎ AskForChanges (F.surroundings files.old) (I.left input.old) (map (λ (word : Bor (List ℕ)). word.now) words.now)) }
+{
+    match read_word_files(alloc, words, files, input, err) {
+        Ok(read) => run_given(alloc, words, &read, files, disk, input, out, err),
+        Err(status) => status,
+    }
+}
+
+/// Runs the words, each `@FILE` as the words in its file, which was read, and returns the exit status.
+fn run_given<F: Files, D: WriteDisk, I: Source, O: Sink, E: Sink>(
+    alloc: Global,
+    words: &[&str],
+    read: &WordFiles,
+    files: &mut F,
+    disk: &mut D,
+    input: &mut I,
+    out: &mut O,
+    err: &mut E,
+) -> u8
+    ensures status { result ≤ 6 }
+    ensures ends { (left : Option (List ℕ)) → AreWordsRead (F.surroundings files.old).content left (I.left input.old) (map (λ (word : Bor (List ℕ)). word.now) words.now) (texts_of read.now.files) read.now.is_input_read
+        → (lines : List ErrorLine) × WordsEnd (F.surroundings files.old) (map (λ (word : Bor (List ℕ)). word.now) words.now) left
+        (outputs_of (D.disk disk.old) (O.taken out.old) (O.failures out.old))
+        (outputs_of (D.disk disk.new) (O.taken out.new) (O.failures out.new)) lines result × TakesLines (E.taken err.old) (E.failures err.old) lines (E.taken err.new) (E.failures err.new) }
+    ensures unasked { (left : Option (List ℕ)) → AreWordsRead (F.surroundings files.old).content left (I.left input.old) (map (λ (word : Bor (List ℕ)). word.now) words.now) (texts_of read.now.files) read.now.is_input_read
+        → ((D.disk disk.new).state ≡ (D.disk disk.old).state) ⊎ AskForChanges (F.surroundings files.old) left (map (λ (word : Bor (List ℕ)). word.now) words.now) }
+    ensures refused { (left : Option (List ℕ)) → AreWordsRead (F.surroundings files.old).content left (I.left input.old) (map (λ (word : Bor (List ℕ)). word.now) words.now) (texts_of read.now.files) read.now.is_input_read
+        → result ≡ 4 → (O.taken out.new ≡ O.taken out.old) ⊎ AskForTidying (F.surroundings files.old) left (map (λ (word : Bor (List ℕ)). word.now) words.now) }
+    ensures unwritten { result ≢ 0 → result ≢ 1 → result ≢ 4 → result ≢ 5 → O.taken out.new ≡ O.taken out.old }
+    ensures failed { (left : Option (List ℕ)) → AreWordsRead (F.surroundings files.old).content left (I.left input.old) (map (λ (word : Bor (List ℕ)). word.now) words.now) (texts_of read.now.files) read.now.is_input_read
+        → result ≡ 5 → HasFailed (F.failures files.old) (F.failures files.new)
+        (input_of (I.left input.old) (I.failures input.old)) (input_of (I.left input.new) (I.failures input.new))
+        (outputs_of (D.disk disk.old) (O.taken out.old) (O.failures out.old))
+        (outputs_of (D.disk disk.new) (O.taken out.new) (O.failures out.new))
+        ⊎ (AskForTidying (F.surroundings files.old) left (map (λ (word : Bor (List ℕ)). word.now) words.now) ⊎ AskForChanges (F.surroundings files.old) left (map (λ (word : Bor (List ℕ)). word.now) words.now)) }
+{
+    match with_files(alloc, words, &read.files) {
+        Ok(given) => {
+            let is_input_read = read.is_input_read;
+            run_read(alloc, &given, is_input_read, files, disk, input, out, err)
+        }
+        Err(WordFault::NotUtf8) => refuse_list(err),
+        Err(WordFault::OutOfMemory) => exit_status(RunError::Memory, err),
+    }
+}
+
+/// Runs the command that words without `@FILE` name, behind options or before them, and returns the exit status. Where standard input
+/// was read (`is_input_read`), words that read it once more are refused.
+fn run_read<F: Files, D: WriteDisk, I: Source, O: Sink, E: Sink>(
+    alloc: Global,
+    words: &[&str],
+    is_input_read: bool,
+    files: &mut F,
+    disk: &mut D,
+    input: &mut I,
+    out: &mut O,
+    err: &mut E,
+) -> u8
+    ensures status { result ≤ 6 }
+    ensures ends { (lines : List ErrorLine) × ReadEnd (F.surroundings files.old) is_input_read (map (λ (word : Bor (List ℕ)). word.now) words.now) (I.left input.old)
+        (outputs_of (D.disk disk.old) (O.taken out.old) (O.failures out.old))
+        (outputs_of (D.disk disk.new) (O.taken out.new) (O.failures out.new)) lines result × TakesLines (E.taken err.old) (E.failures err.old) lines (E.taken err.new) (E.failures err.new) }
+    ensures unasked { ((D.disk disk.new).state ≡ (D.disk disk.old).state) ⊎ AreReadForChanges is_input_read (map (λ (word : Bor (List ℕ)). word.now) words.now) }
+    ensures refused { result ≡ 4 → (O.taken out.new ≡ O.taken out.old) ⊎ AreReadForTidying is_input_read (map (λ (word : Bor (List ℕ)). word.now) words.now) }
+    ensures unwritten { result ≢ 0 → result ≢ 1 → result ≢ 4 → result ≢ 5 → O.taken out.new ≡ O.taken out.old }
+    ensures failed { result ≡ 5 → HasFailed (F.failures files.old) (F.failures files.new)
+        (input_of (I.left input.old) (I.failures input.old)) (input_of (I.left input.new) (I.failures input.new))
+        (outputs_of (D.disk disk.old) (O.taken out.old) (O.failures out.old))
+        (outputs_of (D.disk disk.new) (O.taken out.new) (O.failures out.new))
+        ⊎ (AreReadForTidying is_input_read (map (λ (word : Bor (List ℕ)). word.now) words.now) ⊎ AreReadForChanges is_input_read (map (λ (word : Bor (List ℕ)). word.now) words.now)) }
 {
     let Ok(ordered) = command_first(alloc, words) else {
         return exit_status(RunError::Memory, err);
     };
-    match read_words(alloc, &ordered) {
+    match read_words_beside(alloc, &ordered, is_input_read) {
         Ok(parsed) => run_parsed(alloc, &parsed, files, disk, input, out, err),
         Err(_) => exit_status(RunError::Memory, err),
     }
@@ -130,7 +204,7 @@ fn run_parsed<F: Files, D: WriteDisk, I: Source, O: Sink, E: Sink>(
     err: &mut E,
 ) -> u8
     ensures status { result ≤ 6 }
-    ensures ends { (lines : List (List ℕ)) × ParsedEnds (F.surroundings files.old) (I.left input.old) parsed.now
+    ensures ends { (lines : List ErrorLine) × ParsedEnds (F.surroundings files.old) (I.left input.old) parsed.now
         (outputs_of (D.disk disk.old) (O.taken out.old) (O.failures out.old))
         (outputs_of (D.disk disk.new) (O.taken out.new) (O.failures out.new)) lines result × TakesLines (E.taken err.old) (E.failures err.old) lines (E.taken err.new) (E.failures err.new) }
     ensures unasked { ((D.disk disk.new).state ≡ (D.disk disk.old).state) ⊎ MayChangeFiles parsed.now }
@@ -154,7 +228,7 @@ fn run_parsed<F: Files, D: WriteDisk, I: Source, O: Sink, E: Sink>(
 /// Writes the help that was asked for, and returns the exit status.
 fn write_help<O: Sink, E: Sink>(text: &str, out: &mut O, err: &mut E) -> u8
     ensures status { (result ≡ 0) ⊎ (result ≡ 5) }
-    ensures ends { (disk : Disk) → (lines : List (List ℕ)) × HelpEnds text.now
+    ensures ends { (disk : Disk) → (lines : List ErrorLine) × HelpEnds text.now
         (outputs_of disk (O.taken out.old) (O.failures out.old))
         (outputs_of disk (O.taken out.new) (O.failures out.new)) lines result × TakesLines (E.taken err.old) (E.failures err.old) lines (E.taken err.new) (E.failures err.new) }
 {
@@ -167,7 +241,7 @@ fn write_help<O: Sink, E: Sink>(text: &str, out: &mut O, err: &mut E) -> u8
 /// Reports words that are refused by their message, and returns the exit status.
 fn refuse_words<E: Sink>(message: &str, err: &mut E) -> u8
     ensures status { result ≡ 2 }
-    ensures reported { TakesLine (E.taken err.old) (E.failures err.old) message.now (E.taken err.new) (E.failures err.new) }
+    ensures reported { TakesLine (E.taken err.old) (E.failures err.old) (refused_line message.now) (E.taken err.new) (E.failures err.new) }
 {
     write_report(Report::RefusedWords(message), err);
     2

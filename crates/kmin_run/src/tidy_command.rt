@@ -1,25 +1,22 @@
 //! The command `tidy`, which compares each configuration file with its minimal file, or replaces it.
-ghost use Rattle.std.specs.Prelude.{◌≡◌, ◌≢◌, ◌≤◌, ◌⊎◌, ◌++◌, [], List, ℕ, Option, Some, false, length, map, option_map, IfOk, IfErr, IsErrOf};
+ghost use Rattle.std.specs.Prelude.{◌≡◌, ◌≢◌, ◌≤◌, ◌⊎◌, ◌++◌, [], List, ℕ, Option, false, map, option_map, IfOk, IfErr, IsErrOf};
 ghost use Rattle.std.specs.List.{list_all};
 ghost use Rattle.std.specs.Str.{is_utf8};
 ghost use Rattle.std.specs.Borrow.{Bor};
-ghost use Rattle.kc_files.specs.TreeContents.{FileContent};
 ghost use Rattle.kmin_lines.specs.Lists.{paths_in, is_one_line};
 ghost use Rattle.kmin_words.specs.Jobs.{list_view, settings_view, tidy_job_view};
-ghost use Rattle.kmin_report.specs.KnownBytes.{AreKnownBytes};
-ghost use Rattle.kmin_disk.specs.Contents.{OpensAs};
-ghost use Rattle.kmin_report.specs.Reports.{fault_line};
+ghost use Rattle.kmin_report.specs.Reports.{ErrorLine};
 ghost use Rattle.kmin_report.specs.StandardError.{HasRisen, TakesLine, TakesLines};
-ghost use Rattle.kmin_run.specs.TidyRuns.{IsGoneOver, AreListBytes, AreNamed, StopsReadingList, StopsAtList, PathsEnd, TidyEnds, list_content, malformed_line, is_ended_by_nul, options_of, outputs_of};
+ghost use Rattle.kmin_run.specs.TidyRuns.{IsGoneOver, AreListBytes, AreNamed, StopsAtList, PathsEnd, TidyEnds, is_ended_by_nul, options_of, outputs_of};
+ghost use Rattle.kmin_trees.specs.ListFiles.{malformed_line};
 ghost use Rattle.kmin_report.specs.between.RunErrors.{status_of};
 
-use kc_dotconfig::LoadKind;
-use kc_value::{MAX_LIST_BYTES, ReadBytes, ReadEnd, Sink, Source, read_up_to};
+use kc_value::{Sink, Source};
 use kmin_disk::WriteDisk;
 use kmin_lines::{ListFault, listed_paths};
 use kmin_report::{Report, RunError, exit_status, write_report};
 use kmin_tidy::{TidyOptions, tidy_files};
-use kmin_trees::{Files, job_tree};
+use kmin_trees::{Files, job_tree, read_list};
 use kmin_words::{PathList, TidyFlags, TidyJob};
 use std::alloc::{AllocError, Global};
 
@@ -41,7 +38,7 @@ pub fn tidy<F: Files, D: WriteDisk, I: Source, O: Sink, E: Sink>(
 
     // The files are tidied as by `tidy_files`; or the list or the tree is refused, which is reported, and nothing
     // changes.
-    ensures ends { (lines : List (List ℕ)) × TidyEnds (F.surroundings files.old) (I.left input.old) (tidy_job_view tidy_job.now)
+    ensures ends { (lines : List ErrorLine) × TidyEnds (F.surroundings files.old) (I.left input.old) (tidy_job_view tidy_job.now)
         (outputs_of (D.disk disk.old) (O.taken out.old) (O.failures out.old))
         (outputs_of (D.disk disk.new) (O.taken out.new) (O.failures out.new)) lines result × TakesLines (E.taken err.old) (E.failures err.old) lines (E.taken err.new) (E.failures err.new) }
 
@@ -73,7 +70,7 @@ fn tidy_listed<F: Files, D: WriteDisk, O: Sink, E: Sink>(
 ) -> u8
     ensures status { result ≤ 6 }
     ensures ends { (left : Option (List ℕ)) → AreListBytes (F.surroundings files.old).content left (tidy_job_view tidy_job.now).list list.now
-        → (lines : List (List ℕ)) × TidyEnds (F.surroundings files.old) left (tidy_job_view tidy_job.now)
+        → (lines : List ErrorLine) × TidyEnds (F.surroundings files.old) left (tidy_job_view tidy_job.now)
         (outputs_of (D.disk disk.old) (O.taken out.old) (O.failures out.old))
         (outputs_of (D.disk disk.new) (O.taken out.new) (O.failures out.new)) lines result × TakesLines (E.taken err.old) (E.failures err.old) lines (E.taken err.new) (E.failures err.new) }
     ensures unasked { tidy_job.now.flags.write ≡ false → (D.disk disk.new).state ≡ (D.disk disk.old).state }
@@ -89,8 +86,9 @@ fn tidy_listed<F: Files, D: WriteDisk, O: Sink, E: Sink>(
     }
 }
 
-/// Reports a list in which a path isn't UTF-8 or has a newline, and returns the exit status.
-fn refuse_list<E: Sink>(err: &mut E) -> u8
+/// Reports a list in which a path isn't UTF-8 or has a newline, or a file with a word that isn't UTF-8, and returns the exit
+/// status.
+pub(crate) fn refuse_list<E: Sink>(err: &mut E) -> u8
     ensures status { result ≡ 2 }
     ensures reported { TakesLine (E.taken err.old) (E.failures err.old) malformed_line (E.taken err.new) (E.failures err.new) }
 {
@@ -109,7 +107,7 @@ fn tidy_paths<F: Files, D: WriteDisk, O: Sink, E: Sink>(
     err: &mut E,
 ) -> u8
     ensures status { result ≤ 6 }
-    ensures ends { (lines : List (List ℕ)) × PathsEnd (F.surroundings files.old) (settings_view tidy_job.now.settings) tidy_job.now.flags (map (λ (path : Bor (List ℕ)). path.now) paths.now)
+    ensures ends { (lines : List ErrorLine) × PathsEnd (F.surroundings files.old) (settings_view tidy_job.now.settings) tidy_job.now.flags (map (λ (path : Bor (List ℕ)). path.now) paths.now)
         (outputs_of (D.disk disk.old) (O.taken out.old) (O.failures out.old))
         (outputs_of (D.disk disk.new) (O.taken out.new) (O.failures out.new)) lines result × TakesLines (E.taken err.old) (E.failures err.old) lines (E.taken err.new) (E.failures err.new) }
     ensures unasked { tidy_job.now.flags.write ≡ false → (D.disk disk.new).state ≡ (D.disk disk.old).state }
@@ -194,85 +192,12 @@ fn list_bytes<F: Files, I: Source, E: Sink>(
     ensures same { F.surroundings files.new ≡ F.surroundings files.old }
     ensures bytes { IfOk result (λ bytes. AreListBytes (F.surroundings files.old).content (I.left input.old) (option_map list_view list.entry) bytes.items) }
     ensures unreported { IfOk result (λ bytes. TakesLines (E.taken err.old) (E.failures err.old) [] (E.taken err.new) (E.failures err.new)) }
-    ensures stopped { IfErr result (λ stop. (lines : List (List ℕ)) × StopsAtList (F.surroundings files.old).content (I.left input.old) (option_map list_view list.entry) (status_of stop) lines × TakesLines (E.taken err.old) (E.failures err.old) lines (E.taken err.new) (E.failures err.new)) }
+    ensures stopped { IfErr result (λ stop. (lines : List ErrorLine) × StopsAtList (F.surroundings files.old).content (I.left input.old) (option_map list_view list.entry) (status_of stop) lines × TakesLines (E.taken err.old) (E.failures err.old) lines (E.taken err.new) (E.failures err.new)) }
     ensures rising { F.failures files.old ≤ F.failures files.new }
     ensures failed { IfErr result (λ stop. status_of stop ≡ 5 → HasRisen (F.failures files.old) (F.failures files.new) ⊎ HasRisen (I.failures input.old) (I.failures input.new)) }
 {
     match list {
-        Some(list) => named_list(alloc, list.path, files, input, err),
+        Some(list) => read_list(alloc, list.path, files, input, err),
         None => Ok(Vec::new(alloc)),
     }
-}
-
-/// The bytes of a list by its path. Reports why it can't be read.
-fn named_list<F: Files, I: Source, E: Sink>(
-    alloc: Global,
-    path: &str,
-    files: &mut F,
-    input: &mut I,
-    err: &mut E,
-) -> Result<Vec<u8>, RunError>
-    ensures same { F.surroundings files.new ≡ F.surroundings files.old }
-    ensures within { IfOk result (λ bytes. length bytes.items ≤ MAX_LIST_BYTES) }
-    ensures bytes { IfOk result (λ bytes. AreKnownBytes (list_content (F.surroundings files.old).content (I.left input.old) path.now) bytes.items) }
-    ensures unreported { IfOk result (λ bytes. TakesLines (E.taken err.old) (E.failures err.old) [] (E.taken err.new) (E.failures err.new)) }
-    ensures stopped { IfErr result (λ stop. (lines : List (List ℕ)) × StopsReadingList (list_content (F.surroundings files.old).content (I.left input.old) path.now) path.now (status_of stop) lines × TakesLines (E.taken err.old) (E.failures err.old) lines (E.taken err.new) (E.failures err.new)) }
-    ensures rising { F.failures files.old ≤ F.failures files.new }
-    ensures failed { IfErr result (λ stop. status_of stop ≡ 5 → HasRisen (F.failures files.old) (F.failures files.new) ⊎ HasRisen (I.failures input.old) (I.failures input.new)) }
-{
-    if path == "-" {
-        return read_list(alloc, path, input, err);
-    }
-    match files.reader_for(path) {
-        Some(mut reader) => {
-            let bytes = read_list(alloc, path, &mut reader, err);
-            files.close(reader);
-            bytes
-        }
-        None => {
-            report_list(path, LoadKind::Read, err);
-            Err(RunError::Failed)
-        }
-    }
-}
-
-/// The bytes of a list from a reader. Reports under `path` why it can't be read.
-fn read_list<S: Source, E: Sink>(
-    alloc: Global,
-    path: &str,
-    source: &mut S,
-    err: &mut E,
-) -> Result<Vec<u8>, RunError>
-    ensures within { IfOk result (λ bytes. length bytes.items ≤ MAX_LIST_BYTES) }
-    ensures bytes { IfOk result (λ bytes. (content : FileContent) → OpensAs content (Some (S.left source.old)) → AreKnownBytes content bytes.items) }
-    ensures unreported { IfOk result (λ bytes. TakesLines (E.taken err.old) (E.failures err.old) [] (E.taken err.new) (E.failures err.new)) }
-    ensures stopped { IfErr result (λ stop. (lines : List (List ℕ)) × ((content : FileContent) → OpensAs content (Some (S.left source.old)) → StopsReadingList content path.now (status_of stop) lines) × TakesLines (E.taken err.old) (E.failures err.old) lines (E.taken err.new) (E.failures err.new)) }
-    ensures failed { IfErr result (λ stop. status_of stop ≡ 5 → HasRisen (S.failures source.old) (S.failures source.new)) }
-{
-    let ReadBytes { bytes, end } = read_up_to(alloc, source, MAX_LIST_BYTES + 1, 0)?;
-    match end {
-        ReadEnd::AtEnd => Ok(bytes),
-        ReadEnd::AtLimit => {
-            report_list(path, LoadKind::TooLarge, err);
-            Err(RunError::Configuration)
-        }
-        ReadEnd::AtFailure => {
-            report_list(path, LoadKind::Read, err);
-            Err(RunError::Failed)
-        }
-    }
-}
-
-/// Reports a fault of a list as a whole.
-fn report_list<E: Sink>(path: &str, kind: LoadKind, err: &mut E)
-    ensures { TakesLine (E.taken err.old) (E.failures err.old) (fault_line path.now 0 kind) (E.taken err.new) (E.failures err.new) }
-{
-    write_report(
-        Report::FileFault {
-            path,
-            line: 0,
-            kind,
-        },
-        err,
-    );
 }

@@ -2,3 +2,4 @@ pub mod CycleTexts
 pub mod ChangeBounds
 pub mod NearSteps
 pub mod OneLines
+pub mod NumberedLines

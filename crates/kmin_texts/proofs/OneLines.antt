@@ -10,12 +10,12 @@ use Rattle.kmin_messages.specs.between.MessageViews.{bytes_of}
 use Rattle.kmin_messages.proofs.SafeBytes.{cond_passes, all_joined}
 use Rattle.kmin_messages.proofs.PlainTexts.{char_plain}
 use Rattle.kmin_messages.proofs.ObjectLines.{one_object, decimal_safe}
-use Rattle.kmin_texts.specs.declared.told_lines.Told.{Told}
-use Rattle.kmin_texts.specs.declared.told_lines.Form.{Form}
-use Rattle.kmin_texts.specs.declared.told_lines.Form.TheVariants.{Long, Json}
+use Rattle.kmin_texts.specs.declared.message_lines.MessageParts.{MessageParts}
+use Rattle.kmin_texts.specs.declared.message_lines.Form.{Form}
+use Rattle.kmin_texts.specs.declared.message_lines.Form.TheVariants.{Long, Json}
 use Rattle.kmin_texts.specs.OneLines.{IsOneLine, HasNoNewline}
-use Rattle.kmin_texts.specs.between.Sayings.{said}
-use Rattle.kmin_texts.specs.between.ToldLines.{told_message, form_line}
+use Rattle.kmin_texts.specs.between.Details.{detail_text}
+use Rattle.kmin_texts.specs.between.MessageLines.{message_of_parts, form_line}
 
 -- the pieces that fit have no control byte
 pieces_plain : (cs : List ℕ) (room : ℕ) → has_no_control_byte (fitting room (map shown_char cs)) ≡ true
@@ -68,10 +68,10 @@ long_one m h kind file text = record {
       (joined (severity_name m.severity) _ (severity_safe m.severity) (joined m.kind (after_colon m.text) kind (text_safe m.text text)));
 }
 
-pub told_one_line : (form : Form) (told : Told) → told.line < 2 ^ 32 → has_no_byte 10 told.kind.now ≡ true → HasNoNewline (bytes_of told.file)
-    → IsOneLine (form_line form (told_message told))
-told_one_line Long told h kind file =
-    long_one (told_message told) h kind file (no_newline (told_message told).text (pieces_plain (chars (said told.saying)) 200))
-told_one_line Json told h kind file =
-    let one = one_object (told_message told) h in
+pub message_one_line : (form : Form) (parts : MessageParts) → parts.line < 2 ^ 32 → has_no_byte 10 parts.kind.now ≡ true → HasNoNewline (bytes_of parts.file)
+    → IsOneLine (form_line form (message_of_parts parts))
+message_one_line Long parts h kind file =
+    long_one (message_of_parts parts) h kind file (no_newline (message_of_parts parts).text (pieces_plain (chars (detail_text parts.detail)) 200))
+message_one_line Json parts h kind file =
+    let one = one_object (message_of_parts parts) h in
     record { text = one.text; ended = one.ended; one_line = one.one_line }

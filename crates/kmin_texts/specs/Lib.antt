@@ -2,4 +2,6 @@ pub mod NearNames
 pub mod Texts
 pub mod LineTexts
 pub mod OneLines
+pub mod NumberedLines
+pub mod ReportMessages
 pub mod between

@@ -1,4 +1,4 @@
--- What messages say of lines at fault, by the words of these lines alone.
+-- The texts of messages for lines at fault, by the words of these lines alone.
 use Rattle.std.specs.Prelude.{ℕ, ◌+◌, not, List, [], ◌∷◌, ◌++◌, Option, Some, None, Result, Ok, Err, codes, take, drop, position, nat_eq, if◌then◌else◌}
 use Rattle.std.specs.List.{starts_with}
 use Rattle.std.specs.Str.{continuation_len}
@@ -75,7 +75,7 @@ first_run line =
     if starts_with nat_eq line byte_order_mark then codes "a byte order mark"
     else utf8_lossy (up_to_white (after_white line))
 
--- what the message of a fault says of the line of a tree that has it, by its kind
+-- the text for a fault of a line of a tree, by its kind
 abbrev pub tree_line_text : TreeKind → (line : List ℕ) → Result (List Lexeme) ExprFault → List ℕ
 tree_line_text kinds.UnknownStatement line ts = first_token ts
 tree_line_text kinds.StrayEnd line ts = first_token ts
@@ -84,7 +84,7 @@ tree_line_text kinds.LeftOut line ts = left_out_text ts
 tree_line_text kinds.BadToken line ts = bad_token_text line ts
 tree_line_text kind line ts = []
 
--- what the message of a fault says of the line of a configuration file that has it, by its kind
+-- the text for a fault of a line of a configuration file, by its kind
 abbrev pub file_line_text : LoadKind → (line : List ℕ) → List ℕ
 file_line_text Malformed line = first_run line
 file_line_text kind line = []

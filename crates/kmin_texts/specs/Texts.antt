@@ -1,4 +1,4 @@
--- What messages say of names, files, places, limits and cycles.
+-- The texts of messages for names, files, places, limits and cycles.
 use Rattle.std.specs.Prelude.{ℕ, List, [], ◌∷◌, ◌++◌, Option, Some, None, codes, decimal, if◌then◌else◌}
 use Rattle.std.specs.List.{flat_map, list_all}
 use Rattle.std.specs.Str.Lossy.{utf8_lossy}
@@ -11,7 +11,7 @@ use Rattle.kmin_texts.specs.declared.limits.Limit.TheVariants.{Symbols, Choices,
 use Rattle.kmin_texts.specs.declared.cycle_steps.Cause.{Cause}
 use Rattle.kmin_texts.specs.declared.cycle_steps.Cause.TheVariants.{DependsOn, Prompt, Default, Range, Select, Imply, Member, Tristate}
 
--- a name as a message says it: in quotes where it has a byte that names of symbols don't have, as a space
+-- a name as it stands in a text: in quotes where it has a byte that names of symbols don't have, as a space
 abbrev pub name_word : (name : List ℕ) → List ℕ
 name_word name = if list_all is_name_byte name then name else 34 ∷ (name ++ 34 ∷ [])
 

@@ -1,5 +1,5 @@
 pub mod FewestChanges
 pub mod CycleSteps
 pub mod NamedSymbols
-pub mod Sayings
-pub mod ToldLines
+pub mod Details
+pub mod MessageLines

@@ -45,7 +45,7 @@ pub struct Step<'a> {
     pub other: &'a str,
 }
 
-/// What the message says of a cycle: its steps.
+/// The text for a cycle: its steps.
 pub fn cycle_text(alloc: Global, steps: &[Step<'_>]) -> Result<String, AllocError>
     ensures { IfOk result (λ text. string_bytes text ≡ cycle_text (map step_of steps.now)) }
 {

@@ -1,20 +1,20 @@
-//! What a message says of a line, by its kind.
+//! The text for a line, by the kind of its fault or notice.
 ghost use Rattle.std.specs.Prelude.{◌≡◌, IfOk, string_bytes};
 ghost use Rattle.kc_tokens.specs.Token.{lexemes_from};
 ghost use Rattle.kc_dotconfig_model.specs.between.Prefixes.{prefix_bytes};
 ghost use Rattle.kmin_texts.specs.LineTexts.{tree_line_text, file_line_text};
 ghost use Rattle.kmin_texts.specs.between.NamedSymbols.{notice_text, notice_names};
-ghost use Rattle.kmin_texts.specs.between.Sayings.{said, said_names};
+ghost use Rattle.kmin_texts.specs.between.Details.{detail_text, detail_names};
 
+use crate::details::Detail;
 use crate::line_words::{first_run, named_on};
-use crate::sayings::Saying;
 use crate::tree_lines::{bad_token_text, first_token, left_out_text};
 use kc_dotconfig_model::{LoadKind, NoticeKind, Prefix, trimmed, value_parts};
 use kc_tokens::Language;
 use kc_tree_model::TreeKind;
 use std::alloc::{AllocError, Global};
 
-/// What the message of a fault says of the line of a tree that has it. Empty for a kind whose message says nothing of the line.
+/// The text for a fault of a line of a tree. Empty for a kind whose message shows nothing of the line.
 pub fn tree_line_text(
     alloc: Global,
     language: Language,
@@ -33,7 +33,7 @@ pub fn tree_line_text(
     }
 }
 
-/// What the message of a fault says of the line of a configuration file that has it.
+/// The text for a fault of a line of a configuration file.
 pub fn file_line_text(alloc: Global, kind: LoadKind, line: &[u8]) -> Result<String, AllocError>
     ensures { IfOk result (λ text. string_bytes text ≡ file_line_text kind line.now) }
 {
@@ -43,20 +43,20 @@ pub fn file_line_text(alloc: Global, kind: LoadKind, line: &[u8]) -> Result<Stri
     }
 }
 
-/// What a notice says of its line, without a name that is near.
-pub fn notice_saying<'a>(kind: NoticeKind, prefix: &Prefix, line: &'a str) -> Saying<'a>
-    ensures text { said result ≡ notice_text kind (prefix_bytes prefix.now) line.now }
-    ensures names { said_names result ≡ notice_names kind (prefix_bytes prefix.now) line.now }
+/// The detail of a notice of a line, without a name that is near.
+pub fn notice_detail<'a>(kind: NoticeKind, prefix: &Prefix, line: &'a str) -> Detail<'a>
+    ensures text { detail_text result ≡ notice_text kind (prefix_bytes prefix.now) line.now }
+    ensures names { detail_names result ≡ notice_names kind (prefix_bytes prefix.now) line.now }
 {
     match kind {
         NoticeKind::UnknownSymbol => match named_on(prefix, line) {
-            Some(name) => Saying::Unknown { name, near: None },
-            None => Saying::Nothing,
+            Some(name) => Detail::Unknown { name, near: None },
+            None => Detail::Nothing,
         },
         NoticeKind::NotOfType => match value_parts(prefix, trimmed(line)) {
-            Some((name, value)) => Saying::Value { name, value },
-            None => Saying::Nothing,
+            Some((name, value)) => Detail::Value { name, value },
+            None => Detail::Nothing,
         },
-        _ => Saying::Nothing,
+        _ => Detail::Nothing,
     }
 }

@@ -56,7 +56,7 @@ impl Limit {
     }
 }
 
-/// What the message says of a limit that a tree exceeds.
+/// The text for a limit that a tree exceeds.
 pub fn limit_text(alloc: Global, limit: Limit) -> Result<String, AllocError>
     ensures { IfOk result (λ text. string_bytes text ≡ limit_text limit) }
 {

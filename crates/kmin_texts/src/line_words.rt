@@ -1,4 +1,4 @@
-//! What a message says of a line of a configuration file or of a file of answers.
+//! Words of a line of a configuration file or of a file of answers.
 ghost use Rattle.std.specs.Prelude.{◌≡◌, ◌<◌, Some, None, not, length, position, IfOk, IfSome, IfNone, string_bytes};
 ghost use Rattle.kc_tokens.specs.Token.{is_white_byte};
 ghost use Rattle.kc_dotconfig_model.specs.between.Prefixes.{prefix_bytes};
@@ -57,7 +57,7 @@ fn up_to_white(bytes: &[u8]) -> &[u8]
     }
 }
 
-/// What the message says of a line without a meaning: its first word, up to white space, or that it begins with a byte order mark.
+/// The text for a line without a meaning: its first word, up to white space, or that it begins with a byte order mark.
 pub fn first_run(alloc: Global, line: &[u8]) -> Result<String, AllocError>
     ensures { IfOk result (λ text. string_bytes text ≡ first_run line.now) }
 {

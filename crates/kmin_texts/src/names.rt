@@ -6,7 +6,7 @@ ghost use Rattle.kmin_texts.specs.Texts.{name_word, unknown_text, value_text};
 use kc_tree_model::are_name_bytes;
 use std::alloc::{AllocError, Global};
 
-/// A name as a message says it: in quotes where it has a byte that names of symbols don't have, as a space.
+/// A name as it stands in a text: in quotes where it has a byte that names of symbols don't have, as a space.
 fn name_word(alloc: Global, name: &str) -> Result<String, AllocError>
     ensures { IfOk result (λ text. string_bytes text ≡ name_word name.now) }
 {
@@ -16,7 +16,7 @@ fn name_word(alloc: Global, name: &str) -> Result<String, AllocError>
     ["\"", name, "\""].concat(alloc)
 }
 
-/// What the message says of a symbol that the tree lacks: its name, and the nearest one of the tree, if one is near.
+/// The text for a symbol that the tree lacks: its name, and the nearest one of the tree, if one is near.
 pub fn unknown_text(alloc: Global, name: &str, near: Option<&str>) -> Result<String, AllocError>
     ensures { IfOk result (λ text. string_bytes text ≡ unknown_text name.now (option_map (λ (other : Bor (List ℕ)). other.now) near.entry)) }
 {
@@ -27,7 +27,7 @@ pub fn unknown_text(alloc: Global, name: &str, near: Option<&str>) -> Result<Str
     }
 }
 
-/// What the message says of a value that isn't of its symbol's type.
+/// The text for a value that isn't of its symbol's type.
 pub fn value_text(alloc: Global, name: &str, value: &str) -> Result<String, AllocError>
     ensures { IfOk result (λ text. string_bytes text ≡ value_text name.now value.now) }
 {

@@ -15,7 +15,7 @@ pub enum Unreadable {
 }
 
 impl Unreadable {
-    /// What the message says of it.
+    /// The words for it in a message.
     pub fn text(self) -> &'static str
         ensures { result.now ≡ unreadable_text self }
     {
@@ -28,7 +28,7 @@ impl Unreadable {
     }
 }
 
-/// What the message says of a sourced file that can't be read: its path, as expanded, and why.
+/// The text for a sourced file that can't be read: its path, as expanded, and why.
 pub fn missing_text(alloc: Global, path: &[u8], why: Unreadable) -> Result<String, AllocError>
     ensures { IfOk result (λ text. string_bytes text ≡ missing_text path.now why) }
 {
@@ -36,7 +36,7 @@ pub fn missing_text(alloc: Global, path: &[u8], why: Unreadable) -> Result<Strin
     [path.as_str(), ": ", why.text()].concat(alloc)
 }
 
-/// What the message says of a second definition, or of another type: the place of the first.
+/// The text for a second definition, or for another type: the place of the first.
 pub fn first_place_text(alloc: Global, path: &[u8], line: u32) -> Result<String, AllocError>
     ensures { IfOk result (λ text. string_bytes text ≡ first_place_text path.now line) }
 {

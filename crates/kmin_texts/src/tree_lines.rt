@@ -1,4 +1,4 @@
-//! What a message says of a line of a tree.
+//! The text for a line of a tree.
 ghost use Rattle.std.specs.Prelude.{◌≡◌, ◌+◌, Ok, IfOk, string_bytes};
 ghost use Rattle.std.specs.Str.{continuation_len};
 ghost use Rattle.kc_tokens.specs.Token.{lexemes_of, lexemes_from};
@@ -9,7 +9,7 @@ use kc_tokens::{ExprKind, Language, Token, push_tokens};
 use kc_tree_model::Keyword;
 use std::alloc::{AllocError, Global};
 
-/// What the message says of a line whose first word is at fault: that word. Empty if the line has a fault of its tokens.
+/// The text for a line whose first word is at fault: that word. Empty if the line has a fault of its tokens.
 pub fn first_token<'a>(
     alloc: Global,
     language: Language,
@@ -37,7 +37,7 @@ fn first_text<'a>(tokens: &[Token<'a>]) -> &'a str
     }
 }
 
-/// What the message says of a line with a form that is left out: which form.
+/// The text for a line with a form that is left out: which form.
 pub fn left_out_text(alloc: Global, language: Language, line: &str) -> Result<String, AllocError>
     ensures { IfOk result (λ text. string_bytes text ≡ left_out_text (lexemes_from language 0 0 line.now)) }
 {
@@ -67,7 +67,7 @@ fn form_text(alloc: Global, tokens: &[Token<'_>]) -> Result<String, AllocError>
     }
 }
 
-/// What the message says of a line with a byte that begins no token: the character there, or that it is a byte order mark.
+/// The text for a line with a byte that begins no token: the character there, or that it is a byte order mark.
 pub fn bad_token_text(alloc: Global, language: Language, line: &str) -> Result<String, AllocError>
     ensures { IfOk result (λ text. string_bytes text ≡ bad_token_text line.now (lexemes_from language 0 0 line.now)) }
 {

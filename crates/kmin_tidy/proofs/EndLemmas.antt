@@ -20,17 +20,18 @@ use Rattle.kmin_tidy.specs.declared.whole_run.RunResult.{RunResult}
 use Rattle.kmin_tidy.proofs.KeptPlaces.{stays_same, kept_after, newest_written}
 use Rattle.kmin_tidy.proofs.StepLemmas.{tidy_same}
 use Rattle.kmin_tidy.proofs.RunLemmas.{all_front, all_next, run_kept, run_unasked, run_tidy}
+use Rattle.kmin_report.specs.Reports.{ErrorLine}
 
 module _ (s : Settings) (a : Disk) where
-  tidies_kept : (b : Disk) (paths : List (List ℕ)) (text : List ℕ) (reports : List (List ℕ)) (status : ℕ) → Tidies s a b paths text reports status
+  tidies_kept : (b : Disk) (paths : List (List ℕ)) (text : List ℕ) (reports : List ErrorLine) (status : ℕ) → Tidies s a b paths text reports status
       → (place : List ℕ) → IsKept s (a.state.history place) (b.state.history place)
   tidies_kept b paths text reports status t place = run_kept s a b t.files text reports t.run place
 
-  tidies_unasked : (b : Disk) (paths : List (List ℕ)) (text : List ℕ) (reports : List (List ℕ)) (status : ℕ) → Tidies s a b paths text reports status
+  tidies_unasked : (b : Disk) (paths : List (List ℕ)) (text : List ℕ) (reports : List ErrorLine) (status : ℕ) → Tidies s a b paths text reports status
       → s.options.write ≡ false → b ≡ a
   tidies_unasked b paths text reports status t unasked = run_unasked s a b t.files text reports t.run unasked
 
-  tidies_tidy : (b : Disk) (paths : List (List ℕ)) (text : List ℕ) (reports : List (List ℕ)) (status : ℕ) → Tidies s a b paths text reports status
+  tidies_tidy : (b : Disk) (paths : List (List ℕ)) (text : List ℕ) (reports : List ErrorLine) (status : ℕ) → Tidies s a b paths text reports status
       → AreTidy s a.state paths → (b ≡ a) × (text ≡ [])
   tidies_tidy b paths text reports status t tidy =
       run_tidy s a b t.files text reports t.run (subst (AreTidy s a.state) (sym t.paths_are) tidy)
@@ -61,7 +62,7 @@ module _ (s : Settings) (a : Disk) where
             (inl (stays_same (between.state.history place) (b.state.history place) (l.leaves.others place other))))
       ]
 
-  stops_became : (b : Disk) (paths reports : List (List ℕ)) (status : ℕ) → Stops s a b paths reports status
+  stops_became : (b : Disk) (paths : List (List ℕ)) (reports : List ErrorLine) (status : ℕ) → Stops s a b paths reports status
       → (place : List ℕ) → IsKeptOrLeft s (a.state.history place) (b.state.history place)
   stops_became b paths reports status (before_write between front back text earlier made e t same r n) place =
       inl (subst (λ (d : Disk). IsKept s (a.state.history place) (d.state.history place)) (sym same) (tidies_kept between front text earlier made t place))
@@ -72,7 +73,7 @@ module _ (s : Settings) (a : Disk) where
       left_became between b path new_path place l (tidies_kept between front text earlier made t place)
 
   -- after a run, each place is as before, has its minimal file as its newest content, or has an unfinished new file
-  pub ends_became : (b : Disk) (paths reports : List (List ℕ)) (taken after : Option (List ℕ)) (failed failed_after status : ℕ)
+  pub ends_became : (b : Disk) (paths : List (List ℕ)) (reports : List ErrorLine) (taken after : Option (List ℕ)) (failed failed_after status : ℕ)
       → Ends s a b paths taken after failed failed_after reports status → (place : List ℕ) → IsKeptOrLeft s (a.state.history place) (b.state.history place)
   ends_became b paths reports taken after failed failed_after status (whole text t w f) place = inl (tidies_kept b paths text reports status t place)
   ends_became b paths reports taken after failed failed_after status (part text earlier made count t l w f r n) place =
@@ -82,7 +83,7 @@ module _ (s : Settings) (a : Disk) where
   asked_not : (d : Disk) (path : List ℕ) → IsToBeReplaced s d path → s.options.write ≡ false → ⊥
   asked_not d path asked unasked = let z : true ≡ false = sym asked.asked ∙ unasked in (cc)
 
-  stops_unasked : (b : Disk) (paths reports : List (List ℕ)) (status : ℕ) → Stops s a b paths reports status → s.options.write ≡ false → b ≡ a
+  stops_unasked : (b : Disk) (paths : List (List ℕ)) (reports : List ErrorLine) (status : ℕ) → Stops s a b paths reports status → s.options.write ≡ false → b ≡ a
   stops_unasked b paths reports status (before_write between front back text earlier made e t same r n) unasked =
       same ∙ tidies_unasked between front text earlier made t unasked
   stops_unasked b paths reports status (at_write between front back path text earlier made e t asked u r n) unasked =
@@ -91,7 +92,7 @@ module _ (s : Settings) (a : Disk) where
       absurd (asked_not between path asked unasked)
 
   -- a run without `write` leaves the disk unchanged
-  pub ends_unasked : (b : Disk) (paths reports : List (List ℕ)) (taken after : Option (List ℕ)) (failed failed_after status : ℕ)
+  pub ends_unasked : (b : Disk) (paths : List (List ℕ)) (reports : List ErrorLine) (taken after : Option (List ℕ)) (failed failed_after status : ℕ)
       → Ends s a b paths taken after failed failed_after reports status → s.options.write ≡ false → b ≡ a
   ends_unasked b paths reports taken after failed failed_after status (whole text t w f) unasked = tidies_unasked b paths text reports status t unasked
   ends_unasked b paths reports taken after failed failed_after status (part text earlier made count t l w f r n) unasked =
@@ -110,13 +111,13 @@ module _ (s : Settings) (a : Disk) where
       subst (λ (d : Disk). IsTidy s (content_at d.state path)) (sym same) (all_next P front path back (tidy_parts paths front (path ∷ back) e tidy)) in
       tidy_same s between.state path asked.bytes asked.least asked.notices here asked.differs
 
-  tidies_front : (b : Disk) (paths front back : List (List ℕ)) (text : List ℕ) (reports : List (List ℕ)) (status : ℕ) → paths ≡ front ++ back
+  tidies_front : (b : Disk) (paths front back : List (List ℕ)) (text : List ℕ) (reports : List ErrorLine) (status : ℕ) → paths ≡ front ++ back
       → Tidies s a b front text reports status → AreTidy s a.state paths → (b ≡ a) × (text ≡ [])
   tidies_front b paths front back text reports status e t tidy =
       let P : List ℕ → Type 0 = λ p. IsTidy s (newest (a.state.history (a.state.place p))) in
       tidies_tidy b front text reports status t (all_front P front back (tidy_parts paths front back e tidy))
 
-  stops_again : (b : Disk) (paths reports : List (List ℕ)) (status : ℕ) → Stops s a b paths reports status → AreTidy s a.state paths → b ≡ a
+  stops_again : (b : Disk) (paths : List (List ℕ)) (reports : List ErrorLine) (status : ℕ) → Stops s a b paths reports status → AreTidy s a.state paths → b ≡ a
   stops_again b paths reports status (before_write between front back text earlier made e t same r n) tidy =
       same ∙ (tidies_front between paths front back text earlier made e t tidy).0
   stops_again b paths reports status (at_write between front back path text earlier made e t asked u r n) tidy =
@@ -125,7 +126,7 @@ module _ (s : Settings) (a : Disk) where
       absurd (to_be_replaced_not between paths front back path (tidies_front between paths front (path ∷ back) text earlier made e t tidy).0 e tidy asked)
 
   -- a run over files that are all minimal or refused already leaves the disk unchanged
-  pub ends_again : (b : Disk) (paths reports : List (List ℕ)) (taken after : Option (List ℕ)) (failed failed_after status : ℕ)
+  pub ends_again : (b : Disk) (paths : List (List ℕ)) (reports : List ErrorLine) (taken after : Option (List ℕ)) (failed failed_after status : ℕ)
       → Ends s a b paths taken after failed failed_after reports status → AreTidy s a.state paths → b ≡ a
   ends_again b paths reports taken after failed failed_after status (whole text t w f) tidy = (tidies_tidy b paths text reports status t tidy).0
   ends_again b paths reports taken after failed failed_after status (part text earlier made count t l w f r n) tidy =
@@ -133,7 +134,7 @@ module _ (s : Settings) (a : Disk) where
   ends_again b paths reports taken after failed failed_after status (stopped h same f) tidy = stops_again b paths reports status h tidy
 
   -- a run over files that are all minimal or refused already writes nothing to standard output
-  pub ends_silent : (b : Disk) (paths reports : List (List ℕ)) (taken after : Option (List ℕ)) (failed failed_after status : ℕ)
+  pub ends_silent : (b : Disk) (paths : List (List ℕ)) (reports : List ErrorLine) (taken after : Option (List ℕ)) (failed failed_after status : ℕ)
       → Ends s a b paths taken after failed failed_after reports status → AreTidy s a.state paths → Appends taken after []
   ends_silent b paths reports taken after failed failed_after status (whole text t w f) tidy =
       subst (Appends taken after) (tidies_tidy b paths text reports status t tidy).1 w
@@ -143,7 +144,7 @@ module _ (s : Settings) (a : Disk) where
       subst (λ later. Appends taken later []) (sym same) (Appends-nil taken)
 
 -- a run that went over all its files, and whose text was then written whole or in part, ends as `Ends` says
-pub ends_written : (s : Settings) (a b : Disk) (paths : List (List ℕ)) (tidied : RunResult) (earlier own : List (List ℕ)) (taken after : Option (List ℕ))
+pub ends_written : (s : Settings) (a b : Disk) (paths : List (List ℕ)) (tidied : RunResult) (earlier own : List ErrorLine) (taken after : Option (List ℕ))
     (failed failed_after status : ℕ)
     → Tidies s a b paths tidied.text.items earlier tidied.status → IsWrittenOut tidied taken after failed failed_after own status
     → Ends s a b paths taken after failed failed_after (earlier ++ own) status
@@ -155,7 +156,7 @@ ends_written s a b paths tidied earlier own taken after failed failed_after stat
     part tidied.text.items earlier tidied.status count t l w f (ap (λ rs. earlier ++ rs) r) n
 
 -- a run that ended early, and then wrote the line of the reason to standard error, ends as `Ends` says
-pub ends_early : (s : Settings) (a b : Disk) (paths : List (List ℕ)) (earlier : List (List ℕ)) (stop : Stop) (taken : Option (List ℕ)) (failed status : ℕ)
+pub ends_early : (s : Settings) (a b : Disk) (paths : List (List ℕ)) (earlier : List ErrorLine) (stop : Stop) (taken : Option (List ℕ)) (failed status : ℕ)
     → StopsRun s a b paths earlier stop → status ≡ status_of_stop stop → Ends s a b paths taken taken failed failed (earlier ++ stop_line stop ∷ []) status
 ends_early s a b paths earlier Memory taken failed status (results.before_write between front back text made e t same is) n =
     stopped (before_write between front back text earlier made e t same refl n) refl refl

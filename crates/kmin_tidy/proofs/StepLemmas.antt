@@ -13,6 +13,7 @@ use Rattle.kmin_tidy.specs.declared.outcome.FileOutcome.TheVariants.{Minimal, No
 use Rattle.kmin_tidy.specs.Refusals as refusals
 use Rattle.kmin_tidy.specs.Refusals.{IsRefused}
 use Rattle.kmin_tidy.proofs.KeptPlaces.{stays_same, minimal_not, written_minimal, holds_read, holds_written}
+use Rattle.kmin_report.specs.Reports.{ErrorLine}
 
 module _ (s : Settings) (a b : Disk) (path : List ℕ) where
   -- on a disk that is unchanged, each place is as it was
@@ -45,7 +46,7 @@ module _ (s : Settings) (a b : Disk) (path : List ℕ) where
   unwritten_kept (not_regular u k f) place = unchanged_kept u place
 
   -- after one file of a run, each place is as before, or its file was replaced by its minimal file
-  pub step_kept : (line : List ℕ) (reports : List (List ℕ)) (outcome : FileOutcome) → Step s a b path line reports outcome
+  pub step_kept : (line : List ℕ) (reports : List ErrorLine) (outcome : FileOutcome) → Step s a b path line reports outcome
       → (place : List ℕ) → IsKept s (a.state.history place) (b.state.history place)
   step_kept line reports outcome (refused report r e l k) place = same_kept e place
   step_kept line reports outcome (noticed bytes notices r h some asked e l k o) place = same_kept e place
@@ -64,7 +65,7 @@ module _ (s : Settings) (a b : Disk) (path : List ℕ) where
   unwritten_places (not_regular u k f) any = u.places any
 
   -- each path leads to the same place before and after one file of a run
-  pub step_places : (line : List ℕ) (reports : List (List ℕ)) (outcome : FileOutcome) → Step s a b path line reports outcome
+  pub step_places : (line : List ℕ) (reports : List ErrorLine) (outcome : FileOutcome) → Step s a b path line reports outcome
       → (any : List ℕ) → b.state.place any ≡ a.state.place any
   step_places line reports outcome (refused report r e l k) any = same_places e any
   step_places line reports outcome (noticed bytes notices r h some asked e l k o) any = same_places e any
@@ -75,7 +76,7 @@ module _ (s : Settings) (a b : Disk) (path : List ℕ) where
   step_places line reports outcome (unsynced bytes least notices d w u l k o) any = u.replaced.places any
 
   -- without `write`, one file of a run leaves the disk unchanged
-  pub step_unasked : (line : List ℕ) (reports : List (List ℕ)) (outcome : FileOutcome) → Step s a b path line reports outcome
+  pub step_unasked : (line : List ℕ) (reports : List ErrorLine) (outcome : FileOutcome) → Step s a b path line reports outcome
       → s.options.write ≡ false → b ≡ a
   step_unasked line reports outcome (refused report r e l k) unasked = e
   step_unasked line reports outcome (noticed bytes notices r h some asked e l k o) unasked = e
@@ -85,14 +86,14 @@ module _ (s : Settings) (a b : Disk) (path : List ℕ) where
   step_unasked line reports outcome (unwritten bytes least notices d w u l k o) unasked = let z : true ≡ false = sym w ∙ unasked in (cc)
   step_unasked line reports outcome (unsynced bytes least notices d w u l k o) unasked = let z : true ≡ false = sym w ∙ unasked in (cc)
 
-  refused_not_minimal : (line : List ℕ) (outcome : FileOutcome) → IsRefused s a.state path outcome line → outcome ≡ Minimal → ⊥
+  refused_not_minimal : (line : ErrorLine) (outcome : FileOutcome) → IsRefused s a.state path outcome line → outcome ≡ Minimal → ⊥
   refused_not_minimal line outcome (refusals.faulty bytes kind number r first o l) m = let z : Refused ≡ Minimal = sym o ∙ m in (cc)
   refused_not_minimal line outcome (refusals.unread front rest number r first o l) m = let z : Failed ≡ Minimal = sym o ∙ m in (cc)
   refused_not_minimal line outcome (refusals.unopened may opens o l) m = let z : Failed ≡ Minimal = sym o ∙ m in (cc)
   refused_not_minimal line outcome (refusals.not_regular w k o l) m = let z : Failed ≡ Minimal = sym o ∙ m in (cc)
 
   -- after one file of a run with the outcome `Minimal`, its path leads to a minimal file
-  pub step_minimal : (line : List ℕ) (reports : List (List ℕ)) (outcome : FileOutcome) → Step s a b path line reports outcome
+  pub step_minimal : (line : List ℕ) (reports : List ErrorLine) (outcome : FileOutcome) → Step s a b path line reports outcome
       → outcome ≡ Minimal → HoldsMinimalFile s (b.state.history (b.state.place path))
   step_minimal line reports outcome (refused report r e l k) m = absurd (refused_not_minimal report outcome r m)
   step_minimal line reports outcome (noticed bytes notices r h some asked e l k o) m = let z : Refused ≡ Minimal = sym o ∙ m in (cc)
@@ -125,7 +126,7 @@ tidy_same s disk path bytes least notices t d =
     tidy_content s (content_at disk path) bytes least notices t d.minimises.read.bytes_are d.minimises.minimal d.minimises.allowed d.differs
 
 -- a path that leads to no file, or to a minimal or refused one, has no line of standard output, and leaves the disk unchanged
-pub step_tidy : (s : Settings) (a b : Disk) (path line : List ℕ) (reports : List (List ℕ)) (outcome : FileOutcome) → Step s a b path line reports outcome
+pub step_tidy : (s : Settings) (a b : Disk) (path line : List ℕ) (reports : List ErrorLine) (outcome : FileOutcome) → Step s a b path line reports outcome
     → IsTidy s (content_at a.state path) → (b ≡ a) × (line ≡ [])
 step_tidy s a b path line reports outcome (refused report r e l k) t = (e, l)
 step_tidy s a b path line reports outcome (noticed bytes notices r h some asked e l k o) t = (e, l)

@@ -12,13 +12,14 @@ use Rattle.kmin_tidy.specs.declared.stop.Stop.{Stop}
 use Rattle.kmin_tidy.specs.declared.stop.Stop.TheVariants.{Memory}
 use Rattle.kmin_tidy.proofs.StatusLemmas.{status_last}
 use Rattle.kmin_tidy.proofs.RunLemmas.{map_last, run_minimal}
+use Rattle.kmin_report.specs.Reports.{ErrorLine}
 
 -- a run over no files leaves the disk unchanged, writes nothing and has the status 0
 pub tidies_none : (s : Settings) (a : Disk) → Tidies s a a [] [] [] 0
 tidies_none s a = record { files = []; paths_are = refl; run = none; status_is = refl; minimal = tt }
 
 -- a whole run and the step of one file after it are a whole run over its paths and the path of that file
-pub tidies_more : (s : Settings) (a b c : Disk) (paths all : List (List ℕ)) (path text line whole : List ℕ) (reports own every : List (List ℕ))
+pub tidies_more : (s : Settings) (a b c : Disk) (paths all : List (List ℕ)) (path text line whole : List ℕ) (reports own every : List ErrorLine)
     (status after : ℕ) (outcome : FileOutcome)
     → Tidies s a b paths text reports status → Step s b c path line own outcome → all ≡ paths ++ path ∷ [] → whole ≡ text ++ line → every ≡ reports ++ own
     → after ≡ status_after status outcome → Tidies s a c all whole every after
@@ -34,7 +35,7 @@ tidies_more s a b c paths all path text line whole reports own every status afte
     }
 
 -- a run that went over the files before a path, and ends at the file of that path, ends early as `StopsRun` says
-pub stops_run : (s : Settings) (a b c : Disk) (paths front back : List (List ℕ)) (path text : List ℕ) (earlier : List (List ℕ)) (made : ℕ) (stop : Stop)
+pub stops_run : (s : Settings) (a b c : Disk) (paths front back : List (List ℕ)) (path text : List ℕ) (earlier : List ErrorLine) (made : ℕ) (stop : Stop)
     → paths ≡ front ++ path ∷ back → Tidies s a b front text earlier made → StopsFile s b c path stop → StopsRun s a c paths earlier stop
 stops_run s a b c paths front back path text earlier made stop e t (inl h) = before_write b front (path ∷ back) text made e t h.1 h.0
 stops_run s a b c paths front back path text earlier made stop e t (inr h) = at_write b front back path text made e t h.0 h.1

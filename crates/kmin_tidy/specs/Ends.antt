@@ -6,7 +6,7 @@ use Rattle.kmin_disk.specs.Disks.{Disk, IsUnchanged, Leaves}
 use Rattle.kmin_disk.specs.NewFiles.{IsNewPath}
 use Rattle.kmin_tidy.specs.Options.{Settings, Notices}
 use Rattle.kmin_tidy.specs.MinimalFiles.{IsNotMinimal}
-use Rattle.kmin_report.specs.Reports.{left_line, output_line, memory_line}
+use Rattle.kmin_report.specs.Reports.{ErrorLine, left_line, output_line, memory_line}
 use Rattle.kmin_report.specs.StandardError.{HasRisen}
 use Rattle.kmin_tidy.specs.Runs.{Tidies}
 
@@ -27,15 +27,15 @@ pub record LeavesNewFile (old new : Disk) (path new_path : List ℕ) : Type 0 wh
 
 -- A run went over the first of its paths and ended early: memory ran out before or during the replacement of a file (status 6),
 -- or a new file couldn't be removed (status 5).
-pub data Stops (s : Settings) (old new : Disk) (paths : List (List ℕ)) (reports : List (List ℕ)) (status : ℕ) : Type 0 where
-  before_write : (between : Disk) (front back : List (List ℕ)) (text : List ℕ) (earlier : List (List ℕ)) (made : ℕ)
+pub data Stops (s : Settings) (old new : Disk) (paths : List (List ℕ)) (reports : List ErrorLine) (status : ℕ) : Type 0 where
+  before_write : (between : Disk) (front back : List (List ℕ)) (text : List ℕ) (earlier : List ErrorLine) (made : ℕ)
       → paths ≡ front ++ back → Tidies s old between front text earlier made → new ≡ between
       → reports ≡ earlier ++ memory_line ∷ [] → status ≡ 6 → Stops s old new paths reports status
-  at_write : (between : Disk) (front back : List (List ℕ)) (path text : List ℕ) (earlier : List (List ℕ)) (made : ℕ)
+  at_write : (between : Disk) (front back : List (List ℕ)) (path text : List ℕ) (earlier : List ErrorLine) (made : ℕ)
       → paths ≡ front ++ path ∷ back → Tidies s old between front text earlier made → IsToBeReplaced s between path
       → IsUnchanged between.state new.state
       → reports ≡ earlier ++ memory_line ∷ [] → status ≡ 6 → Stops s old new paths reports status
-  at_left : (between : Disk) (front back : List (List ℕ)) (path new_path text : List ℕ) (earlier : List (List ℕ)) (made : ℕ)
+  at_left : (between : Disk) (front back : List (List ℕ)) (path new_path text : List ℕ) (earlier : List ErrorLine) (made : ℕ)
       → paths ≡ front ++ path ∷ back → Tidies s old between front text earlier made → IsToBeReplaced s between path
       → LeavesNewFile between new path new_path
       → reports ≡ earlier ++ left_line new_path ∷ [] → status ≡ 5 → Stops s old new paths reports status
@@ -43,10 +43,10 @@ pub data Stops (s : Settings) (old new : Disk) (paths : List (List ℕ)) (report
 -- A run over files ends: its text is written to standard output whole, or in part since a write failed; or the run ended early,
 -- and nothing is written to standard output.
 pub data Ends (s : Settings) (old new : Disk) (paths : List (List ℕ)) (taken taken_after : Option (List ℕ)) (failed failed_after : ℕ)
-    (reports : List (List ℕ)) (status : ℕ) : Type 0 where
+    (reports : List ErrorLine) (status : ℕ) : Type 0 where
   whole : (text : List ℕ) → Tidies s old new paths text reports status → Appends taken taken_after text
       → failed_after ≡ failed → Ends s old new paths taken taken_after failed failed_after reports status
-  part : (text : List ℕ) (earlier : List (List ℕ)) (made count : ℕ) → Tidies s old new paths text earlier made
+  part : (text : List ℕ) (earlier : List ErrorLine) (made count : ℕ) → Tidies s old new paths text earlier made
       → count < length text → Appends taken taken_after (take count text) → HasRisen failed failed_after
       → reports ≡ earlier ++ output_line ∷ [] → status ≡ 5
       → Ends s old new paths taken taken_after failed failed_after reports status

@@ -8,13 +8,13 @@ use Rattle.kmin_disk.specs.Disks.{DiskState, content_at}
 use Rattle.kmin_disk.specs.declared.kind.FileKind.TheVariants.{NotRegular}
 use Rattle.kmin_tidy.specs.Options.{Settings}
 use Rattle.kmin_tidy.specs.MinimalFiles.{MayBeRead, IsReadAt}
-use Rattle.kmin_report.specs.Reports.{fault_line, not_regular_line}
+use Rattle.kmin_report.specs.Reports.{ErrorLine, fault_line, not_regular_line}
 use Rattle.kmin_tidy.specs.declared.outcome.FileOutcome.{FileOutcome}
 use Rattle.kmin_tidy.specs.declared.outcome.FileOutcome.TheVariants.{Refused, Failed}
 
 -- The file at a path is refused, with this outcome and this line of standard error: it has a first fault, a read fails before
 -- one, it can't be opened, or under the option `--write` it isn't a regular file.
-pub data IsRefused (s : Settings) (disk : DiskState) (path : List ℕ) (outcome : FileOutcome) (line : List ℕ) : Type 0 where
+pub data IsRefused (s : Settings) (disk : DiskState) (path : List ℕ) (outcome : FileOutcome) (line : ErrorLine) : Type 0 where
   faulty : (bytes : List ℕ) (kind : LoadKind) (number : ℕ) → IsReadAt s disk path bytes
       → IsFirstFault s.format s.tree complete bytes kind number → outcome ≡ Refused → line ≡ fault_line path number kind
       → IsRefused s disk path outcome line

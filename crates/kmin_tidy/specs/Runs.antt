@@ -8,6 +8,7 @@ use Rattle.kmin_tidy.specs.MinimalFiles.{IsMinimalFile, IsReadAs}
 use Rattle.kmin_tidy.specs.Steps.{Step}
 use Rattle.kmin_tidy.specs.declared.outcome.FileOutcome.{FileOutcome}
 use Rattle.kmin_tidy.specs.declared.outcome.FileOutcome.TheVariants.{Minimal, NotMinimal, Refused, Failed}
+use Rattle.kmin_report.specs.Reports.{ErrorLine}
 
 -- a file that a run went over: its path and its outcome
 abbrev pub DoneFile : Type 0
@@ -19,9 +20,9 @@ path_of done = done.0
 
 -- A run goes over files one after another, each on the disk that those before it left. It has this disk at the end, these files
 -- with their outcomes, this text for standard output and these lines of standard error.
-pub data Run (s : Settings) (old : Disk) : Disk → List DoneFile → (text : List ℕ) → (reports : List (List ℕ)) → Type 0 where
+pub data Run (s : Settings) (old : Disk) : Disk → List DoneFile → (text : List ℕ) → (reports : List ErrorLine) → Type 0 where
   none : Run s old old [] [] []
-  one_more : (between new : Disk) (files all : List DoneFile) (path text line whole : List ℕ) (reports own every : List (List ℕ)) (outcome : FileOutcome)
+  one_more : (between new : Disk) (files all : List DoneFile) (path text line whole : List ℕ) (reports own every : List ErrorLine) (outcome : FileOutcome)
       → Run s old between files text reports → Step s between new path line own outcome
       → all ≡ files ++ (path, outcome) ∷ [] → whole ≡ text ++ line → every ≡ reports ++ own
       → Run s old new all whole every
@@ -53,7 +54,7 @@ paths_of paths = map (λ (path : Bor (List ℕ)). path.now) paths
 
 -- A run goes over all files of these paths, with this text for standard output, these lines of standard error and this status. At
 -- its end each file with the outcome `Minimal` is a minimal file.
-pub record Tidies (s : Settings) (old new : Disk) (paths : List (List ℕ)) (text : List ℕ) (reports : List (List ℕ)) (status : ℕ) : Type 0 where
+pub record Tidies (s : Settings) (old new : Disk) (paths : List (List ℕ)) (text : List ℕ) (reports : List ErrorLine) (status : ℕ) : Type 0 where
   pub files : List DoneFile
   pub paths_are : map path_of files ≡ paths
   pub run : Run s old new files text reports

@@ -9,7 +9,7 @@ use Rattle.kmin_tidy.specs.Options.{Settings, Notices, refuses_notices}
 use Rattle.kmin_tidy.specs.MinimalFiles.{IsReadAt, HasNotices, Minimises, IsNotMinimal}
 use Rattle.kmin_tidy.specs.Refusals.{IsRefused}
 use Rattle.kmin_tidy.specs.Reports.{difference_line, notice_lines}
-use Rattle.kmin_report.specs.Reports.{write_line}
+use Rattle.kmin_report.specs.Reports.{ErrorLine, write_line}
 use Rattle.kmin_tidy.specs.declared.outcome.FileOutcome.{FileOutcome}
 use Rattle.kmin_tidy.specs.declared.outcome.FileOutcome.TheVariants.{Minimal, NotMinimal, Refused, Failed}
 
@@ -29,9 +29,9 @@ pub record IsUnsynced (old new : Disk) (path least : List ℕ) : Type 0 where
 
 -- What a run does with one file, whatever its other files are: the disk after it, its line of standard output, its lines of
 -- standard error and its outcome.
-pub data Step (s : Settings) (old new : Disk) (path line : List ℕ) (reports : List (List ℕ)) (outcome : FileOutcome) : Type 0 where
+pub data Step (s : Settings) (old new : Disk) (path line : List ℕ) (reports : List ErrorLine) (outcome : FileOutcome) : Type 0 where
   -- the file isn't accepted
-  refused : (report : List ℕ) → IsRefused s old.state path outcome report → new ≡ old → line ≡ []
+  refused : (report : ErrorLine) → IsRefused s old.state path outcome report → new ≡ old → line ≡ []
       → reports ≡ report ∷ [] → Step s old new path line reports outcome
   -- the file is refused for its notices
   noticed : (bytes : List ℕ) (notices : Notices) → IsReadAt s old.state path bytes → HasNotices s bytes notices

@@ -6,6 +6,7 @@ ghost use Rattle.kmin_tidy.specs.Runs.{paths_of};
 ghost use Rattle.kmin_tidy.specs.Ends.{Ends};
 ghost use Rattle.kmin_tidy.specs.Promises.{IsKeptOrLeft, AreTidy};
 ghost use Rattle.kmin_report.specs.StandardError.{TakesLines};
+ghost use Rattle.kmin_report.specs.Reports.{ErrorLine};
 ghost use Rattle.kmin_tidy.specs.checker.ReportLines.{stop_line};
 ghost use Rattle.kmin_tidy.specs.checker.Endings.{status_of_stop, IsWrittenOut};
 
@@ -45,7 +46,7 @@ pub fn tidy_files<D: WriteDisk, O: Sink, E: Sink>(
     out: &mut O,
     err: &mut E,
 ) -> u8
-    ensures ends { (reports : List (List ℕ)) × Ends (settings_of settled.now format.now options) (D.disk disk.old)
+    ensures ends { (reports : List ErrorLine) × Ends (settings_of settled.now format.now options) (D.disk disk.old)
         (D.disk disk.new) (paths_of paths.now) (O.taken out.old) (O.taken out.new) (O.failures out.old)
         (O.failures out.new) reports result × TakesLines (E.taken err.old) (E.failures err.old) reports (E.taken err.new) (E.failures err.new) }
 
@@ -75,7 +76,7 @@ fn run_to_end<D: WriteDisk, O: Sink, E: Sink>(
     out: &mut O,
     err: &mut E,
 ) -> u8
-    ensures { (reports : List (List ℕ)) × Ends (settings_of settled.now format.now options) (D.disk disk.old)
+    ensures { (reports : List ErrorLine) × Ends (settings_of settled.now format.now options) (D.disk disk.old)
         (D.disk disk.new) (paths_of paths.now) (O.taken out.old) (O.taken out.new) (O.failures out.old)
         (O.failures out.new) reports result × TakesLines (E.taken err.old) (E.failures err.old) reports (E.taken err.new) (E.failures err.new) }
 {
@@ -87,7 +88,7 @@ fn run_to_end<D: WriteDisk, O: Sink, E: Sink>(
 
 /// Writes the text of a run, and returns its status.
 fn write_text<O: Sink, E: Sink>(tidied: &RunResult, out: &mut O, err: &mut E) -> u8
-    ensures { (reports : List (List ℕ)) × IsWrittenOut tidied.now (O.taken out.old) (O.taken out.new) (O.failures out.old)
+    ensures { (reports : List ErrorLine) × IsWrittenOut tidied.now (O.taken out.old) (O.taken out.new) (O.failures out.old)
         (O.failures out.new) reports result × TakesLines (E.taken err.old) (E.failures err.old) reports (E.taken err.new) (E.failures err.new) }
 {
     match write_answer(&tidied.text, out, err) {

@@ -3,6 +3,7 @@ ghost use Rattle.std.specs.Prelude.{ℕ, List, IfOk, IfErr};
 ghost use Rattle.kmin_tidy.specs.Options.{settings_of};
 ghost use Rattle.kmin_tidy.specs.Runs.{Tidies, paths_of};
 ghost use Rattle.kmin_report.specs.StandardError.{TakesLines};
+ghost use Rattle.kmin_report.specs.Reports.{ErrorLine};
 ghost use Rattle.kmin_tidy.specs.checker.FileResults.{StopsRun};
 
 use crate::file_step::tidy_file;
@@ -32,11 +33,11 @@ pub(crate) fn tidy_all<D: WriteDisk, E: Sink>(
     disk: &mut D,
     err: &mut E,
 ) -> Result<RunResult, Stop>
-    ensures run { IfOk result (λ tidied. (reports : List (List ℕ)) × Tidies (settings_of settled.now format.now options)
+    ensures run { IfOk result (λ tidied. (reports : List ErrorLine) × Tidies (settings_of settled.now format.now options)
         (D.disk disk.old) (D.disk disk.new)
         (paths_of paths.now) tidied.text.items reports tidied.status × TakesLines (E.taken err.old) (E.failures err.old) reports (E.taken err.new)
         (E.failures err.new)) }
-    ensures stopped { IfErr result (λ stop. (reports : List (List ℕ)) × StopsRun (settings_of settled.now format.now options)
+    ensures stopped { IfErr result (λ stop. (reports : List ErrorLine) × StopsRun (settings_of settled.now format.now options)
         (D.disk disk.old) (D.disk disk.new) (paths_of paths.now) reports stop
         × TakesLines (E.taken err.old) (E.failures err.old) reports (E.taken err.new) (E.failures err.new)) }
 {
@@ -54,11 +55,11 @@ fn tidy_each<D: WriteDisk, E: Sink>(
     disk: &mut D,
     err: &mut E,
 ) -> Result<RunResult, Stop>
-    ensures run { IfOk result (λ tidied. (reports : List (List ℕ)) × Tidies (settings_of config.old.system format.now options)
+    ensures run { IfOk result (λ tidied. (reports : List ErrorLine) × Tidies (settings_of config.old.system format.now options)
         (D.disk disk.old) (D.disk disk.new)
         (paths_of paths.now) tidied.text.items reports tidied.status × TakesLines (E.taken err.old) (E.failures err.old) reports (E.taken err.new)
         (E.failures err.new)) }
-    ensures stopped { IfErr result (λ stop. (reports : List (List ℕ)) × StopsRun (settings_of config.old.system format.now options)
+    ensures stopped { IfErr result (λ stop. (reports : List ErrorLine) × StopsRun (settings_of config.old.system format.now options)
         (D.disk disk.old) (D.disk disk.new) (paths_of paths.now) reports stop
         × TakesLines (E.taken err.old) (E.failures err.old) reports (E.taken err.new) (E.failures err.new)) }
 {

@@ -10,7 +10,7 @@ use Rattle.kc_files.specs.TreeContents.{FileContent}
 use Rattle.kmin_report.specs.KnownBytes.{AreKnownBytes}
 use Rattle.kmin_disk.specs.Contents.{OpensAs}
 use Rattle.kmin_report.specs.StandardError.{TakesLines}
-use Rattle.kmin_report.specs.MacroReports.{answers_line}
+use Rattle.kmin_report.specs.Reports.{ErrorLine, answers_line}
 use Rattle.kmin_trees.specs.JobAnswers.{FilesRecord, none, file}
 use Rattle.kmin_trees.specs.AnswerStops.{StopsAtAnswers, StopsAmongAnswers, answers_status, refused}
 use Rattle.kmin_trees.specs.AnswerStops as stops
@@ -79,7 +79,7 @@ module _ (content : FileContent) (path : List ℕ) (before after : Option (List 
   -- an answer file that was opened, but not accepted, ends a run with the lines that were reported
   pub stopped_reading : (read_failed read_failed_after status : ℕ) (taken taken_after : Option (List ℕ)) (failed failed_after : ℕ)
       → StopsReading path before after read_failed read_failed_after earlier status taken failed taken_after failed_after
-      → (lines : List (List ℕ)) × StopsAtAnswersPath content earlier path status lines × TakesLines taken failed lines taken_after failed_after
+      → (lines : List ErrorLine) × StopsAtAnswersPath content earlier path status lines × TakesLines taken failed lines taken_after failed_after
   stopped_reading f g status taken taken_after failed failed_after s = (
     answers_lines path s.fault.line s.fault.kind,
     subst (λ n. StopsAtAnswersPath content earlier path n (answers_lines path s.fault.line s.fault.kind)) (sym s.status_is)
@@ -89,7 +89,7 @@ module _ (content : FileContent) (path : List ℕ) (before after : Option (List 
 
 -- a job that ends at an answer file, after others that were accepted, ends among its answer files
 path_stops : (content_of : List ℕ → FileContent) (front back all : List (List ℕ))
-    (path : List ℕ) (earlier : RecordedAnswers) (status : ℕ) (lines : List (List ℕ))
+    (path : List ℕ) (earlier : RecordedAnswers) (status : ℕ) (lines : List ErrorLine)
     → all ≡ front ++ (path ∷ back) → FilesRecord content_of front [] earlier → StopsAtAnswersPath (content_of path) earlier path status lines
     → StopsAmongAnswers content_of all status lines
 path_stops content_of front back all path earlier status lines e r (steps.at_file line s l) = stops.at_file front back path line earlier e r s l
@@ -111,8 +111,8 @@ pub stopped_later : (content_of others : List ℕ → FileContent) → others �
     → (front back all : List (List ℕ)) (path : List ℕ) (earlier : RecordedAnswers)
     (status : ℕ) (taken middle taken_after : Option (List ℕ)) (failed failed_middle failed_after : ℕ)
     → all ≡ front ++ (path ∷ back) → FilesRecord content_of front [] earlier → TakesLines taken failed [] middle failed_middle
-    → (lines : List (List ℕ)) × StopsAtAnswersPath (others path) earlier path status lines × TakesLines middle failed_middle lines taken_after failed_after
-    → (lines : List (List ℕ)) × StopsAmongAnswers content_of all status lines × TakesLines taken failed lines taken_after failed_after
+    → (lines : List ErrorLine) × StopsAtAnswersPath (others path) earlier path status lines × TakesLines middle failed_middle lines taken_after failed_after
+    → (lines : List ErrorLine) × StopsAmongAnswers content_of all status lines × TakesLines taken failed lines taken_after failed_after
 stopped_later content_of others same front back all path earlier status taken middle taken_after failed failed_middle failed_after e r before h = (
   h.0,
   path_stops content_of front back all path earlier status h.0 e r

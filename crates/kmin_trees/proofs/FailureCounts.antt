@@ -4,6 +4,7 @@ use Rattle.kc_tree_model.specs.TreeFiles.{Files}
 use Rattle.kc_macros_model.specs.AnswerFiles.{RecordedAnswers}
 use Rattle.kc_files.specs.TreeContents.{TreeContents}
 use Rattle.kmin_report.specs.StandardError.{HasRisen}
+use Rattle.kmin_report.specs.Reports.{ErrorLine}
 use Rattle.kmin_trees.specs.between.TreeStops.{StopsAtTexts, at_texts, for_memory}
 use Rattle.kmin_trees.specs.between.ExpansionStops.{StopsExpanding}
 use Rattle.kmin_trees.specs.between.ExpansionStops as expanding
@@ -29,13 +30,13 @@ pub closed_rises : (own own_after before opened closed : ℕ) → own ≡ 0 → 
 closed_rises own own_after before opened closed e own_rose le rose up = rises_later before opened closed le up (rose (rose_from_none own own_after e own_rose))
 
 -- texts that end a run don't end it with the status of a failure
-pub texts_unfailed : (texts names : Files) (first : List ℕ) (status : ℕ) (lines : List (List ℕ)) → StopsAtTexts texts names first status lines
+pub texts_unfailed : (texts names : Files) (first : List ℕ) (status : ℕ) (lines : List ErrorLine) → StopsAtTexts texts names first status lines
     → status ≡ 5 → ⊥
 texts_unfailed texts names first status lines (at_texts line r s l) e = omega arith
 texts_unfailed texts names first status lines (for_memory s l) e = omega arith
 
 -- nor does an expansion of macros
-pub expanding_unfailed : (contents : TreeContents) (answers : RecordedAnswers) (first : List ℕ) (status : ℕ) (lines : List (List ℕ))
+pub expanding_unfailed : (contents : TreeContents) (answers : RecordedAnswers) (first : List ℕ) (status : ℕ) (lines : List ErrorLine)
     → StopsExpanding contents answers first status lines → status ≡ 5 → ⊥
 expanding_unfailed contents answers first status lines (expanding.at_fault notices fault i s l) e = omega arith
 expanding_unfailed contents answers first status lines (expanding.for_memory s l) e = omega arith

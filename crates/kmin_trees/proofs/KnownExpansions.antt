@@ -8,7 +8,7 @@ use Rattle.kc_expansion.proofs.KnownExpansions.{known_files_determine}
 use Rattle.kmin_trees.specs.FileContents.{Surroundings, path_below}
 use Rattle.kmin_trees.specs.TreeFolders.{regular_below, names_below, contents_below}
 use Rattle.kmin_trees.specs.KnownExpansions.{KnownFilesDetermineTheExpandedTree}
-use Rattle.kmin_report.specs.MacroReports.{macro_notice_line}
+use Rattle.kmin_report.specs.Reports.{macro_notice_line}
 
 file_known : (b : Bool) (content : FileContent) → (content ≡ None → ⊥) → cond b content (Some None) ≡ None → ⊥
 file_known true content h e = h e

@@ -1,5 +1,6 @@
 pub mod TreeResults
 pub mod TextGrowth
+pub mod MissingFiles
 pub mod AnswerReads
 pub mod AnswerFileLists
 pub mod LentAnswers
@@ -11,3 +12,4 @@ pub mod ListedQuestions
 pub mod JobTrees
 pub mod KnownTrees
 pub mod KnownExpansions
+pub mod ListReads

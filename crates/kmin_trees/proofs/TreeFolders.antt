@@ -1,5 +1,5 @@
 -- The files and the folders of a tree below a root.
-use Rattle.std.proofs.Common.{◌≡◌, ℕ, Bool, true, false, List, [], Option, Some, None, Result, Ok, Err, IfOk, Vec, refl, sym, ap, ◌∙◌, subst}
+use Rattle.std.proofs.Common.{◌≡◌, ℕ, ◌≤◌, Bool, true, false, List, [], Option, Some, None, Result, Ok, Err, IfOk, Vec, refl, sym, ap, ◌∙◌, subst}
 use Rattle.std.specs.Prelude.{option_map, if◌then◌else◌}
 use Rattle.std.specs.Str.{IsUtf8, is_utf8}
 use Rattle.std.proofs.lemmas.Str.{IsUtf8-from_is_utf8}
@@ -11,11 +11,21 @@ use Rattle.kc_macros_model.specs.Programs.{Fault, Notice}
 use Rattle.kc_macros_model.specs.ReadingStates.{ExpandedFile}
 use Rattle.kc_macros_model.specs.Worlds.{World}
 use Rattle.kc_expansion.specs.Expansions.{IsExpansion, AreWanted, AreUnused}
-use Rattle.kc_files.specs.TreeContents.{FileContent, FolderContent, ListsAs, IsWorldOf}
+use Rattle.kc_files.specs.TreeContents.{FileContent, FolderContent, TreeContents, StaysKnown, ListsAs, IsWorldOf}
 use Rattle.kc_files.specs.TreeContents as tree
 use Rattle.kmin_trees.specs.FileContents.{Surroundings, path_below}
 use Rattle.kmin_disk.specs.Contents.{OpensAs}
 use Rattle.kmin_trees.specs.TreeFolders.{regular_below, names_below, contents_through, contents_below}
+
+-- what is known of a tree stays where what is known of the files stays and their count of failures doesn't fall
+pub stays_below : (reference failures failures_after : ℕ) (known after : Surroundings) (root : List ℕ) → after ≡ known → failures ≤ failures_after
+    → StaysKnown (contents_through reference failures known root) (contents_through reference failures_after after root)
+stays_below reference failures failures_after known after root e le =
+    record { same = ap (λ (s : Surroundings). contents_through reference failures_after s root) e; rising = le }
+
+-- the contents beside a tree stay, and the count of failures doesn't fall
+pub beside_stays : (before after : TreeContents) → StaysKnown before after → after.beside ≡ before.beside
+beside_stays before after stays = ap (λ (t : TreeContents). t.beside) stays.same
 
 not_so : (b : Bool) → (b ≡ true → ⊥) → b ≡ false
 not_so true h = absurd (h refl)

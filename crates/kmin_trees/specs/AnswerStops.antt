@@ -9,7 +9,7 @@ use Rattle.kc_files.specs.TreeContents.{FileContent}
 use Rattle.kmin_report.specs.KnownBytes.{AreKnownBytes}
 use Rattle.kmin_disk.specs.Contents.{OpensAs}
 use Rattle.kmin_trees.specs.JobAnswers.{FilesRecord}
-use Rattle.kmin_report.specs.MacroReports.{answers_line}
+use Rattle.kmin_report.specs.Reports.{ErrorLine, answers_line}
 
 -- the exit status for a fault of an answer file: 5 for a failed read, 6 for lack of memory, and 4 for any other fault
 abbrev pub answers_status : AnswersKind → ℕ
@@ -27,15 +27,15 @@ IsReadUntil (cut_by kind) bytes rest = ⊥
 
 -- An answer file, after the answers of earlier ones, ends a job with this status and this line of standard error: for its first
 -- fault, or since it can't be opened.
-pub data StopsAtAnswers (content : FileContent) (earlier : RecordedAnswers) (path : List ℕ) (status : ℕ) (line : List ℕ) : Type 0 where
+pub data StopsAtAnswers (content : FileContent) (earlier : RecordedAnswers) (path : List ℕ) (status : ℕ) (line : ErrorLine) : Type 0 where
   refused : (bytes rest : List ℕ) (end : FileEnd) (fault : AnswersFault) → AreKnownBytes content (bytes ++ rest) → IsReadUntil end bytes rest
       → answers_read end bytes earlier ≡ Err fault → status ≡ answers_status fault.kind → line ≡ answers_line path fault.line fault.kind
       → StopsAtAnswers content earlier path status line
   unopened : OpensAs content None → status ≡ 5 → line ≡ answers_line path 0 Read → StopsAtAnswers content earlier path status line
 
 -- A job ends among its answer files, with this status and these lines of standard error: at one of them, or since memory ran out.
-pub data StopsAmongAnswers (content_of : List ℕ → FileContent) (paths : List (List ℕ)) (status : ℕ) (lines : List (List ℕ)) : Type 0 where
-  at_file : (front back : List (List ℕ)) (path line : List ℕ) (recorded : RecordedAnswers) → paths ≡ front ++ path ∷ back
+pub data StopsAmongAnswers (content_of : List ℕ → FileContent) (paths : List (List ℕ)) (status : ℕ) (lines : List ErrorLine) : Type 0 where
+  at_file : (front back : List (List ℕ)) (path : List ℕ) (line : ErrorLine) (recorded : RecordedAnswers) → paths ≡ front ++ path ∷ back
       → FilesRecord content_of front [] recorded → StopsAtAnswers (content_of path) recorded path status line
       → lines ≡ line ∷ [] → StopsAmongAnswers content_of paths status lines
   for_memory : status ≡ 6 → lines ≡ [] → StopsAmongAnswers content_of paths status lines

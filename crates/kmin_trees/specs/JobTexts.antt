@@ -7,12 +7,12 @@ use Rattle.kc_macros_model.specs.Programs.{Notice}
 use Rattle.kc_macros_model.specs.AnswerFiles.{RecordedAnswers}
 use Rattle.kc_macros_model.specs.ReadingStates.{ExpandedFile}
 use Rattle.kc_expansion.specs.Expansions.{IsExpansion}
-use Rattle.kc_expansion.specs.PathsOfKeys.{path_of_key}
+use Rattle.kc_files.specs.PathsOfKeys.{path_of_key}
 use Rattle.kmin_words.specs.Jobs.{Expansion, Settings}
 use Rattle.kmin_trees.specs.FileContents.{Surroundings, AreTextsBelow}
 use Rattle.kmin_trees.specs.TreeFolders.{contents_below}
 use Rattle.kmin_trees.specs.JobAnswers.{AreJobAnswers}
-use Rattle.kmin_report.specs.MacroReports.{macro_notice_line}
+use Rattle.kmin_report.specs.Reports.{ErrorLine, macro_notice_line}
 
 -- the texts of a tree with one more expanded file, at its key, which is its path in `source` lines; a file whose key isn't UTF-8
 -- can't be sourced, and is left out
@@ -45,7 +45,7 @@ named_texts files texts = record { language = texts.language; list = map (λ (f 
 pub record TreeTexts : Type 0 where
   pub texts : Files
   pub names : Files
-  pub lines : List (List ℕ)
+  pub lines : List ErrorLine
 
 -- these texts, names and lines are those of the expansion of a job's tree, in this language
 pub record AreExpandedTexts (known : Surroundings) (root first : List ℕ) (language : Language) (expansion : Expansion) (t : TreeTexts) : Type 0 where

@@ -5,7 +5,10 @@ pub mod JobAnswers
 pub mod JobTexts
 pub mod AnswerStops
 pub mod Stops
+pub mod MissingFiles
 pub mod KnownTrees
 pub mod KnownExpansions
 pub mod WantedQuestions
+pub mod ListFiles
+pub mod WordFiles
 pub mod between

@@ -15,21 +15,20 @@ use Rattle.kmin_trees.specs.JobAnswers.{AreJobAnswers}
 use Rattle.kmin_trees.specs.JobTexts.{TreeTexts, AreTextsOfJob}
 use Rattle.kmin_trees.specs.TreeFolders.{contents_below}
 use Rattle.kmin_trees.specs.AnswerStops.{StopsAmongAnswers}
-use Rattle.kmin_report.specs.MacroReports.{macro_fault_line, macro_notice_line}
-use Rattle.kmin_report.specs.Reports.{tree_fault_line, cycle_line}
+use Rattle.kmin_report.specs.Reports.{ErrorLine, tree_fault_line, tree_cycle_line, macro_fault_line, macro_notice_line}
 
 -- Texts are refused as a tree, with this line of standard error, in which files have their names in `names`: for their first
 -- fault, or for a cycle of symbols and choices.
-pub data RefusesTexts (texts names : Files) (first line : List ℕ) : Type 0 where
+pub data RefusesTexts (texts names : Files) (first : List ℕ) (line : ErrorLine) : Type 0 where
   faulty : (fault : TreeFault) → IsReportedFault texts first fault → line ≡ tree_fault_line names first fault
       → RefusesTexts texts names first line
   cyclic : (tree : Tree) (units : List ℕ) → IsTreeOfFiles texts first tree
       → IsNamedCycle (length tree.units) (dependencies tree) units → IsCycle (length tree.units) (dependencies tree) units
-      → line ≡ cycle_line names first tree units → RefusesTexts texts names first line
+      → line ≡ tree_cycle_line names first tree units → RefusesTexts texts names first line
 
 -- A command ends at the expansion of its tree's macros, with this status and these lines of standard error: among its answer
 -- files, at a fault of the expansion, after its notices, or since memory ran out.
-pub data StopsInExpansion (known : Surroundings) (root first : List ℕ) (expansion : Expansion) (status : ℕ) (lines : List (List ℕ)) : Type 0 where
+pub data StopsInExpansion (known : Surroundings) (root first : List ℕ) (expansion : Expansion) (status : ℕ) (lines : List ErrorLine) : Type 0 where
   among_answers : StopsAmongAnswers known.content expansion.answers status lines → StopsInExpansion known root first expansion status lines
   at_fault : (answers : RecordedAnswers) (notices : List Notice) (fault : Fault) → AreJobAnswers known.content known.variable expansion answers
       → IsExpansion (contents_below known root) answers first notices (Err fault)
@@ -38,9 +37,9 @@ pub data StopsInExpansion (known : Surroundings) (root first : List ℕ) (expans
 
 -- A command ends at its tree, with this status and these lines of standard error: in the expansion of macros, since the texts are
 -- refused as a tree, or since memory ran out while they were read.
-pub data StopsAtTree (known : Surroundings) (settings : Settings) (status : ℕ) (lines : List (List ℕ)) : Type 0 where
+pub data StopsAtTree (known : Surroundings) (settings : Settings) (status : ℕ) (lines : List ErrorLine) : Type 0 where
   in_expansion : (expansion : Expansion) → settings.expansion ≡ Some expansion
       → StopsInExpansion known settings.root settings.tree expansion status lines → StopsAtTree known settings status lines
-  at_texts : (t : TreeTexts) (line : List ℕ) → AreTextsOfJob known settings t → RefusesTexts t.texts t.names settings.tree line
+  at_texts : (t : TreeTexts) (line : ErrorLine) → AreTextsOfJob known settings t → RefusesTexts t.texts t.names settings.tree line
       → status ≡ 3 → lines ≡ t.lines ++ line ∷ [] → StopsAtTree known settings status lines
   for_memory : (t : TreeTexts) → AreTextsOfJob known settings t → status ≡ 6 → lines ≡ t.lines → StopsAtTree known settings status lines

@@ -12,8 +12,7 @@ use Rattle.kmin_trees.specs.FileContents.{Surroundings}
 use Rattle.kmin_trees.specs.JobAnswers.{AreJobAnswers}
 use Rattle.kmin_trees.specs.TreeFolders.{contents_below}
 use Rattle.kmin_trees.specs.AnswerStops.{StopsAmongAnswers}
-use Rattle.kmin_report.specs.MacroReports.{macro_fault_line}
-use Rattle.kmin_report.specs.Reports.{output_line}
+use Rattle.kmin_report.specs.Reports.{ErrorLine, output_line, macro_fault_line}
 
 -- what `wants` lists of a tree with these answers: its open questions; with `--unused` where none is open the questions of the
 -- answers `recorded` of answer files that the tree doesn't ask, in their order; or the fault of the tree's expansion
@@ -37,7 +36,7 @@ questions_text asked = flat_map question_line asked
 
 -- The command `wants` ends early, with this status and these lines of standard error: among its answer files, at the fault of an
 -- expansion without open questions, at a failed write, or since memory ran out.
-pub data StopsWanting (known : Surroundings) (questions : Questions) (status : ℕ) (lines : List (List ℕ)) : Type 0 where
+pub data StopsWanting (known : Surroundings) (questions : Questions) (status : ℕ) (lines : List ErrorLine) : Type 0 where
   among_answers : StopsAmongAnswers known.content questions.expansion.answers status lines → StopsWanting known questions status lines
   at_fault : (fault : Fault) → AreAsked known questions (Err fault) → status ≡ 3 → lines ≡ macro_fault_line fault ∷ []
       → StopsWanting known questions status lines

@@ -1,5 +1,5 @@
 //! The expansion of a tree: its expanded files, and the questions of its macros that are open.
-ghost use Rattle.std.specs.Prelude.{◌≡◌, ℕ, List, Ok, IfOk, IfErr, OnOk, map, slice_get, if◌then◌else◌};
+ghost use Rattle.std.specs.Prelude.{◌≡◌, ◌≤◌, ℕ, List, Ok, IfOk, IfErr, OnOk, map, slice_get, if◌then◌else◌};
 ghost use Rattle.std.specs.Str.{is_utf8};
 ghost use Rattle.kc_macros_model.specs.Programs.{Notice};
 ghost use Rattle.kc_macros.specs.Runs.{notice_of};
@@ -8,7 +8,7 @@ ghost use Rattle.kc_files.specs.TextViews.{texts_of};
 ghost use Rattle.kc_tree_model.specs.TreeFiles.{with_file};
 ghost use Rattle.kmin_trees.specs.JobTexts.{expanded_texts};
 ghost use Rattle.kmin_trees.specs.TreeFolders.{contents_below};
-ghost use Rattle.kmin_report.specs.MacroReports.{macro_notice_line};
+ghost use Rattle.kmin_report.specs.Reports.{ErrorLine, macro_notice_line};
 ghost use Rattle.kmin_report.specs.StandardError.{TakesLines};
 ghost use Rattle.kmin_trees.specs.between.FilesByPlace.{with_file_at};
 ghost use Rattle.kmin_trees.specs.between.ExpansionStops.{StopsExpanding};
@@ -44,8 +44,8 @@ pub(crate) fn expanded_tree<F: Files, E: Sink>(
     ensures same { (F.surroundings files.new).content ≡ (F.surroundings files.old).content }
     ensures texts { IfOk result (λ t. t.texts ≡ expanded_texts settings.now.language t.tree) }
     ensures expanded { IfOk result (λ t. (notices : List Notice) × IsExpansion (contents_below (F.surroundings files.old) settings.now.root.now) answers.now settings.now.tree.now notices (Ok t.tree) × TakesLines (E.taken err.old) (E.failures err.old) (map macro_notice_line notices) (E.taken err.new) (E.failures err.new)) }
-    ensures stopped { IfErr result (λ stop. (lines : List (List ℕ)) × StopsExpanding (contents_below (F.surroundings files.old) settings.now.root.now) answers.now settings.now.tree.now (status_of stop) lines × TakesLines (E.taken err.old) (E.failures err.old) lines (E.taken err.new) (E.failures err.new)) }
-    ensures uncounted { F.failures files.new ≡ F.failures files.old }
+    ensures stopped { IfErr result (λ stop. (lines : List ErrorLine) × StopsExpanding (contents_below (F.surroundings files.old) settings.now.root.now) answers.now settings.now.tree.now (status_of stop) lines × TakesLines (E.taken err.old) (E.failures err.old) lines (E.taken err.new) (E.failures err.new)) }
+    ensures rising { F.failures files.old ≤ F.failures files.new }
 {
     let seed = files.seed();
     let Expansion { notices, tree } = expansion_below(
@@ -82,7 +82,7 @@ fn expansion_below<F: Files>(
 ) -> Result<Expansion, AllocError>
     ensures same { (F.surroundings files.new).content ≡ (F.surroundings files.old).content }
     ensures expanded { IfOk result (λ e. IsExpansion (contents_below (F.surroundings files.old) root.now) answers.now first.now (map notice_of e.notices.items) (tree_of e.tree)) }
-    ensures uncounted { F.failures files.new ≡ F.failures files.old }
+    ensures rising { F.failures files.old ≤ F.failures files.new }
 {
     let mut tree = TreeFolder { files, root };
     expand(alloc, &mut tree, first.as_bytes(), answers)

@@ -1,6 +1,7 @@
 //! The files that a job names, the folders of its tree, and the environment.
-ghost use Rattle.std.specs.Prelude.{◌≡◌, ◌≢◌, ◌<◌, ◌≤◌, ℕ, Some, None, IfOk, OnErr, IfSome, IfNone, OnSome, option_map, string_bytes};
+ghost use Rattle.std.specs.Prelude.{◌≡◌, ◌≢◌, ◌<◌, ◌≤◌, ℕ, Some, None, IfOk, IfErr, OnOk, OnErr, IfSome, IfNone, OnSome, option_map, string_bytes};
 ghost use Rattle.kc_files.specs.TextViews.{texts_of};
+ghost use Rattle.kc_files.specs.declared.files.FileStop.TheVariants.{Failed as ListFailed};
 ghost use Rattle.kc_files.specs.TreeContents.{ListsAs};
 ghost use Rattle.kmin_trees.specs.FileContents.{Surroundings, MatchVariable};
 ghost use Rattle.kmin_disk.specs.Contents.{OpensAs};
@@ -18,8 +19,8 @@ pub trait Files {
     /// All that is known of the files, the folders and the environment.
     ghost surroundings: { Self → Surroundings };
 
-    /// How many calls of `reader_for` gave no reader, and how many reads of files failed that were closed by `close`, up to
-    /// 2^64 - 1.
+    /// How many calls of `reader_for` gave no reader, how many of `regular_reader_for` and `names_in` failed, and how many reads of
+    /// files failed that were closed by `close`, up to 2^64 - 1.
     ghost failures: { Self → ℕ };
 
     /// The seed by which the paths and names of a tree are hashed; it has no influence on any result.
@@ -53,19 +54,22 @@ pub trait Files {
     ///
     /// # Errors
     ///
-    /// A file is there, and can't be opened.
+    /// A file is there, and can't be opened, which counts as a failure.
     fn regular_reader_for(&mut self, path: &str) -> Result<Option<Self::File>, Failed>
         ensures same { surroundings self.new ≡ surroundings self.old }
         ensures opens { IfOk result (λ reader. OpensAs ((surroundings self.old).regular path.now) (option_map Self.File.Source.left reader)) }
+        ensures unread { IfOk result (λ reader. IfSome reader (λ file. Self.File.Source.failures file ≡ 0)) }
         ensures there { OnErr result ((surroundings self.old).regular path.now ≢ Some None) }
-        ensures uncounted { failures self.new ≡ failures self.old };
+        ensures rising { failures self.old ≤ failures self.new }
+        ensures failed { OnErr result (HasRisen (failures self.old) (failures self.new)) }
+        ensures unfailed { OnOk result (failures self.new ≡ failures self.old) };
 
     /// The names in a folder in any order, without those that aren't UTF-8; `None` if there are more than `most`. What
     /// isn't there, or is no folder, has no names.
     ///
     /// # Errors
     ///
-    /// A folder is there, and can't be listed; or memory ran out.
+    /// A folder is there, and can't be listed, which counts as a failure; or memory ran out.
     fn names_in(
         &mut self,
         alloc: Global,
@@ -74,7 +78,9 @@ pub trait Files {
     ) -> Result<Option<Vec<Vec<u8>>>, FileStop>
         ensures same { surroundings self.new ≡ surroundings self.old }
         ensures lists { IfOk result (λ names. ListsAs ((surroundings self.old).names folder.now) most (option_map texts_of names)) }
-        ensures uncounted { failures self.new ≡ failures self.old };
+        ensures rising { failures self.old ≤ failures self.new }
+        ensures failed { IfErr result (λ stop. stop ≡ ListFailed → HasRisen (failures self.old) (failures self.new)) }
+        ensures unfailed { OnOk result (failures self.new ≡ failures self.old) };
 
     /// The value of a variable of the environment; `None` if it isn't set, or its value isn't UTF-8.
     ///

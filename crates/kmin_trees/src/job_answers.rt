@@ -11,6 +11,7 @@ ghost use Rattle.kmin_report.specs.StandardError.{HasRisen, TakesLines};
 ghost use Rattle.kmin_trees.specs.between.AnswerSteps.{StopsReading, StopsAtAnswersPath, AreLent, AnswersAndQuestions, answers_lines};
 ghost use Rattle.kc_files.specs.TextViews.{texts_of};
 ghost use Rattle.kmin_report.specs.between.RunErrors.{status_of};
+ghost use Rattle.kmin_report.specs.Reports.{ErrorLine};
 
 use crate::files::Files;
 use kc_answers::Answers;
@@ -31,7 +32,7 @@ pub(crate) fn job_answers<F: Files, E: Sink>(
     ensures same { F.surroundings files.new ≡ F.surroundings files.old }
     ensures answers { IfOk result (AreJobAnswers (F.surroundings files.old).content (F.surroundings files.old).variable (expansion_view expansion.now)) }
     ensures unreported { OnOk result (TakesLines (E.taken err.old) (E.failures err.old) [] (E.taken err.new) (E.failures err.new)) }
-    ensures stopped { IfErr result (λ stop. (lines : List (List ℕ)) × StopsAmongAnswers (F.surroundings files.old).content (expansion_view expansion.now).answers (status_of stop) lines × TakesLines (E.taken err.old) (E.failures err.old) lines (E.taken err.new) (E.failures err.new)) }
+    ensures stopped { IfErr result (λ stop. (lines : List ErrorLine) × StopsAmongAnswers (F.surroundings files.old).content (expansion_view expansion.now).answers (status_of stop) lines × TakesLines (E.taken err.old) (E.failures err.old) lines (E.taken err.new) (E.failures err.new)) }
     ensures rising { F.failures files.old ≤ F.failures files.new }
     ensures failed { IfErr result (λ stop. status_of stop ≡ 5 → HasRisen (F.failures files.old) (F.failures files.new)) }
 {
@@ -51,7 +52,7 @@ pub(crate) fn answers_and_questions<F: Files, E: Sink>(
     ensures same { F.surroundings files.new ≡ F.surroundings files.old }
     ensures answers { IfOk result (λ r. AnswersAndQuestions (F.surroundings files.old).content (F.surroundings files.old).variable (expansion_view expansion.now) r.0 (texts_of r.1)) }
     ensures unreported { OnOk result (TakesLines (E.taken err.old) (E.failures err.old) [] (E.taken err.new) (E.failures err.new)) }
-    ensures stopped { IfErr result (λ stop. (lines : List (List ℕ)) × StopsAmongAnswers (F.surroundings files.old).content (expansion_view expansion.now).answers (status_of stop) lines × TakesLines (E.taken err.old) (E.failures err.old) lines (E.taken err.new) (E.failures err.new)) }
+    ensures stopped { IfErr result (λ stop. (lines : List ErrorLine) × StopsAmongAnswers (F.surroundings files.old).content (expansion_view expansion.now).answers (status_of stop) lines × TakesLines (E.taken err.old) (E.failures err.old) lines (E.taken err.new) (E.failures err.new)) }
     ensures failed { IfErr result (λ stop. status_of stop ≡ 5 → HasRisen (F.failures files.old) (F.failures files.new)) }
 {
     let mut answers = file_answers(alloc, &expansion.answers, files, err)?;
@@ -71,7 +72,7 @@ fn file_answers<F: Files, E: Sink>(
     ensures same { F.surroundings files.new ≡ F.surroundings files.old }
     ensures recorded { IfOk result (λ answers. FilesRecord (F.surroundings files.old).content (map (λ (path : Bor (List ℕ)). path.now) paths.now) [] answers) }
     ensures unreported { OnOk result (TakesLines (E.taken err.old) (E.failures err.old) [] (E.taken err.new) (E.failures err.new)) }
-    ensures stopped { IfErr result (λ stop. (lines : List (List ℕ)) × StopsAmongAnswers (F.surroundings files.old).content (map (λ (path : Bor (List ℕ)). path.now) paths.now) (status_of stop) lines × TakesLines (E.taken err.old) (E.failures err.old) lines (E.taken err.new) (E.failures err.new)) }
+    ensures stopped { IfErr result (λ stop. (lines : List ErrorLine) × StopsAmongAnswers (F.surroundings files.old).content (map (λ (path : Bor (List ℕ)). path.now) paths.now) (status_of stop) lines × TakesLines (E.taken err.old) (E.failures err.old) lines (E.taken err.new) (E.failures err.new)) }
     ensures rising { F.failures files.old ≤ F.failures files.new }
     ensures failed { IfErr result (λ stop. status_of stop ≡ 5 → HasRisen (F.failures files.old) (F.failures files.new)) }
 {
@@ -92,7 +93,7 @@ fn record_path<F: Files, E: Sink>(
     ensures same { F.surroundings files.new ≡ F.surroundings files.old }
     ensures recorded { OnOk result (FilesRecord (F.surroundings files.old).content (path.now ∷ []) answers.old answers.new) }
     ensures unreported { OnOk result (TakesLines (E.taken err.old) (E.failures err.old) [] (E.taken err.new) (E.failures err.new)) }
-    ensures stopped { IfErr result (λ stop. (lines : List (List ℕ)) × StopsAtAnswersPath ((F.surroundings files.old).content path.now) answers.old path.now (status_of stop) lines × TakesLines (E.taken err.old) (E.failures err.old) lines (E.taken err.new) (E.failures err.new)) }
+    ensures stopped { IfErr result (λ stop. (lines : List ErrorLine) × StopsAtAnswersPath ((F.surroundings files.old).content path.now) answers.old path.now (status_of stop) lines × TakesLines (E.taken err.old) (E.failures err.old) lines (E.taken err.new) (E.failures err.new)) }
     ensures rising { F.failures files.old ≤ F.failures files.new }
     ensures failed { IfErr result (λ stop. status_of stop ≡ 5 → HasRisen (F.failures files.old) (F.failures files.new)) }
 {

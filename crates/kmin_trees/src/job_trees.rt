@@ -1,15 +1,17 @@
 //! The tree of a job, read with or without the expansion of macros.
-ghost use Rattle.std.specs.Prelude.{◌≡◌, ◌≤◌, [], ℕ, List, IfOk, IfErr};
+ghost use Rattle.std.specs.Prelude.{◌≡◌, ◌≤◌, [], ℕ, List, None, IfOk, IfErr};
 ghost use Rattle.kc_tree_model.specs.TreeFiles as trees;
 ghost use Rattle.kc_rules.specs.between.SettledViews.{tree_of_settled, profile_of};
 ghost use Rattle.kmin_words.specs.Jobs.{expansion_view, settings_view};
 ghost use Rattle.kmin_trees.specs.AcceptedTrees.{AreAccepted};
 ghost use Rattle.kmin_trees.specs.FileContents.{AreTextsBelow};
+ghost use Rattle.kmin_trees.specs.MissingFiles.{MissesOnlyMissing, IsRefusedTree};
 ghost use Rattle.kmin_trees.specs.JobTexts.{TreeTexts, AreExpandedTexts, AreTextsOfJob, named_texts};
 ghost use Rattle.kmin_report.specs.StandardError.{HasRisen, TakesLines};
 ghost use Rattle.kmin_trees.specs.Stops.{StopsAtTree, StopsInExpansion};
 ghost use Rattle.kmin_trees.specs.between.ExpandedStops.{StopsAtExpanded};
 ghost use Rattle.kmin_report.specs.between.RunErrors.{status_of};
+ghost use Rattle.kmin_report.specs.Reports.{ErrorLine};
 ghost use Rattle.kmin_trees.specs.between.TreeStops.{StopsAtTexts};
 
 use crate::expanded_trees::{ExpandedTexts, expanded_tree};
@@ -34,7 +36,9 @@ pub fn job_tree<F: Files, E: Sink>(
     ensures same { (F.surroundings files.new).content ≡ (F.surroundings files.old).content }
     ensures accepted { IfOk result (λ settled. (t : TreeTexts) × AreTextsOfJob (F.surroundings files.old) (settings_view settings.now) t × AreAccepted t.texts settings.now.tree.now (tree_of_settled settled) × TakesLines (E.taken err.old) (E.failures err.old) t.lines (E.taken err.new) (E.failures err.new)) }
     ensures profile { IfOk result (λ settled. profile_of settled ≡ settings.now.profile) }
-    ensures stopped { IfErr result (λ stop. (lines : List (List ℕ)) × StopsAtTree (F.surroundings files.old) (settings_view settings.now) (status_of stop) lines × TakesLines (E.taken err.old) (E.failures err.old) lines (E.taken err.new) (E.failures err.new)) }
+    ensures stopped { IfErr result (λ stop. (lines : List ErrorLine) × StopsAtTree (F.surroundings files.old) (settings_view settings.now) (status_of stop) lines × TakesLines (E.taken err.old) (E.failures err.old) lines (E.taken err.new) (E.failures err.new)) }
+    // Where the tree isn't expanded, a file that is known to be there counts as missing only if a failure was counted.
+    ensures missing { IfErr result (λ stop. (settings_view settings.now).expansion ≡ None → status_of stop ≡ 3 → (lines : List ErrorLine) × IsRefusedTree (F.surroundings files.old) (settings_view settings.now) (F.failures files.old) (F.failures files.new) lines × TakesLines (E.taken err.old) (E.failures err.old) lines (E.taken err.new) (E.failures err.new)) }
     ensures rising { F.failures files.old ≤ F.failures files.new }
     ensures failed { IfErr result (λ stop. status_of stop ≡ 5 → HasRisen (F.failures files.old) (F.failures files.new)) }
 {
@@ -55,7 +59,7 @@ fn as_it_is<F: Files, E: Sink>(
     ensures accepted { IfOk result (λ settled. (texts : trees.Files) × AreTextsBelow (F.surroundings files.old).content settings.now.root.now settings.now.language texts × AreAccepted texts settings.now.tree.now (tree_of_settled settled)) }
     ensures profile { IfOk result (λ settled. profile_of settled ≡ settings.now.profile) }
     ensures unreported { IfOk result (λ settled. TakesLines (E.taken err.old) (E.failures err.old) [] (E.taken err.new) (E.failures err.new)) }
-    ensures stopped { IfErr result (λ stop. (texts : trees.Files) × (lines : List (List ℕ)) × AreTextsBelow (F.surroundings files.old).content settings.now.root.now settings.now.language texts × StopsAtTexts texts texts settings.now.tree.now (status_of stop) lines × TakesLines (E.taken err.old) (E.failures err.old) lines (E.taken err.new) (E.failures err.new)) }
+    ensures stopped { IfErr result (λ stop. (texts : trees.Files) × (lines : List ErrorLine) × AreTextsBelow (F.surroundings files.old).content settings.now.root.now settings.now.language texts × StopsAtTexts texts texts settings.now.tree.now (status_of stop) lines × TakesLines (E.taken err.old) (E.failures err.old) lines (E.taken err.new) (E.failures err.new) × (status_of stop ≡ 3 → MissesOnlyMissing (F.surroundings files.old).content settings.now.root.now settings.now.tree.now texts (F.failures files.old) (F.failures files.new))) }
     ensures rising { F.failures files.old ≤ F.failures files.new }
     ensures failed { IfErr result (λ stop. status_of stop ≡ 5 → HasRisen (F.failures files.old) (F.failures files.new)) }
 {
@@ -89,7 +93,7 @@ fn expanded<F: Files, E: Sink>(
     ensures same { (F.surroundings files.new).content ≡ (F.surroundings files.old).content }
     ensures accepted { IfOk result (λ settled. (t : TreeTexts) × AreExpandedTexts (F.surroundings files.old) settings.now.root.now settings.now.tree.now settings.now.language (expansion_view expansion.now) t × AreAccepted t.texts settings.now.tree.now (tree_of_settled settled) × TakesLines (E.taken err.old) (E.failures err.old) t.lines (E.taken err.new) (E.failures err.new)) }
     ensures profile { IfOk result (λ settled. profile_of settled ≡ settings.now.profile) }
-    ensures stopped { IfErr result (λ stop. (lines : List (List ℕ)) × StopsAtExpanded (F.surroundings files.old) settings.now.root.now settings.now.tree.now settings.now.language (expansion_view expansion.now) (status_of stop) lines × TakesLines (E.taken err.old) (E.failures err.old) lines (E.taken err.new) (E.failures err.new)) }
+    ensures stopped { IfErr result (λ stop. (lines : List ErrorLine) × StopsAtExpanded (F.surroundings files.old) settings.now.root.now settings.now.tree.now settings.now.language (expansion_view expansion.now) (status_of stop) lines × TakesLines (E.taken err.old) (E.failures err.old) lines (E.taken err.new) (E.failures err.new)) }
     ensures rising { F.failures files.old ≤ F.failures files.new }
     ensures failed { IfErr result (λ stop. status_of stop ≡ 5 → HasRisen (F.failures files.old) (F.failures files.new)) }
 {
@@ -107,7 +111,7 @@ fn expanded_files<F: Files, E: Sink>(
 ) -> Result<ExpandedTexts, RunError>
     ensures same { (F.surroundings files.new).content ≡ (F.surroundings files.old).content }
     ensures expanded { IfOk result (λ tree. (t : TreeTexts) × AreExpandedTexts (F.surroundings files.old) settings.now.root.now settings.now.tree.now settings.now.language (expansion_view expansion.now) t × (t.texts ≡ tree.texts) × (t.names ≡ named_texts tree.tree tree.texts) × TakesLines (E.taken err.old) (E.failures err.old) t.lines (E.taken err.new) (E.failures err.new)) }
-    ensures stopped { IfErr result (λ stop. (lines : List (List ℕ)) × StopsInExpansion (F.surroundings files.old) settings.now.root.now settings.now.tree.now (expansion_view expansion.now) (status_of stop) lines × TakesLines (E.taken err.old) (E.failures err.old) lines (E.taken err.new) (E.failures err.new)) }
+    ensures stopped { IfErr result (λ stop. (lines : List ErrorLine) × StopsInExpansion (F.surroundings files.old) settings.now.root.now settings.now.tree.now (expansion_view expansion.now) (status_of stop) lines × TakesLines (E.taken err.old) (E.failures err.old) lines (E.taken err.new) (E.failures err.new)) }
     ensures rising { F.failures files.old ≤ F.failures files.new }
     ensures failed { IfErr result (λ stop. status_of stop ≡ 5 → HasRisen (F.failures files.old) (F.failures files.new)) }
 {
@@ -128,7 +132,7 @@ fn settled_expanded<E: Sink>(
     ensures accepted { IfOk result (λ settled. AreAccepted tree.now.texts first.now (tree_of_settled settled)) }
     ensures profile { IfOk result (λ settled. profile_of settled ≡ profile) }
     ensures unreported { IfOk result (λ settled. TakesLines (E.taken err.old) (E.failures err.old) [] (E.taken err.new) (E.failures err.new)) }
-    ensures stopped { IfErr result (λ stop. (lines : List (List ℕ)) × StopsAtTexts tree.now.texts (named_texts tree.now.tree tree.now.texts) first.now (status_of stop) lines × TakesLines (E.taken err.old) (E.failures err.old) lines (E.taken err.new) (E.failures err.new)) }
+    ensures stopped { IfErr result (λ stop. (lines : List ErrorLine) × StopsAtTexts tree.now.texts (named_texts tree.now.tree tree.now.texts) first.now (status_of stop) lines × TakesLines (E.taken err.old) (E.failures err.old) lines (E.taken err.new) (E.failures err.new)) }
 {
     let names = FileNames::of_expanded(&tree.texts, &tree.tree);
     let read = read_texts(alloc, &tree.texts, first);

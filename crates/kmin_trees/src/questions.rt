@@ -5,6 +5,7 @@ ghost use Rattle.kmin_words.specs.Jobs.{questions_view};
 ghost use Rattle.kmin_trees.specs.WantedQuestions.{AreAsked, StopsWanting};
 ghost use Rattle.kmin_report.specs.StandardError.{HasRisen, TakesLines};
 ghost use Rattle.kmin_report.specs.between.RunErrors.{status_of};
+ghost use Rattle.kmin_report.specs.Reports.{ErrorLine};
 
 use crate::expanded_trees::{unused_below, wanted_below};
 use crate::files::Files;
@@ -24,7 +25,7 @@ pub fn wanted_of<F: Files, E: Sink>(
 ) -> Result<Result<Vec<Vec<u8>>, MacroFault>, RunError>
     ensures asked { IfOk result (λ wanted. AreAsked (F.surroundings files.old) (questions_view questions.now) (questions_of wanted)) }
     ensures unreported { IfOk result (λ wanted. TakesLines (E.taken err.old) (E.failures err.old) [] (E.taken err.new) (E.failures err.new)) }
-    ensures stopped { IfErr result (λ stop. (lines : List (List ℕ)) × StopsWanting (F.surroundings files.old) (questions_view questions.now) (status_of stop) lines × TakesLines (E.taken err.old) (E.failures err.old) lines (E.taken err.new) (E.failures err.new)) }
+    ensures stopped { IfErr result (λ stop. (lines : List ErrorLine) × StopsWanting (F.surroundings files.old) (questions_view questions.now) (status_of stop) lines × TakesLines (E.taken err.old) (E.failures err.old) lines (E.taken err.new) (E.failures err.new)) }
     ensures failed { IfErr result (λ stop. status_of stop ≡ 5 → HasRisen (F.failures files.old) (F.failures files.new)) }
 {
     if questions.unused {
@@ -44,7 +45,7 @@ fn open_of<F: Files, E: Sink>(
     requires open { questions.now.unused ≡ false }
     ensures asked { IfOk result (λ wanted. AreAsked (F.surroundings files.old) (questions_view questions.now) (questions_of wanted)) }
     ensures unreported { IfOk result (λ wanted. TakesLines (E.taken err.old) (E.failures err.old) [] (E.taken err.new) (E.failures err.new)) }
-    ensures stopped { IfErr result (λ stop. (lines : List (List ℕ)) × StopsWanting (F.surroundings files.old) (questions_view questions.now) (status_of stop) lines × TakesLines (E.taken err.old) (E.failures err.old) lines (E.taken err.new) (E.failures err.new)) }
+    ensures stopped { IfErr result (λ stop. (lines : List ErrorLine) × StopsWanting (F.surroundings files.old) (questions_view questions.now) (status_of stop) lines × TakesLines (E.taken err.old) (E.failures err.old) lines (E.taken err.new) (E.failures err.new)) }
     ensures failed { IfErr result (λ stop. status_of stop ≡ 5 → HasRisen (F.failures files.old) (F.failures files.new)) }
 {
     let answers = job_answers(alloc, &questions.expansion, files, err)?;
@@ -64,7 +65,7 @@ fn unused_of<F: Files, E: Sink>(
     requires unused { questions.now.unused ≡ true }
     ensures asked { IfOk result (λ wanted. AreAsked (F.surroundings files.old) (questions_view questions.now) (questions_of wanted)) }
     ensures unreported { IfOk result (λ wanted. TakesLines (E.taken err.old) (E.failures err.old) [] (E.taken err.new) (E.failures err.new)) }
-    ensures stopped { IfErr result (λ stop. (lines : List (List ℕ)) × StopsWanting (F.surroundings files.old) (questions_view questions.now) (status_of stop) lines × TakesLines (E.taken err.old) (E.failures err.old) lines (E.taken err.new) (E.failures err.new)) }
+    ensures stopped { IfErr result (λ stop. (lines : List ErrorLine) × StopsWanting (F.surroundings files.old) (questions_view questions.now) (status_of stop) lines × TakesLines (E.taken err.old) (E.failures err.old) lines (E.taken err.new) (E.failures err.new)) }
     ensures failed { IfErr result (λ stop. status_of stop ≡ 5 → HasRisen (F.failures files.old) (F.failures files.new)) }
 {
     let (answers, answered) = answers_and_questions(alloc, &questions.expansion, files, err)?;

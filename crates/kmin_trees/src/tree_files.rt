@@ -1,7 +1,13 @@
 //! The files of a tree that is read without the expansion of macros.
-ghost use Rattle.std.specs.Prelude.{◌≡◌, ◌≤◌, ◌⊎◌, length, IfOk, IfSome};
+ghost use Rattle.std.specs.Prelude.{◌≡◌, ◌≢◌, ◌<◌, ◌≤◌, ◌^◌, ◌⊎◌, None, true, false, length, map, string_bytes, IfOk, IfErr, IfSome, IfNone, OnOk};
+ghost use Rattle.std.specs.List.{All};
 ghost use Rattle.std.specs.Io.KnownBytes.{Consumes, IsAtEnd};
+ghost use Rattle.kc_tree_model.specs.TreeFiles.{file_at};
+ghost use Rattle.kc_tree_model.specs.declared.fault.TreeKind.TheVariants.{MissingFile};
+ghost use Rattle.kmin_report.specs.StandardError.{HasRisen};
 ghost use Rattle.kmin_trees.specs.FileContents.{AreTextsBelow, MatchContentStart, path_below};
+ghost use Rattle.kmin_trees.specs.MissingFiles.{MayBeMissing, LacksOnlyMissing};
+ghost use Rattle.kmin_trees.specs.between.InsertedFiles.{AreInserted};
 ghost use Rattle.kmin_trees.specs.between.Readings.{IsRead};
 
 use crate::files::Files;
@@ -10,7 +16,7 @@ use crate::trees::read_texts;
 use kc_builder::wanted;
 use kc_tokens::Language;
 use kc_tree::{Texts, Tree, TreeFault, TreeKind};
-use kc_value::{MAX_FILE_BYTES, MAX_FILES, MAX_ROUNDS, ReadBytes, ReadEnd, Source, read_up_to};
+use kc_value::{MAX_FILE_BYTES, MAX_FILES, ReadBytes, ReadEnd, Source, read_up_to};
 use std::alloc::{AllocError, Global};
 
 /// The texts of a tree's files, and the result of reading them as a tree.
@@ -60,6 +66,7 @@ pub(crate) fn gather<F: Files>(
     ensures same { F.surroundings files.new ≡ F.surroundings files.old }
     ensures below { IfOk result (λ g. AreTextsBelow (F.surroundings files.old).content root.now language g.texts) }
     ensures read { IfOk result (λ g. IsRead g.texts first.now g.read) }
+    ensures missing { IfOk result (λ g. IfErr g.read (λ fault. fault.kind ≡ MissingFile → LacksOnlyMissing (F.surroundings files.old).content root.now first.now g.texts (F.failures files.old) (F.failures files.new))) }
     ensures rising { F.failures files.old ≤ F.failures files.new }
 {
     let mut texts = Texts::with_language(alloc, files.seed(), language);
@@ -103,6 +110,7 @@ fn gather_wanted<F: Files>(
     ensures same { F.surroundings files.new ≡ F.surroundings files.old }
     ensures below { IfOk result (λ g. AreTextsBelow (F.surroundings files.old).content root.now texts.language g.texts) }
     ensures read { IfOk result (λ g. IsRead g.texts first.now g.read) }
+    ensures missing { IfOk result (λ g. LacksOnlyMissing (F.surroundings files.old).content root.now first.now g.texts (F.failures files.old) (F.failures files.new)) }
     ensures rising { F.failures files.old ≤ F.failures files.new }
 {
     open_wanted(alloc, root, first, files, &mut texts)?;
@@ -111,7 +119,9 @@ fn gather_wanted<F: Files>(
 }
 
 /// Whether a reading missed a file.
-fn lacks_file(read: &Result<Tree, TreeFault>) -> bool {
+fn lacks_file(read: &Result<Tree, TreeFault>) -> bool
+    ensures { result ≡ false → IfErr read.now (λ fault. fault.kind ≢ MissingFile) }
+{
     match read {
         Ok(_) => false,
         Err(fault) => fault.kind == TreeKind::MissingFile,
@@ -155,22 +165,41 @@ fn open_wanted<F: Files>(
     requires below { AreTextsBelow (F.surroundings files.old).content root.now texts.old.language texts.old }
     ensures same { F.surroundings files.new ≡ F.surroundings files.old }
     ensures below { AreTextsBelow (F.surroundings files.old).content root.now texts.old.language texts.new }
+    ensures missing { OnOk result (LacksOnlyMissing (F.surroundings files.old).content root.now first.now texts.new (F.failures files.old) (F.failures files.new)) }
     ensures rising { F.failures files.old ≤ F.failures files.new }
 {
-    for _ in 0..MAX_ROUNDS {
-        let paths = match wanted(alloc, texts, first) {
-            Ok(paths) => paths,
-            Err(fault) if fault.kind == TreeKind::OutOfMemory => return Err(AllocError),
-            Err(_) => return Ok(()),
-        };
-        if !insert_all(alloc, root, &paths, &mut Room::whole(), files, texts)? {
-            return Ok(());
-        }
-    }
+    'rounds: while open_round(alloc, root, first, files, texts)? {}
     Ok(())
 }
 
-/// Inserts the files of these paths, as long as there is room, and returns whether any was inserted.
+/// Inserts the files that a reading wants and that can be opened and read, as long as there is room, and returns whether any was
+/// inserted.
+fn open_round<F: Files>(
+    alloc: Global,
+    root: &str,
+    first: &str,
+    files: &mut F,
+    texts: &mut Texts,
+) -> Result<bool, AllocError>
+    requires below { AreTextsBelow (F.surroundings files.old).content root.now texts.old.language texts.old }
+    ensures same { F.surroundings files.new ≡ F.surroundings files.old }
+    ensures below { AreTextsBelow (F.surroundings files.old).content root.now texts.old.language texts.new }
+    ensures more { IfOk result (λ more. more ≡ true → (length texts.old.list < length texts.new.list) × (length texts.new.list < 2 ^ 64)) }
+    ensures missing { IfOk result (λ more. more ≡ false → LacksOnlyMissing (F.surroundings files.old).content root.now first.now texts.new (F.failures files.old) (F.failures files.new)) }
+    ensures rising { F.failures files.old ≤ F.failures files.new }
+{
+    let count = texts.len();
+    match wanted(alloc, texts, first) {
+        Ok(paths) => {
+            insert_all(alloc, root, &paths, &mut Room::whole(), files, texts)?;
+            Ok(texts.len() > count)
+        }
+        Err(fault) if fault.kind == TreeKind::OutOfMemory => Err(AllocError),
+        Err(_) => Ok(false),
+    }
+}
+
+/// Inserts the files of these paths that the texts lack and that can be opened and read, until there is no room for more.
 fn insert_all<F: Files>(
     alloc: Global,
     root: &str,
@@ -178,20 +207,20 @@ fn insert_all<F: Files>(
     room: &mut Room,
     files: &mut F,
     texts: &mut Texts,
-) -> Result<bool, AllocError>
+) -> Result<(), AllocError>
     requires below { AreTextsBelow (F.surroundings files.old).content root.now texts.old.language texts.old }
     ensures same { F.surroundings files.new ≡ F.surroundings files.old }
     ensures below { AreTextsBelow (F.surroundings files.old).content root.now texts.old.language texts.new }
+    ensures inserted { OnOk result (AreInserted (F.surroundings files.old).content root.now (map string_bytes paths.now) texts.old texts.new (F.failures files.old) (F.failures files.new)) }
     ensures rising { F.failures files.old ≤ F.failures files.new }
 {
-    let mut any = false;
-    for path in paths {
-        if room.is_used() {
-            return Ok(any);
+    'paths: for path in paths {
+        let inserted = insert_one(alloc, root, path.as_str(), room, files, texts)?;
+        if inserted && room.is_used() {
+            return Ok(());
         }
-        any |= insert_one(alloc, root, path.as_str(), room, files, texts)?;
     }
-    Ok(any)
+    Ok(())
 }
 
 /// Inserts the file of a path, unless the texts have it or it can't be opened or read, and returns whether it did.
@@ -206,6 +235,9 @@ fn insert_one<F: Files>(
     requires below { AreTextsBelow (F.surroundings files.old).content root.now texts.old.language texts.old }
     ensures same { F.surroundings files.new ≡ F.surroundings files.old }
     ensures below { AreTextsBelow (F.surroundings files.old).content root.now texts.old.language texts.new }
+    ensures inserted { IfOk result (λ inserted. inserted ≡ true → length texts.old.list < length texts.new.list) }
+    ensures same_texts { IfOk result (λ inserted. inserted ≡ false → texts.new ≡ texts.old) }
+    ensures missing { IfOk result (λ inserted. inserted ≡ false → file_at texts.old path.now ≡ None → MayBeMissing ((F.surroundings files.old).content (path_below root.now path.now)) (F.failures files.old) (F.failures files.new)) }
     ensures rising { F.failures files.old ≤ F.failures files.new }
 {
     if texts.get(path).is_some() {
@@ -229,6 +261,7 @@ fn read_below<F: Files>(
 ) -> Result<Option<Vec<u8>>, AllocError>
     ensures same { F.surroundings files.new ≡ F.surroundings files.old }
     ensures bytes { IfOk result (λ found. IfSome found (λ bytes. MatchContentStart ((F.surroundings files.old).content (path_below root.now path.now)) bytes.items)) }
+    ensures missing { IfOk result (λ found. IfNone found (MayBeMissing ((F.surroundings files.old).content (path_below root.now path.now)) (F.failures files.old) (F.failures files.new))) }
     ensures rising { F.failures files.old ≤ F.failures files.new }
 {
     let mut place = String::from_str(alloc, root)?;
@@ -253,6 +286,7 @@ fn read_front<S: Source>(
     room: usize,
 ) -> Result<Option<Vec<u8>>, AllocError>
     ensures bytes { IfOk result (λ found. IfSome found (λ bytes. Consumes (S.left source.old) (S.left source.new) bytes.items × (length bytes.items ≤ MAX_FILE_BYTES) × ((length bytes.items ≡ MAX_FILE_BYTES) ⊎ IsAtEnd (S.left source.new)))) }
+    ensures failed { IfOk result (λ found. IfNone found (HasRisen (S.failures source.old) (S.failures source.new))) }
 {
     let ReadBytes { bytes, end } = read_up_to(alloc, source, MAX_FILE_BYTES, room)?;
     match end {

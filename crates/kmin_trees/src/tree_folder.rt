@@ -57,6 +57,10 @@ impl<F: Files> TreeFiles for TreeFolder<'_, F> {
         }
     }
 
+    fn close(&mut self, file: F::File) {
+        self.files.close(file);
+    }
+
     fn size_of(&self, file: &F::File) -> usize {
         self.files.size_of(file)
     }

@@ -1,9 +1,10 @@
 //! Reading and settling a tree, with a report if it is refused.
-ghost use Rattle.std.specs.Prelude.{◌≡◌, [], ℕ, List, IfOk, IfErr, OnOk, unwrap_or, slice_get};
+ghost use Rattle.std.specs.Prelude.{◌≡◌, ◌≢◌, [], ℕ, List, IfOk, IfErr, OnOk, unwrap_or, slice_get};
 ghost use Rattle.kc_tree_model.specs.TreeFiles.{path_at};
+ghost use Rattle.kc_tree_model.specs.declared.fault.TreeKind.TheVariants.{OutOfMemory};
 ghost use Rattle.kc_rules.specs.between.SettledViews.{tree_of_settled, profile_of};
 ghost use Rattle.kmin_trees.specs.AcceptedTrees.{AreAccepted};
-ghost use Rattle.kmin_report.specs.Reports.{tree_fault_line, cycle_line, cycle_place, unit_place};
+ghost use Rattle.kmin_report.specs.Reports.{ErrorLine, tree_fault_line, tree_cycle_line, cycle_place, unit_place};
 ghost use Rattle.kmin_report.specs.StandardError.{TakesLine, TakesLines};
 ghost use Rattle.kmin_trees.specs.between.FileNames.{names_of};
 ghost use Rattle.kmin_trees.specs.between.Readings.{IsRead};
@@ -40,7 +41,8 @@ pub fn settled_tree<E: Sink>(
     ensures accepted { IfOk result (λ settled. AreAccepted texts.now first.now (tree_of_settled settled)) }
     ensures profile { IfOk result (λ settled. profile_of settled ≡ profile) }
     ensures unreported { OnOk result (TakesLines (E.taken err.old) (E.failures err.old) [] (E.taken err.new) (E.failures err.new)) }
-    ensures stopped { IfErr result (λ stop. (lines : List (List ℕ)) × StopsAtTexts texts.now (names_of names.now) first.now (status_of stop) lines × TakesLines (E.taken err.old) (E.failures err.old) lines (E.taken err.new) (E.failures err.new)) }
+    ensures stopped { IfErr result (λ stop. (lines : List ErrorLine) × StopsAtTexts texts.now (names_of names.now) first.now (status_of stop) lines × TakesLines (E.taken err.old) (E.failures err.old) lines (E.taken err.new) (E.failures err.new)) }
+    ensures remembered { IfErr result (λ stop. status_of stop ≡ 3 → IfErr read (λ fault. fault.kind ≢ OutOfMemory)) }
 {
     let tree = match read {
         Ok(tree) => tree,
@@ -112,7 +114,7 @@ fn report_cycle<'a, E: Sink>(
     units: &'a [u32],
     err: &mut E,
 )
-    ensures { TakesLine (E.taken err.old) (E.failures err.old) (cycle_line (names_of names.now) first.now tree.now.tree units.now) (E.taken err.new) (E.failures err.new) }
+    ensures { TakesLine (E.taken err.old) (E.failures err.old) (tree_cycle_line (names_of names.now) first.now tree.now.tree units.now) (E.taken err.new) (E.failures err.new) }
 {
     let (file, line) = place_of_cycle(tree, units);
     let path = path_of_file(names, first, file);

@@ -1,5 +1,5 @@
 -- The walk to the command behind options, and words of which one is put in front.
-use Rattle.std.proofs.Common.{◌≡◌, ℕ, ◌+◌, ◌<◌, Bool, true, false, List, [], ◌∷◌, ◌++◌, Option, Some, None, option_map, length, map, take, drop, get_or, refl, ap, sym, ◌∙◌, arith, add-one, append_assoc, length-drop, ◌-◌}
+use Rattle.std.proofs.Common.{◌≡◌, ℕ, ◌+◌, ◌<◌, Bool, true, false, List, [], ◌∷◌, ◌++◌, Option, Some, None, option_map, length, map, take, drop, get_or, refl, ap, ◌∙◌, arith, add-one, append_assoc, length-drop, ◌-◌}
 use Rattle.std.specs.Prelude.{if◌then◌else◌}
 use Rattle.std.proofs.Math.Seq.{drop-cons}
 use Rattle.std.proofs.lemmas.List.{map-append, take-map, drop-map, take_all}

@@ -1,5 +1,5 @@
 -- What the words of the command line are parsed as.
-use Rattle.std.specs.Prelude.{◌≡◌, ◌≢◌, ℕ, false, List, [], Some}
+use Rattle.std.specs.Prelude.{◌≡◌, ◌≢◌, ℕ, Bool, false, true, ◌&&◌, List, [], Some}
 use Rattle.clap.specs.Words.{App, rows_of, subcommand_of, takes}
 use Rattle.clap.specs.declared.parser.matches.Found.{Found}
 use Rattle.kmin_commands.specs.Declarations.{IsProgram}
@@ -8,6 +8,7 @@ use Rattle.kmin_commands.specs.declared.messages.Table.{Table}
 use Rattle.kmin_words.specs.declared.command_line.ParsedWords.{ParsedWords}
 use Rattle.kmin_words.specs.declared.command_line.ParsedWords.TheVariants.{Help, Refused}
 use Rattle.kmin_words.specs.WordOrder.{command_first}
+use Rattle.kmin_words.specs.Inputs.{named_twice, reads_input}
 use Rattle.kmin_words.specs.between.WordValues.{HasValues}
 
 -- The words name this command of the program, and these are the values of its options and files in them.
@@ -37,6 +38,17 @@ pub data AreParsedAs (words : List (List ℕ)) (parsed : ParsedWords) : Type 0 w
   kind : (tables : List Table) → IsKindHelp words tables parsed → AreParsedAs words parsed
   text : AreNotTaken words → IsText parsed → AreParsedAs words parsed
 
+-- parsed words are the message with which standard input that is named twice is refused
+abbrev pub IsNamedTwice : ParsedWords → Type 0
+IsNamedTwice (Refused message) = message.bytes.items ≡ named_twice
+IsNamedTwice parsed = ⊥
+
+-- Words are parsed; but where standard input was read for some of them, they are refused if they read it once more.
+pub data AreParsedBeside (is_input_read : Bool) (words : List (List ℕ)) (parsed : ParsedWords) : Type 0 where
+  once : AreParsedAs words parsed → (is_input_read && reads_input parsed) ≡ false → AreParsedBeside is_input_read words parsed
+  twice : (first : ParsedWords) → AreParsedAs words first → (is_input_read && reads_input first) ≡ true → IsNamedTwice parsed
+      → AreParsedBeside is_input_read words parsed
+
 -- The words of the command line are read as what they are parsed as once the command is first.
-abbrev pub AreReadAs : (words : List (List ℕ)) → ParsedWords → Type 0
-AreReadAs words parsed = AreParsedAs (command_first words) parsed
+abbrev pub AreReadAs : (is_input_read : Bool) → (words : List (List ℕ)) → ParsedWords → Type 0
+AreReadAs is_input_read words parsed = AreParsedBeside is_input_read (command_first words) parsed

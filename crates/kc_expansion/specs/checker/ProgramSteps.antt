@@ -5,6 +5,7 @@ use Rattle.kc_macros_model.specs.Worlds.{World, Outcome, outcome}
 use Rattle.kc_macros.specs.declared.stop.Stop.{Stop}
 use Rattle.kc_answers.specs.RunStates.{RunState, after_outcome}
 use Rattle.kc_macros.specs.Runs.{end_of_stop, HasAnswers}
+use Rattle.kc_files.specs.TreeContents.{StaysKnown}
 use Rattle.kc_files.specs.between.KnownFiles.{Agrees, Grows}
 use Rattle.kc_expansion.specs.between.Reads.{FileRun, Reads}
 
@@ -20,8 +21,8 @@ pub record MeetIn {A : Type 0} (w : World) (s : RunState) (p : Program A) (t : R
 
 -- the program `p` comes to the same state and end as the program `q` after more files were read
 pub record Leads {A : Type 0} (before : FileRun) (p : Program A) (after : FileRun) (q : Program A) : Type 0 where
-  pub same : after.contents ≡ before.contents
-  pub grows : Grows before.contents before.known after.known
+  pub same : StaysKnown before.contents after.contents
+  pub grows : Grows before.contents after.contents before.known after.known
   pub meet : (w : World) → Agrees w after.known → HasAnswers w before.run.answers → MeetIn w before.run p after.run q
 
 -- a step that code takes in a program returns a value and leads to the program `next` for that value, or stops the program

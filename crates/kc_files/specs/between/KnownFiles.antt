@@ -1,9 +1,9 @@
 -- The files and folders of a tree that were read so far.
-use Rattle.std.specs.Prelude.{◌≡◌, ℕ, ◌<◌, Bool, true, false, List, length, Option, Some, None}
+use Rattle.std.specs.Prelude.{◌≡◌, ℕ, ◌<◌, ◌≤◌, Bool, true, false, List, length, Option, Some, None}
 use Rattle.kc_tree_model.specs.Keywords.{keyword_in_table}
 use Rattle.kc_value.specs.declared.limits.TheConstants.{MAX_TREE_BYTES, MAX_LISTED_NAMES}
 use Rattle.kc_macros_model.specs.Worlds.{World}
-use Rattle.kc_files.specs.TreeContents.{FileContent, FolderContent, TreeContents}
+use Rattle.kc_files.specs.TreeContents.{FileContent, FolderContent, TreeContents, HasRisen}
 
 -- the result of reading a file: it is missing, is there and can't be read, has these bytes, or has more bytes than may be read
 pub data FileRead : Type 0 where
@@ -49,37 +49,41 @@ pub record Agrees (w : World) (known : KnownFiles) : Type 0 where
   pub there : (path : List ℕ) (read : FileRead) → keyword_in_table known.files path ≡ Some read → IsUnreadable read (w.unreadable path)
   pub folders : (folder : List ℕ) (read : FolderRead) → keyword_in_table known.folders folder ≡ Some read → AreNames read (w.names folder)
 
--- the result of reading a file agrees with its known content; a known file may also be unreadable, but not missing
-abbrev pub MatchFile : FileContent → FileRead → Type 0
-MatchFile None read = Unit {0}
-MatchFile (Some None) read = read ≡ missing
-MatchFile (Some (Some known)) missing = ⊥
-MatchFile (Some (Some known)) unreadable = Unit {0}
-MatchFile (Some (Some known)) (whole bytes) = bytes ≡ known
-MatchFile (Some (Some known)) too_long = MAX_TREE_BYTES < length known
+-- the result of reading a file agrees with its known content, where the count of failures went from one number to another; a known
+-- file may also be unreadable if the count rose, but not missing
+abbrev pub MatchFile : FileContent → (failed failed_after : ℕ) → FileRead → Type 0
+MatchFile None failed failed_after read = Unit {0}
+MatchFile (Some None) failed failed_after read = read ≡ missing
+MatchFile (Some (Some known)) failed failed_after missing = ⊥
+MatchFile (Some (Some known)) failed failed_after unreadable = HasRisen failed failed_after
+MatchFile (Some (Some known)) failed failed_after (whole bytes) = bytes ≡ known
+MatchFile (Some (Some known)) failed failed_after too_long = MAX_TREE_BYTES < length known
 
 -- the known content of the file that a reader reads, from the bytes that the reader is known to have left
 abbrev pub content_of_reader : Option (List ℕ) → FileContent
 content_of_reader None = None
 content_of_reader (Some bytes) = Some (Some bytes)
 
--- the result of listing a folder agrees with its known content; a known folder may also fail to be listed
-abbrev pub MatchFolder : FolderContent → FolderRead → Type 0
-MatchFolder None read = Unit {0}
-MatchFolder (Some known) (names read) = read ≡ known
-MatchFolder (Some known) too_many = MAX_LISTED_NAMES < length known
-MatchFolder (Some known) unlisted = Unit {0}
+-- the result of listing a folder agrees with its known content, where the count of failures went from one number to another; a
+-- known folder may also fail to be listed if the count rose
+abbrev pub MatchFolder : FolderContent → (failed failed_after : ℕ) → FolderRead → Type 0
+MatchFolder None failed failed_after read = Unit {0}
+MatchFolder (Some known) failed failed_after (names read) = read ≡ known
+MatchFolder (Some known) failed failed_after too_many = MAX_LISTED_NAMES < length known
+MatchFolder (Some known) failed failed_after unlisted = HasRisen failed failed_after
 
--- all files and folders that were read agree with the known contents of the tree
-pub record AreAsKnown (contents : TreeContents) (known : KnownFiles) : Type 0 where
-  pub files : (path : List ℕ) (read : FileRead) → keyword_in_table known.files path ≡ Some read → MatchFile (contents.file path) read
-  pub folders : (folder : List ℕ) (read : FolderRead) → keyword_in_table known.folders folder ≡ Some read → MatchFolder (contents.folder folder) read
+-- all files and folders that were read, while the count of failures rose from `failed`, agree with the known contents of the tree
+pub record AreAsKnown (contents : TreeContents) (failed : ℕ) (known : KnownFiles) : Type 0 where
+  pub files : (path : List ℕ) (read : FileRead) → keyword_in_table known.files path ≡ Some read → MatchFile (contents.file path) failed contents.failures read
+  pub folders : (folder : List ℕ) (read : FolderRead) → keyword_in_table known.folders folder ≡ Some read
+      → MatchFolder (contents.folder folder) failed contents.failures read
 
 -- files and folders that were read grow from `old` to `new`: none is forgotten, and all agree with the known contents if those of
 -- `old` do
-pub record Grows (contents : TreeContents) (old new : KnownFiles) : Type 0 where
+pub record Grows (before after : TreeContents) (old new : KnownFiles) : Type 0 where
+  pub rising : before.failures ≤ after.failures
   pub worlds : (w : World) → Agrees w new → Agrees w old
-  pub matched : AreAsKnown contents old → AreAsKnown contents new
+  pub matched : (failed : ℕ) → failed ≤ before.failures → AreAsKnown before failed old → AreAsKnown after failed new
 
 -- whether a file is there, by the result of reading it
 abbrev pub is_there : FileRead → Bool

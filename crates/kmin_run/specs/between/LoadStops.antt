@@ -11,7 +11,7 @@ use Rattle.kc_files.specs.TreeContents.{FileContent}
 use Rattle.kc_rules_model.specs.declared.values.UnitValue.{UnitValue}
 use Rattle.kc_dotconfig_model.specs.declared.choice_line.ChoiceLine.{ChoiceLine}
 use Rattle.kc_dotconfig_model.specs.OtherChoices.{other_choices_of, placed_from}
-use Rattle.kmin_report.specs.Reports.{fault_line, notice_line, choice_notice_lines}
+use Rattle.kmin_report.specs.Reports.{ErrorLine, fault_line, notice_line, choice_notice_lines}
 use Rattle.kmin_run.specs.Strictness.{RefusesNotices}
 use Rattle.kmin_report.specs.StandardError.{TakesLines}
 use Rattle.kmin_words.specs.Jobs.{Settings, Task, paths_of}
@@ -24,12 +24,12 @@ load_status Read = 5
 load_status _ = 4
 
 -- the lines of standard error for a fault of a configuration file: one, or none for lack of memory, which is reported later
-abbrev pub load_lines : (path : List ℕ) (number : ℕ) → LoadKind → List (List ℕ)
+abbrev pub load_lines : (path : List ℕ) (number : ℕ) → LoadKind → List ErrorLine
 load_lines path number OutOfMemory = []
 load_lines path number kind = fault_line path number kind ∷ []
 
 -- the lines of standard error for the notices of a fragment of the configuration file at a path
-abbrev pub fragment_notices : (path : List ℕ) → Fragment → List (List ℕ)
+abbrev pub fragment_notices : (path : List ℕ) → Fragment → List ErrorLine
 fragment_notices path fragment = map (λ notice. notice_line path (notice_pair notice)) fragment.notices.items
 
 -- reading a configuration file ended with a fault of this exit status, which was reported on standard error
@@ -41,13 +41,13 @@ pub record StopsLoad (format : FileFormat) (tree : Tree) (path : List ℕ) (left
   pub reported : TakesLines taken failed (load_lines path number kind) taken_after failed_after
 
 -- a configuration file ended a run, with this status and these lines of standard error, or memory ran out
-pub data StopsAtPath (content : FileContent) (format : FileFormat) (strict : Bool) (tree : Tree) (path : List ℕ) (status : ℕ) (lines : List (List ℕ)) : Type 0 where
+pub data StopsAtPath (content : FileContent) (format : FileFormat) (strict : Bool) (tree : Tree) (path : List ℕ) (status : ℕ) (lines : List ErrorLine) : Type 0 where
   at_file : StopsAtFile content format strict tree path status lines → StopsAtPath content format strict tree path status lines
   for_memory : status ≡ 6 → lines ≡ [] → StopsAtPath content format strict tree path status lines
 
 -- A command over a settled tree ends without an output, with this status and these lines of standard error: among its configuration
 -- files, or at the choices of its configurations.
-abbrev pub StopsOverTree : (content_of : List ℕ → FileContent) (settings : Settings) (tree : Tree) (task : Task) (status : ℕ) (lines : List (List ℕ)) → Type 0
+abbrev pub StopsOverTree : (content_of : List ℕ → FileContent) (settings : Settings) (tree : Tree) (task : Task) (status : ℕ) (lines : List ErrorLine) → Type 0
 StopsOverTree content_of settings tree task status lines =
     StopsAmongFiles content_of settings.format settings.strict tree (paths_of task) status lines ⊎ StopsAtChoices content_of settings tree task status lines
 

@@ -32,7 +32,7 @@ abbrev pub first_name : Option (List ℕ × List ℕ) → List (List ℕ)
 first_name None = []
 first_name (Some parts) = parts.0 ∷ []
 
--- what a notice says of its line, by its kind, without a name that is near
+-- the text of a notice of a line, by its kind, without a name that is near
 abbrev pub notice_text : NoticeKind → (prefix line : List ℕ) → List ℕ
 notice_text UnknownSymbol prefix line = name_text (named_on prefix line)
 notice_text NotOfType prefix line = parts_text (value_parts prefix (without_white_end line))

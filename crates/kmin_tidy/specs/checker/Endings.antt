@@ -1,7 +1,7 @@
 -- The last writes of a run.
 use Rattle.std.specs.Prelude.{◌≡◌, ◌<◌, ℕ, List, [], ◌∷◌, Option, length, take}
 use Rattle.std.specs.Io.KnownBytes.{Appends}
-use Rattle.kmin_report.specs.Reports.{output_line}
+use Rattle.kmin_report.specs.Reports.{ErrorLine, output_line}
 use Rattle.kmin_report.specs.StandardError.{HasRisen}
 use Rattle.kmin_tidy.specs.declared.stop.Stop.{Stop}
 use Rattle.kmin_tidy.specs.declared.stop.Stop.TheVariants.{Memory, Left}
@@ -14,7 +14,7 @@ status_of_stop (Left new_path) = 5
 
 -- the text of a run over all its files is written to standard output, whole, or in part since a write failed; then the run has
 -- these last lines of standard error and this exit status
-pub data IsWrittenOut (tidied : RunResult) (taken taken_after : Option (List ℕ)) (failed failed_after : ℕ) (reports : List (List ℕ)) (status : ℕ) : Type 0
+pub data IsWrittenOut (tidied : RunResult) (taken taken_after : Option (List ℕ)) (failed failed_after : ℕ) (reports : List ErrorLine) (status : ℕ) : Type 0
   where
     whole : Appends taken taken_after tidied.text.items → failed_after ≡ failed → reports ≡ [] → status ≡ tidied.status
         → IsWrittenOut tidied taken taken_after failed failed_after reports status

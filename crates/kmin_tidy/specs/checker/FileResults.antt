@@ -11,6 +11,7 @@ use Rattle.kmin_tidy.specs.declared.report.Problem.TheVariants.{Write}
 use Rattle.kmin_tidy.specs.declared.file_step.FileEnd.{FileEnd}
 use Rattle.kmin_tidy.specs.declared.stop.Stop.{Stop}
 use Rattle.kmin_tidy.specs.declared.stop.Stop.TheVariants.{Memory, Left}
+use Rattle.kmin_report.specs.Reports.{ErrorLine}
 
 -- an accepted file of these bytes is compared with its minimal file `least`, and replaced by it if they differ and `write` is
 -- true: the disk after it, its line of standard output, and its outcome and problem
@@ -52,7 +53,7 @@ abbrev pub StopsFile : Settings → (old new : Disk) → (path : List ℕ) → S
 StopsFile s old new path stop = ((stop ≡ Memory) × (new ≡ old)) ⊎ (IsToBeReplaced s old path × StopsWrite old new path stop)
 
 -- a run over these paths ended early for this reason, after these lines of standard error
-pub data StopsRun (s : Settings) (old new : Disk) (paths : List (List ℕ)) (earlier : List (List ℕ)) (stop : Stop) : Type 0 where
+pub data StopsRun (s : Settings) (old new : Disk) (paths : List (List ℕ)) (earlier : List ErrorLine) (stop : Stop) : Type 0 where
   before_write : (between : Disk) (front back : List (List ℕ)) (text : List ℕ) (made : ℕ) → paths ≡ front ++ back
       → Tidies s old between front text earlier made → new ≡ between → stop ≡ Memory → StopsRun s old new paths earlier stop
   at_write : (between : Disk) (front back : List (List ℕ)) (path text : List ℕ) (made : ℕ) → paths ≡ front ++ path ∷ back

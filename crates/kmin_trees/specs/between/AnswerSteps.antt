@@ -10,14 +10,14 @@ use Rattle.kc_answers.specs.ReadAnswers.{IsRefused}
 use Rattle.kc_files.specs.TreeContents.{FileContent}
 use Rattle.kmin_trees.specs.FileContents.{VariableContent, MatchVariable}
 use Rattle.kmin_report.specs.StandardError.{TakesLines}
-use Rattle.kmin_report.specs.MacroReports.{answers_line}
+use Rattle.kmin_report.specs.Reports.{ErrorLine, answers_line}
 use Rattle.kmin_words.specs.Jobs.{Expansion}
 use Rattle.kc_answers.specs.RunStates.{questions_of}
 use Rattle.kmin_trees.specs.JobAnswers.{lent_answer, AreJobAnswers}
 use Rattle.kmin_trees.specs.AnswerStops.{StopsAtAnswers, answers_status}
 
 -- the lines of standard error for a fault of an answer file: one, or none for lack of memory, which is reported later
-abbrev pub answers_lines : (path : List ℕ) (line : ℕ) → AnswersKind → List (List ℕ)
+abbrev pub answers_lines : (path : List ℕ) (line : ℕ) → AnswersKind → List ErrorLine
 answers_lines path line OutOfMemory = []
 answers_lines path line kind = answers_line path line kind ∷ []
 
@@ -34,8 +34,8 @@ pub record StopsReading (path : List ℕ) (left left_after : Option (List ℕ)) 
   pub reported : TakesLines taken failed (answers_lines path fault.line fault.kind) taken_after failed_after
 
 -- an answer file ended a run, with this status and these lines of standard error, or memory ran out
-pub data StopsAtAnswersPath (content : FileContent) (earlier : RecordedAnswers) (path : List ℕ) (status : ℕ) (lines : List (List ℕ)) : Type 0 where
-  at_file : (line : List ℕ) → StopsAtAnswers content earlier path status line → lines ≡ line ∷ [] → StopsAtAnswersPath content earlier path status lines
+pub data StopsAtAnswersPath (content : FileContent) (earlier : RecordedAnswers) (path : List ℕ) (status : ℕ) (lines : List ErrorLine) : Type 0 where
+  at_file : (line : ErrorLine) → StopsAtAnswers content earlier path status line → lines ≡ line ∷ [] → StopsAtAnswersPath content earlier path status lines
   for_memory : status ≡ 6 → lines ≡ [] → StopsAtAnswersPath content earlier path status lines
 
 -- `after` has the answers of `before`, and to each of `names` without one the answer of the environment; the values of variables

@@ -6,10 +6,11 @@ use Rattle.kmin_trees.specs.FileContents.{Surroundings}
 use Rattle.kmin_trees.specs.JobTexts.{TreeTexts, AreExpandedTexts}
 use Rattle.kmin_trees.specs.Stops.{StopsInExpansion}
 use Rattle.kmin_trees.specs.between.TreeStops.{StopsAtTexts}
+use Rattle.kmin_report.specs.Reports.{ErrorLine}
 
 -- a run ended at its tree, with this status and these lines of standard error: in the expansion of macros, or at the expanded
 -- texts
-pub data StopsAtExpanded (known : Surroundings) (root first : List ℕ) (language : Language) (expansion : Expansion) (status : ℕ) (lines : List (List ℕ)) : Type 0 where
+pub data StopsAtExpanded (known : Surroundings) (root first : List ℕ) (language : Language) (expansion : Expansion) (status : ℕ) (lines : List ErrorLine) : Type 0 where
   in_expansion : StopsInExpansion known root first expansion status lines → StopsAtExpanded known root first language expansion status lines
-  at_texts : (t : TreeTexts) (more : List (List ℕ)) → AreExpandedTexts known root first language expansion t → StopsAtTexts t.texts t.names first status more
+  at_texts : (t : TreeTexts) (more : List ErrorLine) → AreExpandedTexts known root first language expansion t → StopsAtTexts t.texts t.names first status more
       → lines ≡ t.lines ++ more → StopsAtExpanded known root first language expansion status lines

@@ -28,3 +28,11 @@ returns-clause-walked c = λ read h.
     let l = c.args.listing in
     let f = rw (c.deref.ensures.value, c.deref-2.ensures.value) at c.in_ok-walk.ensures.walked in
     (f (names_defined read) l.texts.items read h.groups_are c.in_ok-walk.walk.arena (grows_same c.in_ok-walk.walk.arena)).groups_are
+
+pub returns-clause-no : goal.returns-clause-no
+unfolding RepresentsListing
+returns-clause-no c =
+    let l = c.args.listing in
+    let read = c.requires.shown.read in
+    let f = rw (c.deref.ensures.value, c.deref-2.ensures.value) at c.in_ok-walk.ensures.walked in
+    (f (names_defined read) l.texts.items read c.requires.shown.shows.groups_are c.in_ok-walk.walk.arena (grows_same c.in_ok-walk.walk.arena)).no_is

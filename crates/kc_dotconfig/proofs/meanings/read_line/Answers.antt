@@ -5,7 +5,7 @@ use Rattle.kc_tree.specs.TreeModel.{TreeModel}
 use Rattle.kc_rules.specs.between.SettledViews.{tree_of_settled}
 use Rattle.kc_tree_model.specs.LogicalLines.{without_white_end}
 use Rattle.kc_dotconfig_model.specs.between.Formats.{file_format}
-use Rattle.kc_dotconfig.specs.checker.MeaningViews.{meaning_view}
+use Rattle.kc_dotconfig.specs.between.MeaningViews.{meaning_view}
 use Rattle.kc_dotconfig.proofs.LineMeanings.{value_line_means, unset_line_means, other_line_means}
 use Rattle.kc_dotconfig.proofs.meanings.read_line.Goals as goal
 

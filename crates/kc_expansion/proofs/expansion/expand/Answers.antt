@@ -1,4 +1,5 @@
-use Rattle.std.proofs.Common.{map, true, subst}
+use Rattle.std.proofs.Common.{List, map, true, sym, subst}
+use Rattle.kc_macros_model.specs.ReadingStates.{ExpandedFile}
 use Rattle.kc_macros_model.specs.TreeExpansion.{tree_read}
 use Rattle.kc_answers.specs.RunStates.{run_at_start}
 use Rattle.kc_macros.specs.Runs.{notice_of, end_of}
@@ -17,7 +18,7 @@ read_tree-requires g c = record {
       let e = end_of (λ text. with_root root text.value.items c.read_root-read.new.reading.expanded) c.read_root-read.result in
       let s = from_start a b c.args.answers.now true (tree_read root) e c.new_reading-reading.ensures.known c.new_reading-reading.ensures.run
       c.read_root-read.ensures.reads in
-      goes_on a.contents b c.args.answers.now root s.0 _ c.read_root-read.result s.1;
+      goes_on a.contents b c.args.answers.now root c.read_root-read.ensures.reads.same s.0 _ c.read_root-read.result s.1;
 }
 
 pub returns-clause-expanded : goal.returns-clause-expanded
@@ -29,10 +30,19 @@ returns-clause-expanded g c =
     let e = end_of (λ text. with_root root text.value.items c.read_root-read.new.reading.expanded) c.read_root-read.result in
     let s = from_start a b answers true (tree_read root) e c.new_reading-reading.ensures.known c.new_reading-reading.ensures.run
     c.read_root-read.ensures.reads in
-    expansion_read a.contents b answers root s.0 (map notice_of c.into_notices.result.items) (tree_of c.in_ok-tree.tree) c.into_notices.ensures
-    (subst (Reaches b.known (run_at_start answers true) b.run (tree_read root)) c.in_ok-tree.ensures.tree s.1)
+    expansion_read a.contents b answers root c.read_root-read.ensures.reads.same s.0 (map notice_of c.into_notices-notices.result.0.items) (tree_of c.in_ok-tree.tree)
+    c.into_notices-notices.ensures.notices
+    (subst (Reaches b.known (run_at_start answers true) b.run (tree_read root)) c.in_ok-tree.ensures.tree
+    (subst (λ (fs : List ExpandedFile). Reaches b.known (run_at_start answers true) b.run (tree_read root)
+    (end_of (λ text. with_root root text.value.items fs) c.read_root-read.result)) (sym c.into_notices-notices.ensures.files) s.1))
 
 pub returns-clause-few : goal.returns-clause-few
 returns-clause-few g c =
-    few_files (g.F.TreeFiles.contents c.args.files.now) c.args.answers.now c.args.root.now (map notice_of c.into_notices.result.items) c.in_ok-tree.tree
-    (returns-clause-expanded g c)
+    few_files (g.F.TreeFiles.contents c.args.files.now) c.args.answers.now c.args.root.now (map notice_of c.into_notices-notices.result.0.items) c.in_ok-tree.tree
+    (returns-clause-expanded g c).0
+
+pub returns-clause-same : goal.returns-clause-same
+returns-clause-same g c = c.read_root-read.ensures.reads.same
+
+pub returns-in_err-tree-clause-same : goal.returns-in_err-tree-clause-same
+returns-in_err-tree-clause-same g c = c.read_root-read.ensures.reads.same

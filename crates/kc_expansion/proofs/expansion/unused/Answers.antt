@@ -18,7 +18,13 @@ returns-clause-unused g c =
     let e = end_of (λ text. with_root root text.value.items c.read_root-read.new.reading.expanded) c.read_root-read.result in
     let s = from_start a b answers false (tree_read root) e c.new_reading-reading.ensures.known c.new_reading-reading.ensures.run
     c.read_root-read.ensures.reads in
-    unused_of a.contents b answers root s.0 (λ text. with_root root text.value.items c.read_root-read.new.reading.expanded) c.read_root-read.result questions_of
+    unused_of a.contents b answers root c.read_root-read.ensures.reads.same s.0 (λ text. with_root root text.value.items c.read_root-read.new.reading.expanded) c.read_root-read.result questions_of
     c.unused_by.result (texts_of c.in_ok-questions.questions) (texts_of c.args.answered) (texts_of c.keep_not_asked.new.questions)
     c.in_ok-questions.ensures c.keep_not_asked.ensures s.1 c.unused_by.ensures.ended (if_ok c.unused_by.result _ _
     (λ w h. h (λ text. with_root root text.value.items c.read_root-read.new.reading.expanded)) c.unused_by.ensures.unused)
+
+pub returns-clause-same : goal.returns-clause-same
+returns-clause-same g c = c.read_root-read.ensures.reads.same
+
+pub returns-in_err-questions-clause-same : goal.returns-in_err-questions-clause-same
+returns-in_err-questions-clause-same g c = c.read_root-read.ensures.reads.same

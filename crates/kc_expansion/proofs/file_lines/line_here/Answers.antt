@@ -1,5 +1,5 @@
 use Rattle.std.proofs.Common.{refl}
-use Rattle.kc_files.proofs.StoreLemmas.{grows_same}
+use Rattle.kc_files.proofs.StoreLemmas.{stays_same, grows_same}
 use Rattle.kc_expansion.specs.between.Reads.{file_run}
 use Rattle.kc_expansion.specs.checker.ReadingViews.{with_lines}
 use Rattle.kc_expansion.proofs.StepResultLemmas.{to_out}
@@ -9,7 +9,7 @@ use Rattle.kc_expansion.proofs.file_lines.line_here.Goals as goal
 pub returns-in_err-line : goal.returns-in_err-line
 returns-in_err-line c = λ contents known sub s.
     let a = file_run contents known c.args.state.now.run in
-    to_out a a _ _ _ refl (grows_same contents known) c.from_residual.ensures.1
+    to_out a a _ _ _ (stays_same contents) (grows_same contents known) c.from_residual.ensures.1
 
 pub returns-in-Some : goal.returns-in-Some
 returns-in-Some c = λ contents known sub s.

@@ -10,7 +10,7 @@ use Rattle.kc_macro_forms.specs.between.LineFormViews.{form_view}
 use Rattle.kc_expansion.specs.between.Reads.{file_run}
 use Rattle.kc_expansion.specs.checker.ReadingViews.{with_lines}
 use Rattle.kc_expansion.proofs.FileProgramLemmas.{leads_same, leads_then, leads_value, reads_on, reads_stop, steps_out, steps_stopped}
-use Rattle.kc_expansion.proofs.LineStepLemmas.{undecided, decided, text_written, path_unknown}
+use Rattle.kc_expansion.proofs.LineStepLemmas.{undecided, decided, text_written, path_known, path_unknown}
 use Rattle.kc_expansion.proofs.line_steps.tokens_step.Goals as goal
 
 pub returns-then-is_undecided : goal.returns-then-is_undecided
@@ -89,3 +89,13 @@ returns-in_ok-line-in_default c = λ contents known sub s.
     let l = text_written a sub at u v ts real (form_view form) text c.is_help_line.result e f h w in
     leads_then a a a p q _ l (leads_value a a q (written_line c.in_ok-line-in_default.line.text.items c.in_ok-line-in_default.line.begins_help v)
     (c.in_ok-line-in_default.ensures a v))
+
+pub returns-in_ok-given-in-Sources : goal.returns-in_ok-given-in-Sources
+returns-in_ok-given-in-Sources c = λ contents known sub s.
+    let a = file_run contents known c.args.state.now.run in
+    let ts = tokens_of c.args.tokens.items in
+    let e : is_undecided (without_gaps ts) ≡ false = ap (λ vs. is_undecided (without_gaps (tokens_of vs))) (sym c.deref.ensures.value)
+    ∙ sym c.is_undecided.ensures ∙ c.if-is_undecided.false in
+    let f = ap (λ vs. form_of (without_gaps (tokens_of vs))) (sym c.deref-2.ensures.value) ∙ sym c.in-Sources.ensures in
+    path_known a sub (place_of c.args.at) (with_lines c.args.state.now s) ts (without_gaps ts) _ _ c.in_ok-given-in-Sources.given.items e f
+    c.in_ok-given-in-Sources.ensures.ok

@@ -1,5 +1,5 @@
 use Rattle.std.proofs.Common.{ℕ, Vec, Global, refl, ap, subst}
-use Rattle.kc_files.proofs.StoreLemmas.{grows_same}
+use Rattle.kc_files.proofs.StoreLemmas.{stays_same, grows_same}
 use Rattle.kc_files.specs.checker.FileViews.{known_of}
 use Rattle.kc_macros_model.specs.Programs.{returns as returns_value}
 use Rattle.kc_macros_model.specs.ReadingStates.{progress, stored_file}
@@ -15,7 +15,7 @@ returns-in_err-text c = λ contents.
     let a = file_run_of contents r in
     let s = state_of r in
     let root = c.args.root.now in
-    out_now a a _ _ _ refl (grows_same contents (known_of r.store)) c.from_residual.ensures.1
+    out_now a a _ _ _ (stays_same contents) (grows_same contents (known_of r.store)) c.from_residual.ensures.1
 
 pub returns : goal.returns
 returns c = λ contents.

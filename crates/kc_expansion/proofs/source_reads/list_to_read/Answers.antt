@@ -1,5 +1,5 @@
 use Rattle.std.proofs.Common.{◌≡◌, ◌∙◌, [], ◌∷◌, ℕ, Vec, Global, refl, sym, ap, arith}
-use Rattle.kc_files.proofs.StoreLemmas.{grows_same}
+use Rattle.kc_files.proofs.StoreLemmas.{stays_same, grows_same}
 use Rattle.kc_files.specs.between.KnownFiles.{whole}
 use Rattle.kc_files.specs.checker.FileViews.{known_of}
 use Rattle.kc_macros_model.specs.Programs.{returns as returns_value, ◌>>=◌}
@@ -17,7 +17,7 @@ pub returns-in_err-new : goal.returns-in_err-new
 returns-in_err-new c = λ contents files.
     let r = c.args.reading.now in
     let a = file_run_of contents r in
-    to_out a a _ _ _ refl (grows_same contents (known_of r.store)) c.from_residual.ensures.1
+    to_out a a _ _ _ (stays_same contents) (grows_same contents (known_of r.store)) c.from_residual.ensures.1
 
 pub with-reading-requires-clause-files : goal.with-reading-requires-clause-files
 with-reading-requires-clause-files c =

@@ -8,6 +8,7 @@ use Rattle.kc_files.specs.TextViews.{items_of, texts_of}
 use Rattle.kc_files.specs.between.FileRuns.{Comes}
 use Rattle.kc_files.specs.checker.FileViews.{known_of}
 use Rattle.kc_files.specs.checker.PatternRuns.{found_of}
+use Rattle.kc_files.proofs.StoreLemmas.{stays_twice, grows_twice}
 use Rattle.kc_files.proofs.ProgramLemmas.{comes_later}
 use Rattle.kc_files.proofs.PatternLemmas.{stops_then, files_found}
 use Rattle.kc_files.proofs.SortLemmas.{sorted_by_sort}
@@ -30,5 +31,23 @@ returns-clause-finds g c = λ at.
     let reads = subst (λ (vs : List (Vec ℕ Global)). Comes new (paths_with_files (items_of vs)) (returned readable)) c.deref.ensures.value
     c.in_ok-paths.ensures.reads in
     subst (λ ps. Comes new (files_of_pattern at pattern c.args.listed) (returned (found ps c.in-Ok.found.listed))) (sym in_order)
-    (files_found new at pattern c.args.listed found_paths readable (comes_later (g.F.TreeFiles.contents c.matching_paths.new.files) old new
+    (files_found new at pattern c.args.listed found_paths readable (comes_later (g.F.TreeFiles.contents c.matching_paths.new.files) (g.F.TreeFiles.contents c.paths_with_files.new.files) old new
     c.in_ok-paths.ensures.grows (paths_below at (path_pieces pattern) ([] ∷ []) c.args.listed) (returned found_paths) (c.in-Ok.ensures.finds at)) reads)
+
+pub returns-clause-same : goal.returns-clause-same
+returns-clause-same g c = stays_twice _ _ _ c.matching_paths.ensures.same c.paths_with_files.ensures.same
+
+pub returns-clause-grows : goal.returns-clause-grows
+returns-clause-grows g c = grows_twice _ _ _ _ _ _ c.matching_paths.ensures.grows c.paths_with_files.ensures.grows
+
+pub returns-in_err-paths-clause-same : goal.returns-in_err-paths-clause-same
+returns-in_err-paths-clause-same g c = stays_twice _ _ _ c.matching_paths.ensures.same c.paths_with_files.ensures.same
+
+pub returns-in_err-paths-clause-grows : goal.returns-in_err-paths-clause-grows
+returns-in_err-paths-clause-grows g c = grows_twice _ _ _ _ _ _ c.matching_paths.ensures.grows c.paths_with_files.ensures.grows
+
+pub returns-in_err-sort-clause-same : goal.returns-in_err-sort-clause-same
+returns-in_err-sort-clause-same g c = stays_twice _ _ _ c.matching_paths.ensures.same c.paths_with_files.ensures.same
+
+pub returns-in_err-sort-clause-grows : goal.returns-in_err-sort-clause-grows
+returns-in_err-sort-clause-grows g c = grows_twice _ _ _ _ _ _ c.matching_paths.ensures.grows c.paths_with_files.ensures.grows

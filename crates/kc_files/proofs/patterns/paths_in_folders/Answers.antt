@@ -1,21 +1,19 @@
-use Rattle.std.proofs.Common.{◌≡◌, ap, ◌∙◌, sym, refl, subst, ◌∷◌, drop, ◌+◌, List, ℕ}
+use Rattle.std.proofs.Common.{◌≡◌, ap, ◌∙◌, sym, subst, ◌∷◌, drop, ◌+◌, List, ℕ}
 use Rattle.std.specs.Prelude.{Vec}
 use Rattle.std.specs.declared.alloc.Global.{Global}
 use Rattle.kc_macros_model.specs.PathPatterns.{found, paths_in_folders}
 use Rattle.kc_files.specs.TextViews.{items_of}
-use Rattle.kc_files.specs.TreeContents.{TreeContents}
-use Rattle.kc_files.specs.between.KnownFiles.{Grows}
 use Rattle.kc_files.specs.between.FileRuns.{HaveSameOutcome}
 use Rattle.kc_files.specs.checker.FileViews.{known_of}
 use Rattle.kc_files.specs.checker.PatternRuns.{found_of}
-use Rattle.kc_files.proofs.StoreLemmas.{grows_same, grows_twice}
+use Rattle.kc_files.proofs.StoreLemmas.{stays_same, stays_twice, grows_same, grows_twice}
 use Rattle.kc_files.proofs.ProgramLemmas.{same_later}
 use Rattle.kc_files.proofs.PatternLemmas.{rest_of_paths, from_first, all_stop, all_go_on, cut_items}
 use Rattle.kc_files.proofs.patterns.paths_in_folders.Goals as goal
 
 pub loop-folder-init : goal.loop-folder-init
 loop-folder-init g c = record {
-  same = refl;
+  same = stays_same (g.F.TreeFiles.contents c.args.files.now);
   grows = grows_same (g.F.TreeFiles.contents c.args.files.now) (known_of c.args.store.now);
   rest = λ at. subst (λ (vs : List (Vec ℕ Global)). HaveSameOutcome (known_of c.args.store.now)
       (paths_in_folders at c.args.piece.now (items_of c.args.folders.now) c.args.listed)
@@ -39,16 +37,14 @@ returns-in-Err-clause-finds g c = λ at.
     let so_far : HaveSameOutcome old whole (rest_of_paths at piece (folder ∷ rest) before) =
     subst (λ fs. HaveSameOutcome old whole (rest_of_paths at piece fs before)) cut (c.loop-folder.invariant.rest at) in
     all_stop at piece (Unit {0}) new whole folder rest before (found_of c.push_paths.new.found) c.in-Err.stop
-    (same_later (g.F.TreeFiles.contents c.loop-folder.files) old new c.push_paths.ensures.grows whole
+    (same_later (g.F.TreeFiles.contents c.loop-folder.files) (g.F.TreeFiles.contents c.push_paths.new.files) old new c.push_paths.ensures.grows whole
     (rest_of_paths at piece (folder ∷ rest) before) so_far) (c.in-Err.ensures.finds at)
 
 pub loop-folder-preserved : goal.loop-folder-preserved
 loop-folder-preserved g c = record {
-  same = c.push_paths.ensures.same ∙ c.loop-folder.invariant.same;
-  grows = grows_twice (g.F.TreeFiles.contents c.args.files.now) (known_of c.args.store.now) (known_of c.loop-folder.store)
-      (known_of c.push_paths.new.store) c.loop-folder.invariant.grows
-      (subst (λ (t : TreeContents). Grows t (known_of c.loop-folder.store) (known_of c.push_paths.new.store)) c.loop-folder.invariant.same
-      c.push_paths.ensures.grows);
+  same = stays_twice _ _ _ c.loop-folder.invariant.same c.push_paths.ensures.same;
+  grows = grows_twice _ _ _ (known_of c.args.store.now) (known_of c.loop-folder.store)
+      (known_of c.push_paths.new.store) c.loop-folder.invariant.grows c.push_paths.ensures.grows;
   rest = λ at.
       let i = c.loop-folder.folder-index in
       let vs = c.args.folders.now in
@@ -63,6 +59,12 @@ loop-folder-preserved g c = record {
       ∙ ap (λ f. f ∷ rest) (sym c.deref.ensures.value) in
       let so_far : HaveSameOutcome old whole (rest_of_paths at piece (folder ∷ rest) before) =
       subst (λ fs. HaveSameOutcome old whole (rest_of_paths at piece fs before)) cut (c.loop-folder.invariant.rest at) in
-      all_go_on at piece (Unit {0}) (g.F.TreeFiles.contents c.loop-folder.files) old new c.push_paths.ensures.grows whole folder rest before
+      all_go_on at piece (Unit {0}) (g.F.TreeFiles.contents c.loop-folder.files) (g.F.TreeFiles.contents c.push_paths.new.files) old new c.push_paths.ensures.grows whole folder rest before
       (found_of c.push_paths.new.found) c.in_default.field-0 so_far (c.in_default.ensures.finds at);
 }
+
+pub returns-in-Err-clause-same : goal.returns-in-Err-clause-same
+returns-in-Err-clause-same g c = stays_twice _ _ _ c.loop-folder.invariant.same c.push_paths.ensures.same
+
+pub returns-in-Err-clause-grows : goal.returns-in-Err-clause-grows
+returns-in-Err-clause-grows g c = grows_twice _ _ _ _ _ _ c.loop-folder.invariant.grows c.push_paths.ensures.grows

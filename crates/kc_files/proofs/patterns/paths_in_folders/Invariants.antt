@@ -1,7 +1,8 @@
-use Rattle.std.proofs.Common.{◌≡◌, drop}
+use Rattle.std.proofs.Common.{drop}
 use Rattle.kc_macros_model.specs.Programs.{Place}
 use Rattle.kc_macros_model.specs.PathPatterns.{paths_in_folders}
 use Rattle.kc_files.specs.TextViews.{items_of}
+use Rattle.kc_files.specs.TreeContents.{StaysKnown}
 use Rattle.kc_files.specs.between.KnownFiles.{Grows}
 use Rattle.kc_files.specs.between.FileRuns.{HaveSameOutcome}
 use Rattle.kc_files.specs.checker.FileViews.{known_of}
@@ -11,8 +12,8 @@ use Rattle.kc_files.proofs.patterns.paths_in_folders.Given as goal
 
 abbrev pub invariant-loop-folder : goal.invariant-loop-folder
 invariant-loop-folder g l = record {
-  same : g.F.TreeFiles.contents l.files ≡ g.F.TreeFiles.contents l.fn.files;
-  grows : Grows (g.F.TreeFiles.contents l.fn.files) (known_of l.fn.store) (known_of l.store);
+  same : StaysKnown (g.F.TreeFiles.contents l.fn.files) (g.F.TreeFiles.contents l.files);
+  grows : Grows (g.F.TreeFiles.contents l.fn.files) (g.F.TreeFiles.contents l.files) (known_of l.fn.store) (known_of l.store);
   rest : (at : Place) → HaveSameOutcome (known_of l.store) (paths_in_folders at l.piece (items_of l.folders) l.fn.listed)
       (rest_of_paths at l.piece (items_of (drop l.folder-index l.folders)) (found_of l.found));
 }

@@ -1,21 +1,19 @@
-use Rattle.std.proofs.Common.{◌≡◌, List, ℕ, ap, ◌∙◌, sym, refl, subst, drop, ◌+◌, ◌∷◌, []}
+use Rattle.std.proofs.Common.{◌≡◌, List, ℕ, ap, ◌∙◌, sym, subst, drop, ◌+◌, ◌∷◌, []}
 use Rattle.std.specs.Prelude.{Vec, if◌then◌else◌, ◌++◌}
 use Rattle.std.specs.declared.alloc.Global.{Global}
 use Rattle.kc_macros_model.specs.Worlds.{has_file}
 use Rattle.kc_macros_model.specs.PathPatterns.{paths_with_files}
-use Rattle.kc_files.specs.TreeContents.{TreeContents}
 use Rattle.kc_files.specs.TextViews.{items_of, texts_of}
-use Rattle.kc_files.specs.between.KnownFiles.{Grows}
 use Rattle.kc_files.specs.between.FileRuns.{HaveSameOutcome}
 use Rattle.kc_files.specs.checker.FileViews.{known_of}
-use Rattle.kc_files.proofs.StoreLemmas.{grows_same, grows_twice}
+use Rattle.kc_files.proofs.StoreLemmas.{stays_same, stays_twice, grows_same, grows_twice}
 use Rattle.kc_files.proofs.ProgramLemmas.{same_twice, same_later}
 use Rattle.kc_files.proofs.PatternLemmas.{rest_with_files, with_files_first, with_files_more, cut_items}
 use Rattle.kc_files.proofs.patterns.paths_with_files.Goals as goal
 
 pub loop-path-init : goal.loop-path-init
 loop-path-init g c = record {
-  same = refl;
+  same = stays_same (g.F.TreeFiles.contents c.args.files.now);
   grows = grows_same (g.F.TreeFiles.contents c.args.files.now) (known_of c.args.store.now);
   rest = subst (λ (vs : List (Vec ℕ Global)). HaveSameOutcome (known_of c.args.store.now) (paths_with_files (items_of c.args.paths.now))
       (rest_with_files (items_of c.args.paths.now) (items_of vs)))
@@ -39,12 +37,23 @@ loop-path-preserved g c =
     let after : texts_of c.push_if.new.paths ≡ (if b then before ++ path ∷ [] else before) = c.in_ok-push_if.ensures
     ∙ ap (λ p. if b then before ++ p ∷ [] else before) c.deref-in-loop-path.ensures.value in
     record {
-      same = c.in_ok-there.ensures.same ∙ c.loop-path.invariant.same;
-      grows = grows_twice (g.F.TreeFiles.contents c.args.files.now) (known_of c.args.store.now) old new c.loop-path.invariant.grows
-          (subst (λ (t : TreeContents). Grows t old new) c.loop-path.invariant.same c.in_ok-there.ensures.grows);
+      same = stays_twice _ _ _ c.loop-path.invariant.same c.in_ok-there.ensures.same;
+      grows = grows_twice _ _ _ (known_of c.args.store.now) old new c.loop-path.invariant.grows c.in_ok-there.ensures.grows;
       rest = same_twice new whole (rest_with_files (path ∷ rest) before) (rest_with_files rest (texts_of c.push_if.new.paths))
-          (same_later (g.F.TreeFiles.contents c.loop-path.files) old new c.in_ok-there.ensures.grows whole (rest_with_files (path ∷ rest) before) so_far)
+          (same_later (g.F.TreeFiles.contents c.loop-path.files) (g.F.TreeFiles.contents c.has_file.new.files) old new c.in_ok-there.ensures.grows whole (rest_with_files (path ∷ rest) before) so_far)
           (subst (λ ps. HaveSameOutcome new (rest_with_files (path ∷ rest) before) (rest_with_files rest ps)) (sym after)
           (with_files_more new path rest before b (λ w a. ap (λ p. has_file w p) (sym c.deref.ensures.value)
           ∙ c.in_ok-there.ensures.there w a)));
     }
+
+pub returns-in_err-there-clause-same : goal.returns-in_err-there-clause-same
+returns-in_err-there-clause-same g c = stays_twice _ _ _ c.loop-path.invariant.same c.has_file.ensures.same
+
+pub returns-in_err-there-clause-grows : goal.returns-in_err-there-clause-grows
+returns-in_err-there-clause-grows g c = grows_twice _ _ _ _ _ _ c.loop-path.invariant.grows c.has_file.ensures.grows
+
+pub returns-in_err-push_if-clause-same : goal.returns-in_err-push_if-clause-same
+returns-in_err-push_if-clause-same g c = stays_twice _ _ _ c.loop-path.invariant.same c.has_file.ensures.same
+
+pub returns-in_err-push_if-clause-grows : goal.returns-in_err-push_if-clause-grows
+returns-in_err-push_if-clause-grows g c = grows_twice _ _ _ _ _ _ c.loop-path.invariant.grows c.has_file.ensures.grows

@@ -1,6 +1,7 @@
-use Rattle.std.proofs.Common.{◌≡◌, drop}
+use Rattle.std.proofs.Common.{drop}
 use Rattle.kc_macros_model.specs.PathPatterns.{paths_with_files}
 use Rattle.kc_files.specs.TextViews.{items_of, texts_of}
+use Rattle.kc_files.specs.TreeContents.{StaysKnown}
 use Rattle.kc_files.specs.between.KnownFiles.{Grows}
 use Rattle.kc_files.specs.between.FileRuns.{HaveSameOutcome}
 use Rattle.kc_files.specs.checker.FileViews.{known_of}
@@ -9,7 +10,7 @@ use Rattle.kc_files.proofs.patterns.paths_with_files.Given as goal
 
 abbrev pub invariant-loop-path : goal.invariant-loop-path
 invariant-loop-path g l = record {
-  same : g.F.TreeFiles.contents l.files ≡ g.F.TreeFiles.contents l.fn.files;
-  grows : Grows (g.F.TreeFiles.contents l.fn.files) (known_of l.fn.store) (known_of l.store);
+  same : StaysKnown (g.F.TreeFiles.contents l.fn.files) (g.F.TreeFiles.contents l.files);
+  grows : Grows (g.F.TreeFiles.contents l.fn.files) (g.F.TreeFiles.contents l.files) (known_of l.fn.store) (known_of l.store);
   rest : HaveSameOutcome (known_of l.store) (paths_with_files (items_of l.paths)) (rest_with_files (items_of (drop l.path-index l.paths)) (texts_of l.found));
 }

@@ -5,6 +5,7 @@ use Rattle.kc_rules.specs.between.SettledViews.{tree_of_settled}
 use Rattle.kmin_trees.specs.AcceptedTrees.{AreAccepted}
 use Rattle.kmin_report.specs.StandardError.{TakesLines, none}
 use Rattle.kmin_report.specs.between.RunErrors.{status_of}
+use Rattle.kmin_report.specs.Reports.{ErrorLine}
 use Rattle.kmin_trees.specs.between.TreeStops.{StopsAtTexts, for_memory}
 use Rattle.kmin_report.proofs.Results.{memory_err}
 use Rattle.kmin_run.proofs.bundle_answer.bundle_tree.Goals as goal
@@ -18,7 +19,7 @@ returns-clause-accepted g c =
 pub returns-clause-stopped : goal.returns-clause-stopped
 returns-clause-stopped g c =
     let texts = c.in_ok-insert.ensures.ok ∙ ap (λ (fs : Files). with_file fs (codes "Kconfig") c.args.tree.now) c.with_seed-texts.ensures in
-    let stops = λ (fs : Files) (names : Files). IfErr c.settled_tree.result (λ stop. (lines : List (List ℕ))
+    let stops = λ (fs : Files) (names : Files). IfErr c.settled_tree.result (λ stop. (lines : List ErrorLine)
     × StopsAtTexts fs names (codes "Kconfig") (status_of stop) lines × TakesLines
     (g.E.Sink.taken c.args.err.now) (g.E.Sink.failures c.args.err.now) lines (g.E.Sink.taken c.settled_tree.new.err)
     (g.E.Sink.failures c.settled_tree.new.err)) in

@@ -1,5 +1,6 @@
 use Rattle.std.proofs.Common.{[], ◌∷◌, inl, inr, refl, arith}
 use Rattle.kmin_words.specs.Jobs.{settings_view, questions_view, task_view}
+use Rattle.kmin_report.specs.Reports.{refused_line}
 use Rattle.kmin_report.proofs.WriterLemmas.{lines_one}
 use Rattle.kmin_run.specs.TidyRuns.{outputs_of}
 use Rattle.kmin_run.proofs.ReadFailures.{help_rises}
@@ -79,7 +80,7 @@ pub returns-in-Refused : goal.returns-in-Refused
 returns-in-Refused g c = record {
   status = two_at_most_six c.refuse_words.result c.refuse_words.ensures.status;
   ends = rw c.in-Refused.is (
-    c.deref-in-Refused.result.now ∷ [],
+    refused_line c.deref-in-Refused.result.now ∷ [],
     (c.refuse_words.ensures.status, refl, rw c.deref-in-Refused.ensures refl),
     lines_one _ _ _ _ _ c.refuse_words.ensures.reported,
   );

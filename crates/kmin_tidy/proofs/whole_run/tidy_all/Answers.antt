@@ -3,13 +3,14 @@ use Rattle.kc_rules.specs.declared.rules.Settled.{Settled}
 use Rattle.kmin_tidy.specs.Options.{settings_of}
 use Rattle.kmin_tidy.specs.Runs.{Tidies, paths_of}
 use Rattle.kmin_report.specs.StandardError.{TakesLines, none}
+use Rattle.kmin_report.specs.Reports.{ErrorLine}
 use Rattle.kmin_tidy.specs.checker.FileResults.{StopsRun}
 use Rattle.kmin_tidy.proofs.WholeRuns.{stops_first, memory_stop}
 use Rattle.kmin_tidy.proofs.whole_run.tidy_all.Goals as goal
 
 pub returns-clause-run : goal.returns-clause-run
 returns-clause-run g c =
-    subst (λ (sys : Settled). IfOk c.tidy_each.result (λ tidied. (reports : List (List ℕ))
+    subst (λ (sys : Settled). IfOk c.tidy_each.result (λ tidied. (reports : List ErrorLine)
     × Tidies (settings_of sys c.args.format.now c.args.options) (g.D.ReadDisk.disk c.args.disk.now) (g.D.ReadDisk.disk c.tidy_each.new.disk)
     (paths_of c.args.paths.now) tidied.text.items reports tidied.status
     × TakesLines (g.E.Sink.taken c.args.err.now) (g.E.Sink.failures c.args.err.now) reports (g.E.Sink.taken c.tidy_each.new.err)
@@ -18,7 +19,7 @@ returns-clause-run g c =
 
 pub returns-clause-stopped : goal.returns-clause-stopped
 returns-clause-stopped g c =
-    subst (λ (sys : Settled). IfErr c.tidy_each.result (λ stop. (reports : List (List ℕ))
+    subst (λ (sys : Settled). IfErr c.tidy_each.result (λ stop. (reports : List ErrorLine)
     × StopsRun (settings_of sys c.args.format.now c.args.options) (g.D.ReadDisk.disk c.args.disk.now)
     (g.D.ReadDisk.disk c.tidy_each.new.disk) (paths_of c.args.paths.now) reports stop
     × TakesLines (g.E.Sink.taken c.args.err.now) (g.E.Sink.failures c.args.err.now) reports (g.E.Sink.taken c.tidy_each.new.err)

@@ -2,12 +2,13 @@ use Rattle.std.proofs.Common.{◌≡◌, ℕ, List, take}
 use Rattle.kmin_tidy.specs.Options.{settings_of}
 use Rattle.kmin_tidy.specs.Runs.{Tidies, paths_of}
 use Rattle.kmin_report.specs.StandardError.{TakesLines}
+use Rattle.kmin_report.specs.Reports.{ErrorLine}
 use Rattle.kmin_tidy.proofs.whole_run.tidy_each.Given as goal
 
 abbrev pub invariant-loop-path : goal.invariant-loop-path
 invariant-loop-path g l = record {
   system : l.config.system ≡ l.fn.config.system;
-  ran : (reports : List (List ℕ))
+  ran : (reports : List ErrorLine)
       × Tidies (settings_of l.fn.config.system l.format l.options) (g.D.ReadDisk.disk l.fn.disk)
       (g.D.ReadDisk.disk l.disk) (paths_of (take l.path-index l.paths)) l.text.items reports l.status
       × TakesLines (g.E.Sink.taken l.fn.err) (g.E.Sink.failures l.fn.err) reports (g.E.Sink.taken l.err) (g.E.Sink.failures l.err);

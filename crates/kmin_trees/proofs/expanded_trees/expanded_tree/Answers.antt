@@ -1,6 +1,6 @@
 use Rattle.std.proofs.Common.{[], ◌∷◌, ◌++◌, map, refl, subst}
 use Rattle.kc_macros.specs.Runs.{fault_of, notice_of}
-use Rattle.kmin_report.specs.MacroReports.{macro_fault_line, macro_notice_line}
+use Rattle.kmin_report.specs.Reports.{macro_fault_line, macro_notice_line}
 use Rattle.kmin_report.specs.StandardError.{TakesLines, none}
 use Rattle.kmin_trees.specs.between.ExpansionStops.{at_fault, for_memory}
 use Rattle.kmin_report.proofs.WriterLemmas.{lines_append, lines_one}

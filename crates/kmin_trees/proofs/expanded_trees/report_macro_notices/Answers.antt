@@ -1,7 +1,7 @@
 use Rattle.std.proofs.Common.{subst, rules}
 use Rattle.kc_macros.specs.Runs.{notice_of}
 use Rattle.kc_macros.specs.declared.stop.MacroNotice.{MacroNotice}
-use Rattle.kmin_report.specs.MacroReports.{macro_notice_line}
+use Rattle.kmin_report.specs.Reports.{macro_notice_line}
 use Rattle.kmin_report.specs.StandardError.{TakesLine, none}
 use Rattle.kmin_report.proofs.WriterLemmas.{lines_next}
 use Rattle.kmin_trees.proofs.expanded_trees.report_macro_notices.Goals as goal

@@ -1,6 +1,6 @@
 use Rattle.std.proofs.Common.{map, take}
 use Rattle.kc_macros.specs.Runs.{notice_of}
-use Rattle.kmin_report.specs.MacroReports.{macro_notice_line}
+use Rattle.kmin_report.specs.Reports.{macro_notice_line}
 use Rattle.kmin_report.specs.StandardError.{TakesLines}
 use Rattle.kmin_trees.proofs.expanded_trees.report_macro_notices.Given as goal
 

@@ -4,5 +4,5 @@ use Rattle.kmin_trees.proofs.expanded_trees.unused_below.Goals as goal
 
 pub returns : goal.returns
 returns g c =
-    if_ok_map c.unused.result _ _ (λ w h. unused_below _ _ (g.F.Files.surroundings c.args.files.now) _ _ _ _ _ _ c.as_bytes.ensures.value h)
+    if_ok_map c.unused.result _ _ (λ w h. unused_below _ _ (g.F.Files.surroundings c.args.files.now) _ _ _ _ _ _ c.as_bytes.ensures.value h.0)
     c.unused.ensures.unused

@@ -4,4 +4,4 @@ use Rattle.kmin_trees.proofs.expanded_trees.wanted_below.Goals as goal
 
 pub returns : goal.returns
 returns g c =
-    if_ok_map c.wants.result _ _ (λ w h. wanted_below _ _ (g.F.Files.surroundings c.args.files.now) _ _ _ _ _ c.as_bytes.ensures.value h) c.wants.ensures.wanted
+    if_ok_map c.wants.result _ _ (λ w h. wanted_below _ _ (g.F.Files.surroundings c.args.files.now) _ _ _ _ _ c.as_bytes.ensures.value h.0) c.wants.ensures.wanted

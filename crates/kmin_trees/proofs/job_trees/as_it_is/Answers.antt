@@ -6,6 +6,7 @@ use Rattle.kmin_report.specs.between.RunErrors.{status_of}
 use Rattle.kmin_trees.specs.between.TreeStops.{StopsAtTexts, for_memory}
 use Rattle.kmin_trees.proofs.TextGrowth.{below_none}
 use Rattle.kmin_trees.proofs.FailureCounts.{texts_unfailed}
+use Rattle.kmin_trees.proofs.MissingFiles.{misses_only, both_err}
 use Rattle.kmin_report.proofs.Results.{if_err_map, memory_err}
 use Rattle.kmin_trees.proofs.job_trees.as_it_is.Goals as goal
 
@@ -19,19 +20,22 @@ returns-in_err-texts-clause-stopped g c =
       for_memory
           status refl,
       none,
+      (λ three. absurd (omega arith)),
     ))
 
 pub returns-clause-stopped : goal.returns-clause-stopped
 returns-clause-stopped g c =
     let texts = c.in_ok-texts.field-0.texts in
     let first = c.args.settings.now.tree.now in
-    if_err_map c.settled_tree.result _ _ (λ stop stopped. (
+    if_err_map c.settled_tree.result _ _ (λ stop both. let stopped = both.0 in (
       texts,
       stopped.0,
       c.in_ok-texts.ensures.below,
       subst (λ (names : Files). StopsAtTexts texts names first (status_of stop) stopped.0) c.of_texts-names.ensures stopped.1,
       stopped.2,
-    )) c.settled_tree.ensures.stopped
+      (λ three. misses_only (g.F.Files.surroundings c.args.files.now).content c.args.settings.now.root.now first texts _ _ c.in_ok-texts.field-0.read
+          c.in_ok-texts.ensures.read (both.1 three) c.in_ok-texts.ensures.missing),
+    )) (both_err c.settled_tree.result _ _ c.settled_tree.ensures.stopped c.settled_tree.ensures.remembered)
 
 pub returns-in_err-texts-clause-failed : goal.returns-in_err-texts-clause-failed
 returns-in_err-texts-clause-failed g c = memory_err _ _ c.from_residual.ensures (λ stop status. λ five. absurd (omega arith))

@@ -1,5 +1,9 @@
-use Rattle.std.proofs.Common.{arith, refl}
+use Rattle.std.proofs.Common.{subst, arith, refl}
 use Rattle.std.proofs.lemmas.Grind.{common_steps}
+use Rattle.kmin_report.proofs.Results.{if_ok_map}
+use Rattle.kmin_trees.specs.FileContents.{Surroundings}
+use Rattle.kmin_trees.specs.MissingFiles.{LacksOnlyMissing}
+use Rattle.kmin_trees.proofs.MissingFiles.{lacks_over, any_err}
 use Rattle.kmin_trees.proofs.TextGrowth.{below_none}
 use Rattle.kmin_trees.proofs.tree_files.gather.Goals as goal
 
@@ -30,3 +34,15 @@ open_first-requires g c =
 
 pub returns-clause-read : goal.returns-clause-read
 returns-clause-read c = grind (arith, common_steps)
+
+pub returns-then-lacks_file-clause-missing : goal.returns-then-lacks_file-clause-missing
+returns-then-lacks_file-clause-missing g c =
+    let root = c.args.root.now in
+    let first = c.args.first.now in
+    let opened = g.F.Files.failures c.open_first.new.files in
+    let after = g.F.Files.failures c.gather_wanted.new.files in
+    if_ok_map c.gather_wanted.result _ _ (λ gathered lacks. any_err gathered.read _ (λ fault missing.
+    lacks_over (g.F.Files.surroundings c.args.files.now).content root first gathered.texts (g.F.Files.failures c.args.files.now) opened after after
+    c.open_first.ensures.rising c.gather_wanted.ensures.rising (omega arith)
+    (subst (λ (s : Surroundings). LacksOnlyMissing s.content root first gathered.texts opened after) c.open_first.ensures.same lacks)))
+    c.gather_wanted.ensures.missing

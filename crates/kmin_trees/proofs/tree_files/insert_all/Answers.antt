@@ -1,27 +1,54 @@
-use Rattle.std.proofs.Common.{◌∙◌, arith, refl}
-use Rattle.std.proofs.lemmas.Grind.{common_steps, elements}
+use Rattle.std.proofs.Common.{◌≡◌, ◌+◌, ◌∙◌, None, ap, subst, take, arith, refl, List, ℕ, get_or}
+use Rattle.std.specs.Prelude.{string_bytes}
+use Rattle.std.proofs.lemmas.List.{take_all}
+use Rattle.std.proofs.lemmas.List.Elements.{All-map}
+use Rattle.kc_tree_model.specs.TreeFiles.{file_at}
+use Rattle.kmin_trees.specs.FileContents.{Surroundings, path_below}
+use Rattle.kmin_trees.specs.MissingFiles.{MayBeMissing}
+use Rattle.kmin_trees.proofs.MissingFiles.{insert_step}
 use Rattle.kmin_trees.proofs.tree_files.insert_all.Goals as goal
 
-pub loop-path-preserved : goal.loop-path-preserved
-loop-path-preserved g c =
-    let i = c.loop-path.invariant in
+pub insert_one-requires : goal.insert_one-requires
+insert_one-requires g c =
+    let i = c.paths.invariant in
+    record { below = rw (i.same) (record { in_language = refl; content = i.below.content }) }
+
+pub paths-preserved : goal.paths-preserved
+paths-preserved g c =
+    let i = c.paths.invariant in
     let put = c.insert_one.ensures in
+    let root = c.args.root.now in
+    let texts = c.paths.texts in
+    let before = g.F.Files.failures c.paths.files in
+    let after = g.F.Files.failures c.insert_one.new.files in
+    let known = g.F.Files.surroundings c.args.files.now in
+    let given = c.as_str.result.now in
+    let path = string_bytes (get_or c.args.paths.now c.paths.path-index c.path-item.result) in
+    let at : given ≡ path = c.as_str.ensures.value ∙ ap string_bytes c.path-item.is in
+    let step = insert_step known.content root string_bytes c.args.paths.now c.paths.path-index c.path-item.result c.args.texts.now texts c.insert_one.new.texts
+    (g.F.Files.failures c.args.files.now) before after c.in_ok-inserted.inserted (omega arith) i.rising put.rising i.grows i.texts i.tried
+    c.in_ok-inserted.ensures.inserted c.in_ok-inserted.ensures.same_texts
+    (λ no. subst (λ (p : List ℕ). file_at texts p ≡ None → MayBeMissing (known.content (path_below root p)) before after) at
+    (subst (λ (s : Surroundings). file_at texts given ≡ None → MayBeMissing (s.content (path_below root given)) before after) i.same
+    (c.in_ok-inserted.ensures.missing no))) in
     record {
       same = put.same ∙ i.same;
       rising = omega (arith, put.rising, i.rising);
       below = rw (i.same, i.below.in_language) at put.below;
+      grows = step.0;
+      texts = step.1;
+      tried = step.2;
     }
 
-pub returns-then-is_used-clause-below : goal.returns-then-is_used-clause-below
-returns-then-is_used-clause-below g c = grind (arith, elements)
-
-pub returns-clause-below : goal.returns-clause-below
-returns-clause-below g c = grind (arith, common_steps)
-
-pub insert_one-requires : goal.insert_one-requires
-insert_one-requires g c =
-    let i = c.loop-path.invariant in
-    record { below = rw (i.same) (record { in_language = refl; content = i.below.content }) }
-
-pub returns-in_err-any-clause-below : goal.returns-in_err-any-clause-below
-returns-in_err-any-clause-below g c = grind (arith, common_steps)
+pub returns-clause-inserted : goal.returns-clause-inserted
+returns-clause-inserted g c =
+    let i = c.paths.invariant in
+    let known = g.F.Files.surroundings c.args.files.now in
+    let all : take c.paths.path-index c.args.paths.now ≡ c.args.paths.now = take_all c.paths.path-index c.args.paths.now (omega arith) in
+    record {
+      grows = i.grows;
+      same = i.texts;
+      tried = λ le. All-map (λ (path : List ℕ). file_at c.args.texts.now path ≡ None
+          → MayBeMissing (known.content (path_below c.args.root.now path)) (g.F.Files.failures c.args.files.now) (g.F.Files.failures c.paths.files))
+          string_bytes c.args.paths.now (rw all at (i.tried le));
+    }

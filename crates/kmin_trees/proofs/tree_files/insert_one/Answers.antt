@@ -1,6 +1,8 @@
-use Rattle.std.proofs.Common.{rules, arith}
+use Rattle.std.proofs.Common.{◌≡◌, None, rules, arith}
 use Rattle.std.proofs.lemmas.Grind.{common_steps, elements}
+use Rattle.kc_tree_model.specs.TreeFiles.{file_at}
 use Rattle.kmin_trees.proofs.TextGrowth.{inserted}
+use Rattle.kmin_trees.proofs.MissingFiles.{longer}
 use Rattle.kmin_trees.proofs.tree_files.insert_one.Goals as goal
 
 pub returns-clause-below : goal.returns-clause-below
@@ -20,3 +22,8 @@ returns-in_default-clause-below g c = grind (arith, common_steps)
 
 pub returns-then-is_some-clause-below : goal.returns-then-is_some-clause-below
 returns-then-is_some-clause-below g c = grind (arith, elements)
+
+pub returns-clause-inserted : goal.returns-clause-inserted
+returns-clause-inserted g c =
+    let absent : file_at c.args.texts.now c.args.path.now ≡ None = first_of (search rules, grind (arith, common_steps)) in
+    λ _. longer c.args.texts.now c.insert.new.self c.args.path.now c.deref.result.now absent c.in_ok-insert.ensures.ok

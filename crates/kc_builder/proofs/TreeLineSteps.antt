@@ -1,0 +1,46 @@
+-- The lines of a tree are those of the reading that gives it.
+use Rattle.std.proofs.Common.{◌≡◌, ℕ, ◌<◌, ◌^◌, List, length, reverse, ap, sym, subst, ◌∙◌}
+use Rattle.kc_value.specs.declared.tri.Tri.TheVariants.{N}
+use Rattle.kc_expr.specs.Expr.{alone, constant}
+use Rattle.kc_expr.specs.between.Arena.{Exprs, Represents}
+use Rattle.kc_tree_model.specs.Blocks.{Group}
+use Rattle.kc_tree_model.specs.Limits.{names_defined}
+use Rattle.kc_tree_model.specs.TreeFiles.{Files}
+use Rattle.kc_tree_model.specs.TreeReading.{Outcome, reading}
+use Rattle.kc_tree_model.specs.TreesOfFiles.{origin_of, IsTreeOfFiles}
+use Rattle.kc_tree_model.proofs.ReadingLaws.ReadingCompleteness.{whole_read}
+use Rattle.kc_listing.specs.declared.listing.Listing.{Listing}
+use Rattle.kc_listing.specs.between.ListingView.{RepresentsGroups, RepresentsListing}
+use Rattle.kc_tree.specs.TreeModel.{TreeModel}
+use Rattle.kc_builder.specs.between.TreeLines.{HasLines, IsTreeWithLines}
+use Rattle.kc_builder.specs.declared.tree_lines.TreeLines.{TreeLines}
+
+-- the groups and lines of a listing are the lines of its statements
+pub lines_of_listing : (l : Listing) (arena : Exprs) (lines : TreeLines) (off : ℕ) (read : List Group) → RepresentsListing l read
+    → arena ≡ l.names.arena → lines.groups ≡ l.groups → lines.lines ≡ l.lines → lines.no ≡ off → length l.groups.items < 2 ^ 32 → Represents l.names.arena off (alone (constant N))
+    → HasLines arena lines read
+unfolding RepresentsListing
+lines_of_listing l arena lines off read h same groups own is few stands = record {
+  texts = l.texts.items;
+  held = rw (same, own) h.held;
+  groups_are = rw (same, own, groups) h.groups_are;
+  few = rw groups few;
+  no_is = rw (same, is) stands;
+}
+
+pub tree_with_lines : (files : Files) (root : List ℕ) (t : TreeModel) (lines : TreeLines) → IsTreeOfFiles files root t.tree
+    → HasLines t.exprs lines (reading files root).read → IsTreeWithLines files root t lines
+unfolding reading
+tree_with_lines files root t lines h k =
+    let same = whole_read (origin_of files root) h.0 h.1 in
+    record {
+      groups = h.0;
+      whole = h.1;
+      faultless = h.2;
+      tree_is = h.3;
+      lines_are = subst (HasLines t.exprs lines) (ap (λ (o : Outcome). o.read) same) k;
+    }
+
+-- lines are of a tree with the same arena
+pub of_arena : (arena : Exprs) (t : TreeModel) (lines : TreeLines) (read : List Group) → t.exprs ≡ arena → HasLines arena lines read → HasLines t.exprs lines read
+of_arena arena t lines read e h = subst (λ x. HasLines x lines read) (sym e) h

@@ -1,0 +1,6 @@
+pub mod KeptLines
+pub mod OwnLines
+pub mod FileSteps
+pub mod LineReads
+pub mod ReasonsHold
+pub mod PlaceLaws

@@ -1,0 +1,6 @@
+use Rattle.std.proofs.Common.{◌≡◌, None, drop}
+use Rattle.kc_config_reasons.specs.checker.PlaceSteps.{place_kept}
+use Rattle.kc_config_reasons.proofs.places.deciding_line.Given as goal
+
+abbrev pub invariant-loop-file : goal.invariant-loop-file
+invariant-loop-file l = place_kept l.unit l.s l.file (drop l.file l.files) ≡ None

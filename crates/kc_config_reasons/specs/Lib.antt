@@ -1,0 +1,3 @@
+pub mod ConfigReasons
+pub mod between
+pub mod checker

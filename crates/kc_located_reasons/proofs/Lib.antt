@@ -1,0 +1,3 @@
+pub mod LocatedLaws
+pub mod PartLemmas
+pub mod Searches

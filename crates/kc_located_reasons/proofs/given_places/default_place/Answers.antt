@@ -1,0 +1,19 @@
+use Rattle.std.proofs.Common.{◌≡◌, not, map, ap, ◌∙◌}
+use Rattle.std.specs.Prelude.{slice_get}
+use Rattle.std.specs.Option.{option_and_then}
+use Rattle.kc_tree_model.specs.Trees.{Default}
+use Rattle.kc_tree.specs.between.Views.{default_view}
+use Rattle.kc_evaluation.specs.checker.ValuationView.{valuation_tree, valuation_exprs, valuation_values}
+use Rattle.kc_rules_model.specs.Kinds.{is_n}
+use Rattle.kc_rules_model.specs.SymbolValues.{condition}
+use Rattle.kc_symbol_lines.specs.between.LinesView.{position_view}
+use Rattle.kc_located_reasons.proofs.Searches.{position_mapped}
+use Rattle.kc_located_reasons.proofs.given_places.default_place.Goals as goal
+
+pub returns : goal.returns
+returns c =
+    let tree = valuation_tree c.args.under.now in
+    let values = valuation_values c.args.under.now in
+    c.place_at.ensures
+    ∙ ap (option_and_then (slice_get (map position_view c.args.places.now)))
+    (c.active_default.ensures ∙ position_mapped (default_view (valuation_exprs c.args.under.now)) (λ (d : Default). not (is_n (condition tree values d.condition))) c.args.defaults.now)

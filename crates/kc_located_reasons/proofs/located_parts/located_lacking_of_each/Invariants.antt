@@ -1,0 +1,15 @@
+use Rattle.std.proofs.Common.{◌≡◌, ◌++◌, map, drop}
+use Rattle.kc_evaluation.specs.checker.ValuationView.{valuation_tree, valuation_exprs, valuation_values}
+use Rattle.kc_rules_model.specs.SymbolValues.{environment}
+use Rattle.kc_symbol_lines.specs.between.LinesView.{each_located}
+use Rattle.kc_located_reasons.specs.LocatedNeeds.{located_lacking}
+use Rattle.kc_located_reasons.specs.between.PartsView.{located_alternatives_view, ArePartsThere}
+use Rattle.kc_located_reasons.proofs.located_parts.located_lacking_of_each.Given as goal
+
+abbrev pub invariant-loop-list : goal.invariant-loop-list
+invariant-loop-list l = record {
+  lists : located_alternatives_view (valuation_exprs l.under) l.found.items
+      ++ map (located_lacking (environment (valuation_tree l.under) (valuation_values l.under)) l.wanted) (each_located (valuation_exprs l.under) (drop l.list-index l.lists))
+      ≡ map (located_lacking (environment (valuation_tree l.under) (valuation_values l.under)) l.wanted) (each_located (valuation_exprs l.under) l.lists);
+  there : ArePartsThere (valuation_exprs l.under) l.found.items;
+}

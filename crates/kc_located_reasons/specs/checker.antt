@@ -1,0 +1,2 @@
+pub mod ActivePlaces
+pub mod PartLists

@@ -1,0 +1,16 @@
+-- Which defaults and ranges count, as the code has them.
+use Rattle.std.specs.Prelude.{Bool, not, List}
+use Rattle.kc_expr.specs.between.Arena.{Exprs, node_expr}
+use Rattle.kc_tree_model.specs.Trees.{Tree}
+use Rattle.kc_tree.specs.declared.symbol.Default.{Default}
+use Rattle.kc_tree.specs.declared.symbol.Range.{Range}
+use Rattle.kc_rules_model.specs.declared.values.UnitValue.{UnitValue}
+use Rattle.kc_rules_model.specs.Kinds.{is_n}
+use Rattle.kc_rules_model.specs.SymbolValues.{condition}
+
+-- whether the condition of a default, or of a range, isn't `n`
+abbrev pub is_active_default : Tree → List UnitValue → Exprs → Default → Bool
+is_active_default tree values exprs d = not (is_n (condition tree values (node_expr exprs d.condition)))
+
+abbrev pub is_active_range : Tree → List UnitValue → Exprs → Range → Bool
+is_active_range tree values exprs r = not (is_n (condition tree values (node_expr exprs r.condition)))

@@ -1,0 +1,9 @@
+pub mod AttributeViews
+pub mod BlockLaws
+pub mod ContextLaws
+pub mod EntrySteps
+pub mod HeldLines
+pub mod IndexLaws
+pub mod OwnLineLaws
+pub mod PlacedGroups
+pub mod TargetLaws

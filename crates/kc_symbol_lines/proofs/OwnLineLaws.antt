@@ -1,0 +1,110 @@
+-- What the code finds on a group's lines is what the definitions say.
+use Rattle.std.proofs.Common.{◌≡◌, ℕ, Bool, true, false, cond, List, [], ◌∷◌, ◌++◌, map, Option, Some, None, refl, ap, sym, ◌∙◌}
+use Rattle.std.specs.Prelude.{filter_map, option_map, option_to_list}
+use Rattle.std.specs.List.{cons_option}
+use Rattle.std.proofs.lemmas.List.{map-append}
+use Rattle.kc_expr.specs.Expr.{Expr}
+use Rattle.kc_expr.specs.between.Arena.{Exprs, node_expr}
+use Rattle.kc_statements.specs.between.StatementViews.{attribute_in, if_in}
+use Rattle.kc_statements.specs.declared.statement.Attribute.{Attribute as CodeAttribute}
+use Rattle.kc_listing.specs.declared.listing.Line.{Line as CodeLine}
+use Rattle.kc_listing.specs.between.ListingView.{line_in}
+use Rattle.kc_tree_model.specs.Statements as model
+use Rattle.kc_tree_model.specs.Statements.{Attribute}
+use Rattle.kc_tree_model.specs.Blocks.{Group, Line, Position}
+use Rattle.kc_reasons_model.specs.Places.{LocatedExpr, LocatedContext, located_at, located_attributes, located_dependencies, located_prompt, located_prompts}
+use Rattle.kc_reasons_model.specs.SymbolLines.{attribute_positions, position_of}
+use Rattle.kc_symbol_lines.specs.declared.attributes.Part.{Part}
+use Rattle.kc_symbol_lines.specs.declared.attributes.Part.TheVariants.{Dependency, Visibility}
+use Rattle.kc_symbol_lines.specs.declared.attributes.Given.{Given}
+use Rattle.kc_symbol_lines.specs.declared.located.LocatedExpr.{LocatedExpr as CodeLocated}
+use Rattle.kc_symbol_lines.specs.between.LinesView.{position_view, located_view, all_located}
+use Rattle.kc_symbol_lines.specs.checker.Attributes.{part_of, prompt_of, is_given}
+use Rattle.kc_symbol_lines.specs.checker.OwnLines.{EnclosingLists, position_at, located_if, parts_in, places_in, dependency_parts, prompt_parts, prompt_at, prompts_in}
+use Rattle.kc_symbol_lines.proofs.AttributeViews.{part_meant, part_is, prompt_is}
+
+-- the conditions that some of the code represent
+abbrev pub context_view : Exprs → EnclosingLists → LocatedContext
+context_view e a = record { dependencies = all_located e a.dependencies; visibles = all_located e a.visibles }
+
+module _ (e : Exprs) where
+  one_part : (g : Group) (file line : ℕ) (o : Option ℕ) (xs : List CodeLocated) (ys : List LocatedExpr) → g.at.file ≡ file → all_located e xs ≡ ys
+      → all_located e (located_if (position_at file line) o ++ xs) ≡ cons_option (option_map (located_at g line) (option_map (node_expr e) o)) ys
+  one_part g file line None xs ys f h = h
+  one_part g file line (Some i) xs ys f h =
+      ap (λ r. located_view e (record { expr = i; at = position_at file line; of_choice = false }) ∷ r) h
+      ∙ ap (λ n. record { expr = node_expr e i; at = record { file = n; line = line }; of_choice = false } ∷ ys) (sym f)
+
+  parts_of_lines : (part : Part) (g : Group) (file : ℕ) (ls : List CodeLine) → g.at.file ≡ file
+      → all_located e (parts_in part file ls) ≡ filter_map (λ (l : Line). option_map (located_at g l.number) (part_meant part l.attribute)) (map (line_in e) ls)
+  parts_of_lines part g file [] f = refl
+  parts_of_lines part g file (l ∷ ls) f =
+      let rest : List LocatedExpr = filter_map (λ (k : Line). option_map (located_at g k.number) (part_meant part k.attribute)) (map (line_in e) ls) in
+      one_part g file l.number (part_of part l.attribute) (parts_in part file ls) rest f (parts_of_lines part g file ls f)
+      ∙ ap (λ o. cons_option (option_map (located_at g l.number) o) rest) (part_is e part l.attribute)
+
+  one_place : (g : Group) (file line : ℕ) (b : Bool) (ys zs : List Position) → g.at.file ≡ file → ys ≡ zs
+      → map position_view (cond b (position_at file line ∷ []) []) ++ ys ≡ cons_option (cond b (Some (record { file = g.at.file; line = line })) None) zs
+  one_place g file line true ys zs f h = ap (λ r. record { file = file; line = line } ∷ r) h ∙ ap (λ n. record { file = n; line = line } ∷ zs) (sym f)
+  one_place g file line false ys zs f h = h
+
+  places_of_lines : {A : Type 0} (given : Given) (D : Attribute → Option A) (g : Group) (file : ℕ) (ls : List CodeLine) → g.at.file ≡ file
+      → ((x : Position) (a : CodeAttribute) → option_map (λ _. x) (D (attribute_in e a)) ≡ cond (is_given given a) (Some x) None)
+      → map position_view (places_in given file ls) ≡ filter_map (λ (l : Line). option_map (λ a. position_of g l) (D l.attribute)) (map (line_in e) ls)
+  places_of_lines given D g file [] f h = refl
+  places_of_lines given D g file (l ∷ ls) f h =
+      let rest : List Position = filter_map (λ (k : Line). option_map (λ a. position_of g k) (D k.attribute)) (map (line_in e) ls) in
+      map-append position_view (cond (is_given given l.attribute) (position_at file l.number ∷ []) []) (places_in given file ls)
+      ∙ one_place g file l.number (is_given given l.attribute) (map position_view (places_in given file ls)) rest f (places_of_lines given D g file ls f h)
+      ∙ ap (λ o. cons_option o rest) (sym (h (record { file = g.at.file; line = l.number }) l.attribute))
+
+  -- the parts of a group's lines
+  module _ (g : Group) (file : ℕ) (ls : List CodeLine) (f : g.at.file ≡ file) (own : g.attributes ≡ map (line_in e) ls) where
+    pub parts_located : (part : Part) → all_located e (parts_in part file ls) ≡ located_attributes (part_meant part) g
+    parts_located part =
+        parts_of_lines part g file ls f
+        ∙ ap (λ xs. filter_map (λ (l : Line). option_map (located_at g l.number) (part_meant part l.attribute)) xs) (sym own)
+
+    pub places_located : {A : Type 0} (given : Given) (D : Attribute → Option A)
+        → ((x : Position) (a : CodeAttribute) → option_map (λ _. x) (D (attribute_in e a)) ≡ cond (is_given given a) (Some x) None)
+        → map position_view (places_in given file ls) ≡ attribute_positions D g
+    places_located given D h =
+        places_of_lines given D g file ls f h
+        ∙ ap (λ xs. filter_map (λ (l : Line). option_map (λ a. position_of g l) (D l.attribute)) xs) (sym own)
+
+    pub dependencies_located : (a : EnclosingLists) → all_located e (dependency_parts a file ls) ≡ located_dependencies (context_view e a) g
+    dependencies_located a =
+        map-append (located_view e) a.dependencies (parts_in Dependency file ls)
+        ∙ ap (λ xs. all_located e a.dependencies ++ xs) (parts_located Dependency)
+
+    if_located : (line : ℕ) (c : Option ℕ) → all_located e (located_if (position_at file line) c) ≡ option_to_list (option_map (located_at g line) (if_in e c))
+    if_located line None = refl
+    if_located line (Some i) = ap (λ n. record { expr = node_expr e i; at = record { file = n; line = line }; of_choice = false } ∷ []) (sym f)
+
+    prompt_located : (a : EnclosingLists) (line : ℕ) (c : Option ℕ)
+        → all_located e (prompt_parts a file ls line c) ≡ located_prompt (context_view e a) g line (if_in e c)
+    prompt_located a line c =
+        map-append (located_view e) (dependency_parts a file ls) (a.visibles ++ located_if (position_at file line) c)
+        ∙ ap (λ xs. xs ++ all_located e (a.visibles ++ located_if (position_at file line) c)) (dependencies_located a)
+        ∙ ap (λ xs. located_dependencies (context_view e a) g ++ xs) (map-append (located_view e) a.visibles (located_if (position_at file line) c)
+        ∙ ap (λ xs. all_located e a.visibles ++ xs) (if_located line c))
+
+    one_prompt : (a : EnclosingLists) (line : ℕ) (o : Option (Option ℕ)) (ys zs : List (List LocatedExpr)) → ys ≡ zs
+        → map (all_located e) (prompt_at a file ls line o) ++ ys ≡ cons_option (option_map (located_prompt (context_view e a) g line) (option_map (if_in e) o)) zs
+    one_prompt a line None ys zs h = h
+    one_prompt a line (Some c) ys zs h = ap (λ x. x ∷ ys) (prompt_located a line c) ∙ ap (λ r. located_prompt (context_view e a) g line (if_in e c) ∷ r) h
+
+    prompts_of_lines : (a : EnclosingLists) (some : List CodeLine)
+        → map (all_located e) (prompts_in a file ls some)
+        ≡ filter_map (λ (l : Line). option_map (located_prompt (context_view e a) g l.number) (model.prompt_of l.attribute)) (map (line_in e) some)
+    prompts_of_lines a [] = refl
+    prompts_of_lines a (l ∷ some) =
+        let rest : List (List LocatedExpr) = filter_map (λ (k : Line). option_map (located_prompt (context_view e a) g k.number) (model.prompt_of k.attribute)) (map (line_in e) some) in
+        map-append (all_located e) (prompt_at a file ls l.number (prompt_of l.attribute)) (prompts_in a file ls some)
+        ∙ one_prompt a l.number (prompt_of l.attribute) (map (all_located e) (prompts_in a file ls some)) rest (prompts_of_lines a some)
+        ∙ ap (λ o. cons_option (option_map (located_prompt (context_view e a) g l.number) o) rest) (prompt_is e l.attribute)
+
+    pub prompts_located : (a : EnclosingLists) → map (all_located e) (prompts_in a file ls ls) ≡ located_prompts (context_view e a) g
+    prompts_located a =
+        prompts_of_lines a ls
+        ∙ ap (λ xs. filter_map (λ (l : Line). option_map (located_prompt (context_view e a) g l.number) (model.prompt_of l.attribute)) xs) (sym own)

@@ -1,0 +1,351 @@
+-- The definitions of symbols, and the places of the selects and implies that target them.
+use Rattle.std.proofs.Common.{◌≡◌, inl, inr, ℕ, zero, suc, ◌+◌, ◌<◌, Bool, true, false, cond, ◌==◌, not, List, [], ◌∷◌, ◌++◌, length, map, Option, Some, None, refl, ap, sym, ◌∙◌, subst, arith}
+use Rattle.std.specs.Prelude.{slice_get, slice_index_or, filter_map, flat_map, option_map, option_and_then, option_to_list, unwrap_or, bytes_eq, nat_lt, All, IfSome}
+use Rattle.std.specs.List.{cons_option, position_or_len}
+use Rattle.std.proofs.lemmas.Bool.{eqb-true, eq-eqb}
+use Rattle.std.proofs.lemmas.List.{map-append, length-map}
+use Rattle.std.proofs.lemmas.List.Elements.{All-nil, All-cons}
+use Rattle.std.proofs.lemmas.Option.{slice_get-get_or}
+use Rattle.kc_expr.specs.Lookup.{index_of_name}
+use Rattle.kc_expr.specs.between.Arena.{Exprs}
+use Rattle.kc_tokens.specs.declared.language.Language.{Language}
+use Rattle.kc_statements.specs.between.StatementViews.{attribute_in, AttributeNodesExist}
+use Rattle.kc_statements.specs.declared.statement.Attribute.{Attribute as CodeAttribute}
+use Rattle.kc_statements.specs.declared.statement.Attribute.TheVariants as attributes
+use Rattle.kc_listing.specs.declared.listing.GroupHead.TheVariants as codes
+use Rattle.kc_listing.specs.declared.listing.Line.{Line as CodeLine}
+use Rattle.kc_listing.specs.between.ListingView.{RepresentsHead, LineNodesExist, line_in}
+use Rattle.kc_tree_model.specs.Trees.{Tree, Symbol}
+use Rattle.kc_tree_model.specs.TreeLookup.{symbol_named}
+use Rattle.kc_tree_model.specs.Statements.{Attribute, TargetAttribute, select_of, imply_of, config, name_of_head}
+use Rattle.kc_tree_model.specs.Blocks.{Group, Line, Position, from_head, defined_name, open_blocks}
+use Rattle.kc_tree_model.specs.Conditions.{GroupInContext, group_in_context, groups_in_context}
+use Rattle.kc_tree_model.specs.Contents.{Contents, contents_of, definitions_of, symbol_of, tree_of_groups}
+use Rattle.kc_tree_model.specs.Limits.{names_defined}
+use Rattle.kc_tree_model.proofs.Consistency.Lists.{Has, Differ, Differ-once, at_most_once, get_below, has-place, place-get, same_text, text_same}
+use Rattle.kc_reasons_model.specs.SymbolLines.{position_of, attribute_positions, target_named, target_positions}
+use Rattle.kc_tree.specs.TreeModel.{TreeModel}
+use Rattle.kc_tree.specs.between.GroupedItems.{items_of}
+use Rattle.kc_tree.specs.between.Views.{symbol_of_name_id}
+use Rattle.kc_builder.proofs.ItemLaw.{by_name, AreListed, none_listed, listed_more, listed_same, listed_law, number_of, number_is, direct_keys, direct_items, direct_law, force_key_of, force_keys}
+use Rattle.kc_builder.specs.between.TreeLines.{HasLines}
+use Rattle.kc_builder.specs.declared.tree_lines.TreeLines.{TreeLines}
+use Rattle.kc_checks.proofs.GroupPlaces.{shown_at, placed_more, all_before}
+use Rattle.kc_checks.proofs.Symbols.{named_there, nameless}
+use Rattle.kc_checks.specs.between.Summaries.{read_before, group_at}
+use Rattle.kc_symbol_lines.specs.declared.attributes.Force.{Force}
+use Rattle.kc_symbol_lines.specs.declared.attributes.Force.TheVariants.{Select, Imply}
+use Rattle.kc_symbol_lines.specs.declared.located.Position.{Position as CodePosition}
+use Rattle.kc_symbol_lines.specs.declared.targets.GatheredLines.{GatheredLines}
+use Rattle.kc_symbol_lines.specs.between.LinesView.{position_view}
+use Rattle.kc_symbol_lines.specs.checker.Attributes.{target_of}
+use Rattle.kc_symbol_lines.specs.checker.OwnLines.{position_at}
+use Rattle.kc_symbol_lines.specs.checker.Targets.{target_symbol, target_keys, target_places, HasDefinition, AreGathered}
+use Rattle.kc_symbol_lines.specs.checker.Contexts.{lines_at}
+use Rattle.kc_symbol_lines.proofs.AttributeViews.{target_meant}
+use Rattle.kc_symbol_lines.proofs.HeldLines.{own_held}
+
+-- the symbol of a name
+same_place : {X Y : Type 0} (f : X → Y) (p : Y → Bool) (xs : List X) → position_or_len p (map f xs) ≡ position_or_len (λ x. p (f x)) xs
+same_place f p [] = refl
+same_place f p (x ∷ xs) = ap (λ n. cond (not (p (f x))) (1 + n) 0) (same_place f p xs)
+
+pub named_in_tree : (language : Language) (read : List Group) (name : List ℕ) → symbol_named (tree_of_groups language read) name ≡ index_of_name name (names_defined read)
+unfolding tree_of_groups index_of_name
+named_in_tree language read name =
+    let names : List (List ℕ) = names_defined read in
+    let make : List ℕ → Symbol = symbol_of language (contents_of read) in
+    let place = same_place make (λ (s : Symbol). bytes_eq name s.name) names in
+    ap (λ n. cond (nat_lt n (length (map make names))) (Some n) None) place
+    ∙ ap (λ k. cond (nat_lt (position_or_len (bytes_eq name) names) k) (Some (position_or_len (bytes_eq name) names)) None) (length-map names make)
+
+-- the place of an attribute line that targets a symbol
+abbrev pub place_of : (Attribute → Option TargetAttribute) → List (List ℕ) → GroupInContext → Line → Option Position
+place_of S names p l = option_map (λ _. position_of p.group l) (force_key_of S names l)
+
+abbrev pub place_items : (Attribute → Option TargetAttribute) → List (List ℕ) → GroupInContext → List Position
+place_items S names p = by_name (λ x. filter_map (place_of S names p) p.group.attributes) (defined_name p.group)
+
+module _ (S : Attribute → Option TargetAttribute) (names : List (List ℕ)) where
+  as_many : (p : GroupInContext) (ls : List Line) → length (filter_map (force_key_of S names) ls) ≡ length (filter_map (place_of S names p) ls)
+  as_many p [] = refl
+  as_many p (l ∷ ls) = by_key (force_key_of S names l) (as_many p ls)
+    where
+      by_key : (o : Option ℕ) → length (filter_map (force_key_of S names) ls) ≡ length (filter_map (place_of S names p) ls)
+          → length (cons_option o (filter_map (force_key_of S names) ls))
+          ≡ length (cons_option (option_map (λ _. position_of p.group l) o) (filter_map (place_of S names p) ls))
+      by_key None e = e
+      by_key (Some k) e = ap suc e
+
+  pub places_many : (p : GroupInContext) → length (force_keys S names p) ≡ length (place_items S names p)
+  places_many p = by_case (defined_name p.group)
+    where
+      by_case : (o : Option (List ℕ))
+          → length (by_name (λ x. filter_map (force_key_of S names) p.group.attributes) o)
+          ≡ length (by_name (λ x. filter_map (place_of S names p) p.group.attributes) o)
+      by_case None = refl
+      by_case (Some x) = as_many p p.group.attributes
+
+  module _ (p : GroupInContext) (t : ℕ) (name : List ℕ) (d : Differ names) (at : slice_get names t ≡ Some name) where
+    apart : (x : List ℕ) → index_of_name x names ≡ None → bytes_eq x name ≡ false
+    apart x e = by_same (bytes_eq x name) refl
+      where
+        by_same : (b : Bool) → bytes_eq x name ≡ b → b ≡ false
+        by_same false u = refl
+        by_same true u =
+            let q = number_is names name t d at in
+            let r = ap (λ y. index_of_name y names) (same_text x name u) in
+            cc
+
+    equal : (x : List ℕ) (j : ℕ) → index_of_name x names ≡ Some j → (j == t) ≡ bytes_eq x name
+    equal x j e = by_both (j == t) (bytes_eq x name) refl refl
+      where
+        by_both : (a b : Bool) → (j == t) ≡ a → bytes_eq x name ≡ b → a ≡ b
+        by_both true true s u = refl
+        by_both false false s u = refl
+        by_both true false s u =
+            let i : j ≡ t = eqb-true j t s in
+            let q : slice_get names t ≡ Some x = ap (slice_get names) (sym i) ∙ place-get x names j e in
+            let same : x ≡ name = cc in
+            let w = text_same x name same in
+            cc
+        by_both false true s u =
+            let same : x ≡ name = same_text x name u in
+            let i : j ≡ t = at_most_once x names j t d (place-get x names j e) (at ∙ ap Some (sym same)) in
+            let w = eq-eqb j t i in
+            cc
+
+    abbrev targets : List Line → List Position
+    targets ls = filter_map (λ (l : Line). option_map (λ a. position_of p.group l) (target_named name (S l.attribute))) ls
+
+    one_target : (l : Line) (a : TargetAttribute) (b : Bool) (o : Option ℕ) (ks : List ℕ) (xs ys : List Position)
+        → bytes_eq a.name name ≡ b → index_of_name a.name names ≡ o → items_of t ks xs ≡ ys
+        → items_of t (cons_option o ks) (cons_option (option_map (λ _. position_of p.group l) o) xs)
+        ≡ cons_option (option_map (λ a. position_of p.group l) (cond b (Some a) None)) ys
+    one_target l a true None ks xs ys u e ih = let f = apart a.name e in cc
+    one_target l a false None ks xs ys u e ih = ih
+    one_target l a true (Some j) ks xs ys u e ih = rw (equal a.name j e ∙ u) (ap (λ r. position_of p.group l ∷ r) ih)
+    one_target l a false (Some j) ks xs ys u e ih = rw (equal a.name j e ∙ u) ih
+
+    on_lines : (ls : List Line) → items_of t (filter_map (force_key_of S names) ls) (filter_map (place_of S names p) ls) ≡ targets ls
+    on_lines [] = refl
+    on_lines (l ∷ ls) = by_aim (S l.attribute) (on_lines ls)
+      where
+        by_aim : (o : Option TargetAttribute) → items_of t (filter_map (force_key_of S names) ls) (filter_map (place_of S names p) ls) ≡ targets ls
+            → items_of t (cons_option (option_and_then (λ (a : TargetAttribute). index_of_name a.name names) o) (filter_map (force_key_of S names) ls))
+            (cons_option (option_map (λ _. position_of p.group l) (option_and_then (λ (a : TargetAttribute). index_of_name a.name names) o)) (filter_map (place_of S names p) ls))
+            ≡ cons_option (option_map (λ a. position_of p.group l) (target_named name o)) (targets ls)
+        by_aim None ih = ih
+        by_aim (Some a) ih =
+            one_target l a (bytes_eq a.name name) (index_of_name a.name names) (filter_map (force_key_of S names) ls) (filter_map (place_of S names p) ls) (targets ls) refl refl ih
+
+places_here : (S : Attribute → Option TargetAttribute) (c : Contents) (p : GroupInContext) (o : Option (List ℕ)) (name : List ℕ) (t : ℕ)
+    → Differ c.names → slice_get c.names t ≡ Some name → ((x : List ℕ) → o ≡ Some x → Has x c.names)
+    → items_of t (by_name (λ x. filter_map (force_key_of S c.names) p.group.attributes) o) (by_name (λ x. filter_map (place_of S c.names p) p.group.attributes) o)
+    ≡ elim o as (λ _. List Position) [
+      | None ↦ []
+      | Some by ↦ elim (index_of_name by c.names) as (λ _. List Position) [ None ↦ [] | Some s ↦ attribute_positions (λ a. target_named name (S a)) p.group ]
+    ]
+places_here S c p None name t d at named = refl
+places_here S c p (Some x) name t d at named =
+    let j = has-place x c.names (named x refl) in
+    on_lines S c.names p t name d at p.group.attributes
+    ∙ sym (ap (λ o. elim o as (λ _. List Position) [ None ↦ [] | Some s ↦ attribute_positions (λ a. target_named name (S a)) p.group ]) j.1)
+
+-- the places listed under a symbol's number are those of the attributes that target it
+pub places_law : (S : Attribute → Option TargetAttribute) (count : ℕ) (read : List Group) (keys : List ℕ) (items : List CodePosition) (t : ℕ) (name : List ℕ)
+    → AreListed position_view (force_keys S (names_defined read)) (place_items S (names_defined read)) (λ _. Unit {0}) count (groups_in_context read) keys items
+    → slice_get (names_defined read) t ≡ Some name
+    → map position_view (items_of t keys items) ≡ flat_map (target_positions S (contents_of read) name) (groups_in_context read)
+places_law S count read keys items t name l at =
+    let names : List (List ℕ) = names_defined read in
+    listed_law position_view (force_keys S names) (place_items S names) (target_positions S (contents_of read) name) (λ _. Unit {0}) count (groups_in_context read) keys items t
+    l (places_many S names)
+    (λ p k. places_here S (contents_of read) p (defined_name p.group) name t (Differ-once (filter_map defined_name read)) at (λ x e. named_there read p x k e))
+
+-- what is gathered from groups in places
+pub record AreGatheredOf (names : List (List ℕ)) (places : List GroupInContext) (found : GatheredLines) : Type 0 where
+  pub definitions : AreListed (λ n. n) (direct_keys names) (direct_items (λ (p : GroupInContext). p.group.number)) (λ _. Unit {0}) (length names) places
+      found.definitions.keys.items found.definitions.items.items
+  pub selectors : AreListed position_view (force_keys select_of names) (place_items select_of names) (λ _. Unit {0}) (length names) places
+      found.selectors.keys.items found.selectors.items.items
+  pub impliers : AreListed position_view (force_keys imply_of names) (place_items imply_of names) (λ _. Unit {0}) (length names) places
+      found.impliers.keys.items found.impliers.items.items
+
+pub nothing_gathered : (names : List (List ℕ)) (found : GatheredLines) → (found.definitions.keys.items ≡ []) → (found.definitions.items.items ≡ [])
+    → (found.selectors.keys.items ≡ []) → (found.selectors.items.items ≡ []) → (found.impliers.keys.items ≡ []) → (found.impliers.items.items ≡ [])
+    → AreGatheredOf names [] found
+nothing_gathered names found a b c d e f = record {
+  definitions = rw (a, b) (none_listed (λ n. n) (direct_keys names) (direct_items (λ (p : GroupInContext). p.group.number)) (λ _. Unit {0}) (length names));
+  selectors = rw (c, d) (none_listed position_view (force_keys select_of names) (place_items select_of names) (λ _. Unit {0}) (length names));
+  impliers = rw (e, f) (none_listed position_view (force_keys imply_of names) (place_items imply_of names) (λ _. Unit {0}) (length names));
+}
+
+-- any list has what is asked of nothing
+all_items : {X : Type 0} (xs : List X) → All (λ _. Unit {0}) xs
+all_items xs = λ i d l. tt
+
+-- a definition more
+module _ (t : TreeModel) (read : List Group) (tree_is : t.tree ≡ tree_of_groups t.tree.language read) where
+  abbrev names : List (List ℕ)
+  names = names_defined read
+
+  name_found : (id : ℕ) → id < length t.exprs.names → symbol_of_name_id t.tree t.exprs.names id ≡ index_of_name (slice_index_or t.exprs.names id []) names
+  name_found id h =
+      ap (option_and_then (symbol_named t.tree)) (slice_get-get_or t.exprs.names id [] h)
+      ∙ ap (λ (w : Tree). symbol_named w (slice_index_or t.exprs.names id [])) tree_is
+      ∙ named_in_tree t.tree.language read (slice_index_or t.exprs.names id [])
+
+  target_is : (f : Force) (a : CodeAttribute) → AttributeNodesExist t.exprs a
+      → target_symbol t f a ≡ option_and_then (λ (b : TargetAttribute). index_of_name b.name names) (target_meant f (attribute_in t.exprs a))
+  target_is Select (attributes.Select s) h = name_found s.name h.0
+  target_is Select a h = refl
+  target_is Imply (attributes.Imply s) h = name_found s.name h.0
+  target_is Imply a h = refl
+
+  one_key : (o : Option ℕ) (ks : List ℕ) → option_to_list o ++ ks ≡ cons_option o ks
+  one_key None ks = refl
+  one_key (Some k) ks = refl
+
+  keys_are : (f : Force) (ls : List CodeLine) → All (LineNodesExist t.exprs) ls
+      → target_keys t f ls ≡ filter_map (force_key_of (target_meant f) names) (map (line_in t.exprs) ls)
+  keys_are f [] h = refl
+  keys_are f (l ∷ ls) h =
+      one_key (target_symbol t f l.attribute) (target_keys t f ls)
+      ∙ ap (λ o. cons_option o (target_keys t f ls)) (target_is f l.attribute (h 0 l (omega arith)))
+      ∙ ap (cons_option (force_key_of (target_meant f) names (line_in t.exprs l))) (keys_are f ls (λ i d b. h (suc i) d (omega arith)))
+
+  one_item : (g : Group) (file line : ℕ) (o : Option ℕ) (xs : List CodePosition) (ys : List Position) → g.at.file ≡ file → map position_view xs ≡ ys
+      → map position_view (option_to_list (option_map (λ _. position_at file line) o) ++ xs)
+      ≡ cons_option (option_map (λ _. let x : Position = record { file = g.at.file; line = line } in x) o) ys
+  one_item g file line None xs ys e h = h
+  one_item g file line (Some k) xs ys e h =
+      ap (λ r. position_view (position_at file line) ∷ r) h
+      ∙ ap (λ n. let x : Position = record { file = n; line = line } in x ∷ ys) (sym e)
+
+  items_are : (f : Force) (p : GroupInContext) (file : ℕ) (ls : List CodeLine) → p.group.at.file ≡ file → All (LineNodesExist t.exprs) ls
+      → map position_view (target_places t f file ls) ≡ filter_map (place_of (target_meant f) names p) (map (line_in t.exprs) ls)
+  items_are f p file [] e h = refl
+  items_are f p file (l ∷ ls) e h =
+      one_item p.group file l.number (target_symbol t f l.attribute) (target_places t f file ls)
+      (filter_map (place_of (target_meant f) names p) (map (line_in t.exprs) ls)) e (items_are f p file ls e (λ i d b. h (suc i) d (omega arith)))
+      ∙ ap (λ o. cons_option (option_map (λ _. position_of p.group (line_in t.exprs l)) o) (filter_map (place_of (target_meant f) names p) (map (line_in t.exprs) ls)))
+      (target_is f l.attribute (h 0 l (omega arith)))
+
+  key_below : (f : Force) (ls : List Line) → All (λ k. k < length names) (filter_map (force_key_of (target_meant f) names) ls)
+  key_below f [] = All-nil (λ k. k < length names)
+  key_below f (l ∷ ls) = by_aim (target_meant f l.attribute) (key_below f ls)
+    where
+      by_place : (y : List ℕ) (o : Option ℕ) → index_of_name y names ≡ o → All (λ k. k < length names) (filter_map (force_key_of (target_meant f) names) ls)
+          → All (λ k. k < length names) (cons_option o (filter_map (force_key_of (target_meant f) names) ls))
+      by_place y None e r = r
+      by_place y (Some k) e r = All-cons (λ n. n < length names) k _ (get_below names k y (place-get y names k e)) r
+
+      by_aim : (o : Option TargetAttribute) → All (λ k. k < length names) (filter_map (force_key_of (target_meant f) names) ls)
+          → All (λ k. k < length names) (cons_option (option_and_then (λ (b : TargetAttribute). index_of_name b.name names) o) (filter_map (force_key_of (target_meant f) names) ls))
+      by_aim None r = r
+      by_aim (Some b) r = by_place b.name (index_of_name b.name names) refl r
+
+  module _ (prior : List GroupInContext) (p : GroupInContext) (x : List ℕ) (s file : ℕ) (ls : List CodeLine) (old new : GatheredLines)
+      (named : defined_name p.group ≡ Some x) (at : slice_get names s ≡ Some x) (f : p.group.at.file ≡ file)
+      (own : p.group.attributes ≡ map (line_in t.exprs) ls) (held : All (LineNodesExist t.exprs) ls)
+      (g : AreGatheredOf names prior old) (more : HasDefinition t s p.group.number file ls old new) where
+    force_step : (k : Force) (keys keys2 : List ℕ) (items items2 : List CodePosition)
+        → AreListed position_view (force_keys (target_meant k) names) (place_items (target_meant k) names) (λ _. Unit {0}) (length names) prior keys items
+        → keys2 ≡ keys ++ target_keys t k ls → items2 ≡ items ++ target_places t k file ls
+        → AreListed position_view (force_keys (target_meant k) names) (place_items (target_meant k) names) (λ _. Unit {0}) (length names) (prior ++ p ∷ []) keys2 items2
+    force_step k keys keys2 items items2 l a b =
+        listed_more position_view (force_keys (target_meant k) names) (place_items (target_meant k) names) (λ _. Unit {0}) (length names) prior
+        keys keys2 (target_keys t k ls) items items2 (target_places t k file ls) p l a b
+        (keys_are k ls held ∙ ap (filter_map (force_key_of (target_meant k) names)) (sym own)
+        ∙ sym (ap (by_name (λ y. filter_map (force_key_of (target_meant k) names) p.group.attributes)) named))
+        (items_are k p file ls f held ∙ ap (filter_map (place_of (target_meant k) names p)) (sym own)
+        ∙ sym (ap (by_name (λ y. filter_map (place_of (target_meant k) names p) p.group.attributes)) named))
+        (all_items (target_places t k file ls))
+        (subst (All (λ n. n < length names)) (sym (keys_are k ls held)) (key_below k (map (line_in t.exprs) ls)))
+
+    number : number_of names x ≡ s
+    number = ap (λ o. unwrap_or o 0) (number_is names x s (Differ-once (filter_map defined_name read)) at)
+
+    pub definition_more : AreGatheredOf names (prior ++ p ∷ []) new
+    definition_more = record {
+      definitions = listed_more (λ n. n) (direct_keys names) (direct_items (λ (q : GroupInContext). q.group.number)) (λ _. Unit {0}) (length names) prior
+          old.definitions.keys.items new.definitions.keys.items (s ∷ []) old.definitions.items.items new.definitions.items.items (p.group.number ∷ []) p
+          g.definitions more.symbols more.numbers
+          (ap (λ m. m ∷ []) (sym number) ∙ sym (ap (by_name (λ y. number_of names y ∷ [])) named))
+          (sym (ap (by_name (λ y. p.group.number ∷ [])) named))
+          (all_items (p.group.number ∷ []))
+          (All-cons (λ j. j < length names) s [] (get_below names s x at) (All-nil (λ j. j < length names)));
+      selectors = force_step Select old.selectors.keys.items new.selectors.keys.items old.selectors.items.items new.selectors.items.items g.selectors more.selected more.selectors;
+      impliers = force_step Imply old.impliers.keys.items new.impliers.keys.items old.impliers.items.items new.impliers.items.items g.impliers more.implied more.impliers;
+    }
+
+-- a group that defines no symbol adds nothing
+pub nothing_more : (names : List (List ℕ)) (prior : List GroupInContext) (p : GroupInContext) (found : GatheredLines) → defined_name p.group ≡ None
+    → AreGatheredOf names prior found → AreGatheredOf names (prior ++ p ∷ []) found
+nothing_more names prior p found none g = record {
+  definitions = listed_same (λ n. n) (direct_keys names) (direct_items (λ (q : GroupInContext). q.group.number)) (λ _. Unit {0}) (length names) prior
+      found.definitions.keys.items found.definitions.items.items p g.definitions
+      (ap (by_name (λ x. number_of names x ∷ [])) none) (ap (by_name (λ x. p.group.number ∷ [])) none);
+  selectors = listed_same position_view (force_keys select_of names) (place_items select_of names) (λ _. Unit {0}) (length names) prior
+      found.selectors.keys.items found.selectors.items.items p g.selectors
+      (ap (by_name (λ x. filter_map (force_key_of select_of names) p.group.attributes)) none)
+      (ap (by_name (λ x. filter_map (place_of select_of names p) p.group.attributes)) none);
+  impliers = listed_same position_view (force_keys imply_of names) (place_items imply_of names) (λ _. Unit {0}) (length names) prior
+      found.impliers.keys.items found.impliers.items.items p g.impliers
+      (ap (by_name (λ x. filter_map (force_key_of imply_of names) p.group.attributes)) none)
+      (ap (by_name (λ x. filter_map (place_of imply_of names p) p.group.attributes)) none);
+}
+
+unmapped : (ns : List ℕ) → map (λ n. n) ns ≡ ns
+unmapped [] = refl
+unmapped (n ∷ ns) = ap (λ r. n ∷ r) (unmapped ns)
+
+-- from all groups
+pub all_gathered : (read : List Group) (found : GatheredLines) → AreGatheredOf (names_defined read) (groups_in_context read) found → AreGathered read found
+all_gathered read found g = record {
+  symbols = g.definitions.below;
+  selected = g.selectors.below;
+  implied = g.impliers.below;
+  definitions = λ s name at.
+      sym (unmapped (items_of s found.definitions.keys.items found.definitions.items.items))
+      ∙ direct_law (λ n. n) (λ (p : GroupInContext). p.group.number) (λ _. Unit {0}) (length (names_defined read)) read found.definitions.keys.items
+      found.definitions.items.items s name g.definitions at;
+  selectors = λ s name at. places_law select_of (length (names_defined read)) read found.selectors.keys.items found.selectors.items.items s name g.selectors at;
+  impliers = λ s name at. places_law imply_of (length (names_defined read)) read found.impliers.keys.items found.impliers.items.items s name g.impliers at;
+}
+
+-- group by group
+module _ (t : TreeModel) (lines : TreeLines) (read : List Group) where
+  pub gathered_definition : t.tree ≡ tree_of_groups t.tree.language read → (h : HasLines t.exprs lines read) (i s : ℕ) (old new : GatheredLines)
+      → i < length lines.groups.items → (group_at lines.groups.items i).head ≡ codes.Config s
+      → AreGatheredOf (names_defined read) (groups_in_context (read_before i read)) old
+      → HasDefinition t s i (group_at lines.groups.items i).file (lines_at lines.groups.items lines.lines.items i) old new
+      → AreGatheredOf (names_defined read) (groups_in_context (read_before (i + 1) read)) new
+  gathered_definition tree_is h i s old new l is g more =
+      let k = shown_at t.exprs (names_defined read) h.texts lines.lines.items lines.groups.items read h.groups_are i l in
+      let prior : List Group = read_before i read in
+      let p : GroupInContext = group_in_context (open_blocks 0 prior) k.group in
+      let what = subst (λ v. RepresentsHead t.exprs (names_defined read) h.texts v k.group.head) is k.shown.head in
+      let named : defined_name k.group ≡ Some what.0 = ap (from_head name_of_head) what.2 in
+      subst (λ ps. AreGatheredOf (names_defined read) ps new) (sym (placed_more read i k.group k.now))
+      (definition_more t read tree_is (groups_in_context prior) p what.0 s (group_at lines.groups.items i).file (lines_at lines.groups.items lines.lines.items i) old new
+      named what.1 k.shown.file_is k.shown.attributes (own_held t.exprs lines.groups.items lines.lines.items i h.held) g
+      (subst (λ n. HasDefinition t s n (group_at lines.groups.items i).file (lines_at lines.groups.items lines.lines.items i) old new) (sym k.shown.number_is) more))
+
+  pub gathered_other : (h : HasLines t.exprs lines read) (i : ℕ) (found : GatheredLines) → i < length lines.groups.items
+      → ((s : ℕ) → (group_at lines.groups.items i).head ≡ codes.Config s → ⊥)
+      → AreGatheredOf (names_defined read) (groups_in_context (read_before i read)) found
+      → AreGatheredOf (names_defined read) (groups_in_context (read_before (i + 1) read)) found
+  gathered_other h i found l other g =
+      let k = shown_at t.exprs (names_defined read) h.texts lines.lines.items lines.groups.items read h.groups_are i l in
+      let prior : List Group = read_before i read in
+      let p : GroupInContext = group_in_context (open_blocks 0 prior) k.group in
+      subst (λ ps. AreGatheredOf (names_defined read) ps found) (sym (placed_more read i k.group k.now))
+      (nothing_more (names_defined read) (groups_in_context prior) p found
+      (nameless t.exprs (names_defined read) h.texts (group_at lines.groups.items i).head k.group.head k.shown.head other) g)
+
+pub gathered_whole : (read : List Group) (i : ℕ) (found : GatheredLines) → i ≡ length read
+    → AreGatheredOf (names_defined read) (groups_in_context (read_before i read)) found → AreGathered read found
+gathered_whole read i found e g =
+    all_gathered read found (subst (λ ms. AreGatheredOf (names_defined read) (groups_in_context ms) found) (ap (λ k. read_before k read) e ∙ all_before read) g)

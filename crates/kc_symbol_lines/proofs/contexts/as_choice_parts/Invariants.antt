@@ -1,0 +1,6 @@
+use Rattle.std.proofs.Common.{◌≡◌, ◌++◌, map, drop}
+use Rattle.kc_symbol_lines.specs.checker.Contexts.{as_choice_part}
+use Rattle.kc_symbol_lines.proofs.contexts.as_choice_parts.Given as goal
+
+abbrev pub invariant-loop-part : goal.invariant-loop-part
+invariant-loop-part l = l.marked.items ++ map as_choice_part (drop l.part-index l.parts) ≡ map as_choice_part l.parts

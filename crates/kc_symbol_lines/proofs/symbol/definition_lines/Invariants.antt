@@ -1,0 +1,24 @@
+use Rattle.std.proofs.Common.{◌≡◌, ◌++◌, List, map, drop}
+use Rattle.std.specs.Prelude.{flat_map}
+use Rattle.kc_expr.specs.between.Arena.{Exprs}
+use Rattle.kc_tokens.specs.Languages.{is_linux_6_12}
+use Rattle.kc_tree_model.specs.Blocks.{Group}
+use Rattle.kc_builder.specs.between.TreeLines.{HasLines}
+use Rattle.kc_symbol_lines.specs.checker.Blocks.{HasBlocks}
+use Rattle.kc_symbol_lines.specs.checker.Definitions.{prompts_at, dependency_at, defaults_at, ranges_at}
+use Rattle.kc_symbol_lines.specs.checker.Lists.{each_items}
+use Rattle.kc_symbol_lines.proofs.symbol.definition_lines.Given as goal
+
+abbrev pub invariant-loop-number : goal.invariant-loop-number
+invariant-loop-number l = record {
+  prompts : (exprs : Exprs) (read : List Group) → HasLines exprs l.lines read → HasBlocks l.blocks read
+      → each_items l.found.prompts.items ++ flat_map (prompts_at (is_linux_6_12 l.language) l.lines read) (drop l.number-index l.numbers)
+      ≡ flat_map (prompts_at (is_linux_6_12 l.language) l.lines read) l.numbers;
+  direct : (exprs : Exprs) (read : List Group) → HasLines exprs l.lines read → HasBlocks l.blocks read
+      → each_items l.found.direct.items ++ map (dependency_at (is_linux_6_12 l.language) l.lines read) (drop l.number-index l.numbers)
+      ≡ map (dependency_at (is_linux_6_12 l.language) l.lines read) l.numbers;
+  defaults : (exprs : Exprs) (read : List Group) → HasLines exprs l.lines read → HasBlocks l.blocks read
+      → l.found.defaults.items ++ flat_map (defaults_at l.lines) (drop l.number-index l.numbers) ≡ flat_map (defaults_at l.lines) l.numbers;
+  ranges : (exprs : Exprs) (read : List Group) → HasLines exprs l.lines read → HasBlocks l.blocks read
+      → l.found.ranges.items ++ flat_map (ranges_at l.lines) (drop l.number-index l.numbers) ≡ flat_map (ranges_at l.lines) l.numbers;
+}

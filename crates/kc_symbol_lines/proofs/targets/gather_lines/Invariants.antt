@@ -1,0 +1,14 @@
+use Rattle.std.proofs.Common.{◌≡◌, List}
+use Rattle.kc_tree_model.specs.Blocks.{Group}
+use Rattle.kc_tree_model.specs.Conditions.{groups_in_context}
+use Rattle.kc_tree_model.specs.Contents.{tree_of_groups}
+use Rattle.kc_tree_model.specs.Limits.{names_defined}
+use Rattle.kc_checks.specs.between.Summaries.{read_before}
+use Rattle.kc_builder.specs.between.TreeLines.{HasLines}
+use Rattle.kc_symbol_lines.proofs.TargetLaws.{AreGatheredOf}
+use Rattle.kc_symbol_lines.proofs.targets.gather_lines.Given as goal
+
+abbrev pub invariant-loop-i : goal.invariant-loop-i
+invariant-loop-i l =
+    (read : List Group) → l.tree.tree ≡ tree_of_groups l.tree.tree.language read → HasLines l.tree.exprs l.lines read
+    → AreGatheredOf (names_defined read) (groups_in_context (read_before l.i read)) l.found

@@ -1,0 +1,2 @@
+pub mod LinesView
+pub mod Indexes

@@ -1,0 +1,8 @@
+use Rattle.std.proofs.Common.{◌≡◌, ◌++◌, drop}
+use Rattle.kmin_lines.specs.WordFiles.{files_of}
+use Rattle.kmin_lines.specs.between.Words.{words_view}
+use Rattle.kmin_lines.proofs.word_files.files_of.Given as goal
+
+-- `paths` has the paths of the files of the words before this one
+abbrev pub invariant-loop-word : goal.invariant-loop-word
+invariant-loop-word l = words_view l.paths.items ++ files_of (words_view (drop l.word-index l.words)) ≡ files_of (words_view l.words)

@@ -1,0 +1,10 @@
+use Rattle.std.proofs.Common.{◌≡◌, ◌++◌, drop}
+use Rattle.kmin_lines.specs.WordFiles.{with_lists}
+use Rattle.kmin_lines.specs.between.Words.{lists_view, words_view}
+use Rattle.kmin_lines.proofs.word_files.with_lists.Given as goal
+
+-- `all` has the words that those before this one represent, by the first `used` lists
+abbrev pub invariant-loop-place : goal.invariant-loop-place
+invariant-loop-place l =
+    words_view l.all.items ++ with_lists (words_view (drop l.place l.words)) (drop l.used (lists_view l.lists))
+    ≡ with_lists (words_view l.words) (lists_view l.lists)

@@ -1,0 +1,15 @@
+use Rattle.std.proofs.Common.{◌≡◌, true, ◌++◌, length}
+use Rattle.std.specs.List.{list_all}
+use Rattle.std.specs.Str.{is_utf8}
+use Rattle.kmin_lines.specs.WordLines.{words_in}
+use Rattle.kmin_lines.specs.between.Words.{words_view}
+use Rattle.kmin_lines.proofs.word_lines.words_in.Given as goal
+
+abbrev pub invariant-loop-piece : goal.invariant-loop-piece
+invariant-loop-piece l = record {
+  whole : words_view l.words.items ++ words_in l.rest ≡ words_in l.fn.file;
+  utf8 : list_all is_utf8 (words_view l.words.items) ≡ true;
+}
+
+abbrev pub decreases-loop-piece : goal.decreases-loop-piece
+decreases-loop-piece l = length l.rest

@@ -1,0 +1,95 @@
+//! Lines of a file, by their numbers, and the texts of messages for them.
+ghost use Rattle.std.specs.Prelude.{◌≡◌, ℕ, List, Some, None, drop, option_map, IfOk, string_bytes, if◌then◌else◌};
+ghost use Rattle.std.specs.Str.{is_utf8};
+ghost use Rattle.std.specs.Borrow.{Bor};
+ghost use Rattle.kc_value.specs.Lines.{pieces};
+ghost use Rattle.kc_dotconfig_model.specs.between.Prefixes.{prefix_bytes};
+ghost use Rattle.kmin_texts.specs.NumberedLines.{file_fault_text, file_notice_names, file_notice_text, line_at, utf8_line};
+ghost use Rattle.kmin_texts.specs.between.Details.{detail_names, detail_text};
+
+use crate::details::Detail;
+use crate::kinds::{file_line_text, notice_detail};
+use kc_dotconfig_model::{LoadKind, NoticeKind, Prefix};
+use kmin_lines::first_piece;
+use std::alloc::{AllocError, Global};
+
+/// The bytes of a file after its first lines, so many.
+pub fn after_lines(bytes: &[u8], count: u32) -> &[u8]
+    ensures { pieces 10 result.now ≡ drop count (pieces 10 bytes.now) }
+{
+    let mut rest = bytes;
+    let mut left = count;
+    while left > 0 {
+        let Some((_, after)) = first_piece(rest, b'\n') else {
+            return rest;
+        };
+        rest = after;
+        left -= 1;
+    }
+    rest
+}
+
+/// The line of a file with this number, counted from 1, without its newline; `None` if there is none.
+pub fn line_at(bytes: &[u8], number: u32) -> Option<&[u8]>
+    ensures { option_map (λ (line : Bor (List ℕ)). line.now) result ≡ line_at bytes.now number }
+{
+    if number == 0 {
+        return None;
+    }
+    match first_piece(after_lines(bytes, number - 1), b'\n') {
+        Some((line, _)) => Some(line),
+        None => None,
+    }
+}
+
+/// The text for a fault at a line of a configuration file. Empty if there is no such line.
+pub fn file_fault_text(
+    alloc: Global,
+    kind: LoadKind,
+    bytes: &[u8],
+    number: u32,
+) -> Result<String, AllocError>
+    ensures { IfOk result (λ text. string_bytes text ≡ file_fault_text kind bytes.now number) }
+{
+    match line_at(bytes, number) {
+        Some(line) => file_line_text(alloc, kind, line),
+        None => Ok(String::new(alloc)),
+    }
+}
+
+/// The detail of a notice at a line of a configuration file, without a name that is near. `Nothing` if there is no such line, or it
+/// isn't UTF-8.
+pub fn file_notice_detail<'a>(
+    kind: NoticeKind,
+    prefix: &Prefix,
+    bytes: &'a [u8],
+    number: u32,
+) -> Detail<'a>
+    ensures text { detail_text result ≡ file_notice_text kind (prefix_bytes prefix.now) bytes.now number }
+    ensures names { detail_names result ≡ file_notice_names kind (prefix_bytes prefix.now) bytes.now number }
+{
+    match utf8_line(line_at(bytes, number)) {
+        Some(line) => notice_detail(kind, prefix, line),
+        None => Detail::Nothing,
+    }
+}
+
+/// A line, if there is one and it is UTF-8.
+fn utf8_line(line: Option<&[u8]>) -> Option<&str>
+    ensures { option_map (λ (text : Bor (List ℕ)). text.now) result ≡ utf8_line (option_map (λ (bytes : Bor (List ℕ)). bytes.now) line.entry) }
+{
+    match line {
+        Some(line) => text_of(line),
+        None => None,
+    }
+}
+
+/// Bytes as a text, if they are UTF-8.
+fn text_of(bytes: &[u8]) -> Option<&str>
+    ensures { option_map (λ (text : Bor (List ℕ)). text.now) result ≡ (if is_utf8 bytes.now then Some bytes.now else None) }
+{
+    match str::from_utf8(bytes) {
+        Ok(text) => Some(text),
+        Err(_) => None,
+    }
+}
