@@ -12,7 +12,8 @@ use Rattle.kc_tokens.specs.declared.fault.ExprFault.{ExprFault}
 use Rattle.kc_tokens.specs.declared.token.TokenKind.{TokenKind}
 use Rattle.kc_tokens.specs.declared.token.TokenKind.TheVariants.{Word, Quoted, Relation, Not, And, Or, Open, Close}
 use Rattle.kc_expr.specs.Expr.{Expr, Operand}
-use Rattle.kc_expr.specs.Grammar.{quoted_text, is_operand_kind, operand_of_lexeme}
+use Rattle.kc_tokens.specs.QuotedTexts.{quoted_text}
+use Rattle.kc_expr.specs.Grammar.{is_operand_kind, operand_of_lexeme}
 use Rattle.kc_tokens.specs.Token.{Lexeme, lexemes_from}
 use Rattle.kc_tokens.proofs.CutLaws.{read_cut}
 use Rattle.kc_tree_model.specs.declared.fault.TreeKind.{TreeKind}

@@ -13,7 +13,8 @@ use Rattle.kc_tokens.specs.declared.language.Language.TheVariants.{Strict, Linux
 use Rattle.kc_tokens.specs.declared.token.Relop.TheVariants.{Equal, NotEqual, Less, Greater, LessEqual, GreaterEqual}
 use Rattle.kc_tokens.specs.declared.token.TokenKind.{TokenKind}
 use Rattle.kc_tokens.specs.declared.token.TokenKind.TheVariants.{Word, Quoted, Relation, Not, And, Or, Open, Close}
-use Rattle.kc_expr.specs.Grammar.{between_quotes, quoted_text, is_operand_kind}
+use Rattle.kc_tokens.specs.QuotedTexts.{between_quotes, quoted_text}
+use Rattle.kc_expr.specs.Grammar.{is_operand_kind}
 use Rattle.kc_tokens.specs.Token.{is_quote, Lexeme, is_white_byte, is_word_byte}
 use Rattle.kc_tokens.specs.TokenGrammar.{HasDollarsInPairs, other as unpaired, paired, HasDollarsOf, IsToken, IsLongest, IsCut, ends, comment, white, token}
 use Rattle.kc_macros_model.specs.References.{item_bytes, first_item, items, is_unterminated}

@@ -7,7 +7,8 @@ use Rattle.kc_tokens.specs.declared.token.TokenKind.TheVariants.{Word, Quoted, R
 use Rattle.kc_tokens.specs.declared.token.Relop.{Relop}
 use Rattle.kc_tokens.specs.Token.{Lexeme}
 use Rattle.kc_expr.specs.Expr.{Expr, Operand, named, quoted, alone, related, negated, both, either}
-use Rattle.kc_expr.specs.Grammar.{ors, ands, factor, one_and, more_ors, one_factor, more_ands, operand, relation, negation, parentheses, Read, on_read, chain, closed, is_and, is_or, is_close, past_depth_limit, after_operand, right_operand, operand_of_lexeme, constant_or, quoted_text, is_operand_kind, read_factor, read_ands, read_ors}
+use Rattle.kc_tokens.specs.QuotedTexts.{quoted_text}
+use Rattle.kc_expr.specs.Grammar.{ors, ands, factor, one_and, more_ors, one_factor, more_ands, operand, relation, negation, parentheses, Read, on_read, chain, closed, is_and, is_or, is_close, past_depth_limit, after_operand, right_operand, operand_of_lexeme, constant_or, is_operand_kind, read_factor, read_ands, read_ors}
 use Rattle.kc_expr.proofs.Beginnings.{IsPrefix, ArePrefixes, whole_begins, front_begins, ands_begin, ors_begin, word_begins, none_begins, operand_begins, relation_begins, negation_begins, parentheses_begin, prefix_last, prefixes_begin, some_word}
 use Rattle.kc_expr.proofs.GrammarComplete.{Stops, is_relation, no_relation_after, operand_read, relation_read, chain_same, factor_short, ands_short}
 use Rattle.kc_expr.proofs.ReaderSteps.{beyond_kind, zero_kind, suc_kind}

@@ -5,7 +5,8 @@ use Rattle.kc_tokens.specs.declared.token.TokenKind.TheVariants.{Word, Quoted, R
 use Rattle.kc_tokens.specs.declared.token.Relop.{Relop}
 use Rattle.kc_tokens.specs.Token.{Lexeme}
 use Rattle.kc_expr.specs.Expr.{named, quoted, Expr, Operand, alone, related, negated, both, either}
-use Rattle.kc_expr.specs.Grammar.{Level, ors, ands, factor, IsExpr, one_and, more_ors, one_factor, more_ands, operand, relation, negation, parentheses, Read, on_read, chain, is_and, is_or, read_ands, read_ors, closed, right_operand, after_operand, operand_of_lexeme, operand_of_kind, constant_or, quoted_text, read_factor, read_to_end, read_expr}
+use Rattle.kc_tokens.specs.QuotedTexts.{quoted_text}
+use Rattle.kc_expr.specs.Grammar.{Level, ors, ands, factor, IsExpr, one_and, more_ors, one_factor, more_ands, operand, relation, negation, parentheses, Read, on_read, chain, is_and, is_or, read_ands, read_ors, closed, right_operand, after_operand, operand_of_lexeme, operand_of_kind, constant_or, read_factor, read_to_end, read_expr}
 use Rattle.kc_expr.proofs.GrammarLaws.{Reads, ands_sound, factor_sound}
 
 abbrev pub is_relation : TokenKind → Bool

@@ -4,7 +4,8 @@ use Rattle.kc_tokens.specs.declared.token.TokenKind.{TokenKind}
 use Rattle.kc_tokens.specs.declared.token.TokenKind.TheVariants.{Word, Quoted, Relation, Not, And, Or, Open, Close}
 use Rattle.kc_tokens.specs.Token.{Lexeme}
 use Rattle.kc_expr.specs.Expr.{Expr, Operand, alone, related, negated, both, either}
-use Rattle.kc_expr.specs.Grammar.{Level, ors, ands, factor, IsExpr, one_and, more_ors, one_factor, more_ands, operand, relation, negation, parentheses, Read, on_read, chain, is_and, is_or, read_ands, read_ors, closed, is_close, right_operand, after_operand, operand_of_lexeme, past_depth_limit, constant_or, quoted_text, read_factor, read_to_end, read_expr}
+use Rattle.kc_tokens.specs.QuotedTexts.{quoted_text}
+use Rattle.kc_expr.specs.Grammar.{Level, ors, ands, factor, IsExpr, one_and, more_ors, one_factor, more_ands, operand, relation, negation, parentheses, Read, on_read, chain, is_and, is_or, read_ands, read_ors, closed, is_close, right_operand, after_operand, operand_of_lexeme, past_depth_limit, constant_or, read_factor, read_to_end, read_expr}
 use Rattle.std.proofs.Common.{append-nil}
 use Rattle.std.proofs.Common.{cond}
 use Rattle.kc_expr.specs.Expr.{named, quoted}

@@ -9,13 +9,10 @@ use Rattle.kc_tokens.specs.declared.token.TokenKind.{TokenKind}
 use Rattle.kc_tokens.specs.declared.token.TokenKind.TheVariants.{Word, Quoted, Relation, Not, And, Or, Open, Close}
 use Rattle.kc_expr.specs.Expr.{alone, both, constant, named, modules}
 use Rattle.kc_expr.specs.Grammar.{operand_of_kind}
-use Rattle.kc_tokens.specs.Token.{is_quote, lexemes_of, lexeme_of}
+use Rattle.kc_tokens.specs.Token.{lexemes_of, lexeme_of}
 use Rattle.kc_expr.specs.checker.Conditions.{as_condition}
 use Rattle.kc_expr.specs.checker.Nodes.{operand_of}
 use Rattle.kc_expr.specs.checker.ParserResults.{first_operand, is_m}
-
-pub quote_ascii : (c : ℕ) → is_quote c ≡ true → c < 128
-quote_ascii c h = grind (arith, nat_tests)
 
 -- the tokens from a place on are the one at the place and those after it
 pub lexeme_at : (ts : List CodeToken) (at : ℕ) (d : CodeToken) → at < length ts → drop at (lexemes_of ts)

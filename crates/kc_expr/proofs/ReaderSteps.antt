@@ -6,7 +6,8 @@ use Rattle.kc_tokens.specs.declared.token.Relop.{Relop}
 use Rattle.kc_tokens.specs.declared.token.TokenKind.{TokenKind}
 use Rattle.kc_tokens.specs.declared.token.TokenKind.TheVariants.{Word, Quoted, Relation, Not, And, Or, Open, Close}
 use Rattle.kc_expr.specs.Expr.{Expr, Operand, named, quoted, alone, related, negated, both, either}
-use Rattle.kc_expr.specs.Grammar.{Read, on_read, past_depth_limit, chain, is_and, is_or, is_close, closed, after_operand, right_operand, constant_or, quoted_text, operand_of_kind, read_factor, read_ands, read_ors, read_to_end, read_expr}
+use Rattle.kc_tokens.specs.QuotedTexts.{quoted_text}
+use Rattle.kc_expr.specs.Grammar.{Read, on_read, past_depth_limit, chain, is_and, is_or, is_close, closed, after_operand, right_operand, constant_or, operand_of_kind, read_factor, read_ands, read_ors, read_to_end, read_expr}
 use Rattle.kc_expr.specs.checker.ParserResults.{first_kind, first_operand, first_relation, relation_of, operand_else, operand_read, factor_read, ands_read, ors_read, read_all_tokens}
 use Rattle.kc_tokens.specs.Token.{Lexeme}
 use Rattle.kc_expr.proofs.GrammarComplete.{Stops, chain_same, chain_stops, factor_short, ands_short}

@@ -1,7 +1,6 @@
 -- The grammar of expressions, over tokens ("Menu dependencies").
 use Rattle.std.specs.Prelude.{◌≡◌, ℕ, zero, suc, ◌-◌, Bool, true, false, ◌&&◌, ◌||◌, ◌==◌, List, [], ◌∷◌, ◌++◌, length, take, drop, slice_index, nat_le, Option, Some, None, Result, Ok, Err, bytes_eq, if◌then◌else◌}
 use Rattle.kc_value.specs.declared.limits.TheConstants.{MAX_EXPR_DEPTH}
-use Rattle.kc_value.specs.QuotedTexts.{unescaped}
 use Rattle.kc_value.specs.declared.tri.Tri.{Tri}
 use Rattle.kc_value.specs.declared.tri.Tri.TheVariants.{N, M, Y}
 use Rattle.kc_tokens.specs.declared.fault.ExprFault.{ExprFault}
@@ -9,17 +8,9 @@ use Rattle.kc_tokens.specs.declared.fault.ExprKind.{ExprKind}
 use Rattle.kc_tokens.specs.declared.fault.ExprKind.TheVariants.{Malformed, TooDeep}
 use Rattle.kc_tokens.specs.declared.token.TokenKind.{TokenKind}
 use Rattle.kc_tokens.specs.declared.token.TokenKind.TheVariants.{Word, Quoted, Relation, Not, And, Or, Open, Close}
-use Rattle.kc_tokens.specs.Token.{Lexeme, is_quote}
+use Rattle.kc_tokens.specs.QuotedTexts.{quoted_text}
+use Rattle.kc_tokens.specs.Token.{Lexeme}
 use Rattle.kc_expr.specs.Expr.{Expr, Operand, constant, named, quoted, alone, related, negated, both, either}
-
--- the text between the quotes, or all of a text that isn't quoted
-abbrev pub between_quotes : List ℕ → List ℕ
-between_quotes text =
-    if nat_le 2 (length text) && is_quote (slice_index text 0) && is_quote (slice_index text (length text - 1)) then take (length text - 2) (drop 1 text) else text
-
--- the text that a quoted token represents, without its quotes and escapes
-abbrev pub quoted_text : List ℕ → List ℕ
-quoted_text text = unescaped false (between_quotes text)
 
 -- the constant, `n`, `m` or `y`, that a text is, if it is one
 abbrev pub letter_value : List ℕ → Option Tri

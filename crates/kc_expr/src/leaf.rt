@@ -3,7 +3,8 @@ ghost use Rattle.std.specs.Prelude.{◌≡◌, ◌<◌, length, drop, IfOk, IfEr
 ghost use Rattle.kc_tokens.specs.MemoryFaults.{IsOutOfMemory};
 ghost use Rattle.kc_expr.specs.between.Arena.{Represents};
 ghost use Rattle.kc_expr.specs.Expr.{alone, named, quoted};
-ghost use Rattle.kc_expr.specs.Grammar.{constant_or, letter_value, quoted_text};
+ghost use Rattle.kc_tokens.specs.QuotedTexts.{quoted_text};
+ghost use Rattle.kc_expr.specs.Grammar.{constant_or, letter_value};
 ghost use Rattle.kc_expr.specs.checker.Conditions.{as_condition};
 ghost use Rattle.kc_expr.specs.ExpressionNames.{operand_names};
 ghost use Rattle.kc_expr.specs.between.Names.{with_names};
@@ -12,9 +13,8 @@ ghost use Rattle.kc_expr.specs.checker.ParserResults.{first_operand, is_m, names
 ghost use Rattle.kc_tokens.specs.Token.{lexemes_of};
 
 use super::node::{Leaf, Node};
-use super::quoted_texts::quoted_text as text_of;
 use super::store::Store;
-use kc_tokens::{ExprFault, Token, TokenKind};
+use kc_tokens::{ExprFault, Token, TokenKind, quoted_text as text_of};
 use kc_value::{Text, Tri};
 
 /// The constant that a text is, if it is one.

@@ -12,7 +12,6 @@ mod names;
 mod node;
 mod operand;
 mod parse;
-mod quoted_texts;
 mod store;
 mod visited_set;
 
@@ -25,5 +24,4 @@ pub use laws::{
 };
 pub use lookup::{Looked, Lookup};
 pub use operand::Operand;
-pub use quoted_texts::quoted_text;
 pub use visited_set::VisitedSet;

@@ -10,7 +10,8 @@ use Rattle.std.proofs.lemmas.List.{length-append}
 use Rattle.std.proofs.Math.Seq.{take-append_seam, get_or-append_seam}
 use Rattle.std.proofs.Math.ListN.{get_or}
 use Rattle.kc_value.specs.QuotedTexts.{escaped_byte, unescaped, quoted as quoted_spelling}
-use Rattle.kc_expr.specs.Grammar.{constant_else, constant_or, quoted_text, between_quotes, Level, ors, ands, factor, IsExpr, one_and, more_ors, one_factor, more_ands, operand, relation, negation, parentheses}
+use Rattle.kc_tokens.specs.QuotedTexts.{quoted_text, between_quotes}
+use Rattle.kc_expr.specs.Grammar.{constant_else, constant_or, Level, ors, ands, factor, IsExpr, one_and, more_ors, one_factor, more_ands, operand, relation, negation, parentheses}
 use Rattle.kc_tokens.specs.TokenGrammar.{relation_text}
 use Rattle.kc_reasons_model.specs.Spelling.{token, operand_token, in_parentheses, under_not, spelling, depth_under_not, depth, IsPlain, deeper}
 use Rattle.kc_reasons_model.specs.Laws.{SpelledIsReadBack, OperandsAreReadBack}

@@ -7,7 +7,8 @@ use Rattle.std.proofs.lemmas.Bool.{false≢true}
 use Rattle.std.proofs.lemmas.Bool.Decides.{nat_tests}
 use Rattle.std.proofs.lemmas.List.Folds.{list_any_more}
 use Rattle.kc_value.specs.QuotedTexts.{unescaped}
-use Rattle.kc_expr.specs.Grammar.{between_quotes, is_operand_kind}
+use Rattle.kc_tokens.specs.QuotedTexts.{between_quotes}
+use Rattle.kc_expr.specs.Grammar.{is_operand_kind}
 use Rattle.kc_tokens.specs.Token.{is_quote, Lexeme}
 use Rattle.kc_tokens.specs.declared.token.TokenKind.{TokenKind}
 use Rattle.kc_tokens.specs.declared.token.TokenKind.TheVariants.{Word, Quoted, Relation, Not, And, Or, Open, Close}

@@ -3,7 +3,8 @@ use Rattle.std.proofs.Common.{◌≡◌, ℕ, ◌+◌, true, false, ◌==◌, Li
 use Rattle.std.proofs.lemmas.Bool.{false≢true}
 use Rattle.kc_expr.specs.between.Arena.{Exprs, Represents, node_expr, Grows}
 use Rattle.kc_expr.specs.Expr.{Expr, Operand, alone, named, quoted}
-use Rattle.kc_expr.specs.Grammar.{extent, read_expr, operand_of_lexeme, operand_of_kind, is_operand_kind, constant_or, quoted_text}
+use Rattle.kc_tokens.specs.QuotedTexts.{quoted_text}
+use Rattle.kc_expr.specs.Grammar.{extent, read_expr, operand_of_lexeme, operand_of_kind, is_operand_kind, constant_or}
 use Rattle.kc_tokens.specs.Token.{Lexeme}
 use Rattle.kc_tokens.specs.declared.fault.ExprKind.{ExprKind}
 use Rattle.kc_tokens.specs.declared.token.TokenKind.{TokenKind}

@@ -1,7 +1,7 @@
 //! The forms of statements that close the open entry: what may follow their first words ("Kconfig syntax").
 ghost use Rattle.std.specs.Prelude.{◌≡◌, ℕ, List, IfOk, IfErr};
 ghost use Rattle.kc_expr.specs.between.Arena.{Exprs, Grows};
-ghost use Rattle.kc_expr.specs.Grammar.{quoted_text as text_meant};
+ghost use Rattle.kc_tokens.specs.QuotedTexts.{quoted_text as text_meant};
 ghost use Rattle.kc_tokens.specs.Token.{lexemes_of, lexeme_of};
 ghost use Rattle.kc_tree_model.specs.declared.fault.TreeKind.TheVariants.{OutOfMemory};
 ghost use Rattle.kc_tree_model.specs.Forms.{config_line, choice_line, titled_line, source_line, statement_of, no_more, path_of};
@@ -12,8 +12,8 @@ ghost use Rattle.kc_statements.specs.between.StatementViews.{ReturnsOrFails, Sta
 use super::condition::last_condition;
 use super::statement::{Head, Statement};
 use super::token::{is_name, is_quoted, is_word};
-use kc_expr::{Arena, quoted_text};
-use kc_tokens::Token;
+use kc_expr::Arena;
+use kc_tokens::{Token, quoted_text};
 use kc_tree_model::{Block, Keyword, TreeKind};
 use kc_value::Text;
 use std::alloc::{AllocError, Global};

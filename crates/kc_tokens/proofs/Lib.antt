@@ -5,3 +5,4 @@ pub mod TokenSteps
 pub mod TokenFronts
 pub mod TokenLaws
 pub mod ByteTables
+pub mod QuoteBytes

@@ -6,7 +6,8 @@ use Rattle.kc_tokens.specs.Token.{Lexeme}
 use Rattle.kc_expr.specs.Expr.{Expr, Operand, conditional}
 use Rattle.kc_tokens.specs.declared.fault.ExprKind.TheVariants.{TooDeep}
 use Rattle.kc_expr.specs.ExprFaults.{IsFirstExprFault}
-use Rattle.kc_expr.specs.Grammar.{IsExpr, ors, extent, quoted_text, operand_of_lexeme}
+use Rattle.kc_tokens.specs.QuotedTexts.{quoted_text}
+use Rattle.kc_expr.specs.Grammar.{IsExpr, ors, extent, operand_of_lexeme}
 use Rattle.kc_tree_model.specs.Statements.{config, choice, menu, condition, comment, source, mainmenu, ends, DefaultAttribute, environment_default, typed, typed_prompt, typed_default, prompt, default, depends, select, imply, range, visible, help, modules, optional, Statement, head, attribute}
 use Rattle.kc_tree_model.specs.Keywords.{is_quoted_kind, is_the_word, is_name}
 use Rattle.kc_tree_model.specs.declared.keyword.Block.{Block}

@@ -52,9 +52,6 @@ pub const MAX_BLOCK_BYTES: usize = 8_192;
 /// The most bytes of a configuration file that are read at once.
 pub const MAX_CONFIG_BLOCK_BYTES: usize = 4_096;
 
-/// The most readings of a Kconfig tree until one needs no further file; each reaches files one `source` deeper.
-pub const MAX_ROUNDS: u32 = 64;
-
 /// The most names that are listed for the path patterns of a Kconfig tree; a folder that is listed twice counts twice.
 pub const MAX_LISTED_NAMES: usize = 1_048_576;
 

@@ -2,7 +2,7 @@
 use Rattle.std.proofs.Common.{◌≡◌, ℕ, zero, suc, ◌+◌, ◌-◌, Bool, true, false, cond, ◌||◌, ◌==◌, List, [], ◌∷◌, ◌++◌, Ok, refl, length, map, take, drop}
 use Rattle.kc_value.specs.QuotedTexts.{unescaped}
 use Rattle.kc_tokens.specs.Token.{Lexeme, lexemes_from}
-use Rattle.kc_expr.specs.Grammar.{between_quotes, quoted_text}
+use Rattle.kc_tokens.specs.QuotedTexts.{between_quotes, quoted_text}
 use Rattle.kc_expr.proofs.TokenTexts.{AllTexts, texts_of_line}
 use Rattle.kc_tokens.specs.declared.language.Language.{Language}
 use Rattle.kc_value.specs.Lines.{has_newline}

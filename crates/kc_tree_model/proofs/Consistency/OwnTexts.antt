@@ -3,7 +3,8 @@ use Rattle.std.proofs.Common.{◌≡◌, ℕ, Bool, true, false, cond, ◌||◌,
 use Rattle.kc_value.specs.declared.tri.Tri.{Tri}
 use Rattle.kc_expr.specs.Expr.{Expr, Operand, named, quoted, alone}
 use Rattle.kc_tokens.specs.Token.{Lexeme}
-use Rattle.kc_expr.specs.Grammar.{Level, IsExpr, one_and, more_ors, one_factor, more_ands, operand, relation, negation, parentheses, quoted_text, letter_value, constant_else, operand_of_kind, is_operand_kind, is_close, extent, read_expr}
+use Rattle.kc_tokens.specs.QuotedTexts.{quoted_text}
+use Rattle.kc_expr.specs.Grammar.{Level, IsExpr, one_and, more_ors, one_factor, more_ands, operand, relation, negation, parentheses, letter_value, constant_else, operand_of_kind, is_operand_kind, is_close, extent, read_expr}
 use Rattle.kc_tokens.specs.declared.fault.ExprKind.{ExprKind}
 use Rattle.kc_tokens.specs.declared.fault.ExprFault.{ExprFault}
 use Rattle.kc_tokens.specs.declared.token.TokenKind.{TokenKind}

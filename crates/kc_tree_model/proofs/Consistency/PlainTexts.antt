@@ -2,7 +2,7 @@
 use Rattle.std.proofs.Common.{◌≡◌, ℕ, false, List, [], ◌∷◌, IsUtf8, Ok, refl}
 use Rattle.std.proofs.lemmas.Str.{IsUtf8-nil}
 use Rattle.kc_expr.specs.Expr.{Expr}
-use Rattle.kc_expr.specs.Grammar.{quoted_text}
+use Rattle.kc_tokens.specs.QuotedTexts.{quoted_text}
 use Rattle.kc_tokens.specs.Token.{Lexeme, lexemes_from}
 use Rattle.kc_expr.proofs.TokenTexts.{AllTexts}
 use Rattle.kc_tokens.specs.declared.language.Language.{Language}

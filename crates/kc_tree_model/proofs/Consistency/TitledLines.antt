@@ -1,7 +1,7 @@
 -- The title of a line's statement is the text of one of its tokens.
 use Rattle.std.proofs.Common.{ap, ◌∙◌, ◌≡◌, Bool, true, false, cond, List, [], ◌∷◌, Option, Some, None, Result, Ok, Err, ℕ, refl, sym}
 use Rattle.kc_tokens.specs.Token.{Lexeme, lexemes_from}
-use Rattle.kc_expr.specs.Grammar.{quoted_text}
+use Rattle.kc_tokens.specs.QuotedTexts.{quoted_text}
 use Rattle.kc_tokens.specs.declared.language.Language.{Language}
 use Rattle.kc_tree_model.specs.declared.fault.TreeKind.{TreeKind}
 use Rattle.kc_tree_model.specs.declared.fault.TreeKind.TheVariants.{Malformed}

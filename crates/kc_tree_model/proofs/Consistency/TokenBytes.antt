@@ -14,7 +14,7 @@ use Rattle.kc_value.proofs.EscapeSteps.{escaped_char, plain_char, backslash}
 use Rattle.kc_tokens.specs.declared.token.Relop.TheVariants.{Equal, NotEqual, Less, Greater, LessEqual, GreaterEqual}
 use Rattle.kc_tokens.specs.declared.token.TokenKind.{TokenKind}
 use Rattle.kc_tokens.specs.declared.token.TokenKind.TheVariants.{Word, Quoted, Relation, Not, And, Or, Open, Close}
-use Rattle.kc_expr.specs.Grammar.{between_quotes, quoted_text}
+use Rattle.kc_tokens.specs.QuotedTexts.{between_quotes, quoted_text}
 use Rattle.kc_tokens.specs.Token.{is_quote, Lexeme, is_white_byte, is_word_byte, lexemes_from}
 use Rattle.kc_tokens.specs.TokenGrammar.{IsToken, IsCut, ends, comment, white, token}
 use Rattle.kc_tokens.proofs.CutLaws.{read_cut}

@@ -7,7 +7,8 @@ use Rattle.kc_tokens.specs.declared.language.Language.{Language}
 use Rattle.kc_value.specs.declared.value.Kind.{Kind}
 use Rattle.kc_expr.specs.Expr.{Expr, Operand, alone}
 use Rattle.kc_tokens.specs.Token.{Lexeme, lexemes_from}
-use Rattle.kc_expr.specs.Grammar.{operand_of_lexeme, quoted_text, one_and, one_factor, operand}
+use Rattle.kc_tokens.specs.QuotedTexts.{quoted_text}
+use Rattle.kc_expr.specs.Grammar.{operand_of_lexeme, one_and, one_factor, operand}
 use Rattle.kc_tokens.specs.declared.fault.ExprFault.{ExprFault}
 use Rattle.kc_tree_model.specs.declared.fault.TreeKind.{TreeKind}
 use Rattle.kc_tree_model.specs.declared.fault.TreeKind.TheVariants.{Malformed, LeftOut, Misplaced, StrayEnd, TooDeep, TooMany, LineTooLong, NotUtf8}

@@ -8,7 +8,8 @@ use Rattle.kc_tokens.specs.declared.token.TokenKind.{TokenKind}
 use Rattle.kc_tokens.specs.declared.token.TokenKind.TheVariants.{Word, Quoted, Relation, Not, And, Or, Open, Close}
 use Rattle.kc_tokens.specs.Token.{Lexeme}
 use Rattle.kc_expr.specs.Expr.{Expr, Operand, alone, related, negated, both, either, named, quoted, conditional}
-use Rattle.kc_expr.specs.Grammar.{Read, on_read, past_depth_limit, right_operand, after_operand, is_and, is_or, is_close, chain, read_ands, read_ors, closed, factor_of, read_factor, read_to_end, read_expr, extent, constant_or, quoted_text, operand_of_lexeme}
+use Rattle.kc_tokens.specs.QuotedTexts.{quoted_text}
+use Rattle.kc_expr.specs.Grammar.{Read, on_read, past_depth_limit, right_operand, after_operand, is_and, is_or, is_close, chain, read_ands, read_ors, closed, factor_of, read_factor, read_to_end, read_expr, extent, constant_or, operand_of_lexeme}
 use Rattle.kc_tree_model.specs.declared.fault.TreeKind.{TreeKind}
 use Rattle.kc_tree_model.specs.declared.fault.TreeKind.TheVariants.{Malformed, TooDeep}
 use Rattle.kc_tree_model.specs.Statements.{Head, menu, comment, source, mainmenu, DefaultAttribute, TargetAttribute, Attribute, typed_prompt, typed_default, prompt, default, depends, select, imply, visible, modules, Statement, head, attribute}

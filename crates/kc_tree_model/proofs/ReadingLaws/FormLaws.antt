@@ -10,7 +10,8 @@ use Rattle.kc_tokens.specs.declared.fault.ExprKind.{ExprKind}
 use Rattle.kc_tokens.specs.declared.token.TokenKind.TheVariants.{Word}
 use Rattle.kc_tokens.specs.Token.{Lexeme}
 use Rattle.kc_expr.specs.Expr.{Expr, Operand, conditional}
-use Rattle.kc_expr.specs.Grammar.{IsExpr, ors, read_expr, extent, quoted_text, operand_of_lexeme, is_operand_kind}
+use Rattle.kc_tokens.specs.QuotedTexts.{quoted_text}
+use Rattle.kc_expr.specs.Grammar.{IsExpr, ors, read_expr, extent, operand_of_lexeme, is_operand_kind}
 use Rattle.kc_expr.proofs.GrammarLaws.{expr_sound}
 use Rattle.kc_expr.proofs.GrammarComplete.{expr_complete}
 use Rattle.kc_tree_model.specs.declared.fault.TreeKind.{TreeKind}

@@ -1,7 +1,7 @@
 use Rattle.std.proofs.Common.{arith, sym, ◌∙◌}
 use Rattle.std.proofs.lemmas.Str.{IsCharBoundary-after_ascii}
-use Rattle.kc_expr.proofs.LeafLemmas.{quote_ascii}
-use Rattle.kc_expr.proofs.quoted_texts.inside_quotes.Goals as goal
+use Rattle.kc_tokens.proofs.QuoteBytes.{quote_ascii}
+use Rattle.kc_tokens.proofs.quoted_texts.inside_quotes.Goals as goal
 
 pub range-requires-clause-start_boundary : goal.range-requires-clause-start_boundary
 range-requires-clause-start_boundary c =

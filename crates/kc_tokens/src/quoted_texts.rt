@@ -1,6 +1,6 @@
 //! The texts that quoted tokens mean.
 ghost use Rattle.std.specs.Prelude.{◌≡◌, IfOk, string_bytes};
-ghost use Rattle.kc_expr.specs.Grammar.{between_quotes, quoted_text};
+ghost use Rattle.kc_tokens.specs.QuotedTexts.{between_quotes, quoted_text};
 ghost use Rattle.kc_tokens.specs.Token.{is_quote};
 
 use kc_value::unescape;
