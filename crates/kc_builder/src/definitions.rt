@@ -8,9 +8,7 @@ ghost use Rattle.kc_builder.specs.checker.ChoiceDefaults.{IsWalkOf};
 ghost use Rattle.kc_builder.specs.checker.GroupConditions.{conditions_at};
 ghost use Rattle.kc_builder.specs.checker.Definitions.{HasDefinition, AreAttributes};
 
-use super::definition_attributes::{
-    ReverseKind, push_defaults, push_prompts, push_ranges, push_reverse_dependencies,
-};
+use super::definition_attributes::{push_defaults, push_prompts, push_ranges, push_targets};
 use super::group_conditions::conditions_of;
 use super::group_walk::GroupConditions;
 use kc_checks::lines_of;
@@ -62,18 +60,10 @@ fn push_definition(
     push_prompts(&mut found.prompts, symbol, lines, conditions)?;
     push_defaults(&mut found.defaults, symbol, lines, conditions)?;
     push_ranges(&mut found.ranges, symbol, lines, conditions)?;
-    push_reverse_dependencies(
+    push_targets(
         &mut found.selectors,
-        names,
-        ReverseKind::Select,
-        symbol,
-        lines,
-        conditions,
-    )?;
-    push_reverse_dependencies(
         &mut found.impliers,
         names,
-        ReverseKind::Imply,
         symbol,
         lines,
         conditions,
