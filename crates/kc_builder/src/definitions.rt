@@ -5,15 +5,14 @@ ghost use Rattle.kc_tree_model.specs.Blocks.{Group as ModelGroup};
 ghost use Rattle.kc_tree_model.specs.Contents.{contents_of};
 ghost use Rattle.kc_listing.specs.between.ListingView.{LineNodesExist};
 ghost use Rattle.kc_builder.specs.checker.ChoiceDefaults.{IsWalkOf};
-ghost use Rattle.kc_builder.specs.checker.GroupConditions.{conditions_at};
+ghost use Rattle.kc_conditions.specs.between.GroupConditions.{conditions_at};
 ghost use Rattle.kc_builder.specs.checker.Definitions.{HasDefinition, AreAttributes};
 
 use super::definition_attributes::{
     ReverseKind, push_defaults, push_prompts, push_ranges, push_reverse_dependencies,
 };
-use super::group_conditions::conditions_of;
-use super::group_walk::GroupConditions;
 use kc_checks::lines_of;
+use kc_conditions::{GroupConditions, conditions_of};
 use kc_expr::ExprId;
 use kc_listing::{GroupHead, Line, Listing, SymbolTable};
 use kc_tree::{Attributes, ItemsWithKeys};
