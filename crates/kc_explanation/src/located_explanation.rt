@@ -259,15 +259,5 @@ pub fn push_located_explanation(
         places.given_at,
     )?;
     push_hindrance_line(out, reasons.hindrance)?;
-    push_located_details(
-        alloc,
-        out,
-        under,
-        strings,
-        paths,
-        s,
-        lines,
-        reasons,
-        places,
-    )
+    push_located_details(alloc, out, under, strings, paths, s, lines, reasons, places)
 }
