@@ -11,13 +11,13 @@ ghost use Rattle.kc_explanation.specs.Explained.{case_text, chosen_text};
 ghost use Rattle.kc_explanation.specs.Located.{place_in_parentheses, located_first_line, located_needs_lines, located_forcing_line, located_forcing_lines, located_alternative_lines, located_explained_at};
 ghost use Rattle.kc_explanation.specs.between.ReasonPlacesView.{places_view};
 
-use super::explanation::{is_hidden, name_of, push_case, push_chosen, push_hindrance_line};
+use super::explanation::{is_without_prompt, name_of, push_case, push_chosen, push_hindrance_line};
 use super::located_texts::{push_located_alternatives, push_place};
 use super::token_texts::{push_text_of_kind, push_value};
 use kc_dotconfig_model::Strings;
 use kc_evaluation::Valuation;
 use kc_located_reasons::LocatedPart;
-use kc_reasons::{Case, Hindrance, SymbolReasons};
+use kc_reasons::{Case, SymbolReasons};
 use kc_symbol_lines::{Position, SymbolLines};
 use kc_tree::{ReverseDependency, Sym};
 use kc_value::Text;
@@ -157,20 +157,20 @@ fn push_located_forcing_lines(
     Ok(())
 }
 
-/// Appends what the prompts need, and where; hidden with nothing needed, a symbol has no prompt.
+/// Appends what the prompts need, and where, if there is one.
 fn push_located_needs(
     alloc: Global,
     out: &mut Vec<u8>,
     under: &Valuation<'_>,
     strings: Strings,
     paths: &[Text],
-    hindrance: Option<Hindrance>,
+    without_prompt: bool,
     needs: &[Vec<LocatedPart>],
 ) -> Result<(), AllocError>
     requires there { ArePartsThere (valuation_exprs under.now) needs.now }
-    ensures { OnOk result (out.new.items ≡ out.old.items ++ located_needs_lines strings (environment (valuation_tree under.now) (valuation_values under.now)) paths.now hindrance (located_alternatives_view (valuation_exprs under.now) needs.now)) }
+    ensures { OnOk result (out.new.items ≡ out.old.items ++ located_needs_lines strings (environment (valuation_tree under.now) (valuation_values under.now)) paths.now without_prompt (located_alternatives_view (valuation_exprs under.now) needs.now)) }
 {
-    if is_hidden(hindrance) && needs.len() == 0 {
+    if without_prompt {
         out.extend_from_slice(b"  it has no prompt\n")
     } else {
         push_located_alternatives(alloc, out, under, strings, paths, b"needs ", needs)
@@ -213,7 +213,7 @@ pub fn push_located_explanation(
         under,
         strings,
         paths,
-        reasons.hindrance,
+        is_without_prompt(reasons.hindrance, symbol),
         &places.needs,
     )?;
     push_located_forcing_lines(

@@ -23,7 +23,8 @@ returns c =
     let symbol = symbol_view exprs c.symbol.result in
     let lines = symbol_lines_view exprs c.args.lines.now in
     let needs = c.in_ok-push_located_needs.ensures
-    ∙ ap (λ ns. c.push_hindrance_line.new.out.items ++ located_needs_lines c.args.strings names paths r.hindrance (located_alternatives_view exprs ns)) c.deref.ensures.value in
+    ∙ ap (λ ns. c.push_hindrance_line.new.out.items ++ located_needs_lines c.args.strings names paths c.is_without_prompt.result (located_alternatives_view exprs ns)) c.deref.ensures.value
+    ∙ ap (λ b. c.push_hindrance_line.new.out.items ++ located_needs_lines c.args.strings names paths b (located_alternatives_view exprs c.args.places.now.needs.items)) (c.is_without_prompt.ensures exprs) in
     let selects = c.in_ok-push_located_forcing_lines.ensures
     ∙ ap (λ ps. c.push_located_needs.new.out.items ++ located_forcing_lines c.args.strings paths tree values (codes "selected by ") symbol.selectors (map position_view ps) c.deref-3.result.now) c.deref-2.ensures.value
     ∙ ap (λ ns. c.push_located_needs.new.out.items ++ located_forcing_lines c.args.strings paths tree values (codes "selected by ") symbol.selectors lines.selectors ns) c.deref-3.ensures.value in
