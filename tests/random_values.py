@@ -1,5 +1,5 @@
 """What trees give under configuration files, by the rules of docs/RULES.md, apart from the program: by those of the strict language,
-or by those of Linux 6.12.
+of Linux before 6.10, or of Linux 6.12.
 
 An expression is ("name", N), ("constant", LETTER), ("quoted", TEXT), ("relation", OP, A, B), ("not", E), ("and", A, B), ("or", A, B),
 or, of what is in a choice, ("inside", CHOICE) or ("in sight", CHOICE). A condition is a list of expressions that are joined."""
@@ -15,12 +15,23 @@ class Symbol:
     def __init__(self, name, rank, kind, choice):
         self.name, self.rank, self.kind, self.choice = name, rank, kind, choice
         self.direct, self.prompts, self.defaults, self.ranges, self.forces = [], [], [], [], []
+        self.others = []
+
+    def sort(self):
+        """Brings what the definitions have into the order of its lines, which the last expression of each condition has."""
+        for attributes in (self.defaults, self.ranges, self.forces):
+            attributes.sort(key=lambda it: it[-1][-1].line)
+        self.prompts.sort(key=lambda it: it[-1].line)
+
+    def dependencies(self):
+        """The conditions of the definitions, in any order."""
+        return [self.direct, *(direct for _, direct in self.others)]
 
 
 class Choice:
     def __init__(self, rank):
         self.rank, self.prompt, self.defaults, self.members = rank, None, [], []
-        self.direct, self.hidden = [], []
+        self.direct, self.hidden, self.is_optional = [], [], False
 
 
 def quoted(text):
@@ -57,9 +68,9 @@ def number_of(kind, text):
 class Values:
     """Values of units: of a symbol outside choices a tristate (0, 1, 2) or a text, of a choice a member or none."""
 
-    def __init__(self, symbols, choices, is_classic, is_newer):
+    def __init__(self, symbols, choices, is_classic, is_newer, is_linux=False):
         self.symbols, self.choices = {it.name: it for it in symbols}, choices
-        self.is_classic, self.is_newer = is_classic, is_newer
+        self.is_classic, self.is_newer, self.is_linux = is_classic, is_newer, is_newer or is_linux
         self.by_unit = {}
 
     def tristate(self, name):
@@ -105,6 +116,9 @@ class Values:
     def all_of(self, condition):
         return min((self.value(e, True) for e in condition), default=2)
 
+    def direct(self, it):
+        return max(map(self.all_of, it.dependencies()))
+
     def promoted(self, it, value):
         return 2 if value == 1 and (it.kind == BOOL or not self.tristate("MODULES")) else value
 
@@ -119,7 +133,7 @@ class Values:
         return next(((value, self.all_of(when)) for value, when in it.defaults if self.all_of(when)), None)
 
     def of_tristate(self, it, user):
-        implied, direct, active = self.forced(it, "imply"), self.all_of(it.direct), self.default(it)
+        implied, direct, active = self.forced(it, "imply"), self.direct(it), self.default(it)
         base = min(self.value(active[0]), active[1]) if active else 0
         effect = implied if direct else 0
         if user is not None and self.visibility(it):
@@ -163,6 +177,8 @@ class Values:
         chosen = [it for it, is_y in given.items() if is_y and it in seen]
         if chosen or not seen:
             return chosen[-1] if chosen else None
+        if choice.is_optional:
+            return None
         default = next((it for it in asked if it in seen), seen[0])
         if default not in given:
             return default
@@ -174,7 +190,8 @@ class Values:
         if choice.prompt is None or not self.all_of(choice.prompt):
             return None
         asked = [self.symbols[name] for name, when in choice.defaults if self.all_of(when)]
-        return next((it for it in [user, *asked, *choice.members] if it and self.visibility(it)), None)
+        others = [] if choice.is_optional else [*asked, *choice.members]
+        return next((it for it in [user, *others] if it and self.visibility(it)), None)
 
     def rule(self, unit, user):
         if isinstance(unit, Choice):
@@ -186,16 +203,18 @@ class Values:
             self.by_unit[unit] = self.rule(unit, users.get(unit))
 
     def is_written(self, it):
+        if it.choice and it.choice.is_optional and not self.by_unit[it.choice]:
+            return False
         if self.visibility(it) or it.choice:
             return self.visibility(it) > 0
         active = self.default(it)
         counts = active and (it.kind not in (BOOL, TRISTATE) or min(self.value(active[0]), active[1]))
-        return bool(counts or self.forced(it, "select") or (self.forced(it, "imply") and (self.is_newer or self.all_of(it.direct))))
+        return bool(counts or self.forced(it, "select") or (self.forced(it, "imply") and (self.is_newer or self.direct(it))))
 
     def is_unmet(self, it):
         """Whether a symbol is selected above its direct dependency; Linux counts an `m` of that as `y` where the symbol is a bool."""
-        direct = self.all_of(it.direct)
-        return (2 if direct and it.kind == BOOL and self.is_newer else direct) < self.forced(it, "select")
+        direct = self.direct(it)
+        return (2 if direct and it.kind == BOOL and self.is_linux else direct) < self.forced(it, "select")
 
     def line(self, it):
         if it.kind in (BOOL, TRISTATE):
@@ -248,10 +267,10 @@ def is_missed(values, users, it):
     return [one for one, is_y in given.items() if is_y][-1:] == [it]
 
 
-def results(symbols, choices, lines, is_classic, is_newer):
+def results(symbols, choices, lines, is_classic, is_newer, is_linux):
     """The lines of the full and the minimal file, the names that are missed, and the lines of what is unmet."""
     users = users_of(symbols, lines, is_newer)
-    values = Values(symbols, choices, is_classic, is_newer)
+    values = Values(symbols, choices, is_classic, is_newer, is_linux)
     values.solve(users)
     return {
         "full": [values.line(it) for it in symbols if values.is_written(it)],

@@ -148,9 +148,13 @@ is_hidden (Some Hidden) = true
 is_hidden (Some MemberHidden) = true
 is_hidden _ = false
 
--- what the prompts need; hidden with nothing needed, the symbol has no prompt
-abbrev pub needs_lines : Strings → Environment → Option Hindrance → List (List Part) → List ℕ
-needs_lines strings names hindrance needs = if is_hidden hindrance && is_empty needs
+-- whether a hindrance is a missing visibility, for want of a prompt; a choice's may be that of another member than this symbol
+abbrev pub is_without_prompt : Option Hindrance → Symbol → Bool
+is_without_prompt hindrance symbol = is_hidden hindrance && is_empty symbol.prompts
+
+-- what the prompts need, if there is one
+abbrev pub needs_lines : Strings → Environment → (without_prompt : Bool) → List (List Part) → List ℕ
+needs_lines strings names without_prompt needs = if without_prompt
     then inner_line (codes "it has no prompt")
     else alternative_lines strings names (codes "needs ") needs
 
@@ -164,7 +168,7 @@ abbrev pub explained : Strings → Tree → List UnitValue → ℕ → Symbol �
 explained strings tree values s symbol r =
     first_line strings tree values s r.chosen r.case
     ++ (hindrance_line r.hindrance
-    ++ (needs_lines strings (environment tree values) r.hindrance r.needs
+    ++ (needs_lines strings (environment tree values) (is_without_prompt r.hindrance symbol) r.needs
     ++ (forcing_lines strings tree values (codes "selected by ") symbol.selectors r.selected_by
     ++ (forcing_lines strings tree values (codes "implied by ") symbol.impliers r.implied_by
     ++ alternative_lines strings (environment tree values) (codes "unmet: ") r.unmet))))

@@ -1,5 +1,5 @@
 -- The text that explains a symbol's value, with the places of lines.
-use Rattle.std.specs.Prelude.{ℕ, ◌&&◌, List, [], ◌∷◌, ◌++◌, flat_map, Option, Some, None, codes, decimal, option_map, unwrap_or, slice_get, slice_index_or, if◌then◌else◌}
+use Rattle.std.specs.Prelude.{ℕ, Bool, List, [], ◌∷◌, ◌++◌, flat_map, Option, Some, None, codes, decimal, option_map, unwrap_or, slice_get, slice_index_or, if◌then◌else◌}
 use Rattle.kc_expr.specs.Expr.{Environment}
 use Rattle.kc_tree_model.specs.Trees.{Tree, Symbol, ReverseDependency}
 use Rattle.kc_tree_model.specs.Blocks.{Position}
@@ -8,11 +8,11 @@ use Rattle.kc_rules_model.specs.SymbolValues.{environment, value_of_symbol}
 use Rattle.kc_dotconfig_model.specs.declared.format.Strings.{Strings}
 use Rattle.kc_reasons_model.specs.declared.cases.Case.{Case}
 use Rattle.kc_reasons_model.specs.declared.cases.Hindrance.{Hindrance}
-use Rattle.kc_reasons_model.specs.Reasons.{is_empty, value_text, name_of_symbol}
+use Rattle.kc_reasons_model.specs.Reasons.{value_text, name_of_symbol}
 use Rattle.kc_located_reasons.specs.LocatedNeeds.{LocatedPart}
 use Rattle.kc_reasons_model.specs.PlainReasons.{PlainReasons}
 use Rattle.kc_reasons_model.specs.SymbolLines.{SymbolLines}
-use Rattle.kc_explanation.specs.Explained.{in_parentheses, low_part_text, inner_line, forcing_text, is_hidden, chosen_text, case_text, hindrance_line}
+use Rattle.kc_explanation.specs.Explained.{in_parentheses, low_part_text, inner_line, forcing_text, is_without_prompt, chosen_text, case_text, hindrance_line}
 
 -- `PATH:LINE`, by the paths of the tree's files in the order of their numbers
 abbrev pub place_text : List (List ℕ) → Position → List ℕ
@@ -39,9 +39,9 @@ located_alternative_lines strings names paths word [] = []
 located_alternative_lines strings names paths word (ps ∷ rest) =
     inner_line (located_parts_text strings names paths word ps) ++ located_alternative_lines strings names paths (codes "or ") rest
 
--- what the prompts need; hidden with nothing needed, the symbol has no prompt
-abbrev pub located_needs_lines : Strings → Environment → List (List ℕ) → Option Hindrance → List (List LocatedPart) → List ℕ
-located_needs_lines strings names paths hindrance needs = if is_hidden hindrance && is_empty needs
+-- what the prompts need, if there is one
+abbrev pub located_needs_lines : Strings → Environment → List (List ℕ) → (without_prompt : Bool) → List (List LocatedPart) → List ℕ
+located_needs_lines strings names paths without_prompt needs = if without_prompt
     then inner_line (codes "it has no prompt")
     else located_alternative_lines strings names paths (codes "needs ") needs
 
@@ -65,15 +65,24 @@ pub record ReasonPlaces : Type 0 where
   pub needs : List (List LocatedPart)
   pub unmet : List (List LocatedPart)
 
+-- below what a symbol has: what its prompts need, what selects and implies it, and what is unmet
+abbrev pub located_details : Strings → List (List ℕ) → Tree → List UnitValue → Symbol → SymbolLines → PlainReasons → ReasonPlaces → List ℕ
+located_details strings paths tree values symbol lines r places =
+    located_needs_lines strings (environment tree values) paths (is_without_prompt r.hindrance symbol) places.needs
+    ++ (located_forcing_lines strings paths tree values (codes "selected by ") symbol.selectors lines.selectors r.selected_by
+    ++ (located_forcing_lines strings paths tree values (codes "implied by ") symbol.impliers lines.impliers r.implied_by
+    ++ located_alternative_lines strings (environment tree values) paths (codes "unmet: ") places.unmet))
+
+-- and of the symbol with number s, if the tree has it
+abbrev pub located_details_at : Strings → List (List ℕ) → Tree → List UnitValue → ℕ → SymbolLines → PlainReasons → ReasonPlaces → List ℕ
+located_details_at strings paths tree values s lines r places =
+    unwrap_or (option_map (λ symbol. located_details strings paths tree values symbol lines r places) (slice_get tree.symbols s)) []
+
 -- the text of the reasons of symbol s, with the places of its lines
 abbrev pub located_explained : Strings → List (List ℕ) → Tree → List UnitValue → ℕ → Symbol → SymbolLines → PlainReasons → ReasonPlaces → List ℕ
 located_explained strings paths tree values s symbol lines r places =
     located_first_line strings paths tree values s r.chosen r.case places.given_at
-    ++ (hindrance_line r.hindrance
-    ++ (located_needs_lines strings (environment tree values) paths r.hindrance places.needs
-    ++ (located_forcing_lines strings paths tree values (codes "selected by ") symbol.selectors lines.selectors r.selected_by
-    ++ (located_forcing_lines strings paths tree values (codes "implied by ") symbol.impliers lines.impliers r.implied_by
-    ++ located_alternative_lines strings (environment tree values) paths (codes "unmet: ") places.unmet))))
+    ++ (hindrance_line r.hindrance ++ located_details strings paths tree values symbol lines r places)
 
 -- and of the symbol with number s, if the tree has it
 abbrev pub located_explained_at : Strings → List (List ℕ) → Tree → List UnitValue → ℕ → SymbolLines → PlainReasons → ReasonPlaces → List ℕ

@@ -1,5 +1,6 @@
 //! The text that explains a symbol's value.
 ghost use Rattle.std.specs.Prelude.{◌≡◌, ◌<◌, ◌++◌, ◌∷◌, ◌&&◌, [], ℕ, length, map, slice_get, flat_map, codes, OnOk, Some, if◌then◌else◌};
+ghost use Rattle.kc_expr.specs.between.Arena.{Exprs};
 ghost use Rattle.kc_tree.specs.between.Views.{reverse_dependency_view, symbol_view, SymbolFits};
 ghost use Rattle.kc_dependencies.specs.checker.StoredRules.{AreReverseDependencies};
 ghost use Rattle.kc_evaluation.specs.checker.ValuationView.{valuation_tree, valuation_exprs, valuation_values};
@@ -7,7 +8,7 @@ ghost use Rattle.kc_rules_model.specs.SymbolValues.{environment, value_of_symbol
 ghost use Rattle.kc_reasons_model.specs.Reasons.{name_of_symbol, value_text, is_empty};
 ghost use Rattle.kc_reasons.specs.between.Parts.{alternatives_view, AreThere};
 ghost use Rattle.kc_reasons.specs.between.ReasonsView.{reasons_view};
-ghost use Rattle.kc_explanation.specs.Explained.{in_parentheses, inner_line, case_text, chosen_text, forcing_line, forcing_lines, first_line, is_hidden, needs_lines, alternative_lines, hindrance_line, explained_at};
+ghost use Rattle.kc_explanation.specs.Explained.{in_parentheses, inner_line, case_text, chosen_text, forcing_line, forcing_lines, first_line, is_hidden, is_without_prompt, needs_lines, alternative_lines, hindrance_line, explained_at};
 
 use super::part_texts::push_alternatives;
 use super::token_texts::{push_text_of_kind, push_value};
@@ -158,25 +159,32 @@ fn push_forcing_lines(
 }
 
 /// Whether a hindrance is a missing visibility.
-pub(crate) fn is_hidden(hindrance: Option<Hindrance>) -> bool
+fn is_hidden(hindrance: Option<Hindrance>) -> bool
     ensures { result ≡ is_hidden hindrance }
 {
     matches!(hindrance, Some(Hindrance::Hidden | Hindrance::MemberHidden))
 }
 
-/// Appends what the prompts need; hidden with nothing needed, a symbol has no prompt.
+/// Whether a hindrance is a missing visibility, for want of a prompt of this symbol.
+pub(crate) fn is_without_prompt(hindrance: Option<Hindrance>, symbol: &Symbol<'_>) -> bool
+    ensures { (exprs : Exprs) → result ≡ is_without_prompt hindrance (symbol_view exprs symbol.now) }
+{
+    is_hidden(hindrance) && symbol.prompts.len() == 0
+}
+
+/// Appends what the prompts need, if there is one.
 fn push_needs(
     alloc: Global,
     out: &mut Vec<u8>,
     under: &Valuation<'_>,
     strings: Strings,
-    hindrance: Option<Hindrance>,
+    without_prompt: bool,
     needs: &[Vec<LowPart>],
 ) -> Result<(), AllocError>
     requires there { AreThere (valuation_exprs under.now) needs.now }
-    ensures { OnOk result (out.new.items ≡ out.old.items ++ needs_lines strings (environment (valuation_tree under.now) (valuation_values under.now)) hindrance (alternatives_view (valuation_exprs under.now) needs.now)) }
+    ensures { OnOk result (out.new.items ≡ out.old.items ++ needs_lines strings (environment (valuation_tree under.now) (valuation_values under.now)) without_prompt (alternatives_view (valuation_exprs under.now) needs.now)) }
 {
-    if is_hidden(hindrance) && needs.len() == 0 {
+    if without_prompt {
         out.extend_from_slice(b"  it has no prompt\n")
     } else {
         push_alternatives(alloc, out, under, strings, b"needs ", needs)
@@ -205,7 +213,7 @@ pub fn push_explanation(
         out,
         under,
         strings,
-        reasons.hindrance,
+        is_without_prompt(reasons.hindrance, symbol),
         &reasons.needs,
     )?;
     push_forcing_lines(

@@ -19,7 +19,8 @@ returns c =
     let r = c.args.reasons.now in
     let symbol = symbol_view exprs c.symbol.result in
     let needs = c.in_ok-push_needs.ensures
-    ∙ ap (λ ns. c.push_hindrance_line.new.out.items ++ needs_lines c.args.strings names r.hindrance (alternatives_view exprs ns)) c.deref.ensures.value in
+    ∙ ap (λ ns. c.push_hindrance_line.new.out.items ++ needs_lines c.args.strings names c.is_without_prompt.result (alternatives_view exprs ns)) c.deref.ensures.value
+    ∙ ap (λ b. c.push_hindrance_line.new.out.items ++ needs_lines c.args.strings names b (alternatives_view exprs r.needs.items)) (c.is_without_prompt.ensures exprs) in
     let selects = c.in_ok-push_forcing_lines.ensures
     ∙ ap (λ ns. c.push_needs.new.out.items ++ forcing_lines c.args.strings tree values (codes "selected by ") symbol.selectors ns) c.deref-2.ensures.value in
     let implies = c.in_ok-push_forcing_lines-2.ensures
