@@ -4,6 +4,7 @@
 mod bundle;
 mod bundle_answer;
 mod configurations;
+mod explain_command;
 mod job_output;
 mod output_file;
 mod program;
@@ -12,6 +13,7 @@ mod tidy_command;
 mod verb_texts;
 mod wants_command;
 
+pub use explain_command::explain;
 pub use job_output::serve;
 pub use kmin_trees::{FileStop, Files};
 pub use output_file::save;

@@ -10,6 +10,7 @@ ghost use Rattle.kmin_run.specs.TidyRuns.{outputs_of};
 ghost use Rattle.kmin_run.specs.between.WordRuns.{AreWordsRead};
 
 use crate::bundle_answer::run_bundle;
+use crate::explain_command::explain;
 use crate::job_output::serve;
 use crate::output_file::save;
 use crate::tidy_command::{refuse_list, tidy};
@@ -219,6 +220,7 @@ fn run_parsed<F: Files, D: WriteDisk, I: Source, O: Sink, E: Sink>(
         ParsedWords::Job(job) => serve(alloc, job, files, out, err),
         ParsedWords::Save(output_job) => save(alloc, output_job, files, disk, err),
         ParsedWords::Questions(questions) => list_questions(alloc, questions, files, out, err),
+        ParsedWords::Explain(explain_job) => explain(alloc, explain_job, files, out, err),
         ParsedWords::Tidy(tidy_job) => tidy(alloc, tidy_job, files, disk, input, out, err),
         ParsedWords::Help(text) => write_help(text, out, err),
         ParsedWords::Refused(text) => refuse_words(text, err),

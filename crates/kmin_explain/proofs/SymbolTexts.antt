@@ -1,0 +1,89 @@
+-- The text for a symbol, by its parts.
+use Rattle.std.proofs.Common.{◌≡◌, ℕ, zero, suc, ◌+◌, ◌<◌, Bool, true, false, List, [], ◌∷◌, ◌++◌, length, Option, Some, None, refl, sym, subst, ◌∙◌, ap, append_assoc, drop, get_or, arith}
+use Rattle.std.specs.Prelude.{flat_map, option_map, unwrap_or, slice_get}
+use Rattle.std.proofs.lemmas.List.{at_drop_more}
+use Rattle.std.proofs.lemmas.Option.{slice_get_within}
+use Rattle.kc_tree_model.specs.Trees.{Tree, Symbol}
+use Rattle.kc_tree_model.specs.Blocks.{Group}
+use Rattle.kc_tree_model.specs.Contents.{contents_of, symbol_of, tree_of_groups}
+use Rattle.kc_tree_model.specs.Limits.{names_defined}
+use Rattle.kc_tree_model.proofs.Consistency.Lists.{map-get}
+use Rattle.kc_rules_model.specs.declared.values.UnitValue.{UnitValue}
+use Rattle.kc_tree.specs.TreeModel.{TreeModel}
+use Rattle.kc_tree.specs.between.Views.{symbol_view}
+use Rattle.kc_tree.specs.declared.symbol.Symbol.{Symbol as CodeSymbol}
+use Rattle.kc_reasons_model.specs.PlainReasons.{PlainReasons}
+use Rattle.kc_reasons_model.specs.SymbolLines.{SymbolLines}
+use Rattle.kc_symbol_lines.proofs.IndexLaws.{symbol_name}
+use Rattle.kc_explanation.specs.Located.{ReasonPlaces, located_first_line, located_details_at}
+use Rattle.kc_explanation.proofs.ExplanationLemmas.{joined_three, located_details_is}
+use Rattle.kmin_explain.specs.Explanations.{Grounds, asked_lines, reason_places, told_reasons, explained_by, explained, explained_at}
+
+-- the name of a symbol is defined with its number
+pub name_defined : (t : TreeModel) (read : List Group) (s : ℕ) (symbol : Symbol) → t.tree ≡ tree_of_groups t.tree.language read
+    → slice_get t.tree.symbols s ≡ Some symbol → slice_get (names_defined read) s ≡ Some symbol.name
+unfolding tree_of_groups
+name_defined t read s symbol e at =
+    let name = symbol_name t read s e (slice_get_within t.tree.symbols s symbol at) in
+    let made : slice_get t.tree.symbols s ≡ Some (symbol_of t.tree.language (contents_of read) name.0) = ap (λ (w : Tree). slice_get w.symbols s) e
+    ∙ map-get (symbol_of t.tree.language (contents_of read)) (names_defined read) s name.0 name.1 in
+    let same : symbol ≡ symbol_of t.tree.language (contents_of read) name.0 = same_symbol _ symbol _ at made in
+    name.1 ∙ ap (λ (x : Symbol). Some x.name) (sym same)
+  where
+    same_symbol : (o : Option Symbol) (x y : Symbol) → o ≡ Some x → o ≡ Some y → x ≡ y
+    same_symbol o x y a b = cc
+
+-- the text of a symbol that the tree has
+pub explained_is : (g : Grounds) (all : Bool) (s : ℕ) (symbol : Symbol) → slice_get g.tree.symbols s ≡ Some symbol
+    → explained_at g all s ≡ explained g all s symbol
+explained_is g all s symbol at = ap (λ k. unwrap_or (option_map (explained g all s) k) []) at
+
+-- its three parts, each appended to what was there
+pub told_text : (g : Grounds) (s : ℕ) (symbol : Symbol) (r : PlainReasons) (lines : SymbolLines) (tree : Tree) (values : List UnitValue) (places : ReasonPlaces)
+    → tree ≡ g.tree → values ≡ g.values → places ≡ reason_places g s symbol lines r.case → slice_get g.tree.symbols s ≡ Some symbol
+    → (old one two three : List ℕ)
+    → one ≡ old ++ located_first_line g.strings g.tree_paths tree values s r.chosen r.case places.given_at
+    → two ≡ one ++ asked_lines g s symbol.kind r.case r.hindrance
+    → three ≡ two ++ located_details_at g.strings g.tree_paths tree values s lines r places
+    → three ≡ old ++ explained_by g s symbol r lines
+told_text g s symbol r lines tree values places is_tree is_values is_places at old one two three first asked details =
+    joined_three old one two three _ _ _
+    (first ∙ ap (λ t. old ++ located_first_line g.strings g.tree_paths t values s r.chosen r.case places.given_at) is_tree
+    ∙ ap (λ v. old ++ located_first_line g.strings g.tree_paths g.tree v s r.chosen r.case places.given_at) is_values
+    ∙ ap (λ (p : ReasonPlaces). old ++ located_first_line g.strings g.tree_paths g.tree g.values s r.chosen r.case p.given_at) is_places)
+    asked
+    (details ∙ ap (λ t. two ++ located_details_at g.strings g.tree_paths t values s lines r places) is_tree
+    ∙ ap (λ v. two ++ located_details_at g.strings g.tree_paths g.tree v s lines r places) is_values
+    ∙ ap (λ p. two ++ located_details_at g.strings g.tree_paths g.tree g.values s lines r p) is_places
+    ∙ ap (λ x. two ++ x) (located_details_is g.strings g.tree_paths g.tree g.values s symbol lines r (reason_places g s symbol lines r.case) at))
+
+-- the reasons of a symbol as they are told, without `--all` and with it
+pub told_plainly : (all : Bool) (symbol : Symbol) (r told : PlainReasons) → all ≡ false → told ≡ r → told ≡ told_reasons all symbol r
+told_plainly all symbol r told off is = is ∙ sym (ap (λ b. told_reasons b symbol r) off)
+
+pub told_with_all : (all : Bool) (symbol other : Symbol) (r found told : PlainReasons) → all ≡ true → other ≡ symbol → found ≡ r → told ≡ told_reasons true other found
+    → told ≡ told_reasons all symbol r
+told_with_all all symbol other r found told on same are is =
+    is ∙ ap (λ k. told_reasons true k found) same ∙ ap (λ f. told_reasons true symbol f) are ∙ sym (ap (λ b. told_reasons b symbol r) on)
+
+-- a symbol of the code as the tree has it
+pub symbol_is : (t m : TreeModel) (s : ℕ) (code : CodeSymbol) (symbol : Symbol) → t ≡ m → slice_get t.tree.symbols s ≡ Some (symbol_view t.exprs code)
+    → slice_get m.tree.symbols s ≡ Some symbol → symbol_view m.exprs code ≡ symbol
+symbol_is t m s code symbol same at there =
+    one (slice_get m.tree.symbols s) _ _ (subst (λ (x : TreeModel). slice_get x.tree.symbols s ≡ Some (symbol_view x.exprs code)) same at) there
+  where
+    one : (o : Option Symbol) (x y : Symbol) → o ≡ Some x → o ≡ Some y → x ≡ y
+    one o x y a b = cc
+
+-- a symbol with a number below the count of symbols
+pub symbol_there : (symbols : List Symbol) (s : ℕ) → s < length symbols → (symbol : Symbol) × (slice_get symbols s ≡ Some symbol)
+symbol_there [] s l = absurd (omega arith)
+symbol_there (x ∷ xs) zero l = (x, refl)
+symbol_there (x ∷ xs) (suc s) l = symbol_there xs s (omega arith)
+
+-- the text of one more element
+pub one_more_text : {X : Type 0} (f : X → List ℕ) (xs : List X) (i : ℕ) (d : X) (old new all : List ℕ) → i < length xs → new ≡ old ++ f (get_or xs i d)
+    → old ++ flat_map f (drop i xs) ≡ all → new ++ flat_map f (drop (i + 1) xs) ≡ all
+one_more_text f xs i d old new all inside pushed before =
+    ap (λ x. x ++ flat_map f (drop (i + 1) xs)) pushed ∙ append_assoc old (f (get_or xs i d)) (flat_map f (drop (i + 1) xs))
+    ∙ ap (λ x. old ++ x) (sym (at_drop_more (flat_map f) xs i d inside)) ∙ before
