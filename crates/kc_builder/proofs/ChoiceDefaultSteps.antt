@@ -37,17 +37,17 @@ use Rattle.kc_checks.specs.between.FaultSearch.{HasNoFaults}
 use Rattle.kc_tree.specs.between.Views.{member_default_view, MemberDefaultFits}
 use Rattle.kc_builder.specs.checker.ChoiceDefaults.{default_value_view, symbol_bare, member_default_row, member_default_rows, group_default_rows, choice_defaults_of, AreDefaultsOf, IsWalkOf}
 use Rattle.kc_builder.specs.checker.ChoiceRows.{opens}
-use Rattle.kc_builder.specs.checker.GroupConditions.{own_conditions}
+use Rattle.kc_conditions.specs.between.GroupConditions.{own_conditions}
 use Rattle.kc_builder.specs.checker.Entries.{choices_after}
 use Rattle.kc_checks.specs.between.Summaries.{read_before, group_at, own_lines, is_choice_code}
 use Rattle.kc_tree.specs.declared.items_with_keys.ItemsWithKeys.{ItemsWithKeys}
-use Rattle.kc_builder.specs.declared.group_walk.GroupConditions.{GroupConditions}
+use Rattle.kc_conditions.specs.declared.group_walk.GroupConditions.{GroupConditions}
 use Rattle.kc_checks.proofs.GroupPlaces.{none_before, all_before, count_is, place_numbered}
 use Rattle.kc_builder.proofs.ChoiceRowSteps.{as_many_conditions, as_long, both_at, places_more}
 use Rattle.kc_checks.proofs.Rounds.{numbers_of_choices, all_counted}
 use Rattle.kc_tree.specs.between.GatheredAttributes.{AreKeys}
 use Rattle.kc_tree.specs.between.GroupedItems.{items_of}
-use Rattle.kc_builder.specs.checker.Walks.{condition_at}
+use Rattle.kc_conditions.specs.between.Walks.{condition_at}
 use Rattle.kc_tree.specs.declared.symbol.MemberDefault.{MemberDefault}
 use Rattle.kc_checks.proofs.Symbols.{bare_is}
 

@@ -18,15 +18,15 @@ use Rattle.kc_listing.specs.declared.listing.Listing.{Listing}
 use Rattle.kc_listing.specs.between.ListingView.{RepresentsListing, line_in, RepresentsGroup}
 use Rattle.kc_tree_model.specs.Limits.{names_defined}
 use Rattle.kc_builder.specs.checker.ChoiceRows.{IsGoneThrough, is_optional_line, choice_row, opens, IsChoiceRow, AreChoiceRows}
-use Rattle.kc_builder.specs.checker.GroupConditions.{conditions_at, own_conditions, IsConditioned}
+use Rattle.kc_conditions.specs.between.GroupConditions.{conditions_at, own_conditions, IsConditioned}
 use Rattle.kc_checks.specs.between.Attributes.{is_optional_code, is_prompt}
-use Rattle.kc_builder.specs.checker.Firsts.{first_prompt}
+use Rattle.kc_conditions.specs.between.Firsts.{first_prompt}
 use Rattle.kc_checks.specs.between.Summaries.{read_before, group_at, own_lines, is_choice_code, IsRepresented}
-use Rattle.kc_builder.specs.checker.Walks.{condition_at, RepresentsConditions, RepresentsAllConditions}
+use Rattle.kc_conditions.specs.between.Walks.{condition_at, RepresentsConditions, RepresentsAllConditions}
 use Rattle.kc_tree.specs.declared.parts.ChoiceRow.{ChoiceRow}
-use Rattle.kc_builder.specs.declared.group_walk.GroupConditions.{GroupConditions}
+use Rattle.kc_conditions.specs.declared.group_walk.GroupConditions.{GroupConditions}
 use Rattle.kc_checks.proofs.GroupPlaces.{shown_at, placed_more, none_before, all_before, count_is}
-use Rattle.kc_builder.proofs.GroupConditionLemmas.{conditioned_at, conditions_count}
+use Rattle.kc_conditions.proofs.GroupConditionLemmas.{conditioned_at, conditions_count}
 use Rattle.kc_checks.proofs.Rounds.{begins_is}
 
 pub shown_of : (l : Listing) (groups : List GroupConditions) (conditions : List ℕ) → IsGoneThrough l groups conditions → IsRepresented l

@@ -28,10 +28,10 @@ use Rattle.kc_listing.specs.between.ListingView.{RepresentsListing, RepresentsHe
 use Rattle.kc_builder.specs.checker.Entries.{entry_row, choices_after, entries_from}
 use Rattle.kc_tree.specs.between.StoredParts.{EntryRowFits}
 use Rattle.kc_tree.specs.between.PartsView.{entry_from_row}
-use Rattle.kc_builder.specs.checker.Walks.{RepresentsConditions, RepresentsAllConditions, RepresentsEnd}
+use Rattle.kc_conditions.specs.between.Walks.{RepresentsConditions, RepresentsAllConditions, RepresentsEnd}
 use Rattle.kc_tree.specs.declared.parts.EntryRow.{EntryRow}
 use Rattle.kc_tree.specs.declared.parts.EntryRow.TheVariants.{Definition, ChoiceBegins, MenuBegins, MenuEnds, Comment}
-use Rattle.kc_builder.specs.declared.group_walk.GroupConditions.{GroupConditions}
+use Rattle.kc_conditions.specs.declared.group_walk.GroupConditions.{GroupConditions}
 use Rattle.kc_checks.proofs.Symbols.{place_is}
 
 -- the entries of groups, the newest first

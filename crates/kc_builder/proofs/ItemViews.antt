@@ -25,7 +25,7 @@ use Rattle.kc_tree.specs.between.Views.{DefaultFits, RangeFits, HasOperands, Rev
 use Rattle.kc_tree.specs.between.Views as views
 use Rattle.kc_checks.specs.between.Attributes.{is_prompt}
 use Rattle.kc_builder.specs.checker.GatheredItems.{gathered_prompt, gathered_default, gathered_range, gathered_target_name, gathered_target, gathered_reverse_dependency, own_key, target_key, gathered_items}
-use Rattle.kc_builder.specs.checker.Walks.{condition_at}
+use Rattle.kc_conditions.specs.between.Walks.{condition_at}
 use Rattle.kc_builder.specs.declared.definition_attributes.ReverseKind.{ReverseKind}
 use Rattle.kc_builder.specs.declared.definition_attributes.ReverseKind.TheVariants.{Select, Imply}
 use Rattle.kc_tree.specs.declared.symbol.Range.{Range}

@@ -1,10 +1,7 @@
 pub mod AssemblySteps
 pub mod ChoiceDefaultSteps
 pub mod ChoiceRowSteps
-pub mod ConjunctionLemmas
 pub mod EntrySteps
-pub mod GroupConditionLemmas
-pub mod Growth
 pub mod ItemLaw
 pub mod ItemSteps
 pub mod ItemViews
@@ -13,4 +10,3 @@ pub mod RowSteps
 pub mod SymbolItems
 pub mod TreeLineSteps
 pub mod UnitSteps
-pub mod WalkSteps

@@ -23,19 +23,19 @@ use Rattle.kc_listing.specs.between.ListingView.{RepresentsGroups, RepresentsHea
 use Rattle.kc_tree.specs.between.Views.{DefaultFits, ReverseDependencyFits}
 use Rattle.kc_tree.specs.between.Views as views
 use Rattle.kc_builder.specs.checker.ChoiceDefaults.{IsWalkOf}
-use Rattle.kc_builder.specs.checker.GroupConditions.{conditions_at, own_conditions}
+use Rattle.kc_conditions.specs.between.GroupConditions.{conditions_at, own_conditions}
 use Rattle.kc_builder.specs.checker.Definitions.{HasDefinition, AreAttributes}
 use Rattle.kc_builder.specs.checker.GatheredItems.{gathered_prompt, gathered_default, gathered_range, own_key, target_key, gathered_reverse_dependency, gathered_items, HasAppended}
 use Rattle.kc_checks.specs.between.Summaries.{read_before, group_at, attributes_end}
-use Rattle.kc_builder.specs.checker.Walks.{condition_at, RepresentsConditions, RepresentsAllConditions}
+use Rattle.kc_conditions.specs.between.Walks.{condition_at, RepresentsConditions, RepresentsAllConditions}
 use Rattle.kc_builder.specs.declared.definition_attributes.ReverseKind.{ReverseKind}
 use Rattle.kc_builder.specs.declared.definition_attributes.ReverseKind.TheVariants.{Select, Imply}
 use Rattle.kc_tree.specs.declared.tree_lists.Attributes.{Attributes}
 use Rattle.kc_tree.specs.declared.items_with_keys.ItemsWithKeys.{ItemsWithKeys}
 use Rattle.kc_tree.specs.declared.symbol.ReverseDependency.{ReverseDependency as CodeForce}
-use Rattle.kc_builder.specs.declared.group_walk.GroupConditions.{GroupConditions}
+use Rattle.kc_conditions.specs.declared.group_walk.GroupConditions.{GroupConditions}
 use Rattle.kc_checks.proofs.GroupPlaces.{all_before, count_is, none_before, placed_more, shown_at}
-use Rattle.kc_builder.proofs.GroupConditionLemmas.{conditioned_at, conditions_count}
+use Rattle.kc_conditions.proofs.GroupConditionLemmas.{conditioned_at, conditions_count}
 use Rattle.kc_builder.proofs.ItemLaw.{by_name, AreListed, none_listed, listed_more, listed_same, number_of, number_is, own_key_of, own_item_of, own_keys, own_items, own_law, direct_keys, direct_items, direct_law, force_key_of, force_item_of, force_keys, force_items, reverse_dependency_law}
 use Rattle.kc_builder.proofs.ItemViews.{pairs_keys, pairs_items, pairs_fit, prompt_item, default_item, range_item, prompt_key, default_key, range_key, prompt_fit, default_fit, range_fit, RangeStands, own_below, aim_of, reverse_dependency_key, reverse_dependency_item, reverse_dependency_fit, target_below}
 use Rattle.kc_checks.proofs.Symbols.{nameless}

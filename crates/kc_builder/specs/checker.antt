@@ -2,13 +2,8 @@ pub mod Assembly
 pub mod CheckedListings
 pub mod ChoiceDefaults
 pub mod ChoiceRows
-pub mod Conjunctions
-pub mod Conjuncts
 pub mod Definitions
 pub mod Entries
-pub mod Firsts
 pub mod GatheredItems
-pub mod GroupConditions
 pub mod Rows
 pub mod UnitList
-pub mod Walks

@@ -9,9 +9,8 @@ ghost use Rattle.kc_checks.specs.between.FaultSearch.{HasNoFaults};
 ghost use Rattle.kc_builder.specs.checker.ChoiceDefaults.{group_default_rows, member_default_row, member_default_rows, default_value_view, AreDefaultsOf, IsWalkOf};
 
 use super::entries::count_choices;
-use super::group_conditions::conditions_of;
-use super::group_walk::GroupConditions;
 use kc_checks::{begins_choice, lines_of};
+use kc_conditions::{GroupConditions, conditions_of};
 use kc_expr::ExprId;
 use kc_listing::{GroupHead, Line, Listing, SymbolTable};
 use kc_statements::Attribute;

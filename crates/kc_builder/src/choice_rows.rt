@@ -7,13 +7,12 @@ ghost use Rattle.kc_tree_model.specs.Blocks.{Group as ModelGroup};
 ghost use Rattle.kc_tree_model.specs.Conditions.{groups_in_context};
 ghost use Rattle.kc_listing.specs.between.ListingView.{RepresentsListing};
 ghost use Rattle.kc_builder.specs.checker.ChoiceRows.{opens, is_optional_line, choice_row, AreChoiceRows, IsGoneThrough};
-ghost use Rattle.kc_builder.specs.checker.GroupConditions.{own_conditions};
+ghost use Rattle.kc_conditions.specs.between.GroupConditions.{own_conditions};
 ghost use Rattle.kc_checks.specs.between.Summaries.{group_at, own_lines};
-ghost use Rattle.kc_builder.specs.checker.Walks.{RepresentsAllConditions};
+ghost use Rattle.kc_conditions.specs.between.Walks.{RepresentsAllConditions};
 
-use super::group_conditions::conditions_of;
-use super::group_walk::{GroupConditions, first_condition};
 use kc_checks::{begins_choice, is_optional, lines_of};
+use kc_conditions::{GroupConditions, conditions_of, first_condition};
 use kc_expr::ExprId;
 use kc_listing::{Group, Line, Listing};
 use kc_tree::ChoiceRow;

@@ -1,7 +1,9 @@
 //! The prompts, defaults, ranges and reverse dependencies that a definition's attributes give.
 ghost use Rattle.std.specs.Prelude.{◌≡◌, ◌<◌, All, OnOk, length};
+ghost use Rattle.std.specs.List.{list_any};
 ghost use Rattle.kc_listing.specs.between.ListingView.{LineNodesExist};
-ghost use Rattle.kc_builder.specs.checker.GatheredItems.{gathered_target_name, target_key, gathered_prompt, gathered_default, gathered_range, own_key, gathered_target, gathered_reverse_dependency, HasAppended};
+ghost use Rattle.kc_builder.specs.declared.definition_attributes.ReverseKind.TheVariants.{Select, Imply};
+ghost use Rattle.kc_builder.specs.checker.GatheredItems.{gathered_target_name, has_target, target_key, gathered_prompt, gathered_default, gathered_range, own_key, gathered_target, gathered_reverse_dependency, HasAppended};
 
 use kc_checks::is_prompt;
 use kc_expr::{ExprId, NameId};
@@ -77,6 +79,21 @@ fn target_name_of(attribute: &Attribute, forcing: ReverseKind) -> Option<NameId>
     }
 }
 
+/// Whether an attribute line selects or implies a name.
+fn has_target(line: &Line) -> bool
+    ensures { result ≡ has_target line.now }
+{
+    target_name_of(&line.attribute, ReverseKind::Select).is_some()
+        || target_name_of(&line.attribute, ReverseKind::Imply).is_some()
+}
+
+/// Whether one of some attribute lines selects or implies a name; those of most definitions don't.
+fn have_target(lines: &[Line]) -> bool
+    ensures { result ≡ list_any has_target lines.now }
+{
+    lines.iter().any(|line| has_target(line))
+}
+
 /// The symbol that an attribute selects or implies, if an entry defines it.
 fn target_symbol_of(names: &SymbolTable, line: &Line, forcing: ReverseKind) -> Option<u32>
     requires held { LineNodesExist names.now.arena line.now }
@@ -141,7 +158,7 @@ pub(crate) fn push_ranges(
 }
 
 /// Appends the selects or the implies among a definition's attribute lines, each under the number of its target symbol.
-pub(crate) fn push_reverse_dependencies(
+fn push_reverse_dependencies(
     found: &mut ItemsWithKeys<ReverseDependency>,
     names: &SymbolTable,
     forcing: ReverseKind,
@@ -166,4 +183,39 @@ pub(crate) fn push_reverse_dependencies(
         }
     }
     Ok(())
+}
+
+/// Appends the selects and the implies among a definition's attribute lines, each under the number of its target symbol.
+pub(crate) fn push_targets(
+    selectors: &mut ItemsWithKeys<ReverseDependency>,
+    impliers: &mut ItemsWithKeys<ReverseDependency>,
+    names: &SymbolTable,
+    symbol: u32,
+    lines: &[Line],
+    conditions: &[ExprId],
+) -> Result<(), AllocError>
+    requires many { length conditions.now ≡ length lines.now }
+    requires held { All (LineNodesExist names.now.arena) lines.now }
+    ensures selectors { OnOk result (HasAppended (target_key names.now Select) (gathered_reverse_dependency names.now Select symbol) selectors.old selectors.new lines.now conditions.now) }
+    ensures impliers { OnOk result (HasAppended (target_key names.now Imply) (gathered_reverse_dependency names.now Imply symbol) impliers.old impliers.new lines.now conditions.now) }
+{
+    if !have_target(lines) {
+        return Ok(());
+    }
+    push_reverse_dependencies(
+        selectors,
+        names,
+        ReverseKind::Select,
+        symbol,
+        lines,
+        conditions,
+    )?;
+    push_reverse_dependencies(
+        impliers,
+        names,
+        ReverseKind::Imply,
+        symbol,
+        lines,
+        conditions,
+    )
 }

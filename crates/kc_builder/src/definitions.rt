@@ -5,15 +5,12 @@ ghost use Rattle.kc_tree_model.specs.Blocks.{Group as ModelGroup};
 ghost use Rattle.kc_tree_model.specs.Contents.{contents_of};
 ghost use Rattle.kc_listing.specs.between.ListingView.{LineNodesExist};
 ghost use Rattle.kc_builder.specs.checker.ChoiceDefaults.{IsWalkOf};
-ghost use Rattle.kc_builder.specs.checker.GroupConditions.{conditions_at};
+ghost use Rattle.kc_conditions.specs.between.GroupConditions.{conditions_at};
 ghost use Rattle.kc_builder.specs.checker.Definitions.{HasDefinition, AreAttributes};
 
-use super::definition_attributes::{
-    ReverseKind, push_defaults, push_prompts, push_ranges, push_reverse_dependencies,
-};
-use super::group_conditions::conditions_of;
-use super::group_walk::GroupConditions;
+use super::definition_attributes::{push_defaults, push_prompts, push_ranges, push_targets};
 use kc_checks::lines_of;
+use kc_conditions::{GroupConditions, conditions_of};
 use kc_expr::ExprId;
 use kc_listing::{GroupHead, Line, Listing, SymbolTable};
 use kc_tree::{Attributes, ItemsWithKeys};
@@ -62,18 +59,10 @@ fn push_definition(
     push_prompts(&mut found.prompts, symbol, lines, conditions)?;
     push_defaults(&mut found.defaults, symbol, lines, conditions)?;
     push_ranges(&mut found.ranges, symbol, lines, conditions)?;
-    push_reverse_dependencies(
+    push_targets(
         &mut found.selectors,
-        names,
-        ReverseKind::Select,
-        symbol,
-        lines,
-        conditions,
-    )?;
-    push_reverse_dependencies(
         &mut found.impliers,
         names,
-        ReverseKind::Imply,
         symbol,
         lines,
         conditions,

@@ -8,10 +8,10 @@ ghost use Rattle.kc_listing.specs.between.ListingView.{RepresentsListing};
 ghost use Rattle.kc_builder.specs.checker.Entries.{entry_row, choices_after};
 ghost use Rattle.kc_tree.specs.between.StoredParts.{EntryRowFits};
 ghost use Rattle.kc_tree.specs.between.PartsView.{entry_from_row};
-ghost use Rattle.kc_builder.specs.checker.Walks.{RepresentsAllConditions};
+ghost use Rattle.kc_conditions.specs.between.Walks.{RepresentsAllConditions};
 ghost use Rattle.kc_tree.specs.declared.parts.EntryRow.TheVariants.{MenuBegins, MenuEnds, Comment};
 
-use super::group_walk::GroupConditions;
+use kc_conditions::GroupConditions;
 use kc_listing::{GroupHead, Listing};
 use kc_tree::EntryRow;
 use kc_tree_model::{Block, Sym};

@@ -4,13 +4,9 @@
 mod builder;
 mod choice_defaults;
 mod choice_rows;
-mod conditions;
 mod definition_attributes;
 mod definitions;
 mod entries;
-mod group_conditions;
-mod group_walk;
-mod listing_walk;
 mod rows;
 mod tree_lines;
 mod tree_reader;

@@ -3,6 +3,7 @@ use super::test_trees::settled;
 use kc_dotconfig::Format;
 use kc_rules::Profile;
 use kmin_fakes::{Bounded, MemoryDisk, twice};
+use kmin_report::PlainMessages;
 use kmin_tidy::{TidyOptions, tidy_files};
 use std::test::Fail;
 
@@ -75,7 +76,7 @@ fn ends_as(
     let (status, text, errors) = ends;
     let tree = twice!(settled(rt.alloc(), TREE.as_bytes(), Profile::Present));
     let mut out = twice!(Bounded::new(rt.alloc(), 256, true));
-    let mut err = twice!(Bounded::new(rt.alloc(), 256, true));
+    let mut err = PlainMessages::new(twice!(Bounded::new(rt.alloc(), 256, true)));
     let ended = tidy_files(
         rt.alloc(),
         &tree,
@@ -87,7 +88,7 @@ fn ends_as(
         &mut err,
     );
     drop(tree);
-    Ok(ended == status && out.bytes() == text.as_bytes() && err.bytes() == errors.as_bytes())
+    Ok(ended == status && out.bytes() == text.as_bytes() && err.sink().bytes() == errors.as_bytes())
 }
 
 /// Whether a run that replaces nothing lists the files that aren't minimal.
@@ -215,7 +216,7 @@ fn ends_at_a_remaining_file(rt: &HostRuntime) -> Result<bool, Fail> {
     disk.fail_after(2, 2);
     let tree = twice!(settled(rt.alloc(), TREE.as_bytes(), Profile::Present));
     let mut out = twice!(Bounded::new(rt.alloc(), 64, true));
-    let mut err = twice!(Bounded::new(rt.alloc(), 64, true));
+    let mut err = PlainMessages::new(twice!(Bounded::new(rt.alloc(), 64, true)));
     let ended = tidy_files(
         rt.alloc(),
         &tree,
@@ -228,7 +229,7 @@ fn ends_at_a_remaining_file(rt: &HostRuntime) -> Result<bool, Fail> {
     );
     drop(tree);
     let mut holds = ended == 5 && out.bytes().is_empty() && disk.failures() == 2;
-    holds &= err.bytes().starts_with(b".kmin-") && err.bytes().ends_with(b": Left\n");
+    holds &= err.sink().bytes().starts_with(b".kmin-") && err.sink().bytes().ends_with(b": Left\n");
     Ok(holds && disk.bytes_at("ends") == Some(b"CONFIG_B=y\r\n"))
 }
 
@@ -244,7 +245,7 @@ fn ends_at_a_failed_write(rt: &HostRuntime) -> Result<bool, Fail> {
     let mut disk = disk_with_files(rt)?;
     let tree = twice!(settled(rt.alloc(), TREE.as_bytes(), Profile::Present));
     let mut out = twice!(Bounded::new(rt.alloc(), 6, true));
-    let mut err = twice!(Bounded::new(rt.alloc(), 64, true));
+    let mut err = PlainMessages::new(twice!(Bounded::new(rt.alloc(), 64, true)));
     let ended = tidy_files(
         rt.alloc(),
         &tree,
@@ -258,7 +259,7 @@ fn ends_at_a_failed_write(rt: &HostRuntime) -> Result<bool, Fail> {
     drop(tree);
     let holds = ended == 5
         && out.bytes() == "longer".as_bytes()
-        && err.bytes() == "output: Write\n".as_bytes();
+        && err.sink().bytes() == "output: Write\n".as_bytes();
     Ok(holds && disk.bytes_at("longer") == Some(MINIMAL))
 }
 

@@ -1,23 +1,48 @@
 -- The text of a symbol's reasons, line after line.
-use Rattle.std.proofs.Common.{◌≡◌, ℕ, List, [], ◌∷◌, ◌++◌, Option, Some, None, ap, ◌∙◌, append_assoc}
+use Rattle.std.proofs.Common.{◌≡◌, ℕ, zero, suc, ◌<◌, List, [], ◌∷◌, ◌++◌, length, Option, Some, None, refl, ap, sym, ◌∙◌, append_assoc, arith}
 use Rattle.std.specs.Prelude.{slice_get, option_map, unwrap_or}
 use Rattle.kc_tree_model.specs.Trees.{Tree, Symbol}
 use Rattle.kc_rules_model.specs.declared.values.UnitValue.{UnitValue}
 use Rattle.kc_dotconfig_model.specs.declared.format.Strings.{Strings}
 use Rattle.kc_reasons_model.specs.PlainReasons.{PlainReasons}
 use Rattle.kc_reasons_model.specs.SymbolLines.{SymbolLines}
-use Rattle.kc_explanation.specs.Explained.{explained, explained_at}
-use Rattle.kc_explanation.specs.Located.{ReasonPlaces, located_explained, located_explained_at}
+use Rattle.kc_explanation.specs.Explained.{hindrance_line, explained, explained_at}
+use Rattle.kc_explanation.specs.Located.{ReasonPlaces, located_first_line, located_details, located_details_at, located_explained, located_explained_at}
 
 pub explained_is : (strings : Strings) (tree : Tree) (values : List UnitValue) (s : ℕ) (symbol : Symbol) (r : PlainReasons)
     → slice_get tree.symbols s ≡ Some symbol → explained_at strings tree values s r ≡ explained strings tree values s symbol r
 explained_is strings tree values s symbol r e = ap (λ o. unwrap_or (option_map (λ k. explained strings tree values s k r) o) []) e
 
-pub located_explained_is : (strings : Strings) (paths : List (List ℕ)) (tree : Tree) (values : List UnitValue) (s : ℕ) (symbol : Symbol) (lines : SymbolLines)
+pub located_details_is : (strings : Strings) (paths : List (List ℕ)) (tree : Tree) (values : List UnitValue) (s : ℕ) (symbol : Symbol) (lines : SymbolLines)
     (r : PlainReasons) (places : ReasonPlaces) → slice_get tree.symbols s ≡ Some symbol
-    → located_explained_at strings paths tree values s lines r places ≡ located_explained strings paths tree values s symbol lines r places
-located_explained_is strings paths tree values s symbol lines r places e =
-    ap (λ o. unwrap_or (option_map (λ k. located_explained strings paths tree values s k lines r places) o) []) e
+    → located_details_at strings paths tree values s lines r places ≡ located_details strings paths tree values symbol lines r places
+located_details_is strings paths tree values s symbol lines r places e =
+    ap (λ o. unwrap_or (option_map (λ k. located_details strings paths tree values k lines r places) o) []) e
+
+-- a place in a list has an element
+has_element : {X : Type 0} (xs : List X) (k : ℕ) → k < length xs → (x : X) × (slice_get xs k ≡ Some x)
+has_element [] k l = absurd (omega arith)
+has_element (x ∷ xs) zero l = (x, refl)
+has_element (x ∷ xs) (suc k) l = has_element xs k (omega arith)
+
+pub located_explained_at_is : (strings : Strings) (paths : List (List ℕ)) (tree : Tree) (values : List UnitValue) (s : ℕ) (lines : SymbolLines)
+    (r : PlainReasons) (places : ReasonPlaces) → s < length tree.symbols
+    → located_explained_at strings paths tree values s lines r places
+    ≡ located_first_line strings paths tree values s r.chosen r.case places.given_at ++ (hindrance_line r.hindrance ++ located_details_at strings paths tree values s lines r places)
+located_explained_at_is strings paths tree values s lines r places there =
+    let k = has_element tree.symbols s there in
+    ap (λ o. unwrap_or (option_map (λ k. located_explained strings paths tree values s k lines r places) o) []) k.1
+    ∙ ap (λ x. located_first_line strings paths tree values s r.chosen r.case places.given_at ++ (hindrance_line r.hindrance ++ x))
+    (sym (located_details_is strings paths tree values s k.0 lines r places k.1))
+
+-- three texts, each appended to what was there; four
+pub joined_three : (old one two three a b c : List ℕ) → one ≡ old ++ a → two ≡ one ++ b → three ≡ two ++ c → three ≡ old ++ (a ++ (b ++ c))
+joined_three old one two three a b c h1 h2 h3 = h3 ∙ ap (λ x. x ++ c) (h2 ∙ ap (λ x. x ++ b) h1) ∙ simp append_assoc
+
+pub joined_four : (old one two three four a b c d : List ℕ) → one ≡ old ++ a → two ≡ one ++ b → three ≡ two ++ c → four ≡ three ++ d
+    → four ≡ old ++ (a ++ (b ++ (c ++ d)))
+joined_four old one two three four a b c d h1 h2 h3 h4 =
+    h4 ∙ ap (λ x. x ++ d) (h3 ∙ ap (λ x. x ++ c) (h2 ∙ ap (λ x. x ++ b) h1)) ∙ simp append_assoc
 
 -- six texts, each appended to what was there
 pub joined : (old one two three four five six a b c d e f : List ℕ) → one ≡ old ++ a → two ≡ one ++ b → three ≡ two ++ c → four ≡ three ++ d

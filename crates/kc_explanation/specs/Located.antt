@@ -65,15 +65,24 @@ pub record ReasonPlaces : Type 0 where
   pub needs : List (List LocatedPart)
   pub unmet : List (List LocatedPart)
 
+-- below what a symbol has: what its prompts need, what selects and implies it, and what is unmet
+abbrev pub located_details : Strings → List (List ℕ) → Tree → List UnitValue → Symbol → SymbolLines → PlainReasons → ReasonPlaces → List ℕ
+located_details strings paths tree values symbol lines r places =
+    located_needs_lines strings (environment tree values) paths (is_without_prompt r.hindrance symbol) places.needs
+    ++ (located_forcing_lines strings paths tree values (codes "selected by ") symbol.selectors lines.selectors r.selected_by
+    ++ (located_forcing_lines strings paths tree values (codes "implied by ") symbol.impliers lines.impliers r.implied_by
+    ++ located_alternative_lines strings (environment tree values) paths (codes "unmet: ") places.unmet))
+
+-- and of the symbol with number s, if the tree has it
+abbrev pub located_details_at : Strings → List (List ℕ) → Tree → List UnitValue → ℕ → SymbolLines → PlainReasons → ReasonPlaces → List ℕ
+located_details_at strings paths tree values s lines r places =
+    unwrap_or (option_map (λ symbol. located_details strings paths tree values symbol lines r places) (slice_get tree.symbols s)) []
+
 -- the text of the reasons of symbol s, with the places of its lines
 abbrev pub located_explained : Strings → List (List ℕ) → Tree → List UnitValue → ℕ → Symbol → SymbolLines → PlainReasons → ReasonPlaces → List ℕ
 located_explained strings paths tree values s symbol lines r places =
     located_first_line strings paths tree values s r.chosen r.case places.given_at
-    ++ (hindrance_line r.hindrance
-    ++ (located_needs_lines strings (environment tree values) paths (is_without_prompt r.hindrance symbol) places.needs
-    ++ (located_forcing_lines strings paths tree values (codes "selected by ") symbol.selectors lines.selectors r.selected_by
-    ++ (located_forcing_lines strings paths tree values (codes "implied by ") symbol.impliers lines.impliers r.implied_by
-    ++ located_alternative_lines strings (environment tree values) paths (codes "unmet: ") places.unmet))))
+    ++ (hindrance_line r.hindrance ++ located_details strings paths tree values symbol lines r places)
 
 -- and of the symbol with number s, if the tree has it
 abbrev pub located_explained_at : Strings → List (List ℕ) → Tree → List UnitValue → ℕ → SymbolLines → PlainReasons → ReasonPlaces → List ℕ

@@ -1,6 +1,7 @@
 //! The text that explains a symbol's value.
 #![tactic(auto)]
 
+mod asked_texts;
 mod explanation;
 mod located_explanation;
 mod located_texts;
@@ -9,8 +10,11 @@ mod spelling;
 mod token_texts;
 mod words;
 
+pub use asked_texts::{push_asks, push_line_place, push_outcome};
 pub use explanation::push_explanation;
-pub use located_explanation::{ReasonPlaces, push_located_explanation};
+pub use located_explanation::{
+    ReasonPlaces, push_located_details, push_located_explanation, push_located_first_line,
+};
 pub use located_texts::push_located_alternatives;
 pub use part_texts::push_alternatives;
 pub use spelling::{SpelledToken, spelled_tokens};

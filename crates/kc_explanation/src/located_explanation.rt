@@ -8,7 +8,7 @@ ghost use Rattle.kc_reasons.specs.between.ReasonsView.{reasons_view};
 ghost use Rattle.kc_symbol_lines.specs.between.LinesView.{position_view, symbol_lines_view};
 ghost use Rattle.kc_located_reasons.specs.between.PartsView.{located_alternatives_view, ArePartsThere};
 ghost use Rattle.kc_explanation.specs.Explained.{case_text, chosen_text};
-ghost use Rattle.kc_explanation.specs.Located.{place_in_parentheses, located_first_line, located_needs_lines, located_forcing_line, located_forcing_lines, located_alternative_lines, located_explained_at};
+ghost use Rattle.kc_explanation.specs.Located.{place_in_parentheses, located_first_line, located_needs_lines, located_forcing_line, located_forcing_lines, located_alternative_lines, located_details_at, located_explained_at};
 ghost use Rattle.kc_explanation.specs.between.ReasonPlacesView.{places_view};
 
 use super::explanation::{is_without_prompt, name_of, push_case, push_chosen, push_hindrance_line};
@@ -59,8 +59,9 @@ fn push_given(
     Ok(())
 }
 
-/// Appends the first line, with a symbol's value and what gives it, and where.
-fn push_located_first_line(
+/// Appends the first line of the text that explains symbol `s`: its value and what gives it, and where. `paths` has those of the tree's
+/// files in the order of their numbers. An `Err` means out of memory.
+pub fn push_located_first_line(
     out: &mut Vec<u8>,
     under: &Valuation<'_>,
     strings: Strings,
@@ -177,9 +178,10 @@ fn push_located_needs(
     }
 }
 
-/// Appends the text that explains the value of symbol `s`, by its reasons, its lines and the places of what it lacks. `paths` has
-/// those of the tree's files in the order of their numbers. An `Err` means out of memory.
-pub fn push_located_explanation(
+/// Appends what comes in the text that explains symbol `s` after its value and what was asked: what its prompts need, what selects and
+/// implies it, and what is unmet, by its reasons, its lines and the places of what it lacks. `paths` has those of the tree's files in
+/// the order of their numbers. An `Err` means out of memory.
+pub fn push_located_details(
     alloc: Global,
     out: &mut Vec<u8>,
     under: &Valuation<'_>,
@@ -193,20 +195,9 @@ pub fn push_located_explanation(
     requires there { s < length (valuation_tree under.now).symbols }
     requires needs { ArePartsThere (valuation_exprs under.now) places.now.needs.items }
     requires unmet { ArePartsThere (valuation_exprs under.now) places.now.unmet.items }
-    ensures { OnOk result (out.new.items ≡ out.old.items ++ located_explained_at strings paths.now (valuation_tree under.now) (valuation_values under.now) s (symbol_lines_view (valuation_exprs under.now) lines.now) (reasons_view (valuation_exprs under.now) reasons.now) (places_view (valuation_exprs under.now) places.now)) }
+    ensures { OnOk result (out.new.items ≡ out.old.items ++ located_details_at strings paths.now (valuation_tree under.now) (valuation_values under.now) s (symbol_lines_view (valuation_exprs under.now) lines.now) (reasons_view (valuation_exprs under.now) reasons.now) (places_view (valuation_exprs under.now) places.now)) }
 {
     let symbol = &under.rules.tree.symbol(s);
-    push_located_first_line(
-        out,
-        under,
-        strings,
-        paths,
-        s,
-        reasons.chosen,
-        reasons.case,
-        places.given_at,
-    )?;
-    push_hindrance_line(out, reasons.hindrance)?;
     push_located_needs(
         alloc,
         out,
@@ -237,4 +228,36 @@ pub fn push_located_explanation(
         &reasons.implied_by,
     )?;
     push_located_alternatives(alloc, out, under, strings, paths, b"unmet: ", &places.unmet)
+}
+
+/// Appends the text that explains the value of symbol `s`, by its reasons, its lines and the places of what it lacks. `paths` has
+/// those of the tree's files in the order of their numbers. An `Err` means out of memory.
+pub fn push_located_explanation(
+    alloc: Global,
+    out: &mut Vec<u8>,
+    under: &Valuation<'_>,
+    strings: Strings,
+    paths: &[Text],
+    s: Sym,
+    lines: &SymbolLines,
+    reasons: &SymbolReasons,
+    places: &ReasonPlaces,
+) -> Result<(), AllocError>
+    requires there { s < length (valuation_tree under.now).symbols }
+    requires needs { ArePartsThere (valuation_exprs under.now) places.now.needs.items }
+    requires unmet { ArePartsThere (valuation_exprs under.now) places.now.unmet.items }
+    ensures { OnOk result (out.new.items ≡ out.old.items ++ located_explained_at strings paths.now (valuation_tree under.now) (valuation_values under.now) s (symbol_lines_view (valuation_exprs under.now) lines.now) (reasons_view (valuation_exprs under.now) reasons.now) (places_view (valuation_exprs under.now) places.now)) }
+{
+    push_located_first_line(
+        out,
+        under,
+        strings,
+        paths,
+        s,
+        reasons.chosen,
+        reasons.case,
+        places.given_at,
+    )?;
+    push_hindrance_line(out, reasons.hindrance)?;
+    push_located_details(alloc, out, under, strings, paths, s, lines, reasons, places)
 }

@@ -1,11 +1,11 @@
 -- Lines at the front of a list of bytes, up to the first newline or to the end.
-use Rattle.std.proofs.Common.{◌≡◌, ℕ, suc, zero, ◌+◌, ◌≤◌, ◌<◌, Bool, true, false, List, [], ◌∷◌, length, drop, take, refl, ap, sym, ◌∙◌, arith, get_or, ◌-◌, ◌==◌, length-drop, map, drop-drop}
+use Rattle.std.proofs.Common.{nat_lt, ◌&&◌, cond, subst, get_or-drop, ◌≡◌, ℕ, suc, zero, ◌+◌, ◌≤◌, ◌<◌, Bool, true, false, List, [], ◌∷◌, length, drop, take, refl, ap, sym, ◌∙◌, arith, get_or, ◌-◌, ◌==◌, length-drop, map, drop-drop}
 use Rattle.std.proofs.lemmas.List.{get_or-take, length-take-le}
 use Rattle.std.proofs.lemmas.Bool.Decides.{nat_tests}
 use Rattle.std.proofs.Math.Seq.{drop-length, take-length}
-use Rattle.bstr.specs.Find.{Nowhere, Passes, is_byte}
 use Rattle.kc_tree_model.specs.LogicalLines.{split_at_newlines, with_first_byte, physical_lines, without_return, without_last, last_byte}
 use Rattle.kc_lines.specs.between.LinePlaces.{IsLineAt}
+use Rattle.kc_lines.specs.checker.Newlines.{HasNoNewline, IsNewlineFrom, text_end}
 
 -- the bytes up to the first newline are the first line
 pub cut_at_newline : (n : ℕ) (bs : List ℕ) → n < length bs → ((k : ℕ) → k < n → (get_or bs k 0 == 10) ≡ false) → (get_or bs n 0 == 10) ≡ true
@@ -27,7 +27,7 @@ cut_at_end (b ∷ c ∷ bs) h none =
     let rest = cut_at_end (c ∷ bs) (omega arith) (λ k l. none (suc k) (omega arith)) in
     rw first (ap (with_first_byte b) rest)
 
-is_false : (b : Bool) → (b ≡ true → ⊥) → b ≡ false
+pub is_false : (b : Bool) → (b ≡ true → ⊥) → b ≡ false
 is_false true h = absurd (h refl)
 is_false false h = refl
 
@@ -38,10 +38,11 @@ take_less (suc m) (suc n) [] h = refl
 take_less (suc m) (suc n) (x ∷ xs) h = ap (λ t. x ∷ t) (take_less m n xs (omega arith))
 
 -- without a newline from `at` on, the rest of the file is its last line
-pub line_at_end : (bytes : List ℕ) (at : ℕ) → at < length bytes → Nowhere (Passes (is_byte 10) (drop at bytes)) 0 (length (drop at bytes))
+pub line_at_end : (bytes : List ℕ) (at : ℕ) → at < length bytes → HasNoNewline bytes at (length bytes)
     → IsLineAt bytes at (record { end = length bytes; next = length bytes; ended = false })
 line_at_end bytes at h none =
-    let c = cut_at_end (drop at bytes) (omega (arith, length-drop at bytes)) (λ k l. is_false (get_or (drop at bytes) k 0 == 10) (none k (omega arith) l)) in
+    let c = cut_at_end (drop at bytes) (omega (arith, length-drop at bytes))
+    (λ k l. rw (get_or-drop at bytes k 0) (none (at + k) (omega arith) (omega (arith, l, length-drop at bytes)))) in
     record {
       whole = whole_end c;
       lines = rw (c, drop-length bytes) (ap (λ t. record { text = t; ended = false } ∷ [])
@@ -79,12 +80,12 @@ no_return zero rest h none = refl
 no_return (suc n) rest h none =
     rw (last_of (suc n) rest (omega arith) h) (is_false (get_or rest (suc n - 1) 0 == 13) (λ e. none (omega arith) (grind (arith, nat_tests))))
 
-module _ (bytes : List ℕ) (at n : ℕ) (h : n < length (drop at bytes)) (before : Nowhere (Passes (is_byte 10) (drop at bytes)) 0 n)
-    (here : Passes (is_byte 10) (drop at bytes) n) where
+module _ (bytes : List ℕ) (at n : ℕ) (h : n < length (drop at bytes)) (before : (k : ℕ) → k < n → (get_or (drop at bytes) k 0 == 10) ≡ false)
+    (here : (get_or (drop at bytes) n 0 == 10) ≡ true) where
   at_newline : split_at_newlines (drop at bytes) ≡ record { text = take n (drop at bytes); ended = true } ∷ split_at_newlines (drop (at + n + 1) bytes)
   at_newline =
       let behind : drop (suc n) (drop at bytes) ≡ drop (at + n + 1) bytes = rw drop-drop (ap (λ k. drop k bytes) (omega arith)) in
-      cut_at_newline n (drop at bytes) h (λ k l. is_false (get_or (drop at bytes) k 0 == 10) (before k (omega arith) l)) here
+      cut_at_newline n (drop at bytes) h before here
       ∙ ap (λ t. record { text = take n (drop at bytes); ended = true } ∷ split_at_newlines t) behind
 
   -- the first line at `at`, with a carriage return before its newline
@@ -93,7 +94,7 @@ module _ (bytes : List ℕ) (at n : ℕ) (h : n < length (drop at bytes)) (befor
   at_newline_whole = at_newline ∙ ap (λ k. record { text = take k (drop at bytes); ended = true } ∷ split_at_newlines (drop (at + n + 1) bytes))
       (let k : n ≡ at + n + 1 - 1 - at = omega arith in k)
 
-  pub line_returned : 0 < n → get_or (drop at bytes) (n - 1) 0 ≡ 13 → IsLineAt bytes at (record { end = at + n - 1; next = at + n + 1; ended = true })
+  line_returned : 0 < n → get_or (drop at bytes) (n - 1) 0 ≡ 13 → IsLineAt bytes at (record { end = at + n - 1; next = at + n + 1; ended = true })
   line_returned p e =
       let l : last_byte (take n (drop at bytes)) ≡ 13 = last_of n (drop at bytes) p (omega arith) ∙ e in
       let w : (last_byte (take n (drop at bytes)) == 13) ≡ true = ap (λ x. x == 13) l in
@@ -108,7 +109,7 @@ module _ (bytes : List ℕ) (at n : ℕ) (h : n < length (drop at bytes)) (befor
         within = omega (arith, length-drop at bytes);
       }
 
-  pub line_kept : (0 < n → get_or (drop at bytes) (n - 1) 0 ≡ 13 → ⊥) → IsLineAt bytes at (record { end = at + n; next = at + n + 1; ended = true })
+  line_kept : (0 < n → get_or (drop at bytes) (n - 1) 0 ≡ 13 → ⊥) → IsLineAt bytes at (record { end = at + n; next = at + n + 1; ended = true })
   line_kept none =
       let w = no_return n (drop at bytes) (omega arith) none in
       record {
@@ -120,3 +121,35 @@ module _ (bytes : List ℕ) (at n : ℕ) (h : n < length (drop at bytes)) (befor
         forward = omega arith;
         within = omega (arith, length-drop at bytes);
       }
+
+-- the line whose newline is the first from `at` on
+module _ (bytes : List ℕ) (at place : ℕ) (first : IsNewlineFrom bytes at place) (there : place < length bytes) where
+  place_is : at + (place - at) ≡ place
+  place_is = omega (arith, first.order)
+
+  room : place - at < length (drop at bytes)
+  room = omega (arith, first.order, there, length-drop at bytes)
+
+  before_place : (k : ℕ) → k < place - at → (get_or (drop at bytes) k 0 == 10) ≡ false
+  before_place k l = rw (get_or-drop at bytes k 0) (first.none (at + k) (omega arith) (omega arith))
+
+  at_place : (get_or (drop at bytes) (place - at) 0 == 10) ≡ true
+  at_place = rw (get_or-drop at bytes (place - at) 0, place_is) (first.here there)
+
+  last_is : at < place → get_or (drop at bytes) (place - at - 1) 0 ≡ get_or bytes (place - 1) 0
+  last_is l = get_or-drop at bytes (place - at - 1) 0 ∙ ap (λ k. get_or bytes k 0) (omega arith)
+
+  line_ends : (b : Bool) → (nat_lt at place && (get_or bytes (place - 1) 0 == 13)) ≡ b
+      → IsLineAt bytes at (record { end = cond b (place - 1) place; next = place + 1; ended = true })
+  line_ends true e =
+      let l : at < place = grind (arith, nat_tests) in
+      let r : get_or bytes (place - 1) 0 ≡ 13 = grind (arith, nat_tests) in
+      subst (λ (q : ℕ). IsLineAt bytes at (record { end = q - 1; next = q + 1; ended = true })) place_is
+      (line_returned bytes at (place - at) room before_place at_place (omega arith) (last_is l ∙ r))
+  line_ends false e =
+      subst (λ (q : ℕ). IsLineAt bytes at (record { end = q; next = q + 1; ended = true })) place_is
+      (line_kept bytes at (place - at) room before_place at_place (λ p r. let l : at < place = omega arith in
+      let s : get_or bytes (place - 1) 0 ≡ 13 = sym (last_is l) ∙ r in grind (arith, nat_tests)))
+
+  pub line_at_newline : IsLineAt bytes at (record { end = text_end bytes at place; next = place + 1; ended = true })
+  line_at_newline = line_ends (nat_lt at place && (get_or bytes (place - 1) 0 == 13)) refl

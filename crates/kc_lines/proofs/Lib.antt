@@ -1,3 +1,4 @@
 pub mod CutSteps
 pub mod ContinuedLines
 pub mod HelpTextLines
+pub mod NewlineSteps

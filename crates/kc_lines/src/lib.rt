@@ -3,6 +3,7 @@
 
 mod help;
 mod lines;
+mod newlines;
 
 pub use help::{HelpText, first_columns, help_at, is_of_help};
 pub use lines::{LogicalLine, PhysicalLine, logical_at, physical_at};

@@ -3,8 +3,9 @@ ghost use Rattle.std.specs.Prelude.{◌≡◌, ◌<◌, ◌≤◌, IfOk, length}
 ghost use Rattle.std.specs.Cow.{cow_slice_items};
 ghost use Rattle.kc_tree_model.specs.LogicalLines.{is_continued};
 ghost use Rattle.kc_lines.specs.between.LinePlaces.{line_of, BeginsAt, IsLineAt, IsLogicalAt};
+ghost use Rattle.kc_lines.specs.checker.Newlines.{text_end};
 
-use bstr::ByteSlice;
+use super::newlines::newline_from;
 use std::alloc::{AllocError, Global};
 use std::borrow::CowSlice;
 
@@ -17,33 +18,42 @@ pub struct PhysicalLine {
     pub ended: bool,
 }
 
+/// Where the text of a line ends that begins at `at` and has its newline at `place`: there, or before a carriage return.
+#[inline(always)]
+fn text_end(bytes: &[u8], at: usize, place: usize) -> usize
+    requires order { at ≤ place }
+    requires within { place < length bytes.now }
+    ensures value { result ≡ text_end bytes.now at place }
+{
+    if place > at && bytes[place - 1] == b'\r' {
+        return place - 1;
+    }
+    place
+}
+
 /// The physical line that begins at the place `at` in a file.
+#[inline(always)]
 pub fn physical_at(bytes: &[u8], at: usize) -> PhysicalLine
     requires there { at < length bytes.now }
     ensures line { IsLineAt bytes.now at result }
 {
-    let rest = &bytes[at..];
-    let Some(n) = rest.find_byte(b'\n') else {
+    let place = newline_from(bytes, at);
+    if place == bytes.len() {
         return PhysicalLine {
-            end: bytes.len(),
-            next: bytes.len(),
+            end: place,
+            next: place,
             ended: false,
         };
-    };
-    let next = at + n + 1;
-    let end = if n > 0 && rest[n - 1] == b'\r' {
-        at + n - 1
-    } else {
-        at + n
-    };
+    }
     PhysicalLine {
-        end,
-        next,
+        end: text_end(bytes, at, place),
+        next: place + 1,
         ended: true,
     }
 }
 
 /// Whether a backslash at the end of the line that begins at `at` joins it with the next line.
+#[inline(always)]
 fn is_joined(bytes: &[u8], at: usize, line: PhysicalLine) -> bool
     requires start { at ≤ line.end }
     requires within { line.end ≤ length bytes.now }
@@ -62,6 +72,7 @@ pub struct LogicalLine<'a> {
 }
 
 /// The logical line that begins at the place `at` in a file. An `Err` means out of memory.
+#[inline(always)]
 pub fn logical_at(alloc: Global, bytes: &[u8], at: usize) -> Result<LogicalLine<'_>, AllocError>
     requires there { at < length bytes.now }
     ensures line { IfOk result (λ l. IsLogicalAt bytes.now at (cow_slice_items l.text) l.next l.lines) }
@@ -84,6 +95,7 @@ pub fn logical_at(alloc: Global, bytes: &[u8], at: usize) -> Result<LogicalLine<
 }
 
 /// The bytes of the logical line that begins at `at`, where the next line begins, and how many physical lines it takes.
+#[inline(never)]
 fn joined_at(alloc: Global, bytes: &[u8], at: usize) -> Result<(Vec<u8>, usize, usize), AllocError>
     requires there { at < length bytes.now }
     ensures line { IfOk result (λ r. IsLogicalAt bytes.now at r.0.items r.1 r.2) }

@@ -7,3 +7,4 @@ pub mod LineContentLemmas
 pub mod CopiedLineLemmas
 pub mod QuietLemmas
 pub mod EnvironmentLemmas
+pub mod MarkLemmas

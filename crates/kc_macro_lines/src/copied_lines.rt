@@ -4,10 +4,11 @@ ghost use Rattle.std.specs.List.{list_any};
 ghost use Rattle.kc_macros_model.specs.LineTokens.{is_run_byte, line_tokens};
 ghost use Rattle.kc_macro_lines.specs.between.CopiedLines.{IsCopied};
 ghost use Rattle.kc_macro_lines.specs.checker.LineFronts.{name_token};
-ghost use Rattle.kc_macro_lines.specs.checker.QuietLines.{ends_acting, is_acting_word, bounds_prompt, may_begin_prompt, has_dollar_or_wide, HasNoWordNext, IsQuiet};
+ghost use Rattle.kc_macro_lines.specs.checker.QuietLines.{ends_acting, is_acting_word, bounds_prompt, may_begin_prompt, HasNoWordNext, IsQuiet};
 
 use super::assignment_syntax::{assignment_to, without_white_front};
 use super::line_tokens::is_run_byte;
+use super::marked_bytes::has_dollar_or_wide;
 use kc_answers::byte_at;
 use kc_macro_forms::{is_help_word, is_prompt_word, is_source_word};
 use kc_macros::is_text;
@@ -117,17 +118,6 @@ fn is_quiet(text: &[u8]) -> bool
     }
     let (word, after) = rest.split_at(length);
     is_quiet_word(word, after)
-}
-
-/// Whether a text has a `$`, or a byte that isn't ASCII.
-fn has_dollar_or_wide(text: &[u8]) -> bool
-    ensures { result ≡ has_dollar_or_wide text.now }
-{
-    let mut found = false;
-    for byte in text {
-        found |= *byte == b'$' || *byte >= 128;
-    }
-    found
 }
 
 /// Whether the expansion surely copies a line: it has no `$` and at most 65,536 bytes, is UTF-8, assigns nothing, and is no

@@ -6,6 +6,7 @@ mod copied_lines;
 mod environment_lines;
 mod line_content;
 mod line_tokens;
+mod marked_bytes;
 mod quoted_tokens;
 mod token_values;
 

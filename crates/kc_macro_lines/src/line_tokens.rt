@@ -21,13 +21,22 @@ pub(crate) enum LineToken<'a> {
     Broken(&'a [u8]),
 }
 
+/// The bytes of runs, each at its own place; a `!` at the place of any other byte.
+static RUN_BYTES: [u8; 256] = *b"\
+    !!!!!!!!!!!!!!!!!!!!!!!!!!!!!!!!\
+    !!!!$!!!!!!!!-./0123456789!!!!!!\
+    !ABCDEFGHIJKLMNOPQRSTUVWXYZ!!!!_\
+    !abcdefghijklmnopqrstuvwxyz!!!!!\
+    !!!!!!!!!!!!!!!!!!!!!!!!!!!!!!!!\
+    !!!!!!!!!!!!!!!!!!!!!!!!!!!!!!!!\
+    !!!!!!!!!!!!!!!!!!!!!!!!!!!!!!!!\
+    !!!!!!!!!!!!!!!!!!!!!!!!!!!!!!!!";
+
 /// Whether a byte may be part of a run: a letter, a digit, `_`, `-`, `.`, `/` or `$`.
 pub(crate) fn is_run_byte(byte: u8) -> bool
     ensures { result ≡ is_run_byte byte }
 {
-    byte.is_ascii_lowercase()
-        || byte.is_ascii_alphanumeric()
-        || matches!(byte, b'_' | b'-' | b'.' | b'/' | b'$')
+    RUN_BYTES[byte as usize] != b'!'
 }
 
 /// Whether a text begins with a `$(` without its `)`.

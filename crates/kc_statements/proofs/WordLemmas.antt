@@ -13,15 +13,6 @@ no_text : (e x : List ℕ) (b : Bool) → bytes_eq e x ≡ b → (e ≡ x → �
 no_text e x false t d = refl
 no_text e x true t d = absurd (d ((bytes_eq-Decides e x).0 t))
 
--- a word is none of those in a table of keywords
-abbrev pub IsNoneOf : List (List ℕ × Keyword) → List ℕ → Type 0
-IsNoneOf [] x = Unit {0}
-IsNoneOf (e ∷ es) x = (x ≡ e.0 → ⊥) × IsNoneOf es x
-
-pub absent : (es : List (List ℕ × Keyword)) (x : List ℕ) → IsNoneOf es x → None ≡ keyword_in_table es x
-absent [] x n = refl
-absent (e ∷ es) x n = rw (no_text e.0 x (bytes_eq e.0 x) refl (λ q. n.0 (sym q))) (absent es x n.1)
-
 -- equal numbers pass the test
 length_same : (m n : ℕ) → m ≡ n → (m == n) ≡ false → ⊥
 length_same m n q d = absurd (search (rules, nat_tests))

@@ -43,8 +43,8 @@ fn keyword_of_two(word: &str) -> Option<Keyword>
     requires len { length word.now ≡ 2 }
     ensures value { result ≡ keyword_in_table (of_length 2) word.now }
 {
-    match word {
-        "if" => Some(Keyword::If),
+    match word.as_bytes() {
+        [b'i', b'f'] => Some(Keyword::If),
         _ => None,
     }
 }
@@ -54,9 +54,9 @@ fn keyword_of_three(word: &str) -> Option<Keyword>
     requires len { length word.now ≡ 3 }
     ensures value { result ≡ keyword_in_table (of_length 3) word.now }
 {
-    match word {
-        "int" => Some(Keyword::Type(Kind::Int)),
-        "hex" => Some(Keyword::Type(Kind::Hex)),
+    match word.as_bytes() {
+        [b'i', b'n', b't'] => Some(Keyword::Type(Kind::Int)),
+        [b'h', b'e', b'x'] => Some(Keyword::Type(Kind::Hex)),
         _ => None,
     }
 }
@@ -66,10 +66,10 @@ fn keyword_of_four(word: &str) -> Option<Keyword>
     requires len { length word.now ≡ 4 }
     ensures value { result ≡ keyword_in_table (of_length 4) word.now }
 {
-    match word {
-        "bool" => Some(Keyword::Type(Kind::Bool)),
-        "help" => Some(Keyword::Help),
-        "menu" => Some(Keyword::Menu),
+    match word.as_bytes() {
+        [b'b', b'o', b'o', b'l'] => Some(Keyword::Type(Kind::Bool)),
+        [b'h', b'e', b'l', b'p'] => Some(Keyword::Help),
+        [b'm', b'e', b'n', b'u'] => Some(Keyword::Menu),
         _ => None,
     }
 }
@@ -79,10 +79,10 @@ fn keyword_of_five(word: &str) -> Option<Keyword>
     requires len { length word.now ≡ 5 }
     ensures value { result ≡ keyword_in_table (of_length 5) word.now }
 {
-    match word {
-        "endif" => Some(Keyword::End(Block::If)),
-        "imply" => Some(Keyword::Imply),
-        "range" => Some(Keyword::Range),
+    match word.as_bytes() {
+        [b'e', b'n', b'd', b'i', b'f'] => Some(Keyword::End(Block::If)),
+        [b'i', b'm', b'p', b'l', b'y'] => Some(Keyword::Imply),
+        [b'r', b'a', b'n', b'g', b'e'] => Some(Keyword::Range),
         _ => None,
     }
 }
@@ -92,14 +92,14 @@ fn keyword_of_six(word: &str) -> Option<Keyword>
     requires len { length word.now ≡ 6 }
     ensures value { result ≡ keyword_in_table (of_length 6) word.now }
 {
-    match word {
-        "config" => Some(Keyword::Config),
-        "select" => Some(Keyword::Select),
-        "source" => Some(Keyword::Source),
-        "string" => Some(Keyword::Type(Kind::Text)),
-        "prompt" => Some(Keyword::Prompt),
-        "choice" => Some(Keyword::Choice),
-        "option" => Some(Keyword::Option),
+    match word.as_bytes() {
+        [b'c', b'o', b'n', b'f', b'i', b'g'] => Some(Keyword::Config),
+        [b's', b'e', b'l', b'e', b'c', b't'] => Some(Keyword::Select),
+        [b's', b'o', b'u', b'r', b'c', b'e'] => Some(Keyword::Source),
+        [b's', b't', b'r', b'i', b'n', b'g'] => Some(Keyword::Type(Kind::Text)),
+        [b'p', b'r', b'o', b'm', b'p', b't'] => Some(Keyword::Prompt),
+        [b'c', b'h', b'o', b'i', b'c', b'e'] => Some(Keyword::Choice),
+        [b'o', b'p', b't', b'i', b'o', b'n'] => Some(Keyword::Option),
         _ => None,
     }
 }
@@ -109,16 +109,17 @@ fn keyword_of_seven(word: &str) -> Option<Keyword>
     requires len { length word.now ≡ 7 }
     ensures value { result ≡ keyword_in_table (of_length 7) word.now }
 {
-    match word {
-        "depends" => Some(Keyword::Depends),
-        "default" => Some(Keyword::Default),
-        "comment" => Some(Keyword::Comment),
-        "endmenu" => Some(Keyword::End(Block::Menu)),
-        "visible" => Some(Keyword::Visible),
-        "modules" => Some(Keyword::Modules),
-        "def_int" => Some(Keyword::DefaultType(Kind::Int)),
-        "def_hex" => Some(Keyword::DefaultType(Kind::Hex)),
-        "rsource" | "osource" => Some(Keyword::LeftOut),
+    match word.as_bytes() {
+        [b'd', b'e', b'p', b'e', b'n', b'd', b's'] => Some(Keyword::Depends),
+        [b'd', b'e', b'f', b'a', b'u', b'l', b't'] => Some(Keyword::Default),
+        [b'c', b'o', b'm', b'm', b'e', b'n', b't'] => Some(Keyword::Comment),
+        [b'e', b'n', b'd', b'm', b'e', b'n', b'u'] => Some(Keyword::End(Block::Menu)),
+        [b'v', b'i', b's', b'i', b'b', b'l', b'e'] => Some(Keyword::Visible),
+        [b'm', b'o', b'd', b'u', b'l', b'e', b's'] => Some(Keyword::Modules),
+        [b'd', b'e', b'f', b'_', b'i', b'n', b't'] => Some(Keyword::DefaultType(Kind::Int)),
+        [b'd', b'e', b'f', b'_', b'h', b'e', b'x'] => Some(Keyword::DefaultType(Kind::Hex)),
+        [b'r', b's', b'o', b'u', b'r', b'c', b'e'] | [b'o', b's', b'o', b'u', b'r', b'c', b'e'] =>
+            Some(Keyword::LeftOut),
         _ => None,
     }
 }
@@ -128,12 +129,12 @@ fn keyword_of_eight(word: &str) -> Option<Keyword>
     requires len { length word.now ≡ 8 }
     ensures value { result ≡ keyword_in_table (of_length 8) word.now }
 {
-    match word {
-        "tristate" => Some(Keyword::Type(Kind::Tristate)),
-        "def_bool" => Some(Keyword::DefaultType(Kind::Bool)),
-        "mainmenu" => Some(Keyword::Mainmenu),
-        "optional" => Some(Keyword::Optional),
-        "orsource" => Some(Keyword::LeftOut),
+    match word.as_bytes() {
+        [b't', b'r', b'i', b's', b't', b'a', b't', b'e'] => Some(Keyword::Type(Kind::Tristate)),
+        [b'd', b'e', b'f', b'_', b'b', b'o', b'o', b'l'] => Some(Keyword::DefaultType(Kind::Bool)),
+        [b'm', b'a', b'i', b'n', b'm', b'e', b'n', b'u'] => Some(Keyword::Mainmenu),
+        [b'o', b'p', b't', b'i', b'o', b'n', b'a', b'l'] => Some(Keyword::Optional),
+        [b'o', b'r', b's', b'o', b'u', b'r', b'c', b'e'] => Some(Keyword::LeftOut),
         _ => None,
     }
 }
@@ -143,8 +144,8 @@ fn keyword_of_nine(word: &str) -> Option<Keyword>
     requires len { length word.now ≡ 9 }
     ensures value { result ≡ keyword_in_table (of_length 9) word.now }
 {
-    match word {
-        "endchoice" => Some(Keyword::End(Block::Choice)),
+    match word.as_bytes() {
+        [b'e', b'n', b'd', b'c', b'h', b'o', b'i', b'c', b'e'] => Some(Keyword::End(Block::Choice)),
         _ => None,
     }
 }
@@ -154,10 +155,12 @@ fn keyword_of_ten(word: &str) -> Option<Keyword>
     requires len { length word.now ≡ 10 }
     ensures value { result ≡ keyword_in_table (of_length 10) word.now }
 {
-    match word {
-        "menuconfig" => Some(Keyword::Config),
-        "---help---" => Some(Keyword::Help),
-        "def_string" => Some(Keyword::DefaultType(Kind::Text)),
+    match word.as_bytes() {
+        [b'm', b'e', b'n', b'u', b'c', b'o', b'n', b'f', b'i', b'g'] => Some(Keyword::Config),
+        [b'-', b'-', b'-', b'h', b'e', b'l', b'p', b'-', b'-', b'-'] => Some(Keyword::Help),
+        [b'd', b'e', b'f', b'_', b's', b't', b'r', b'i', b'n', b'g'] => Some(Keyword::DefaultType(
+            Kind::Text,
+        )),
         _ => None,
     }
 }
@@ -167,9 +170,35 @@ fn keyword_of_twelve(word: &str) -> Option<Keyword>
     requires len { length word.now ≡ 12 }
     ensures value { result ≡ keyword_in_table (of_length 12) word.now }
 {
-    match word {
-        "def_tristate" => Some(Keyword::DefaultType(Kind::Tristate)),
-        "transitional" => Some(Keyword::LeftOut),
+    match word.as_bytes() {
+        [
+            b'd',
+            b'e',
+            b'f',
+            b'_',
+            b't',
+            b'r',
+            b'i',
+            b's',
+            b't',
+            b'a',
+            b't',
+            b'e',
+        ] => Some(Keyword::DefaultType(Kind::Tristate)),
+        [
+            b't',
+            b'r',
+            b'a',
+            b'n',
+            b's',
+            b'i',
+            b't',
+            b'i',
+            b'o',
+            b'n',
+            b'a',
+            b'l',
+        ] => Some(Keyword::LeftOut),
         _ => None,
     }
 }

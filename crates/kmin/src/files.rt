@@ -5,7 +5,7 @@ use kc_value::{Failed, FromRead, Seed, Source};
 use kmin_run::{FileStop, Files};
 use std::alloc::{AllocError, Global};
 use std::env::VarError;
-use std::fs::{DirEntry, File};
+use std::fs::{DirEntry, File, Metadata};
 use std::io::ErrorKind;
 use std::random::RandomSource;
 use std::{env, fs, io};
@@ -46,23 +46,19 @@ impl<'a> Disk<'a> {
     {
         let file = File::open(self.runtime, path).ok()?;
         let size = size_now(&file);
-        Some(OpenFile {
-            reader: FromRead::new(file),
-            size,
-            failed_reads: 0,
-        })
+        Some(reader_of(file, size))
     }
 
     /// A reader of the regular file at a path; `None` where none is there.
     fn open_regular(&self, path: &str) -> Result<Option<OpenFile>, Failed>
         ensures { IfOk result (λ reader. IfSome reader (λ file. file.failed_reads ≡ 0)) }
     {
-        if !is_regular(self.runtime, path)? {
+        let Some(size) = regular_size(self.runtime, path)? else {
             return Ok(None);
-        }
-        match self.open(path) {
-            Some(file) => Ok(Some(file)),
-            None => Err(Failed),
+        };
+        match File::open(self.runtime, path) {
+            Ok(file) => Ok(Some(reader_of(file, size))),
+            Err(_) => Err(Failed),
         }
     }
 }
@@ -77,7 +73,7 @@ pub(crate) fn new_seed(runtime: &HostRuntime) -> Seed {
     Seed::of(u64::from_le_bytes(first), u64::from_le_bytes(second))
 }
 
-/// An open file, how many bytes it had when it was opened, and how many of its reads failed.
+/// An open file, how many bytes it had then or just before, and how many of its reads failed.
 #[derive(Drop)]
 pub(crate) struct OpenFile {
     reader: FromRead<File>,
@@ -101,10 +97,26 @@ impl Source for OpenFile {
     }
 }
 
+/// A reader of an open file that has this many bytes, from its first byte on.
+fn reader_of(file: File, size: usize) -> OpenFile
+    ensures { result.failed_reads ≡ 0 }
+{
+    OpenFile {
+        reader: FromRead::new(file),
+        size,
+        failed_reads: 0,
+    }
+}
+
+/// The number of bytes that the system gives for a file.
+fn byte_count(metadata: &Metadata) -> usize {
+    usize::try_from(metadata.len()).unwrap_or(usize::MAX)
+}
+
 /// The number of bytes of a file; 0 if the system doesn't give it.
 fn size_now(file: &File) -> usize {
     match file.metadata() {
-        Ok(metadata) => usize::try_from(metadata.len()).unwrap_or(usize::MAX),
+        Ok(metadata) => byte_count(&metadata),
         Err(_) => 0,
     }
 }
@@ -122,11 +134,13 @@ fn says_absent(kind: ErrorKind) -> bool {
     }
 }
 
-/// Whether a path leads to a regular file. This opens nothing, so it doesn't wait at a pipe.
-fn is_regular(runtime: &HostRuntime, path: &str) -> Result<bool, Failed> {
+/// The number of bytes of the regular file at a path; `None` where none is there. This opens nothing, so it doesn't wait at a
+/// pipe.
+fn regular_size(runtime: &HostRuntime, path: &str) -> Result<Option<usize>, Failed> {
     match fs::metadata(runtime, path) {
-        Ok(metadata) => Ok(metadata.is_file()),
-        Err(error) if says_absent(error.kind()) => Ok(false),
+        Ok(metadata) if metadata.is_file() => Ok(Some(byte_count(&metadata))),
+        Ok(_) => Ok(None),
+        Err(error) if says_absent(error.kind()) => Ok(None),
         Err(_) => Err(Failed),
     }
 }

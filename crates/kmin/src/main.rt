@@ -13,7 +13,7 @@ use std::alloc::Global;
 use std::io::IsTerminal;
 use std::process::ExitCode;
 use std::{env, io};
-use streams::{Messages, Output};
+use streams::{Output, StandardError};
 
 fn main(rt: HostRuntime) -> ExitCode {
     match run_words(&rt) {
@@ -30,7 +30,7 @@ fn run_words(rt: &HostRuntime) -> io::Result<u8> {
     write_without_files(rt, &words);
     let mut input = FromRead::new(rt.stdin());
     let mut out = Output::new(rt.stdout());
-    let mut err = Messages::new(rt.stderr());
+    let mut err = StandardError::new(rt.stderr());
     let mut files = Disk::new(rt);
     let mut disk = SystemDisk::new(rt, new_seed(rt));
     let status = run(

@@ -1,8 +1,9 @@
 //! Standard output and standard error.
 ghost use Rattle.std.specs.Prelude.{None};
+ghost use Rattle.kmin_report.specs.PlainLines.{plain_bytes};
 
-use kc_output::write_out;
 use kc_value::{Failed, Sink, ToWrite};
+use kmin_report::{Messages, PlainMessages, Report};
 use std::io::{ErrorKind, Write};
 
 /// A writer to standard output, and whether its last failed write was one into a pipe that nobody reads any more.
@@ -51,22 +52,19 @@ impl<W: Write> Sink for Output<W> {
     }
 }
 
-/// The line for a failed write of standard output.
-const OUTPUT_LINE: &[u8] = b"output: Write\n";
-
-/// A writer to standard error. It holds back the line for a failed write of standard output, which is the last line of a run, until
-/// `end`.
+/// Standard error with plain lines. It holds back the line for a failed write of standard output, which is the last line of a run,
+/// until `end`.
 #[derive(Drop)]
-pub(crate) struct Messages<W> {
-    inner: ToWrite<W>,
+pub(crate) struct StandardError<W> {
+    plain: PlainMessages<ToWrite<W>>,
     holds_line: bool,
 }
 
-impl<W: Write> Messages<W> {
+impl<W: Write> StandardError<W> {
     /// Wraps a writer, and holds nothing back yet.
-    pub(crate) fn new(inner: W) -> Messages<W> {
-        Messages {
-            inner: ToWrite::new(inner),
+    pub(crate) fn new(inner: W) -> StandardError<W> {
+        StandardError {
+            plain: PlainMessages::new(ToWrite::new(inner)),
             holds_line: false,
         }
     }
@@ -74,21 +72,20 @@ impl<W: Write> Messages<W> {
     /// Writes the line that was held back, unless standard output is a closed pipe: then its reader wants no more, as `head`.
     pub(crate) fn end(&mut self, is_closed: bool) {
         if self.holds_line && !is_closed {
-            let _ = write_out(&mut self.inner, OUTPUT_LINE);
+            self.plain.write_report(Report::OutputFault);
         }
     }
 }
 
-impl<W: Write> Sink for Messages<W> {
-    ghost taken = { λ _. None };
+impl<W: Write> Messages for StandardError<W> {
+    ghost taken = { λ _. plain_bytes None };
 
-    ghost failures = { λ s. ⟦<ToWrite<W> as Sink>⟧.failures s.inner };
+    ghost failures = { λ s. ⟦<PlainMessages<ToWrite<W>> as Messages>⟧.failures s.plain };
 
-    fn write_some(&mut self, bytes: &[u8]) -> Result<usize, Failed> {
-        if bytes == OUTPUT_LINE {
-            self.holds_line = true;
-            return Ok(OUTPUT_LINE.len());
+    fn write_report(&mut self, report: Report<'_>) {
+        match report {
+            Report::OutputFault => self.holds_line = true,
+            _ => self.plain.write_report(report),
         }
-        self.inner.write_some(bytes)
     }
 }

@@ -1,3 +1,4 @@
+pub mod Alternatives
 pub mod CommandParts
 pub mod Simplicity
 pub mod SameWords

@@ -7,7 +7,7 @@ use Rattle.std.proofs.lemmas.Grind.{flat_map-append}
 use Rattle.std.proofs.lemmas.List.{take-append-le, map-append}
 use Rattle.std.proofs.Math.Seq.{take-append-add, take-suc}
 use Rattle.kmin_report.specs.Reports.{ErrorLine}
-use Rattle.kmin_report.specs.StandardError.{TakesWhole, TakesPart, TakesLine, TakesLines, none, one_more, HasRisen}
+use Rattle.kmin_report.specs.StandardError.{SpelledBytes, TakesWhole, TakesPart, TakesLine, TakesLines, none, one_more, HasRisen}
 
 -- a writer takes the empty text whole, and is as before
 pub whole_none : (before : Option (List ℕ)) (failed : ℕ) → TakesWhole before failed [] before failed
@@ -71,13 +71,13 @@ part_next f xs i d before middle after failed failed_middle failed_after n h k =
     subst (λ text. TakesPart before failed text after failed_after) (sym (flat_map_at f xs i d n))
     (part_more before after failed failed_after _ _ (whole_part before middle after failed failed_middle failed_after _ _ h k))
 
--- a writer that took one line took the list of that line alone
-pub lines_one : (before after : Option (List ℕ)) (failed failed_after : ℕ) (line : ErrorLine)
+-- standard error that took one line took the list of that line alone
+pub lines_one : (before after : SpelledBytes) (failed failed_after : ℕ) (line : ErrorLine)
     → TakesLine before failed line after failed_after → TakesLines before failed (line ∷ []) after failed_after
 lines_one before after failed failed_after line h = one_more [] (line ∷ []) line before after failed failed_after none h refl
 
--- a writer that took some lines and then more took all of them, in order
-pub lines_append : (before middle : Option (List ℕ)) (failed failed_middle : ℕ) (lines more : List ErrorLine) (after : Option (List ℕ)) (failed_after : ℕ)
+-- standard error that took some lines and then more took all of them, in order
+pub lines_append : (before middle : SpelledBytes) (failed failed_middle : ℕ) (lines more : List ErrorLine) (after : SpelledBytes) (failed_after : ℕ)
     → TakesLines before failed lines middle failed_middle → TakesLines middle failed_middle more after failed_after
     → TakesLines before failed (lines ++ more) after failed_after
 lines_append before middle failed failed_middle lines more after failed_after h none =
@@ -87,8 +87,8 @@ lines_append before middle failed failed_middle lines more after failed_after h 
     (lines_append before middle failed failed_middle lines some last failed_last h k) t
     (ap (λ all. lines ++ all) e ∙ sym (append_assoc lines some (line ∷ [])))
 
--- a writer that took the lines of the first i elements of a list, and then the next one, took those of the first i + 1
-pub lines_next : {A : Type 0} (f : A → ErrorLine) (xs : List A) (i : ℕ) (d : A) (before middle after : Option (List ℕ)) (failed failed_middle failed_after : ℕ)
+-- standard error that took the lines of the first i elements of a list, and then the next one, took those of the first i + 1
+pub lines_next : {A : Type 0} (f : A → ErrorLine) (xs : List A) (i : ℕ) (d : A) (before middle after : SpelledBytes) (failed failed_middle failed_after : ℕ)
     → i < length xs
     → TakesLines before failed (map f (take i xs)) middle failed_middle → TakesLine middle failed_middle (f (get_or xs i d)) after failed_after
     → TakesLines before failed (map f (take (i + 1) xs)) after failed_after

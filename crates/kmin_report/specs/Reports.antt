@@ -15,7 +15,7 @@ use Rattle.kc_dotconfig_model.specs.ConfigFiles.{notices_from}
 use Rattle.kc_macros_model.specs.declared.fault.AnswersKind.{AnswersKind}
 use Rattle.kc_macros_model.specs.Programs.{Fault, Notice}
 
--- a line of standard error, by what it reports; `plain_line` has its bytes
+-- a line of standard error, by what it reports; its bytes are by the spelling of standard error, as `plain_line`
 pub data ErrorLine : Type 0 where
   -- a fault of a tree, at a line of a file
   tree_line : (path : List ℕ) (number : ℕ) (kind : TreeKind) → ErrorLine

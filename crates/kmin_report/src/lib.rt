@@ -1,12 +1,16 @@
 //! Messages, the lines of standard error, and the statuses of runs that end early.
 #![tactic(auto)]
 
+mod messages;
 mod output;
+mod plain_messages;
 mod report;
 mod run_error;
 mod symbol_names;
 
+pub use messages::Messages;
 pub use output::{exit_status, write_answer};
-pub use report::{Report, write_report};
+pub use plain_messages::PlainMessages;
+pub use report::Report;
 pub use run_error::RunError;
 pub use symbol_names::name_of;

@@ -5,13 +5,14 @@ ghost use Rattle.kmin_report.specs.Reports.{last_lines, output_line};
 ghost use Rattle.kmin_report.specs.StandardError.{HasRisen, TakesLines};
 ghost use Rattle.kmin_report.specs.between.RunErrors.{status_of};
 
-use crate::report::{Report, write_report};
+use crate::messages::Messages;
+use crate::report::Report;
 use crate::run_error::RunError;
 use kc_output::{WriteFault, write_out};
 use kc_value::Sink;
 
 /// Writes the output of a command to `out`. Reports a failed write to `err`.
-pub fn write_answer<O: Sink, E: Sink>(
+pub fn write_answer<O: Sink, E: Messages>(
     text: &[u8],
     out: &mut O,
     err: &mut E,
@@ -26,20 +27,20 @@ pub fn write_answer<O: Sink, E: Sink>(
     match write_out(out, text) {
         Ok(()) => Ok(()),
         Err(fault) => {
-            write_report(Report::OutputFault, err);
+            err.write_report(Report::OutputFault);
             Err(fault)
         }
     }
 }
 
 /// The exit status of a run that ended early. Reports out of memory; every other error was reported before.
-pub fn exit_status<E: Sink>(stop: RunError, err: &mut E) -> u8
+pub fn exit_status<E: Messages>(stop: RunError, err: &mut E) -> u8
     ensures status { result ≡ status_of stop }
     ensures reported { TakesLines (E.taken err.old) (E.failures err.old) (last_lines result) (E.taken err.new) (E.failures err.new) }
 {
     match stop {
         RunError::Memory => {
-            write_report(Report::OutOfMemory, err);
+            err.write_report(Report::OutOfMemory);
             stop.status()
         }
         _ => stop.status(),

@@ -1,11 +1,11 @@
-//! The lines of standard error: each is a report, which is written at once.
+//! Reports, and their plain lines.
 ghost use Rattle.std.specs.Prelude.{◌≡◌, ◌++◌, ℕ, List, codes, slice_get, length, ◌<◌, OnOk, OnErr};
 ghost use Rattle.std.specs.List.{flat_map};
 ghost use Rattle.std.specs.Borrow.{Bor};
 ghost use Rattle.kc_macros.specs.Runs.{fault_of, notice_of};
 ghost use Rattle.kmin_report.specs.PlainLines.{message_line, place_line, plain_line};
 ghost use Rattle.kmin_report.specs.Reports.{first_member_name, macro_fault_line, macro_notice_line, unit_text, units_text};
-ghost use Rattle.kmin_report.specs.StandardError.{TakesWhole, TakesPart, TakesLine};
+ghost use Rattle.kmin_report.specs.StandardError.{TakesWhole, TakesPart};
 ghost use Rattle.kmin_report.specs.between.ReportLines.{report_line};
 
 use crate::symbol_names::name_of;
@@ -69,15 +69,8 @@ pub enum Report<'a> {
     RefusedWords(&'a str),
 }
 
-/// Writes the line of a report, up to the first write that fails. Takes no memory.
-pub fn write_report<W: Sink>(report: Report<'_>, sink: &mut W)
-    ensures { TakesLine (W.taken sink.old) (W.failures sink.old) (report_line report.entry) (W.taken sink.new) (W.failures sink.new) }
-{
-    let _ = write_line(&report, sink);
-}
-
-/// Writes the line of a report.
-fn write_line<W: Sink>(report: &Report<'_>, sink: &mut W) -> Result<(), WriteFault>
+/// Writes the plain line of a report, up to the first write that fails. Takes no memory.
+pub(crate) fn write_line<W: Sink>(report: &Report<'_>, sink: &mut W) -> Result<(), WriteFault>
     ensures whole { OnOk result (TakesWhole (W.taken sink.old) (W.failures sink.old) (plain_line (report_line report.now)) (W.taken sink.new) (W.failures sink.new)) }
     ensures part { OnErr result (TakesPart (W.taken sink.old) (W.failures sink.old) (plain_line (report_line report.now)) (W.taken sink.new) (W.failures sink.new)) }
 {

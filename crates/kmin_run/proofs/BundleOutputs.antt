@@ -24,7 +24,7 @@ use Rattle.kc_minimal_model.specs.FullFile.{full_file}
 use Rattle.kmin_words.specs.declared.job.Verb.TheVariants.{Full}
 use Rattle.kmin_report.specs.declared.run_error.RunError.{RunError}
 use Rattle.kmin_report.specs.Reports.{ErrorLine, notice_lines, choice_notice_lines, last_lines}
-use Rattle.kmin_report.specs.StandardError.{TakesLines}
+use Rattle.kmin_report.specs.StandardError.{SpelledBytes, TakesLines}
 use Rattle.kmin_trees.specs.AcceptedTrees.{AreAccepted}
 use Rattle.kmin_run.specs.Answers.{Resolve, of_files}
 use Rattle.kmin_run.specs.Stops.{StopsAmongFiles}
@@ -50,7 +50,7 @@ strict_choices tree values meanings e = ap (λ language. cond (has_no_version la
 
 -- a bundle's configuration that wasn't accepted ends the run among its configuration files, with the lines that were reported
 pub memory_stops : (text : List ℕ) (left : Option (List ℕ)) (format plain : FileFormat) (tree : Tree) (path : List ℕ) (after : Option (List ℕ))
-    (read_failed read_failed_after status : ℕ) (taken taken_after : Option (List ℕ)) (failed failed_after : ℕ)
+    (read_failed read_failed_after status : ℕ) (taken taken_after : SpelledBytes) (failed failed_after : ℕ)
     → format ≡ plain → left ≡ Some text → StopsLoad format tree path left after read_failed read_failed_after status taken failed taken_after failed_after
     → (lines : List ErrorLine) × StopsAmongFiles (bundle_content text) plain false tree (path ∷ []) status lines × TakesLines taken failed lines taken_after
     failed_after
@@ -61,7 +61,7 @@ memory_stops text left format plain tree path after f g status taken taken_after
 
 -- a bundle's configuration that was read and accepted is loaded as the one configuration file of the run
 pub memory_loaded : (text : List ℕ) (left : Option (List ℕ)) (format plain : FileFormat) (tree : Tree) (path : List ℕ) (after : Option (List ℕ))
-    (before users : List (Option UserValue)) (fragment : Fragment) (taken taken_after : Option (List ℕ)) (failed failed_after : ℕ)
+    (before users : List (Option UserValue)) (fragment : Fragment) (taken taken_after : SpelledBytes) (failed failed_after : ℕ)
     → format ≡ plain → left ≡ Some text → IsReadAs format tree left after fragment
     → TakesLines taken failed (fragment_notices path fragment) taken_after failed_after
     → users ≡ overlay (users_of tree fragment.assigns.items) before
@@ -72,7 +72,7 @@ memory_loaded text left format plain tree path after before users fragment taken
     (loaded_from (Some (Some text)) plain tree path (Some text) after refl taken taken_after failed failed_after fragment k t) (λ s. cc) u
 
 -- the full file of the configuration of a bundle is that of the one solution of its assignment
-pub full_answers : (text : List ℕ) (format : FileFormat) (bytes : List ℕ) (config : Configured) (settled : Settled) (taken taken_after : Option (List ℕ))
+pub full_answers : (text : List ℕ) (format : FileFormat) (bytes : List ℕ) (config : Configured) (settled : Settled) (taken taken_after : SpelledBytes)
     (failed failed_after : ℕ)
     → config.system ≡ settled → format ≡ plain_format → IsSolved config
     → AreLoaded (bundle_content text) plain_format false (tree_of_settled settled) (codes "config" ∷ []) (empty_assignment (tree_of_settled settled))
@@ -98,14 +98,14 @@ tree_stops_bundle bundle tree configuration status lines parts (at_texts line r 
 tree_stops_bundle bundle tree configuration status lines parts (for_memory s e) = bundles.for_memory s e
 
 module _ (bundle tree configuration : List ℕ) (parts : IsBundle bundle tree configuration) where
-  pub tree_stopped : (status : ℕ) (taken taken_after : Option (List ℕ)) (failed failed_after : ℕ)
+  pub tree_stopped : (status : ℕ) (taken taken_after : SpelledBytes) (failed failed_after : ℕ)
       → (lines : List ErrorLine) × StopsAtTexts (bundle_files tree) (bundle_files tree) (codes "Kconfig") status lines
       × TakesLines taken failed lines taken_after failed_after
       → (lines : List ErrorLine) × StopsInBundle bundle status lines × TakesLines taken failed lines taken_after failed_after
   tree_stopped status taken taken_after failed failed_after h = (h.0, tree_stops_bundle bundle tree configuration status h.0 parts h.1, h.2)
 
   module _ (rules : Settled) (accepted : AreAccepted (bundle_files tree) (codes "Kconfig") (tree_of_settled rules)) (profile : profile_of rules ≡ Present)
-      (taken middle taken_after : Option (List ℕ)) (failed failed_middle failed_after : ℕ) (before : TakesLines taken failed [] middle failed_middle) where
+      (taken middle taken_after : SpelledBytes) (failed failed_middle failed_after : ℕ) (before : TakesLines taken failed [] middle failed_middle) where
     pub bundle_answers : (r : Result (Vec ℕ Global) RunError)
         → IfOk r (λ text. (meanings : List (List LineMeaning)) × (values : List UnitValue) × Resolve (bundle_content configuration)
         (record bundle_settings { profile = profile_of rules }) (tree_of_settled rules) (codes "config" ∷ []) meanings values
@@ -141,7 +141,7 @@ module _ (bundle tree configuration : List ℕ) (parts : IsBundle bundle tree co
     )
 
 -- a run on a bundle that ended early, and then reported its last line, ends as `StopsOnBundle` defines, with all these lines
-pub bundle_ends : (left left_after : Option (List ℕ)) (stop : RunError) (status : ℕ) (taken middle taken_after : Option (List ℕ))
+pub bundle_ends : (left left_after : Option (List ℕ)) (stop : RunError) (status : ℕ) (taken middle taken_after : SpelledBytes)
     (failed failed_middle failed_after : ℕ)
     → status ≡ status_of stop
     → (lines : List ErrorLine) × StopsOnBundle left left_after (status_of stop) lines × TakesLines taken failed lines middle failed_middle

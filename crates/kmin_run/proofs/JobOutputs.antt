@@ -29,7 +29,7 @@ use Rattle.kmin_report.specs.Reports.{ErrorLine, notice_lines, choice_notice_lin
 use Rattle.kc_dotconfig_model.specs.declared.choice_line.ChoiceLine.{ChoiceLine}
 use Rattle.kc_dotconfig_model.specs.OtherChoices.{choice_lines_from, placed_from, other_choices_of, other_choices}
 use Rattle.kmin_run.specs.Strictness.{AllowsNotices, RefusesNotices}
-use Rattle.kmin_report.specs.StandardError.{TakesLines}
+use Rattle.kmin_report.specs.StandardError.{SpelledBytes, TakesLines}
 use Rattle.kmin_trees.specs.AcceptedTrees.{AreAccepted}
 use Rattle.kmin_run.proofs.Sequences.{mean_append, notices_append}
 use Rattle.kmin_run.specs.Answers.{FilesMean, Resolve, Answer, of_files, of_comparison, IsTextOfVerb, difference_line}
@@ -47,7 +47,7 @@ use Rattle.kmin_report.proofs.WriterLemmas.{lines_append}
 
 -- a configuration that was loaded from files has the one solution of the assignment of these files
 pub resolved : (content_of : List ℕ → FileContent) (settings : Settings) (config : Configured) (settled : Settled) (paths : List (List ℕ))
-    (taken taken_after : Option (List ℕ)) (failed failed_after : ℕ)
+    (taken taken_after : SpelledBytes) (failed failed_after : ℕ)
     → config.system ≡ settled → profile_of settled ≡ settings.profile → IsSolved config
     → (l : AreLoaded content_of settings.format settings.strict (tree_of_settled settled) paths (empty_assignment (tree_of_settled settled)) config.users
     taken failed
@@ -69,7 +69,7 @@ places_by config settled values slice lines files chosen places s v l made f p =
 
 -- the places of the notices on choices, from the lists of the lines of members in the files
 module _ (content_of : List ℕ → FileContent) (settings : Settings) (config : Configured) (settled : Settled) (paths : List (List ℕ))
-    (lists : List (List ChoiceLine)) (taken taken_after : Option (List ℕ)) (failed failed_after : ℕ) (same : config.system ≡ settled)
+    (lists : List (List ChoiceLine)) (taken taken_after : SpelledBytes) (failed failed_after : ℕ) (same : config.system ≡ settled)
     (l : AreRead content_of settings.format settings.strict (tree_of_settled settled) paths (empty_assignment (tree_of_settled settled)) config.users
     [] lists taken failed taken_after failed_after) where
   pub places_are : other_choices_of (tree_in config) config.values (placed_from 0 lists) ≡ other_choices (tree_of_settled settled) config.values l.loaded.meanings
@@ -85,13 +85,13 @@ module _ (content_of : List ℕ → FileContent) (settings : Settings) (config :
       → RefusesNotices settings.strict (other_choices (tree_of_settled settled) config.values l.loaded.meanings)
   refused_are a = (a.0, λ e. a.1 (places_are ∙ e))
 
-  pub noticed_are : (from to : Option (List ℕ)) (failed_from failed_to : ℕ)
+  pub noticed_are : (from to : SpelledBytes) (failed_from failed_to : ℕ)
       → TakesLines from failed_from (choice_notice_lines paths (other_choices_of (tree_in config) config.values (placed_from 0 lists))) to failed_to
       → TakesLines from failed_from (choice_notice_lines paths (other_choices (tree_of_settled settled) config.values l.loaded.meanings)) to failed_to
   noticed_are from to failed_from failed_to t = subst (λ ps. TakesLines from failed_from (choice_notice_lines paths ps) to failed_to) places_are t
 
 pub answers_files : (content_of : List ℕ → FileContent) (settings : Settings) (verb : Verb) (config : Configured) (settled : Settled)
-    (paths : List (List ℕ)) (lists : List (List ChoiceLine)) (text : List ℕ) (status : ℕ) (taken middle taken_after : Option (List ℕ))
+    (paths : List (List ℕ)) (lists : List (List ChoiceLine)) (text : List ℕ) (status : ℕ) (taken middle taken_after : SpelledBytes)
     (failed failed_middle failed_after : ℕ)
     → config.system ≡ settled → profile_of settled ≡ settings.profile → IsSolved config
     → AreRead content_of settings.format settings.strict (tree_of_settled settled) paths (empty_assignment (tree_of_settled settled)) config.users
@@ -145,7 +145,7 @@ status_of_verb_at_most_one tree users values (Check exit_code) = status_at_most_
 
 -- two configurations of one file each, which are read one after the other, with the notices on their choices
 module _ (content_of : List ℕ → FileContent) (settings : Settings) (left right : Configured) (settled : Settled) (a b : List ℕ)
-    (left_lists right_lists : List (List ChoiceLine)) (taken between middle : Option (List ℕ)) (failed failed_between failed_middle : ℕ)
+    (left_lists right_lists : List (List ChoiceLine)) (taken between middle : SpelledBytes) (failed failed_between failed_middle : ℕ)
     (same_left : left.system ≡ settled) (same_right : right.system ≡ settled) (p : profile_of settled ≡ settings.profile)
     (sl : IsSolved left) (sr : IsSolved right)
     (hl : AreRead content_of settings.format settings.strict (tree_of_settled settled) (a ∷ []) (empty_assignment (tree_of_settled settled)) left.users
@@ -181,7 +181,7 @@ module _ (content_of : List ℕ → FileContent) (settings : Settings) (left rig
   right_resolved = resolved content_of settings right settled (b ∷ []) between middle failed_between failed_middle same_right p sr hr.loaded
 
   -- the first configuration is refused for the notices on its choices, or memory runs out
-  pub stopped_left : (status : ℕ) (after : Option (List ℕ)) (failed_after : ℕ)
+  pub stopped_left : (status : ℕ) (after : SpelledBytes) (failed_after : ℕ)
       → StopsNoticing (tree_in left) left.values settings.strict (a ∷ []) left_lists status middle failed_middle after failed_after
       → (lines : List ErrorLine) × StopsOverTree content_of settings tree (compare a b) status lines × TakesLines taken failed lines after failed_after
   stopped_left status after failed_after (noticing.refused given s t) = (
@@ -199,7 +199,7 @@ module _ (content_of : List ℕ → FileContent) (settings : Settings) (left rig
     lines_append taken middle failed failed_middle _ _ after failed_after lines_read t,
   )
 
-  module _ (later : Option (List ℕ)) (failed_later : ℕ)
+  module _ (later : SpelledBytes) (failed_later : ℕ)
       (allowed : AllowsNotices settings.strict (other_choices_of (tree_in left) left.values (placed_from 0 left_lists)))
       (noted : TakesLines middle failed_middle (choice_notice_lines (a ∷ []) (other_choices_of (tree_in left) left.values (placed_from 0 left_lists))) later failed_later) where
     left_allowed : AllowsNotices settings.strict left_choices
@@ -212,7 +212,7 @@ module _ (content_of : List ℕ → FileContent) (settings : Settings) (left rig
     earlier = stops.more (a ∷ []) hl.loaded.meanings left.values [] [] left_resolved left_allowed stops.none
 
     -- the second configuration is refused for the notices on its choices, or memory runs out
-    pub stopped_right : (status : ℕ) (after : Option (List ℕ)) (failed_after : ℕ)
+    pub stopped_right : (status : ℕ) (after : SpelledBytes) (failed_after : ℕ)
         → StopsNoticing (tree_in right) right.values settings.strict (b ∷ []) right_lists status later failed_later after failed_after
         → (lines : List ErrorLine) × StopsOverTree content_of settings tree (compare a b) status lines × TakesLines taken failed lines after failed_after
     stopped_right status after failed_after (noticing.refused given s t) = (
@@ -235,7 +235,7 @@ module _ (content_of : List ℕ → FileContent) (settings : Settings) (left rig
           (lines_append middle later failed_middle failed_later _ _ after failed_after left_noted t),
     )
 
-    module _ (after : Option (List ℕ)) (failed_after : ℕ)
+    module _ (after : SpelledBytes) (failed_after : ℕ)
         (right_allowed : AllowsNotices settings.strict (other_choices_of (tree_in right) right.values (placed_from 0 right_lists)))
         (right_noted : TakesLines later failed_later (choice_notice_lines (b ∷ []) (other_choices_of (tree_in right) right.values (placed_from 0 right_lists))) after failed_after) where
       both_allowed : AllowsNotices settings.strict right_choices
@@ -276,12 +276,12 @@ module _ (content_of : List ℕ → FileContent) (settings : Settings) (left rig
 
 -- a configuration of all files of a command, with the notices on its choices
 module _ (content_of : List ℕ → FileContent) (settings : Settings) (verb : Verb) (config : Configured) (settled : Settled) (paths : List (List ℕ))
-    (lists : List (List ChoiceLine)) (taken middle : Option (List ℕ)) (failed failed_middle : ℕ)
+    (lists : List (List ChoiceLine)) (taken middle : SpelledBytes) (failed failed_middle : ℕ)
     (same : config.system ≡ settled) (p : profile_of settled ≡ settings.profile) (s : IsSolved config)
     (l : AreRead content_of settings.format settings.strict (tree_of_settled settled) paths (empty_assignment (tree_of_settled settled)) config.users
     [] lists taken failed middle failed_middle) where
   -- the configuration is refused for them, or memory runs out
-  pub stopped_noticing : (status : ℕ) (after : Option (List ℕ)) (failed_after : ℕ)
+  pub stopped_noticing : (status : ℕ) (after : SpelledBytes) (failed_after : ℕ)
       → StopsNoticing (tree_in config) config.values settings.strict paths lists status middle failed_middle after failed_after
       → (lines : List ErrorLine) × StopsOverTree content_of settings (tree_of_settled settled) (over verb paths) status lines × TakesLines taken failed lines after failed_after
   stopped_noticing status after failed_after (noticing.refused given e t) = (
@@ -299,7 +299,7 @@ module _ (content_of : List ℕ → FileContent) (settings : Settings) (verb : V
   )
 
   -- memory runs out for the output
-  pub stopped_after : (status : ℕ) (after : Option (List ℕ)) (failed_after : ℕ) → status ≡ 6
+  pub stopped_after : (status : ℕ) (after : SpelledBytes) (failed_after : ℕ) → status ≡ 6
       → AllowsNotices settings.strict (other_choices_of (tree_in config) config.values (placed_from 0 lists))
       → TakesLines middle failed_middle (choice_notice_lines paths (other_choices_of (tree_in config) config.values (placed_from 0 lists))) after failed_after
       → (lines : List ErrorLine) × StopsOverTree content_of settings (tree_of_settled settled) (over verb paths) status lines × TakesLines taken failed lines after failed_after
@@ -316,7 +316,7 @@ module _ (content_of : List ℕ → FileContent) (settings : Settings) (verb : V
 
 -- the output of a verb over a configuration of all files of a command, or its end, once the files are read
 module _ (content_of : List ℕ → FileContent) (settings : Settings) (verb : Verb) (read : ReadFiles) (settled : Settled) (paths : List (List ℕ))
-    (taken middle after : Option (List ℕ)) (failed failed_middle failed_after : ℕ)
+    (taken middle after : SpelledBytes) (failed failed_middle failed_after : ℕ)
     (same : read.config.system ≡ settled) (p : profile_of settled ≡ settings.profile) (s : IsSolved read.config)
     (l : AreRead content_of settings.format settings.strict (tree_of_settled settled) paths (empty_assignment (tree_of_settled settled)) read.config.users
     [] (lists_of read.chosen.items) taken failed middle failed_middle) where
@@ -350,7 +350,7 @@ module _ (content_of : List ℕ → FileContent) (settings : Settings) (verb : V
 
 -- the output of a comparison of two configurations of one file each, or its end, once the files are read
 module _ (content_of : List ℕ → FileContent) (settings : Settings) (before after : ReadFiles) (settled : Settled) (a b : List ℕ)
-    (taken middle taken_after : Option (List ℕ)) (failed failed_middle failed_after : ℕ)
+    (taken middle taken_after : SpelledBytes) (failed failed_middle failed_after : ℕ)
     (same : (before.config.system ≡ settled) × (after.config.system ≡ settled)) (p : profile_of settled ≡ settings.profile)
     (s : IsSolved before.config × IsSolved after.config)
     (l : AreBothRead content_of settings.format settings.strict (tree_of_settled settled) a b before after taken failed middle failed_middle) where
@@ -403,7 +403,7 @@ verb_status_small r tree users values verb h =
 -- the output of a command, or its end, over the texts of its tree
 module _ (known : Surroundings) (settings : Settings) (task : Task) (tree : Tree) (t : TreeTexts)
     (are : AreTextsOfJob known settings t) (accepted : AreAccepted t.texts settings.tree tree)
-    (taken middle taken_after : Option (List ℕ)) (failed failed_middle failed_after : ℕ) (before : TakesLines taken failed t.lines middle failed_middle) where
+    (taken middle taken_after : SpelledBytes) (failed failed_middle failed_after : ℕ) (before : TakesLines taken failed t.lines middle failed_middle) where
   pub job_answers : (r : Result AnswerText RunError)
       → IfOk r (λ answer. (notices : List ErrorLine) × ((texts : Files) → AreAccepted texts settings.tree tree
       → Answer known.content settings texts task answer.text.items answer.status notices) × TakesLines middle failed_middle notices taken_after failed_after)
@@ -434,7 +434,7 @@ module _ (known : Surroundings) (settings : Settings) (task : Task) (tree : Tree
     either (inr k) = at_choices t tree h.0 are accepted k refl
 
 -- a writer that took some lines, and then nothing, took these lines
-pub lines_kept : (before middle after : Option (List ℕ)) (failed failed_middle failed_after : ℕ) (lines : List ErrorLine)
+pub lines_kept : (before middle after : SpelledBytes) (failed failed_middle failed_after : ℕ) (lines : List ErrorLine)
     → TakesLines before failed lines middle failed_middle → TakesLines middle failed_middle [] after failed_after
     → TakesLines before failed lines after failed_after
 lines_kept before middle after failed failed_middle failed_after lines h k =
@@ -451,7 +451,7 @@ pub no_other_status : (n : ℕ) → n ≤ 1 → (n ≢ 0) × (n ≢ 1) → ⊥
 no_other_status n h k = elim (small n h) [ inl e ↦ k.0 e | inr e ↦ k.1 e ]
 
 -- a command that failed to write its output, and reported that, ends as `Stops` defines, with all lines that were reported
-pub write_stops : (known : Surroundings) (settings : Settings) (task : Task) (text : List ℕ) (made status : ℕ) (taken middle taken_after : Option (List ℕ))
+pub write_stops : (known : Surroundings) (settings : Settings) (task : Task) (text : List ℕ) (made status : ℕ) (taken middle taken_after : SpelledBytes)
     (failed failed_middle failed_after : ℕ)
     → status ≡ 5
     → (t : TreeTexts) × (notices : List ErrorLine) × AreTextsOfJob known settings t × Answer known.content settings t.texts task text made notices
@@ -466,7 +466,7 @@ write_stops known settings task text made status taken middle taken_after failed
 )
 
 -- a command that ended before it had an output, and then reported its last line, ends as `Stops` defines, with all these lines
-pub job_ends : (known : Surroundings) (settings : Settings) (task : Task) (stop : RunError) (status : ℕ) (taken middle taken_after : Option (List ℕ))
+pub job_ends : (known : Surroundings) (settings : Settings) (task : Task) (stop : RunError) (status : ℕ) (taken middle taken_after : SpelledBytes)
     (failed failed_middle failed_after : ℕ)
     → status ≡ status_of stop
     → (lines : List ErrorLine) × StopsBefore known settings task (status_of stop) lines × TakesLines taken failed lines middle failed_middle

@@ -1,5 +1,5 @@
 -- The listing of questions: its end at a write, and its last lines.
-use Rattle.std.proofs.Common.{◌≡◌, ℕ, List, [], ◌∷◌, ◌++◌, Option, Ok, Vec, refl, sym, ap, subst}
+use Rattle.std.proofs.Common.{◌≡◌, ℕ, List, [], ◌∷◌, ◌++◌, Ok, Vec, refl, sym, ap, subst}
 use Rattle.std.specs.List.{flat_map}
 use Rattle.std.specs.declared.alloc.Global.{Global}
 use Rattle.kc_files.specs.TextViews.{items_of}
@@ -7,13 +7,13 @@ use Rattle.kmin_words.specs.Jobs.{Questions}
 use Rattle.kmin_report.specs.declared.run_error.RunError.{RunError}
 use Rattle.kmin_trees.specs.FileContents.{Surroundings}
 use Rattle.kmin_report.specs.Reports.{ErrorLine, last_lines, output_line}
-use Rattle.kmin_report.specs.StandardError.{TakesLines}
+use Rattle.kmin_report.specs.StandardError.{SpelledBytes, TakesLines}
 use Rattle.kmin_trees.specs.WantedQuestions.{AreAsked, StopsWanting, at_write, question_line, questions_text}
 use Rattle.kmin_report.specs.between.RunErrors.{status_of}
 use Rattle.kmin_report.proofs.WriterLemmas.{lines_append}
 
 -- a run of `wants` that failed to write its output, and reported that, ends as `StopsWanting` defines, with all these lines
-pub write_stops : (known : Surroundings) (questions : Questions) (asked : List (List ℕ)) (status : ℕ) (taken middle taken_after : Option (List ℕ))
+pub write_stops : (known : Surroundings) (questions : Questions) (asked : List (List ℕ)) (status : ℕ) (taken middle taken_after : SpelledBytes)
     (failed failed_middle failed_after : ℕ)
     → status ≡ 5 → AreAsked known questions (Ok asked) → TakesLines taken failed [] middle failed_middle
     → TakesLines middle failed_middle (output_line ∷ []) taken_after failed_after
@@ -25,7 +25,7 @@ write_stops known questions asked status taken middle taken_after failed failed_
 )
 
 -- a run of `wants` that ended early, and then reported its last line, ends as `StopsWanting` defines, with all these lines
-pub questions_end : (known : Surroundings) (questions : Questions) (stop : RunError) (status : ℕ) (taken middle taken_after : Option (List ℕ))
+pub questions_end : (known : Surroundings) (questions : Questions) (stop : RunError) (status : ℕ) (taken middle taken_after : SpelledBytes)
     (failed failed_middle failed_after : ℕ)
     → status ≡ status_of stop
     → (lines : List ErrorLine) × StopsWanting known questions (status_of stop) lines × TakesLines taken failed lines middle failed_middle

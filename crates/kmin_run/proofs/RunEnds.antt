@@ -3,7 +3,7 @@ use Rattle.std.proofs.Common.{◌≡◌, ◌≢◌, ◌≤◌, ◌==◌, eqb-tru
 use Rattle.std.proofs.lemmas.Bool.Decides.{eqb_tells}
 use Rattle.std.specs.Io.KnownBytes.{Appends}
 use Rattle.kmin_report.specs.Reports.{ErrorLine, last_lines}
-use Rattle.kmin_report.specs.StandardError.{TakesLine, TakesLines}
+use Rattle.kmin_report.specs.StandardError.{SpelledBytes, TakesLine, TakesLines}
 use Rattle.kmin_report.proofs.WriterLemmas.{lines_append, lines_one}
 use Rattle.kc_files.specs.TreeContents.{FileContent}
 use Rattle.kmin_lines.specs.WordLines.{are_utf8}
@@ -43,7 +43,7 @@ at_most P Q status part unwritten = elim (eqb_tells status 5) [
   | inr other ↦ inl (unwritten other.1)
 ]
 
-module _ (known : Surroundings) (old new : Outputs) (status : ℕ) (taken taken_after : Option (List ℕ)) (failed failed_after : ℕ)
+module _ (known : Surroundings) (old new : Outputs) (status : ℕ) (taken taken_after : SpelledBytes) (failed failed_after : ℕ)
     (same : new.disk ≡ old.disk) (accepted : status ≢ 2) (unfailed : (status ≡ 0) ⊎ (status ≡ 1) → new.failures ≡ old.failures)
     (unwritten : status ≢ 0 → status ≢ 1 → status ≢ 5 → new.taken ≡ old.taken) where
   -- a command over configuration files ends as `JobEnds` defines, by the clauses of `serve`
@@ -156,13 +156,13 @@ words_at_most_six content_of left words status lines (stops.for_memory s e) = om
 
 module _ (known : Surroundings) (left : Option (List ℕ)) (words : List (List ℕ)) where
   -- a run that a file of words ended, with its last lines reported
-  pub words_stopped : (old : Outputs) (status : ℕ) (taken taken_after : Option (List ℕ)) (failed failed_after : ℕ)
+  pub words_stopped : (old : Outputs) (status : ℕ) (taken taken_after : SpelledBytes) (failed failed_after : ℕ)
       → (lines : List ErrorLine) × StopsAtWords known.content left words status lines × TakesLines taken failed (lines ++ last_lines status) taken_after failed_after
       → (lines : List ErrorLine) × WordsEnd known words left old old lines status × TakesLines taken failed lines taken_after failed_after
   words_stopped old status taken taken_after failed failed_after h = (h.0 ++ last_lines status, runs.stopped h.0 h.1 refl refl, h.2)
 
   -- a run that a word in a file ended, which isn't UTF-8
-  pub words_malformed : (old : Outputs) (status : ℕ) (taken middle taken_after : Option (List ℕ)) (failed failed_middle failed_after : ℕ) (files : List (List ℕ))
+  pub words_malformed : (old : Outputs) (status : ℕ) (taken middle taken_after : SpelledBytes) (failed failed_middle failed_after : ℕ) (files : List (List ℕ))
       → AreFilesRead known.content left (files_of words) files → are_utf8 files ≡ false → status ≡ 2 → TakesLines taken failed [] middle failed_middle
       → TakesLine middle failed_middle malformed_line taken_after failed_after
       → (lines : List ErrorLine) × WordsEnd known words left old old lines status × TakesLines taken failed lines taken_after failed_after
@@ -174,7 +174,7 @@ module _ (known : Surroundings) (left : Option (List ℕ)) (words : List (List �
   )
 
   -- a run that ended since memory ran out after the files of words were read
-  pub words_forgotten : (old : Outputs) (status : ℕ) (taken middle taken_after : Option (List ℕ)) (failed failed_middle failed_after : ℕ) → status ≡ 6
+  pub words_forgotten : (old : Outputs) (status : ℕ) (taken middle taken_after : SpelledBytes) (failed failed_middle failed_after : ℕ) → status ≡ 6
       → TakesLines taken failed [] middle failed_middle → TakesLines middle failed_middle (last_lines status) taken_after failed_after
       → (lines : List ErrorLine) × WordsEnd known words left old old lines status × TakesLines taken failed lines taken_after failed_after
   words_forgotten old status taken middle taken_after failed failed_middle failed_after s before h = (
@@ -186,7 +186,7 @@ module _ (known : Surroundings) (left : Option (List ℕ)) (words : List (List �
   module _ (is_input_read : Bool) (is : is_input_read ≡ is_input_read_for words) (represented : List (List ℕ))
       (represent : Represent known.content left words represented) where
     -- a run ends as one on the words that its words represent does
-    pub words_ended : (old new : Outputs) (status : ℕ) (taken middle taken_after : Option (List ℕ)) (failed failed_middle failed_after : ℕ)
+    pub words_ended : (old new : Outputs) (status : ℕ) (taken middle taken_after : SpelledBytes) (failed failed_middle failed_after : ℕ)
         (left_after : Option (List ℕ)) → (is_input_read_for words ≡ false → left_after ≡ left) → TakesLines taken failed [] middle failed_middle
         → (lines : List ErrorLine) × ReadEnd known is_input_read represented left_after old new lines status
         × TakesLines middle failed_middle lines taken_after failed_after

@@ -1,5 +1,5 @@
 -- Ends of commands with an output file.
-use Rattle.std.proofs.Common.{◌≡◌, ℕ, List, ◌++◌, Option, refl, sym, ◌∙◌, subst}
+use Rattle.std.proofs.Common.{◌≡◌, ℕ, List, ◌++◌, refl, sym, ◌∙◌, subst}
 use Rattle.kmin_disk.specs.declared.fault.UpdateFault.{UpdateFault}
 use Rattle.kmin_disk.specs.Disks.{Disk}
 use Rattle.kmin_words.specs.Jobs.{Settings, Task}
@@ -7,7 +7,7 @@ use Rattle.kmin_trees.specs.FileContents.{Surroundings}
 use Rattle.kmin_trees.specs.JobTexts.{TreeTexts, AreTextsOfJob}
 use Rattle.kmin_run.specs.Answers.{Answer}
 use Rattle.kmin_report.specs.Reports.{ErrorLine, last_lines}
-use Rattle.kmin_report.specs.StandardError.{TakesLines}
+use Rattle.kmin_report.specs.StandardError.{SpelledBytes, TakesLines}
 use Rattle.kmin_run.specs.Stops.{StopsBefore}
 use Rattle.kmin_run.specs.Saves.{IsUnsaved, SaveEnds, at_file, before_answer, update_lines, update_status}
 use Rattle.kmin_report.specs.declared.run_error.RunError.{RunError}
@@ -16,9 +16,9 @@ use Rattle.kmin_report.proofs.WriterLemmas.{lines_append}
 
 module _ (known : Surroundings) (settings : Settings) (task : Task) (path : List ℕ) (old new : Disk) (stop : RunError) (status : ℕ)
     (is : status ≡ status_of stop)
-    (taken : Option (List ℕ)) (failed : ℕ) (last : Option (List ℕ)) (failed_last : ℕ) where
+    (taken : SpelledBytes) (failed : ℕ) (last : SpelledBytes) (failed_last : ℕ) where
   -- a command with an output file that ended before it had an output, and then reported its last line, ends as `SaveEnds` defines
-  pub ends_before : (middle : Option (List ℕ)) (failed_middle : ℕ) → new ≡ old
+  pub ends_before : (middle : SpelledBytes) (failed_middle : ℕ) → new ≡ old
       → (own : List ErrorLine) × StopsBefore known settings task (status_of stop) own × TakesLines taken failed own middle failed_middle
       → TakesLines middle failed_middle (last_lines status) last failed_last
       → (lines : List ErrorLine) × SaveEnds known settings task path old new lines status × TakesLines taken failed lines last failed_last
@@ -29,7 +29,7 @@ module _ (known : Surroundings) (settings : Settings) (task : Task) (path : List
   )
 
   -- a command that couldn't update its output file, and reported why, ends as `SaveEnds` defines
-  pub ends_at_file : (text : List ℕ) (made : ℕ) (answered reported : Option (List ℕ)) (failed_answered failed_reported : ℕ)
+  pub ends_at_file : (text : List ℕ) (made : ℕ) (answered reported : SpelledBytes) (failed_answered failed_reported : ℕ)
       → (t : TreeTexts) × (notices : List ErrorLine) × AreTextsOfJob known settings t × Answer known.content settings t.texts task text made notices
       × TakesLines taken failed (t.lines ++ notices) answered failed_answered
       → (fault : UpdateFault) × IsUnsaved old new path text fault × (status_of stop ≡ update_status fault)

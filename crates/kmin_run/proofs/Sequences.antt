@@ -18,7 +18,7 @@ use Rattle.kc_files.specs.TreeContents.{FileContent}
 use Rattle.kmin_report.specs.declared.run_error.RunError.{RunError}
 use Rattle.kmin_disk.specs.Contents.{OpensAs}
 use Rattle.kmin_report.specs.Reports.{ErrorLine, file_notices, notice_lines, notice_line, fault_line}
-use Rattle.kmin_report.specs.StandardError.{TakesLines}
+use Rattle.kmin_report.specs.StandardError.{SpelledBytes, TakesLines}
 use Rattle.kmin_report.specs.StandardError as taking
 use Rattle.kmin_run.specs.Answers.{FilesMean, none, file}
 use Rattle.kmin_run.specs.Stops as stops
@@ -42,7 +42,7 @@ notices_are path fragment meanings e = map_twice (notice_line path) notice_pair 
 module _ (content : FileContent) (format : FileFormat) (tree : Tree) (path : List ℕ) (before after : Option (List ℕ))
     (opens : OpensAs content (Some before)) where
   -- a configuration file that was opened, read and accepted, and whose notices were reported, is loaded
-  pub loaded_from : (taken taken_after : Option (List ℕ)) (failed failed_after : ℕ) (fragment : Fragment) → IsReadAs format tree before after fragment
+  pub loaded_from : (taken taken_after : SpelledBytes) (failed failed_after : ℕ) (fragment : Fragment) → IsReadAs format tree before after fragment
       → TakesLines taken failed (fragment_notices path fragment) taken_after failed_after
       → IsLoaded content format tree path fragment taken failed taken_after failed_after
   loaded_from taken taken_after failed failed_after fragment r t = record {
@@ -87,7 +87,7 @@ module _ (content : FileContent) (format : FileFormat) (tree : Tree) (path : Lis
   by_kind strict f g TooLarge number t = refused_file strict TooLarge number t refl refl
 
   -- a configuration file that was opened, but not accepted, ends a run with the lines that were reported
-  pub stopped_at : (strict : Bool) (read_failed read_failed_after status : ℕ) (taken taken_after : Option (List ℕ)) (failed failed_after : ℕ)
+  pub stopped_at : (strict : Bool) (read_failed read_failed_after status : ℕ) (taken taken_after : SpelledBytes) (failed failed_after : ℕ)
       → StopsLoad format tree path before after read_failed read_failed_after status taken failed taken_after failed_after
       → (lines : List ErrorLine) × StopsAtPath content format strict tree path status lines × TakesLines taken failed lines taken_after failed_after
   stopped_at strict f g status taken taken_after failed failed_after s = (
@@ -107,7 +107,7 @@ notices_there : (fragment : Fragment) (meanings : List LineMeaning) → map noti
 notices_there fragment meanings e h n = h (map_nil notice_pair fragment.notices.items (e ∙ n))
 
 pub stopped_noticed : (content : FileContent) (format : FileFormat) (strict : Bool) (tree : Tree) (path : List ℕ) (fragment : Fragment) (status : ℕ)
-    (taken taken_after : Option (List ℕ)) (failed failed_after : ℕ)
+    (taken taken_after : SpelledBytes) (failed failed_after : ℕ)
     → IsLoaded content format tree path fragment taken failed taken_after failed_after → strict ≡ true → fragment.notices.items ≢ [] → status ≡ 4
     → (lines : List ErrorLine) × StopsAtPath content format strict tree path status lines × TakesLines taken failed lines taken_after failed_after
 stopped_noticed content format strict tree path fragment status taken taken_after failed failed_after l s h e = (
@@ -139,7 +139,7 @@ notices_append content_of format strict tree ys ns xs ms (file path bytes more o
     ∙ sym (append_assoc (file_notices path own) (notice_lines more rest) (notice_lines ys ns))
 
 pub loaded_one : (content_of : List ℕ → FileContent) (format : FileFormat) (strict : Bool) (tree : Tree) (path : List ℕ)
-    (before after : List (Option UserValue)) (fragment : Fragment) (taken taken_after : Option (List ℕ)) (failed failed_after : ℕ)
+    (before after : List (Option UserValue)) (fragment : Fragment) (taken taken_after : SpelledBytes) (failed failed_after : ℕ)
     → IsLoaded (content_of path) format tree path fragment taken failed taken_after failed_after
     → AllowsNotices strict (map notice_pair fragment.notices.items)
     → after ≡ overlay (users_of tree fragment.assigns.items) before
@@ -152,7 +152,7 @@ loaded_one content_of format strict tree path before after fragment taken taken_
 }
 
 pub loaded_append : (content_of : List ℕ → FileContent) (format : FileFormat) (strict : Bool) (tree : Tree) (xs ys : List (List ℕ))
-    (before between after : List (Option UserValue)) (taken middle taken_after : Option (List ℕ)) (failed failed_middle failed_after : ℕ)
+    (before between after : List (Option UserValue)) (taken middle taken_after : SpelledBytes) (failed failed_middle failed_after : ℕ)
     → AreLoaded content_of format strict tree xs before between taken failed middle failed_middle
     → AreLoaded content_of format strict tree ys between after middle failed_middle taken_after failed_after
     → AreLoaded content_of format strict tree (xs ++ ys) before after taken failed taken_after failed_after
@@ -173,7 +173,7 @@ lists_pushed old new lines e = ap lists_of e ∙ map-append (λ (l : Vec ChoiceL
 -- files that are loaded, with their lines of members
 module _ (content_of : List ℕ → FileContent) (format : FileFormat) (strict : Bool) (tree : Tree) where
   pub read_one : (path : List ℕ) (before after : List (Option UserValue)) (fragment : Fragment) (lists_before lists : List (List ChoiceLine))
-      (taken taken_after : Option (List ℕ)) (failed failed_after : ℕ)
+      (taken taken_after : SpelledBytes) (failed failed_after : ℕ)
       → IsLoaded (content_of path) format tree path fragment taken failed taken_after failed_after
       → AllowsNotices strict (map notice_pair fragment.notices.items)
       → after ≡ overlay (users_of tree fragment.assigns.items) before → lists ≡ lists_before ++ fragment.chosen.items ∷ []
@@ -184,7 +184,7 @@ module _ (content_of : List ℕ → FileContent) (format : FileFormat) (strict :
     chosen_are = m ∙ ap (λ (own : List ChoiceLine). lists_before ++ own ∷ []) l.chosen;
   }
 
-  pub read_none : (paths : List (Bor (List ℕ))) (before users : List (Option UserValue)) (lists_before lists : List (List ChoiceLine)) (taken : Option (List ℕ)) (failed : ℕ)
+  pub read_none : (paths : List (Bor (List ℕ))) (before users : List (Option UserValue)) (lists_before lists : List (List ChoiceLine)) (taken : SpelledBytes) (failed : ℕ)
       → length paths ≡ 0 → users ≡ before → lists ≡ lists_before
       → AreRead content_of format strict tree (map (λ (path : Bor (List ℕ)). path.now) paths) before users lists_before lists taken failed taken failed
   read_none paths before users lists_before lists taken failed n e m =
@@ -192,7 +192,7 @@ module _ (content_of : List ℕ → FileContent) (format : FileFormat) (strict :
       (record { loaded = record { meanings = []; mean = none; users_are = e; reported = taking.none }; chosen_are = m ∙ sym (append-nil lists_before) })
 
   pub read_append : (xs ys : List (List ℕ)) (before between after : List (Option UserValue)) (lists_before lists_between lists : List (List ChoiceLine))
-      (taken middle taken_after : Option (List ℕ)) (failed failed_middle failed_after : ℕ)
+      (taken middle taken_after : SpelledBytes) (failed failed_middle failed_after : ℕ)
       → AreRead content_of format strict tree xs before between lists_before lists_between taken failed middle failed_middle
       → AreRead content_of format strict tree ys between after lists_between lists middle failed_middle taken_after failed_after
       → AreRead content_of format strict tree (xs ++ ys) before after lists_before lists taken failed taken_after failed_after
@@ -206,7 +206,7 @@ module _ (content_of : List ℕ → FileContent) (format : FileFormat) (strict :
   }
 
   pub read_rest : (xs ys all : List (List ℕ)) (before between : List (Option UserValue)) (lists_before lists_between : List (List ChoiceLine))
-      (taken middle taken_after : Option (List ℕ)) (failed failed_middle failed_after : ℕ) (r : Result ReadFiles RunError)
+      (taken middle taken_after : SpelledBytes) (failed failed_middle failed_after : ℕ) (r : Result ReadFiles RunError)
       → all ≡ xs ++ ys → AreRead content_of format strict tree xs before between lists_before lists_between taken failed middle failed_middle
       → IfOk r (λ read. AreRead content_of format strict tree ys between read.config.users lists_between (lists_of read.chosen.items) middle failed_middle taken_after failed_after)
       → IfOk r (λ read. AreRead content_of format strict tree all before read.config.users lists_before (lists_of read.chosen.items) taken failed taken_after failed_after)
@@ -245,8 +245,8 @@ later_stops content_of format strict tree xs ys ms status lines h (stops.for_mem
     (mean_append content_of format strict tree front meanings xs ms m h) s
     (ap (λ ls. notice_lines xs ms ++ ls) e ∙ sym (notices_append content_of format strict tree front meanings xs ms h))
 
-module _ (content_of : List ℕ → FileContent) (format : FileFormat) (strict : Bool) (tree : Tree) (status : ℕ) (taken : Option (List ℕ)) (failed : ℕ)
-    (taken_after : Option (List ℕ)) (failed_after : ℕ) where
+module _ (content_of : List ℕ → FileContent) (format : FileFormat) (strict : Bool) (tree : Tree) (status : ℕ) (taken : SpelledBytes) (failed : ℕ)
+    (taken_after : SpelledBytes) (failed_after : ℕ) where
   pub stopped_path : (path : List ℕ)
       → (lines : List ErrorLine) × StopsAtPath (content_of path) format strict tree path status lines × TakesLines taken failed lines taken_after failed_after
       → (lines : List ErrorLine) × StopsAmongFiles content_of format strict tree (path ∷ []) status lines
@@ -258,7 +258,7 @@ module _ (content_of : List ℕ → FileContent) (format : FileFormat) (strict :
       → (lines : List ErrorLine) × StopsAmongFiles content_of format strict tree all status lines × TakesLines taken failed lines taken_after failed_after
   stopped_more xs more all e h = (h.0, rw e (more_stops content_of format strict tree xs more status h.0 h.1), h.2)
 
-  pub stopped_later : (xs ys all : List (List ℕ)) (before users : List (Option UserValue)) (middle : Option (List ℕ)) (failed_middle : ℕ) → all ≡ xs ++ ys
+  pub stopped_later : (xs ys all : List (List ℕ)) (before users : List (Option UserValue)) (middle : SpelledBytes) (failed_middle : ℕ) → all ≡ xs ++ ys
       → AreLoaded content_of format strict tree xs before users taken failed middle failed_middle
       → (lines : List ErrorLine) × StopsAmongFiles content_of format strict tree ys status lines × TakesLines middle failed_middle lines taken_after failed_after
       → (lines : List ErrorLine) × StopsAmongFiles content_of format strict tree all status lines × TakesLines taken failed lines taken_after failed_after

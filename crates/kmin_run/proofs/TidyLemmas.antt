@@ -9,7 +9,7 @@ use Rattle.kmin_tidy.specs.declared.outcome.FileOutcome.{FileOutcome}
 use Rattle.kmin_tidy.specs.declared.outcome.FileOutcome.TheVariants.{Minimal, NotMinimal, Refused, Failed}
 use Rattle.kmin_tidy.specs.Promises.{IsKeptOrLeft, AreTidy}
 use Rattle.std.specs.Io.KnownBytes.{Appends}
-use Rattle.kmin_report.specs.StandardError.{TakesLine, TakesLines}
+use Rattle.kmin_report.specs.StandardError.{SpelledBytes, TakesLine, TakesLines}
 use Rattle.kmin_trees.specs.FileContents.{Surroundings}
 use Rattle.kmin_report.specs.Reports.{ErrorLine, last_lines}
 use Rattle.kmin_trees.specs.AcceptedTrees.{AreAccepted}
@@ -91,7 +91,7 @@ settings_are settled format settings flags options p q o =
     ∙ ap (λ q. record { format = q; profile = settings.profile; tree = tree_of_settled settled; options = options }) q
     ∙ ap (λ o. record { format = settings.format; profile = settings.profile; tree = tree_of_settled settled; options = o }) o
 
-module _ (taken middle taken_after : Option (List ℕ)) (failed failed_middle failed_after : ℕ) (status : ℕ) where
+module _ (taken middle taken_after : SpelledBytes) (failed failed_middle failed_after : ℕ) (status : ℕ) where
   -- a run of `tidy` that ended at its tree, and then reported its last line, ends as `PathsEnd` defines
   pub tree_ends : (known : Surroundings) (settings : jobs.Settings) (flags : TidyFlags) (paths : List (List ℕ)) (old : Outputs) (stop : RunError)
       → status ≡ errors.status_of stop
@@ -149,7 +149,7 @@ module _ (taken middle taken_after : Option (List ℕ)) (failed failed_middle fa
       let ended = h b in (ended.0, ended.1, lines_append taken middle failed failed_middle [] ended.0 taken_after failed_after before ended.2)
 
 -- a run of `tidy` that reported a malformed path in its list, and ended with the status 2, ends as `TidyEnds` defines
-pub malformed_ends : (taken taken_after : Option (List ℕ)) (failed failed_after status : ℕ) (known : Surroundings) (left : Option (List ℕ)) (t : TidyJob)
+pub malformed_ends : (taken taken_after : SpelledBytes) (failed failed_after status : ℕ) (known : Surroundings) (left : Option (List ℕ)) (t : TidyJob)
     (bytes : List ℕ) (old : Outputs) → AreListBytes known.content left t.list bytes → AreMalformed (listed_paths t.list bytes) → status ≡ 2
     → TakesLine taken failed malformed_line taken_after failed_after
     → (lines : List ErrorLine) × TidyEnds known left t old old lines status × TakesLines taken failed lines taken_after failed_after

@@ -7,16 +7,16 @@ ghost use Rattle.kmin_report.specs.between.RunErrors.{status_of};
 ghost use Rattle.kmin_report.specs.Reports.{ErrorLine};
 
 use kc_dotconfig::LoadKind;
-use kc_value::{MAX_BUNDLE_BYTES, ReadBytes, ReadEnd, Sink, Source, read_up_to};
+use kc_value::{MAX_BUNDLE_BYTES, ReadBytes, ReadEnd, Source, read_up_to};
 use kmin_lines::first_piece;
-use kmin_report::{Report, RunError, write_report};
+use kmin_report::{Messages, Report, RunError};
 use std::alloc::Global;
 
 /// The line that ends the tree.
 const MARKER: &[u8] = b"%%";
 
 /// Reads a bundle to its end. Reports a failed read, and a bundle of more than `MAX_BUNDLE_BYTES` bytes.
-pub(crate) fn read_whole<S: Source, E: Sink>(
+pub(crate) fn read_whole<S: Source, E: Messages>(
     alloc: Global,
     source: &mut S,
     err: &mut E,
@@ -43,18 +43,15 @@ pub(crate) fn read_whole<S: Source, E: Sink>(
 }
 
 /// Reports a fault of a bundle as a whole.
-fn report_bundle<E: Sink>(kind: LoadKind, err: &mut E)
+fn report_bundle<E: Messages>(kind: LoadKind, err: &mut E)
     ensures { TakesLine (E.taken err.old) (E.failures err.old) (bundle_line kind) (E.taken err.new) (E.failures err.new) }
 {
     let path = "bundle";
-    write_report(
-        Report::FileFault {
-            path,
-            line: 0,
-            kind,
-        },
-        err,
-    );
+    err.write_report(Report::FileFault {
+        path,
+        line: 0,
+        kind,
+    });
 }
 
 /// The parts of a bundle: its tree, and its configuration.

@@ -26,13 +26,13 @@ use kc_rules::{Profile, Settled};
 use kc_tree::Texts;
 use kc_value::{Seed, Sink, Source};
 use kmin_disk::MemoryReader;
-use kmin_report::{RunError, write_answer};
+use kmin_report::{Messages, RunError, write_answer};
 use kmin_trees::{FileNames, read_texts, settled_tree};
 use std::alloc::Global;
 
 /// Reads a bundle from `input`, and writes the full file of its configuration to `out`. Reports its notices and its fault to
 /// `err`.
-pub(crate) fn run_bundle<I: Source, O: Sink, E: Sink>(
+pub(crate) fn run_bundle<I: Source, O: Sink, E: Messages>(
     alloc: Global,
     seed: Seed,
     input: &mut I,
@@ -55,7 +55,7 @@ pub(crate) fn run_bundle<I: Source, O: Sink, E: Sink>(
 }
 
 /// The full file of a bundle's configuration over its tree. Reports the notices, or the fault of the bundle.
-fn bundle_text<E: Sink>(
+fn bundle_text<E: Messages>(
     alloc: Global,
     seed: Seed,
     bundle: &[u8],
@@ -73,7 +73,7 @@ fn bundle_text<E: Sink>(
 }
 
 /// The settled tree of a bundle, whose one file is `Kconfig`. Reports why it is refused.
-fn bundle_tree<E: Sink>(
+fn bundle_tree<E: Messages>(
     alloc: Global,
     seed: Seed,
     tree: &[u8],
@@ -101,7 +101,7 @@ fn bundle_tree<E: Sink>(
 
 /// The full file of a bundle's configuration over a settled tree, in the plain format. Reports the configuration's
 /// notices, or its fault.
-fn full_over<E: Sink>(
+fn full_over<E: Messages>(
     alloc: Global,
     settled: &Settled,
     configuration: &[u8],

@@ -21,8 +21,8 @@ use kc_dotconfig::{
 };
 use kc_minimal::{other_choices, placed_lines};
 use kc_rules::Settled;
-use kc_value::{Sink, Source};
-use kmin_report::{Report, RunError, write_report};
+use kc_value::Source;
+use kmin_report::{Messages, Report, RunError};
 use kmin_trees::Files;
 use kmin_words::Settings;
 use std::alloc::{AllocError, Global};
@@ -35,7 +35,7 @@ pub(crate) struct ReadFiles<'a> {
 }
 
 /// Reads the assignments of a configuration file. Reports its notices, or its fault.
-pub(crate) fn load<S: Source, E: Sink>(
+pub(crate) fn load<S: Source, E: Messages>(
     alloc: Global,
     settled: &Settled,
     format: &Format,
@@ -58,7 +58,7 @@ pub(crate) fn load<S: Source, E: Sink>(
 }
 
 /// Reports a fault of a configuration file, and returns the error that ends the run. Out of memory is reported later.
-fn report_load_fault<E: Sink>(path: &str, fault: LoadFault, err: &mut E) -> RunError
+fn report_load_fault<E: Messages>(path: &str, fault: LoadFault, err: &mut E) -> RunError
     ensures status { status_of result ≡ load_status fault.kind }
     ensures reported { TakesLines (E.taken err.old) (E.failures err.old) (load_lines path.now fault.line fault.kind) (E.taken err.new) (E.failures err.new) }
 {
@@ -66,23 +66,23 @@ fn report_load_fault<E: Sink>(path: &str, fault: LoadFault, err: &mut E) -> RunE
     match kind {
         LoadKind::OutOfMemory => RunError::Memory,
         LoadKind::Read => {
-            write_report(Report::FileFault { path, line, kind }, err);
+            err.write_report(Report::FileFault { path, line, kind });
             RunError::Failed
         }
         _ => {
-            write_report(Report::FileFault { path, line, kind }, err);
+            err.write_report(Report::FileFault { path, line, kind });
             RunError::Configuration
         }
     }
 }
 
 /// Reports the notices of a configuration file.
-fn report_notices<E: Sink>(path: &str, notices: &[Notice], err: &mut E)
+fn report_notices<E: Messages>(path: &str, notices: &[Notice], err: &mut E)
     ensures { TakesLines (E.taken err.old) (E.failures err.old) (map (λ notice. notice_line path.now (notice_pair notice)) notices.now) (E.taken err.new) (E.failures err.new) }
 {
     for notice in notices {
         let Notice { line, kind } = *notice;
-        write_report(Report::Notice { path, line, kind }, err);
+        err.write_report(Report::Notice { path, line, kind });
     }
 }
 
@@ -100,7 +100,7 @@ fn allowed(strict: bool, fragment: Fragment) -> Result<Fragment, RunError>
 
 /// Reads the assignments of a configuration file by its path. Reports the file's notices, or its fault. Under `strict` a file that
 /// has a notice is refused.
-fn load_path<F: Files, E: Sink>(
+fn load_path<F: Files, E: Messages>(
     alloc: Global,
     settled: &Settled,
     settings: &Settings<'_>,
@@ -127,21 +127,18 @@ fn load_path<F: Files, E: Sink>(
         }
         None => {
             let kind = LoadKind::Read;
-            write_report(
-                Report::FileFault {
-                    path,
-                    line: 0,
-                    kind,
-                },
-                err,
-            );
+            err.write_report(Report::FileFault {
+                path,
+                line: 0,
+                kind,
+            });
             Err(RunError::Failed)
         }
     }
 }
 
 /// The configuration of one file. Reports the notices of the file's lines, and why it is refused.
-pub(crate) fn configured_by<'a, F: Files, E: Sink>(
+pub(crate) fn configured_by<'a, F: Files, E: Messages>(
     alloc: Global,
     settled: &'a Settled,
     settings: &Settings<'_>,
@@ -190,7 +187,7 @@ fn one_list(alloc: Global, lines: Vec<ChoiceLine>) -> Result<Vec<Vec<ChoiceLine>
 }
 
 /// Overrides a configuration with files, one after another. Reports the notices of their lines, and why one is refused.
-fn overlaid<'a, F: Files, E: Sink>(
+fn overlaid<'a, F: Files, E: Messages>(
     alloc: Global,
     settled: &'a Settled,
     begun: ReadFiles<'a>,
@@ -217,7 +214,7 @@ fn overlaid<'a, F: Files, E: Sink>(
 }
 
 /// Overrides a configuration with one file. Reports the notices of the file's lines, and why it is refused.
-fn overlay_file<F: Files, E: Sink>(
+fn overlay_file<F: Files, E: Messages>(
     alloc: Global,
     settled: &Settled,
     read: &mut ReadFiles<'_>,
@@ -255,7 +252,7 @@ fn add_fragment(read: &mut ReadFiles<'_>, fragment: Fragment) -> Result<(), Allo
 }
 
 /// The configuration of files, each of which overrides those before it. Reports the notices of their lines, and why one is refused.
-pub(crate) fn configured<'a, F: Files, E: Sink>(
+pub(crate) fn configured<'a, F: Files, E: Messages>(
     alloc: Global,
     settled: &'a Settled,
     settings: &Settings<'_>,
@@ -291,7 +288,7 @@ fn unassigned(alloc: Global, settled: &Settled) -> Result<ReadFiles<'_>, AllocEr
 }
 
 /// Reports the notices on the choices of a configuration of files at these paths. Under `strict` the configuration is refused for them.
-pub(crate) fn notice_choices<E: Sink>(
+pub(crate) fn notice_choices<E: Messages>(
     alloc: Global,
     settings: &Settings<'_>,
     paths: &[&str],
@@ -321,14 +318,14 @@ fn is_refused(strict: bool, places: &[(usize, u32)]) -> bool
 }
 
 /// Reports the notices on choices, each at its place in the files at these paths.
-fn report_choices<E: Sink>(paths: &[&str], places: &[(usize, u32)], err: &mut E)
+fn report_choices<E: Messages>(paths: &[&str], places: &[(usize, u32)], err: &mut E)
     ensures { TakesLines (E.taken err.old) (E.failures err.old) (choice_notice_lines (map (λ (path : Bor (List ℕ)). path.now) paths.now) places.now) (E.taken err.new) (E.failures err.new) }
 {
     for place in places {
         let (file, line) = *place;
         let path = path_at(paths, file);
         let kind = NoticeKind::OtherChoice;
-        write_report(Report::Notice { path, line, kind }, err);
+        err.write_report(Report::Notice { path, line, kind });
     }
 }
 

@@ -25,7 +25,7 @@ use crate::configurations::{ReadFiles, configured, configured_by, notice_choices
 use crate::verb_texts::{AnswerText, answer_of, compared};
 use kc_rules::Settled;
 use kc_value::Sink;
-use kmin_report::{RunError, exit_status, write_answer};
+use kmin_report::{Messages, RunError, exit_status, write_answer};
 use kmin_trees::{Files, job_tree};
 use kmin_words::{Job, Settings, Task, Verb};
 use std::alloc::Global;
@@ -40,7 +40,7 @@ use std::alloc::Global;
 ///
 /// Where an option turns the expansion of macros on, the tree is expanded first: status 3 is also a fault of the
 /// expansion, 4 an answer file refused, and the notices of the expansion come first, as `FILE:LINE: KIND TEXT`.
-pub fn serve<F: Files, O: Sink, E: Sink>(
+pub fn serve<F: Files, O: Sink, E: Messages>(
     alloc: Global,
     job: &Job<'_>,
     files: &mut F,
@@ -77,7 +77,7 @@ pub fn serve<F: Files, O: Sink, E: Sink>(
 }
 
 /// The complete output of a command, and its status. Reports the notices, and why there is no output.
-pub(crate) fn answer_job<F: Files, E: Sink>(
+pub(crate) fn answer_job<F: Files, E: Messages>(
     alloc: Global,
     job: &Job<'_>,
     files: &mut F,
@@ -95,7 +95,7 @@ pub(crate) fn answer_job<F: Files, E: Sink>(
 }
 
 /// The output of a command over its settled tree, and its status. Reports the notices, and why there is no output.
-fn answer_over<F: Files, E: Sink>(
+fn answer_over<F: Files, E: Messages>(
     alloc: Global,
     settings: &Settings<'_>,
     task: &Task<'_>,
@@ -122,7 +122,7 @@ fn answer_over<F: Files, E: Sink>(
 
 /// The output of a verb over the configuration of all files, and its status. Reports the notices, and why there is no
 /// output.
-fn answer_files<F: Files, E: Sink>(
+fn answer_files<F: Files, E: Messages>(
     alloc: Global,
     settings: &Settings<'_>,
     verb: Verb,
@@ -146,7 +146,7 @@ fn answer_files<F: Files, E: Sink>(
 
 /// The output of a verb over a configuration of files at these paths, and its status, once the notices on its choices are
 /// reported. Reports why there is no output.
-fn noticed_answer<E: Sink>(
+fn noticed_answer<E: Messages>(
     alloc: Global,
     settings: &Settings<'_>,
     verb: Verb,
@@ -165,7 +165,7 @@ fn noticed_answer<E: Sink>(
 
 /// The output of a comparison of two configurations of one file each, and its status. Reports the notices, and why
 /// there is no output.
-fn answer_comparison<F: Files, E: Sink>(
+fn answer_comparison<F: Files, E: Messages>(
     alloc: Global,
     settings: &Settings<'_>,
     left: &str,
@@ -189,7 +189,7 @@ fn answer_comparison<F: Files, E: Sink>(
 }
 
 /// The configurations of two files, each by itself. Reports the notices of the files' lines, and why one is refused.
-fn read_both<'a, F: Files, E: Sink>(
+fn read_both<'a, F: Files, E: Messages>(
     alloc: Global,
     settled: &'a Settled,
     settings: &Settings<'_>,
@@ -218,7 +218,7 @@ fn read_both<'a, F: Files, E: Sink>(
 
 /// The output of a comparison of two configurations of one file each, and its status, once the notices on their choices are
 /// reported. Reports why there is no output.
-fn noticed_comparison<E: Sink>(
+fn noticed_comparison<E: Messages>(
     alloc: Global,
     settings: &Settings<'_>,
     left: &str,

@@ -9,9 +9,8 @@ ghost use Rattle.kmin_report.specs.between.RunErrors.{status_of};
 ghost use Rattle.kmin_report.specs.Reports.{ErrorLine};
 
 use crate::job_output::answer_job;
-use kc_value::Sink;
 use kmin_disk::{ReplaceFault, UpdateFault, WriteDisk, update};
-use kmin_report::{Report, RunError, exit_status, write_report};
+use kmin_report::{Messages, Report, RunError, exit_status};
 use kmin_trees::Files;
 use kmin_words::OutputJob;
 use std::alloc::Global;
@@ -22,7 +21,7 @@ use std::alloc::Global;
 ///
 /// The output file is written last: where there is no output, it is as it was. It is replaced whole or not at all, as
 /// by [`update`], so it may be one of the files that were read.
-pub fn save<F: Files, D: WriteDisk, E: Sink>(
+pub fn save<F: Files, D: WriteDisk, E: Messages>(
     alloc: Global,
     output_job: &OutputJob<'_>,
     files: &mut F,
@@ -51,7 +50,7 @@ pub fn save<F: Files, D: WriteDisk, E: Sink>(
 }
 
 /// Writes a text to the output file. Reports why it can't be written.
-fn save_text<D: WriteDisk, E: Sink>(
+fn save_text<D: WriteDisk, E: Messages>(
     alloc: Global,
     path: &str,
     text: &[u8],
@@ -71,7 +70,7 @@ fn save_text<D: WriteDisk, E: Sink>(
 
 /// Reports why the output file wasn't updated, or not for good, and returns the error that ends the run. Out of memory
 /// is reported later.
-fn report_update<E: Sink>(path: &str, fault: UpdateFault, err: &mut E) -> RunError
+fn report_update<E: Messages>(path: &str, fault: UpdateFault, err: &mut E) -> RunError
     ensures status { status_of result ≡ update_status fault }
     ensures reported { TakesLines (E.taken err.old) (E.failures err.old) (update_lines path.now fault) (E.taken err.new) (E.failures err.new) }
 {
@@ -83,7 +82,7 @@ fn report_update<E: Sink>(path: &str, fault: UpdateFault, err: &mut E) -> RunErr
 
 /// Reports why the output file wasn't replaced, or not for good, and returns the error that ends the run. Out of memory
 /// is reported later.
-fn report_replace<E: Sink>(path: &str, fault: ReplaceFault, err: &mut E) -> RunError
+fn report_replace<E: Messages>(path: &str, fault: ReplaceFault, err: &mut E) -> RunError
     ensures status { status_of result ≡ replace_status fault }
     ensures reported { TakesLines (E.taken err.old) (E.failures err.old) (replace_lines path.now fault) (E.taken err.new) (E.failures err.new) }
 {
@@ -98,10 +97,10 @@ fn report_replace<E: Sink>(path: &str, fault: ReplaceFault, err: &mut E) -> RunE
 }
 
 /// Reports a failure, and returns it as the error of the run.
-fn report_failure<E: Sink>(report: Report<'_>, err: &mut E) -> RunError
+fn report_failure<E: Messages>(report: Report<'_>, err: &mut E) -> RunError
     ensures error { result ≡ RunError.Failed }
     ensures reported { TakesLine (E.taken err.old) (E.failures err.old) (report_line report.entry) (E.taken err.new) (E.failures err.new) }
 {
-    write_report(report, err);
+    err.write_report(report);
     RunError::Failed
 }

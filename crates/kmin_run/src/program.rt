@@ -17,7 +17,7 @@ use crate::wants_command::list_questions;
 use kc_value::{Seed, Sink, Source};
 use kmin_disk::WriteDisk;
 use kmin_lines::{WordFault, with_files};
-use kmin_report::{Report, RunError, exit_status, write_answer, write_report};
+use kmin_report::{Messages, Report, RunError, exit_status, write_answer};
 use kmin_trees::{Files, WordFiles, read_word_files};
 use kmin_words::{ParsedWords, command_first, read_words_beside};
 use std::alloc::Global;
@@ -31,7 +31,7 @@ use std::alloc::Global;
 /// file refused, or bundle, list or file of words too large, 5 a read or write failed, 6 out of memory.
 ///
 /// Only `tidy` and a command with an output file use `disk`; all other files are read by `files`.
-pub fn run<F: Files, D: WriteDisk, I: Source, O: Sink, E: Sink>(
+pub fn run<F: Files, D: WriteDisk, I: Source, O: Sink, E: Messages>(
     alloc: Global,
     words: &[&str],
     files: &mut F,
@@ -73,7 +73,7 @@ pub fn run<F: Files, D: WriteDisk, I: Source, O: Sink, E: Sink>(
 }
 
 /// Reads a bundle, writes its full file, and returns the exit status.
-fn answer_bundle<I: Source, O: Sink, E: Sink>(
+fn answer_bundle<I: Source, O: Sink, E: Messages>(
     alloc: Global,
     seed: Seed,
     input: &mut I,
@@ -93,7 +93,7 @@ fn answer_bundle<I: Source, O: Sink, E: Sink>(
 }
 
 /// Runs the words, each `@FILE` read as the words in its file, and returns the exit status.
-fn run_words<F: Files, D: WriteDisk, I: Source, O: Sink, E: Sink>(
+fn run_words<F: Files, D: WriteDisk, I: Source, O: Sink, E: Messages>(
     alloc: Global,
     words: &[&str],
     files: &mut F,
@@ -122,7 +122,7 @@ fn run_words<F: Files, D: WriteDisk, I: Source, O: Sink, E: Sink>(
 }
 
 /// Runs the words, each `@FILE` as the words in its file, which was read, and returns the exit status.
-fn run_given<F: Files, D: WriteDisk, I: Source, O: Sink, E: Sink>(
+fn run_given<F: Files, D: WriteDisk, I: Source, O: Sink, E: Messages>(
     alloc: Global,
     words: &[&str],
     read: &WordFiles,
@@ -161,7 +161,7 @@ fn run_given<F: Files, D: WriteDisk, I: Source, O: Sink, E: Sink>(
 
 /// Runs the command that words without `@FILE` name, behind options or before them, and returns the exit status. Where standard input
 /// was read (`is_input_read`), words that read it once more are refused.
-fn run_read<F: Files, D: WriteDisk, I: Source, O: Sink, E: Sink>(
+fn run_read<F: Files, D: WriteDisk, I: Source, O: Sink, E: Messages>(
     alloc: Global,
     words: &[&str],
     is_input_read: bool,
@@ -194,7 +194,7 @@ fn run_read<F: Files, D: WriteDisk, I: Source, O: Sink, E: Sink>(
 }
 
 /// Runs what the words are parsed as, a command, a help or a message, and returns the exit status.
-fn run_parsed<F: Files, D: WriteDisk, I: Source, O: Sink, E: Sink>(
+fn run_parsed<F: Files, D: WriteDisk, I: Source, O: Sink, E: Messages>(
     alloc: Global,
     parsed: &ParsedWords<'_>,
     files: &mut F,
@@ -226,7 +226,7 @@ fn run_parsed<F: Files, D: WriteDisk, I: Source, O: Sink, E: Sink>(
 }
 
 /// Writes the help that was asked for, and returns the exit status.
-fn write_help<O: Sink, E: Sink>(text: &str, out: &mut O, err: &mut E) -> u8
+fn write_help<O: Sink, E: Messages>(text: &str, out: &mut O, err: &mut E) -> u8
     ensures status { (result ≡ 0) ⊎ (result ≡ 5) }
     ensures ends { (disk : Disk) → (lines : List ErrorLine) × HelpEnds text.now
         (outputs_of disk (O.taken out.old) (O.failures out.old))
@@ -239,10 +239,10 @@ fn write_help<O: Sink, E: Sink>(text: &str, out: &mut O, err: &mut E) -> u8
 }
 
 /// Reports words that are refused by their message, and returns the exit status.
-fn refuse_words<E: Sink>(message: &str, err: &mut E) -> u8
+fn refuse_words<E: Messages>(message: &str, err: &mut E) -> u8
     ensures status { result ≡ 2 }
     ensures reported { TakesLine (E.taken err.old) (E.failures err.old) (refused_line message.now) (E.taken err.new) (E.failures err.new) }
 {
-    write_report(Report::RefusedWords(message), err);
+    err.write_report(Report::RefusedWords(message));
     2
 }

@@ -14,7 +14,7 @@ ghost use Rattle.kmin_report.specs.between.RunErrors.{status_of};
 use kc_value::{Sink, Source};
 use kmin_disk::WriteDisk;
 use kmin_lines::{ListFault, listed_paths};
-use kmin_report::{Report, RunError, exit_status, write_report};
+use kmin_report::{Messages, Report, RunError, exit_status};
 use kmin_tidy::{TidyOptions, tidy_files};
 use kmin_trees::{Files, job_tree, read_list};
 use kmin_words::{PathList, TidyFlags, TidyJob};
@@ -25,7 +25,7 @@ use std::alloc::{AllocError, Global};
 /// memory, and else the status of `tidy_files`. Where the list or the tree is refused, no configuration file is read.
 ///
 /// The list is read from `files`, or if its path is `-`, from `input`.
-pub fn tidy<F: Files, D: WriteDisk, I: Source, O: Sink, E: Sink>(
+pub fn tidy<F: Files, D: WriteDisk, I: Source, O: Sink, E: Messages>(
     alloc: Global,
     tidy_job: &TidyJob<'_>,
     files: &mut F,
@@ -59,7 +59,7 @@ pub fn tidy<F: Files, D: WriteDisk, I: Source, O: Sink, E: Sink>(
 }
 
 /// Tidies the files of the command, and then those that a list of these bytes names.
-fn tidy_listed<F: Files, D: WriteDisk, O: Sink, E: Sink>(
+fn tidy_listed<F: Files, D: WriteDisk, O: Sink, E: Messages>(
     alloc: Global,
     tidy_job: &TidyJob<'_>,
     list: &[u8],
@@ -88,16 +88,16 @@ fn tidy_listed<F: Files, D: WriteDisk, O: Sink, E: Sink>(
 
 /// Reports a list in which a path isn't UTF-8 or has a newline, or a file with a word that isn't UTF-8, and returns the exit
 /// status.
-pub(crate) fn refuse_list<E: Sink>(err: &mut E) -> u8
+pub(crate) fn refuse_list<E: Messages>(err: &mut E) -> u8
     ensures status { result ≡ 2 }
     ensures reported { TakesLine (E.taken err.old) (E.failures err.old) malformed_line (E.taken err.new) (E.failures err.new) }
 {
-    write_report(Report::RefusedWords("from: Malformed\n"), err);
+    err.write_report(Report::RefusedWords("from: Malformed\n"));
     2
 }
 
 /// Tidies the files of these paths over the tree of the command.
-fn tidy_paths<F: Files, D: WriteDisk, O: Sink, E: Sink>(
+fn tidy_paths<F: Files, D: WriteDisk, O: Sink, E: Messages>(
     alloc: Global,
     tidy_job: &TidyJob<'_>,
     paths: &[&str],
@@ -182,7 +182,7 @@ fn joined<'a>(
 }
 
 /// The bytes of the list of a command, none if it has no list. Reports why the list can't be read.
-fn list_bytes<F: Files, I: Source, E: Sink>(
+fn list_bytes<F: Files, I: Source, E: Messages>(
     alloc: Global,
     list: Option<PathList<'_>>,
     files: &mut F,

@@ -13,7 +13,7 @@ ghost use Rattle.kmin_report.specs.between.RunErrors.{status_of};
 
 use crate::verb_texts::AnswerText;
 use kc_value::Sink;
-use kmin_report::{Report, RunError, exit_status, write_answer, write_report};
+use kmin_report::{Messages, Report, RunError, exit_status, write_answer};
 use kmin_trees::{Files, wanted_of};
 use kmin_words::Questions;
 use std::alloc::{AllocError, Global};
@@ -25,7 +25,7 @@ use std::alloc::{AllocError, Global};
 ///
 /// The output is complete before the first write. Standard error gets a line `FILE:LINE: KIND` or
 /// `FILE:LINE: KIND TEXT` for the fault, and no notices; a failed write there has no influence.
-pub fn list_questions<F: Files, O: Sink, E: Sink>(
+pub fn list_questions<F: Files, O: Sink, E: Messages>(
     alloc: Global,
     questions: &Questions<'_>,
     files: &mut F,
@@ -60,7 +60,7 @@ pub fn list_questions<F: Files, O: Sink, E: Sink>(
 }
 
 /// The complete list of questions, and its status. Reports why there is none.
-fn answer_questions<F: Files, E: Sink>(
+fn answer_questions<F: Files, E: Messages>(
     alloc: Global,
     questions: &Questions<'_>,
     files: &mut F,
@@ -76,7 +76,7 @@ fn answer_questions<F: Files, E: Sink>(
     match wanted {
         Ok(asked) => Ok(lines_of(alloc, &asked)?),
         Err(fault) => {
-            write_report(Report::MacroFault(&fault), err);
+            err.write_report(Report::MacroFault(&fault));
             Err(RunError::Tree)
         }
     }

@@ -9,8 +9,7 @@ ghost use Rattle.kmin_tidy.specs.checker.ReportLines.{problem_line, problem_line
 use crate::outcome::FileOutcome;
 use crate::stop::Stop;
 use kc_dotconfig::{LoadFault, Notice};
-use kc_value::Sink;
-use kmin_report::{Report, write_report};
+use kmin_report::{Messages, Report};
 
 /// Why a file isn't read or replaced.
 #[derive(Clone, Copy, Debug, PartialEq, Eq)]
@@ -32,7 +31,7 @@ pub(crate) struct FileReport {
 }
 
 /// Writes the lines of a file's report: its notices, and then its problem.
-pub(crate) fn report_file<E: Sink>(path: &str, report: &FileReport, err: &mut E)
+pub(crate) fn report_file<E: Messages>(path: &str, report: &FileReport, err: &mut E)
     ensures { TakesLines (E.taken err.old) (E.failures err.old) (report_lines path.now report.now) (E.taken err.new) (E.failures err.new) }
 {
     report_notices(path, &report.notices, err);
@@ -40,22 +39,22 @@ pub(crate) fn report_file<E: Sink>(path: &str, report: &FileReport, err: &mut E)
 }
 
 /// Writes the notices of a file.
-fn report_notices<E: Sink>(path: &str, notices: &[Notice], err: &mut E)
+fn report_notices<E: Messages>(path: &str, notices: &[Notice], err: &mut E)
     ensures { TakesLines (E.taken err.old) (E.failures err.old) (map (λ notice. notice_line path.now (notice_pair notice)) notices.now)
         (E.taken err.new) (E.failures err.new) }
 {
     for notice in notices {
         let Notice { line, kind } = *notice;
-        write_report(Report::Notice { path, line, kind }, err);
+        err.write_report(Report::Notice { path, line, kind });
     }
 }
 
 /// Writes the problem of a file, if it has one.
-fn report_problem<E: Sink>(path: &str, problem: Option<Problem>, err: &mut E)
+fn report_problem<E: Messages>(path: &str, problem: Option<Problem>, err: &mut E)
     ensures { TakesLines (E.taken err.old) (E.failures err.old) (problem_lines path.now problem) (E.taken err.new) (E.failures err.new) }
 {
     match problem {
-        Some(problem) => write_report(report_of(path, problem), err),
+        Some(problem) => err.write_report(report_of(path, problem)),
         None => {}
     }
 }
@@ -72,11 +71,11 @@ fn report_of(path: &str, problem: Problem) -> Report<'_>
 }
 
 /// Writes the last line of standard error of a run that ends early: the reason.
-pub(crate) fn report_stop<E: Sink>(stop: &Stop, err: &mut E)
+pub(crate) fn report_stop<E: Messages>(stop: &Stop, err: &mut E)
     ensures { TakesLine (E.taken err.old) (E.failures err.old) (stop_line stop.now) (E.taken err.new) (E.failures err.new) }
 {
     match stop {
-        Stop::Memory => write_report(Report::OutOfMemory, err),
-        Stop::Left(new_path) => write_report(Report::Left(new_path), err),
+        Stop::Memory => err.write_report(Report::OutOfMemory),
+        Stop::Left(new_path) => err.write_report(Report::Left(new_path)),
     }
 }

@@ -18,7 +18,7 @@ use kc_dotconfig::Format;
 use kc_rules::Settled;
 use kc_value::Sink;
 use kmin_disk::WriteDisk;
-use kmin_report::write_answer;
+use kmin_report::{Messages, write_answer};
 use std::alloc::Global;
 
 /// Compares configuration files, each by itself, with their minimal files over the tree `settled`. Returns the exit status.
@@ -36,7 +36,7 @@ use std::alloc::Global;
 /// The status is 6 where memory ran out and 5 where a new file is left, which both end the run, and 5 where the output
 /// can't be written. Else the first file that is refused or fails decides it: 4 where the file is refused for its bytes, 5
 /// where it can't be read or replaced. Else it is 1 where a file isn't minimal and isn't replaced, and 0 otherwise.
-pub fn tidy_files<D: WriteDisk, O: Sink, E: Sink>(
+pub fn tidy_files<D: WriteDisk, O: Sink, E: Messages>(
     alloc: Global,
     settled: &Settled,
     format: &Format,
@@ -66,7 +66,7 @@ pub fn tidy_files<D: WriteDisk, O: Sink, E: Sink>(
 }
 
 /// Tidies the files as `tidy_files` does; the contract states only how the run ends.
-fn run_to_end<D: WriteDisk, O: Sink, E: Sink>(
+fn run_to_end<D: WriteDisk, O: Sink, E: Messages>(
     alloc: Global,
     settled: &Settled,
     format: &Format,
@@ -87,7 +87,7 @@ fn run_to_end<D: WriteDisk, O: Sink, E: Sink>(
 }
 
 /// Writes the text of a run, and returns its status.
-fn write_text<O: Sink, E: Sink>(tidied: &RunResult, out: &mut O, err: &mut E) -> u8
+fn write_text<O: Sink, E: Messages>(tidied: &RunResult, out: &mut O, err: &mut E) -> u8
     ensures { (reports : List ErrorLine) × IsWrittenOut tidied.now (O.taken out.old) (O.taken out.new) (O.failures out.old)
         (O.failures out.new) reports result × TakesLines (E.taken err.old) (E.failures err.old) reports (E.taken err.new) (E.failures err.new) }
 {
@@ -98,7 +98,7 @@ fn write_text<O: Sink, E: Sink>(tidied: &RunResult, out: &mut O, err: &mut E) ->
 }
 
 /// Reports why a run ends early, and returns its status.
-fn end_early<E: Sink>(stop: &Stop, err: &mut E) -> u8
+fn end_early<E: Messages>(stop: &Stop, err: &mut E) -> u8
     ensures status { result ≡ status_of_stop stop.now }
     ensures reported { TakesLines (E.taken err.old) (E.failures err.old) (stop_line stop.now ∷ []) (E.taken err.new) (E.failures err.new) }
 {

@@ -12,8 +12,8 @@ use crate::report::report_file;
 use crate::stop::Stop;
 use kc_dotconfig::{Config, Format};
 use kc_rules::Settled;
-use kc_value::Sink;
 use kmin_disk::WriteDisk;
+use kmin_report::Messages;
 use std::alloc::Global;
 
 /// The text for standard output of a run over all its files, and its exit status.
@@ -24,7 +24,7 @@ pub(crate) struct RunResult {
 }
 
 /// Tidies the files at `paths` one after another. The report of each is written to `err` before the next file is read.
-pub(crate) fn tidy_all<D: WriteDisk, E: Sink>(
+pub(crate) fn tidy_all<D: WriteDisk, E: Messages>(
     alloc: Global,
     settled: &Settled,
     format: &Format,
@@ -46,7 +46,7 @@ pub(crate) fn tidy_all<D: WriteDisk, E: Sink>(
 }
 
 /// Tidies files one after another by one configuration, which takes the values of each file in turn.
-fn tidy_each<D: WriteDisk, E: Sink>(
+fn tidy_each<D: WriteDisk, E: Messages>(
     alloc: Global,
     config: &mut Config<'_>,
     format: &Format,

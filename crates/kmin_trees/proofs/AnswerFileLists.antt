@@ -9,7 +9,7 @@ use Rattle.kc_answers.specs.ReadAnswers.{AreRecorded, IsRefused, ReadsToEnd, end
 use Rattle.kc_files.specs.TreeContents.{FileContent}
 use Rattle.kmin_report.specs.KnownBytes.{AreKnownBytes}
 use Rattle.kmin_disk.specs.Contents.{OpensAs}
-use Rattle.kmin_report.specs.StandardError.{TakesLines}
+use Rattle.kmin_report.specs.StandardError.{SpelledBytes, TakesLines}
 use Rattle.kmin_report.specs.Reports.{ErrorLine, answers_line}
 use Rattle.kmin_trees.specs.JobAnswers.{FilesRecord, none, file}
 use Rattle.kmin_trees.specs.AnswerStops.{StopsAtAnswers, StopsAmongAnswers, answers_status, refused}
@@ -77,7 +77,7 @@ module _ (content : FileContent) (path : List ℕ) (before after : Option (List 
   by_kind f g line TooLarge (steps.refused r) = refused_file f g (record { line = line; kind = TooLarge }) r refl
 
   -- an answer file that was opened, but not accepted, ends a run with the lines that were reported
-  pub stopped_reading : (read_failed read_failed_after status : ℕ) (taken taken_after : Option (List ℕ)) (failed failed_after : ℕ)
+  pub stopped_reading : (read_failed read_failed_after status : ℕ) (taken taken_after : SpelledBytes) (failed failed_after : ℕ)
       → StopsReading path before after read_failed read_failed_after earlier status taken failed taken_after failed_after
       → (lines : List ErrorLine) × StopsAtAnswersPath content earlier path status lines × TakesLines taken failed lines taken_after failed_after
   stopped_reading f g status taken taken_after failed failed_after s = (
@@ -109,7 +109,7 @@ reports_fault left left_after failed failed_after earlier fault (inr r) = steps.
 -- a job that ends at an answer file, after others that were accepted without a report, ends among its answer files
 pub stopped_later : (content_of others : List ℕ → FileContent) → others ≡ content_of
     → (front back all : List (List ℕ)) (path : List ℕ) (earlier : RecordedAnswers)
-    (status : ℕ) (taken middle taken_after : Option (List ℕ)) (failed failed_middle failed_after : ℕ)
+    (status : ℕ) (taken middle taken_after : SpelledBytes) (failed failed_middle failed_after : ℕ)
     → all ≡ front ++ (path ∷ back) → FilesRecord content_of front [] earlier → TakesLines taken failed [] middle failed_middle
     → (lines : List ErrorLine) × StopsAtAnswersPath (others path) earlier path status lines × TakesLines middle failed_middle lines taken_after failed_after
     → (lines : List ErrorLine) × StopsAmongAnswers content_of all status lines × TakesLines taken failed lines taken_after failed_after

@@ -1,5 +1,5 @@
 -- The tree of a job, as it is or expanded: what its texts are, and where a run ends at it.
-use Rattle.std.proofs.Common.{◌≡◌, ℕ, List, [], ◌++◌, Option, Some, None, Result, Ok, Err, IfOk, IfErr, map, refl, sym, ap, ◌∙◌, subst, append-nil, arith}
+use Rattle.std.proofs.Common.{◌≡◌, ℕ, List, [], ◌++◌, Some, None, Result, Ok, Err, IfOk, IfErr, map, refl, sym, ap, ◌∙◌, subst, append-nil, arith}
 use Rattle.kc_tokens.specs.declared.language.Language.{Language}
 use Rattle.kc_tree_model.specs.TreeFiles.{Files}
 use Rattle.kc_macros_model.specs.Programs.{Notice}
@@ -17,7 +17,7 @@ use Rattle.kmin_trees.specs.JobTexts.{TreeTexts, AreExpandedTexts, AreTextsOfJob
 use Rattle.kmin_trees.specs.TreeFolders.{contents_below}
 use Rattle.kmin_trees.specs.AcceptedTrees.{AreAccepted}
 use Rattle.kmin_report.specs.Reports.{ErrorLine, macro_notice_line}
-use Rattle.kmin_report.specs.StandardError.{TakesLines}
+use Rattle.kmin_report.specs.StandardError.{SpelledBytes, TakesLines}
 use Rattle.kmin_trees.specs.Stops.{StopsInExpansion, StopsAtTree}
 use Rattle.kmin_trees.specs.Stops as stops
 use Rattle.kmin_trees.specs.MissingFiles.{MissesOnlyMissing, IsRefusedTree}
@@ -60,7 +60,7 @@ pub not_plain : (settings : Settings) (P : RunError → Type 0) (expansion : Exp
 not_plain settings P expansion e (Ok settled) = tt
 not_plain settings P expansion e (Err stop) = λ none. absurd (let z : ⊥ = cc in z)
 
-module _ (known : Surroundings) (settings : Settings) (taken taken_after : Option (List ℕ)) (failed failed_after : ℕ) where
+module _ (known : Surroundings) (settings : Settings) (taken taken_after : SpelledBytes) (failed failed_after : ℕ) where
   -- without the expansion of macros
   module _ (e : settings.expansion ≡ None) where
     pub plain_accepted : (r : Result Settled RunError)
@@ -116,7 +116,7 @@ module _ (known : Surroundings) (settings : Settings) (taken taken_after : Optio
 
 -- expanded files, settled
 module _ (known : Surroundings) (root first : List ℕ) (language : Language) (expansion : Expansion) (texts names : Files)
-    (taken middle taken_after : Option (List ℕ)) (failed failed_middle failed_after : ℕ)
+    (taken middle taken_after : SpelledBytes) (failed failed_middle failed_after : ℕ)
     (h : (t : TreeTexts) × AreExpandedTexts known root first language expansion t × (t.texts ≡ texts) × (t.names ≡ names)
     × TakesLines taken failed t.lines middle failed_middle) where
   pub settled_accepted : (r : Result Settled RunError) → IfOk r (λ settled. AreAccepted texts first (tree_of_settled settled))
@@ -149,7 +149,7 @@ module _ (known : Surroundings) (root first : List ℕ) (language : Language) (e
 -- the expansion of a tree, after the answers are read
 module _ (known : Surroundings) (root first : List ℕ) (language : Language) (expansion : Expansion) (answers : RecordedAnswers)
     (answered : AreJobAnswers known.content known.variable expansion answers)
-    (taken middle taken_after : Option (List ℕ)) (failed failed_middle failed_after : ℕ) (before : TakesLines taken failed [] middle failed_middle) where
+    (taken middle taken_after : SpelledBytes) (failed failed_middle failed_after : ℕ) (before : TakesLines taken failed [] middle failed_middle) where
   are_expanded : (files : List ExpandedFile) (texts : Files) → texts ≡ expanded_texts language files
       → (notices : List Notice) × IsExpansion (contents_below known root) answers first notices (Ok files)
       × TakesLines middle failed_middle (map macro_notice_line notices) taken_after failed_after

@@ -5,7 +5,7 @@ use Rattle.std.proofs.lemmas.List.Sums.{sum_by-append}
 use Rattle.std.proofs.lemmas.Bool.{cases_Bool}
 use Rattle.kc_files.specs.TreeContents.{FileContent}
 use Rattle.kmin_disk.specs.Contents.{OpensAs}
-use Rattle.kmin_report.specs.StandardError.{TakesLines}
+use Rattle.kmin_report.specs.StandardError.{SpelledBytes, TakesLines}
 use Rattle.kmin_report.specs.Reports.{ErrorLine, last_lines}
 use Rattle.kmin_report.proofs.WriterLemmas.{lines_append}
 use Rattle.kmin_lines.specs.WordFiles.{files_of}
@@ -94,7 +94,7 @@ module _ (content_of others : List ℕ → FileContent) (same : others ≡ conte
       rw (b, a) (read_append content_of left front (path ∷ []) files (bytes ∷ []) read (file path bytes [] [] one none))
 
   -- the files before one were read without a report, and it can't be read
-  pub stopped_next : (status : ℕ) (taken middle taken_after : Option (List ℕ)) (failed failed_middle failed_after : ℕ)
+  pub stopped_next : (status : ℕ) (taken middle taken_after : SpelledBytes) (failed failed_middle failed_after : ℕ)
       → TakesLines taken failed [] middle failed_middle
       → (lines : List ErrorLine) × StopsReadingList (list_content others now path) path status lines × TakesLines middle failed_middle lines taken_after failed_after
       → (lines : List ErrorLine) × StopsAmongLists content_of left paths status lines × TakesLines taken failed lines taken_after failed_after
@@ -112,7 +112,7 @@ among_words content_of left words paths status lines are (at_file front back fil
 among_words content_of left words paths status lines are (for_memory s l) = stops.for_memory s l
 
 pub words_stopped : (content_of : List ℕ → FileContent) (left : Option (List ℕ)) (words paths : List (List ℕ)) (status of_stop : ℕ)
-    (taken middle taken_after : Option (List ℕ)) (failed failed_middle failed_after : ℕ) → paths ≡ files_of words → status ≡ of_stop
+    (taken middle taken_after : SpelledBytes) (failed failed_middle failed_after : ℕ) → paths ≡ files_of words → status ≡ of_stop
     → (lines : List ErrorLine) × StopsAmongLists content_of left paths of_stop lines × TakesLines taken failed lines middle failed_middle
     → TakesLines middle failed_middle (last_lines status) taken_after failed_after
     → (lines : List ErrorLine) × StopsAtWords content_of left words status lines × TakesLines taken failed (lines ++ last_lines status) taken_after failed_after

@@ -21,8 +21,8 @@ use kc_expansion::{ExpandedTree, Expansion, expand, unused, wants};
 use kc_macros::{MacroFault, MacroNotice};
 use kc_tokens::Language;
 use kc_tree::Texts;
-use kc_value::{Seed, Sink};
-use kmin_report::{Report, RunError, write_report};
+use kc_value::Seed;
+use kmin_report::{Messages, Report, RunError};
 use kmin_words::Settings;
 use std::alloc::{AllocError, Global};
 
@@ -34,7 +34,7 @@ pub(crate) struct ExpandedTexts {
 }
 
 /// Expands the macros of a job's tree. Reports the notices of the expansion, and its fault.
-pub(crate) fn expanded_tree<F: Files, E: Sink>(
+pub(crate) fn expanded_tree<F: Files, E: Messages>(
     alloc: Global,
     settings: &Settings<'_>,
     answers: &Answers,
@@ -66,7 +66,7 @@ pub(crate) fn expanded_tree<F: Files, E: Sink>(
         }
         Err(fault) => {
             report_macro_notices(&notices, err);
-            write_report(Report::MacroFault(&fault), err);
+            err.write_report(Report::MacroFault(&fault));
             Err(RunError::Tree)
         }
     }
@@ -155,10 +155,10 @@ fn insert(key: &[u8], text: &[u8], texts: &mut Texts) -> Result<(), AllocError>
 }
 
 /// Reports the notices of an expansion.
-fn report_macro_notices<E: Sink>(notices: &[MacroNotice], err: &mut E)
+fn report_macro_notices<E: Messages>(notices: &[MacroNotice], err: &mut E)
     ensures { TakesLines (E.taken err.old) (E.failures err.old) (map (λ notice. macro_notice_line (notice_of notice)) notices.now) (E.taken err.new) (E.failures err.new) }
 {
     for notice in notices {
-        write_report(Report::MacroNotice(notice), err);
+        err.write_report(Report::MacroNotice(notice));
     }
 }

@@ -16,14 +16,14 @@ ghost use Rattle.kmin_report.specs.Reports.{ErrorLine};
 use crate::files::Files;
 use kc_answers::Answers;
 use kc_macros::{AnswersFault, AnswersKind};
-use kc_value::{MAX_VARIABLE_BYTES, Sink, Source, has_newline};
-use kmin_report::{Report, RunError, write_report};
+use kc_value::{MAX_VARIABLE_BYTES, Source, has_newline};
+use kmin_report::{Messages, Report, RunError};
 use kmin_words::{Definition, Expansion};
 use std::alloc::{AllocError, Global};
 
 /// The answers to the questions of a job's tree: by its definitions, else by its answer files, else by the environment.
 /// Reports why an answer file is refused.
-pub(crate) fn job_answers<F: Files, E: Sink>(
+pub(crate) fn job_answers<F: Files, E: Messages>(
     alloc: Global,
     expansion: &Expansion<'_>,
     files: &mut F,
@@ -43,7 +43,7 @@ pub(crate) fn job_answers<F: Files, E: Sink>(
 }
 
 /// The answers that `job_answers` makes, and the questions that the answer files answer, in order of their first answers.
-pub(crate) fn answers_and_questions<F: Files, E: Sink>(
+pub(crate) fn answers_and_questions<F: Files, E: Messages>(
     alloc: Global,
     expansion: &Expansion<'_>,
     files: &mut F,
@@ -63,7 +63,7 @@ pub(crate) fn answers_and_questions<F: Files, E: Sink>(
 }
 
 /// Reads answer files, one after another. Reports why one is refused.
-fn file_answers<F: Files, E: Sink>(
+fn file_answers<F: Files, E: Messages>(
     alloc: Global,
     paths: &[&str],
     files: &mut F,
@@ -84,7 +84,7 @@ fn file_answers<F: Files, E: Sink>(
 }
 
 /// Reads one more answer file by its path. Reports why it is refused.
-fn record_path<F: Files, E: Sink>(
+fn record_path<F: Files, E: Messages>(
     path: &str,
     files: &mut F,
     answers: &mut Answers,
@@ -112,7 +112,7 @@ fn record_path<F: Files, E: Sink>(
 }
 
 /// Reads one more answer file from a reader. Reports why it is refused.
-fn record<S: Source, E: Sink>(
+fn record<S: Source, E: Messages>(
     path: &str,
     source: &mut S,
     answers: &mut Answers,
@@ -130,7 +130,7 @@ fn record<S: Source, E: Sink>(
 }
 
 /// Reports a fault of an answer file, and returns the error that ends the run. Out of memory is reported later.
-fn report_answers_fault<E: Sink>(path: &str, fault: AnswersFault, err: &mut E) -> RunError
+fn report_answers_fault<E: Messages>(path: &str, fault: AnswersFault, err: &mut E) -> RunError
     ensures status { status_of result ≡ answers_status fault.kind }
     ensures reported { TakesLines (E.taken err.old) (E.failures err.old) (answers_lines path.now fault.line fault.kind) (E.taken err.new) (E.failures err.new) }
 {
@@ -138,11 +138,11 @@ fn report_answers_fault<E: Sink>(path: &str, fault: AnswersFault, err: &mut E) -
     match kind {
         AnswersKind::OutOfMemory => RunError::Memory,
         AnswersKind::Read => {
-            write_report(Report::AnswersFault { path, line, kind }, err);
+            err.write_report(Report::AnswersFault { path, line, kind });
             RunError::Failed
         }
         _ => {
-            write_report(Report::AnswersFault { path, line, kind }, err);
+            err.write_report(Report::AnswersFault { path, line, kind });
             RunError::Configuration
         }
     }

@@ -21,13 +21,12 @@ use crate::job_answers::job_answers;
 use crate::tree_files::{TreeReading, gather};
 use crate::trees::{read_texts, settled_tree};
 use kc_rules::{Profile, Settled};
-use kc_value::Sink;
-use kmin_report::RunError;
+use kmin_report::{Messages, RunError};
 use kmin_words::{Expansion, Settings};
 use std::alloc::Global;
 
 /// The settled tree of a job. Reports the notices of the expansion of its macros, and why it is refused.
-pub fn job_tree<F: Files, E: Sink>(
+pub fn job_tree<F: Files, E: Messages>(
     alloc: Global,
     settings: &Settings<'_>,
     files: &mut F,
@@ -49,7 +48,7 @@ pub fn job_tree<F: Files, E: Sink>(
 }
 
 /// The settled tree of a job without the expansion of macros. Reports why it is refused.
-fn as_it_is<F: Files, E: Sink>(
+fn as_it_is<F: Files, E: Messages>(
     alloc: Global,
     settings: &Settings<'_>,
     files: &mut F,
@@ -83,7 +82,7 @@ fn as_it_is<F: Files, E: Sink>(
 }
 
 /// The settled tree of a job whose macros are expanded. Reports the notices of the expansion, and why it is refused.
-fn expanded<F: Files, E: Sink>(
+fn expanded<F: Files, E: Messages>(
     alloc: Global,
     settings: &Settings<'_>,
     expansion: &Expansion<'_>,
@@ -102,7 +101,7 @@ fn expanded<F: Files, E: Sink>(
 }
 
 /// The expanded files of a job's tree. Reports the notices of the expansion, and its fault or that of an answer file.
-fn expanded_files<F: Files, E: Sink>(
+fn expanded_files<F: Files, E: Messages>(
     alloc: Global,
     settings: &Settings<'_>,
     expansion: &Expansion<'_>,
@@ -122,7 +121,7 @@ fn expanded_files<F: Files, E: Sink>(
 }
 
 /// The settled tree of expanded files. Reports why it is refused.
-fn settled_expanded<E: Sink>(
+fn settled_expanded<E: Messages>(
     alloc: Global,
     first: &str,
     tree: &ExpandedTexts,

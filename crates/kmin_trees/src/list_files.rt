@@ -9,12 +9,12 @@ ghost use Rattle.kmin_trees.specs.ListFiles.{IsListRead, StopsReadingList, list_
 
 use crate::files::Files;
 use kc_dotconfig_model::LoadKind;
-use kc_value::{MAX_LIST_BYTES, ReadBytes, ReadEnd, Sink, Source, read_up_to};
-use kmin_report::{Report, RunError, write_report};
+use kc_value::{MAX_LIST_BYTES, ReadBytes, ReadEnd, Source, read_up_to};
+use kmin_report::{Messages, Report, RunError};
 use std::alloc::Global;
 
 /// The bytes of the file at a path, or for `-` of standard input. Reports why they can't be read.
-pub fn read_list<F: Files, I: Source, E: Sink>(
+pub fn read_list<F: Files, I: Source, E: Messages>(
     alloc: Global,
     path: &str,
     files: &mut F,
@@ -50,7 +50,7 @@ pub fn read_list<F: Files, I: Source, E: Sink>(
 }
 
 /// The bytes of a reader. Reports under `path` why they can't be read.
-fn read_from<S: Source, E: Sink>(
+fn read_from<S: Source, E: Messages>(
     alloc: Global,
     path: &str,
     source: &mut S,
@@ -77,15 +77,12 @@ fn read_from<S: Source, E: Sink>(
 }
 
 /// Reports a fault of a list as a whole.
-fn report_list<E: Sink>(path: &str, kind: LoadKind, err: &mut E)
+fn report_list<E: Messages>(path: &str, kind: LoadKind, err: &mut E)
     ensures { TakesLine (E.taken err.old) (E.failures err.old) (fault_line path.now 0 kind) (E.taken err.new) (E.failures err.new) }
 {
-    write_report(
-        Report::FileFault {
-            path,
-            line: 0,
-            kind,
-        },
-        err,
-    );
+    err.write_report(Report::FileFault {
+        path,
+        line: 0,
+        kind,
+    });
 }

@@ -11,13 +11,12 @@ use crate::expanded_trees::{unused_below, wanted_below};
 use crate::files::Files;
 use crate::job_answers::{answers_and_questions, job_answers};
 use kc_macros::MacroFault;
-use kc_value::Sink;
-use kmin_report::RunError;
+use kmin_report::{Messages, RunError};
 use kmin_words::Questions;
 use std::alloc::Global;
 
 /// The questions that `wants` lists of a tree's macros, or the fault of the expansion. Reports why an answer file is refused.
-pub fn wanted_of<F: Files, E: Sink>(
+pub fn wanted_of<F: Files, E: Messages>(
     alloc: Global,
     questions: &Questions<'_>,
     files: &mut F,
@@ -36,7 +35,7 @@ pub fn wanted_of<F: Files, E: Sink>(
 }
 
 /// The open questions of a tree's macros, or the fault of the expansion. Reports why an answer file is refused.
-fn open_of<F: Files, E: Sink>(
+fn open_of<F: Files, E: Messages>(
     alloc: Global,
     questions: &Questions<'_>,
     files: &mut F,
@@ -56,7 +55,7 @@ fn open_of<F: Files, E: Sink>(
 
 /// The questions of the answer files that a tree's macros don't ask; or their open questions, or the fault of the expansion. Reports
 /// why an answer file is refused.
-fn unused_of<F: Files, E: Sink>(
+fn unused_of<F: Files, E: Messages>(
     alloc: Global,
     questions: &Questions<'_>,
     files: &mut F,

@@ -15,8 +15,7 @@ use crate::file_names::FileNames;
 use kc_builder::read_tree;
 use kc_rules::{Profile, SettleFault, Settled, settle};
 use kc_tree::{Texts, Tree, TreeFault, TreeKind, Unit};
-use kc_value::Sink;
-use kmin_report::{Report, RunError, write_report};
+use kmin_report::{Messages, Report, RunError};
 use std::alloc::Global;
 
 /// The result of reading texts as a tree, from the file at the path `first` on.
@@ -28,7 +27,7 @@ pub fn read_texts(alloc: Global, texts: &Texts, first: &str) -> Result<Tree, Tre
 
 /// The settled tree of texts, given the result of reading them. Reports why they are refused, with these names of
 /// files.
-pub fn settled_tree<E: Sink>(
+pub fn settled_tree<E: Messages>(
     alloc: Global,
     texts: &Texts,
     names: &FileNames<'_>,
@@ -63,7 +62,7 @@ pub fn settled_tree<E: Sink>(
 }
 
 /// Reports a fault of a tree.
-fn report_tree_fault<'a, E: Sink>(
+fn report_tree_fault<'a, E: Messages>(
     names: &FileNames<'a>,
     first: &'a str,
     fault: TreeFault,
@@ -76,7 +75,7 @@ fn report_tree_fault<'a, E: Sink>(
         None => first.as_bytes(),
     };
     let TreeFault { line, kind, .. } = fault;
-    write_report(Report::TreeFault { path, line, kind }, err);
+    err.write_report(Report::TreeFault { path, line, kind });
 }
 
 /// The name of the file of this number; that of the first file if there is none.
@@ -87,7 +86,7 @@ fn path_of_file<'a>(names: &FileNames<'a>, first: &'a str, number: u32) -> &'a [
 }
 
 /// Reports why a tree can't be settled, and returns the error that ends the run. Out of memory is reported later.
-fn report_settle_fault<E: Sink>(
+fn report_settle_fault<E: Messages>(
     names: &FileNames<'_>,
     first: &str,
     tree: &Tree,
@@ -107,7 +106,7 @@ fn report_settle_fault<E: Sink>(
 }
 
 /// Reports a cycle, at the place of its first unit.
-fn report_cycle<'a, E: Sink>(
+fn report_cycle<'a, E: Messages>(
     names: &FileNames<'a>,
     first: &'a str,
     tree: &'a Tree,
@@ -118,15 +117,12 @@ fn report_cycle<'a, E: Sink>(
 {
     let (file, line) = place_of_cycle(tree, units);
     let path = path_of_file(names, first, file);
-    write_report(
-        Report::Cycle {
-            path,
-            line,
-            tree,
-            units,
-        },
-        err,
-    );
+    err.write_report(Report::Cycle {
+        path,
+        line,
+        tree,
+        units,
+    });
 }
 
 /// The file and the line of a cycle: those of its first unit.

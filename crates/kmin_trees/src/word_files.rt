@@ -12,9 +12,9 @@ ghost use Rattle.kmin_trees.specs.between.ReadFiles.{StopsAmongLists};
 
 use crate::files::Files;
 use crate::list_files::read_list;
-use kc_value::{Sink, Source};
+use kc_value::Source;
 use kmin_lines::files_of;
-use kmin_report::{Report, RunError, exit_status, write_report};
+use kmin_report::{Messages, Report, RunError, exit_status};
 use kmin_words::{NAMED_TWICE, inputs_named};
 use std::alloc::Global;
 
@@ -29,7 +29,7 @@ pub struct WordFiles {
 
 /// Reads the files of the words `@FILE` before a `--`, in order. Reports why one can't be read, or that two of them are standard
 /// input, and returns the exit status.
-pub fn read_word_files<F: Files, I: Source, E: Sink>(
+pub fn read_word_files<F: Files, I: Source, E: Messages>(
     alloc: Global,
     words: &[&str],
     files: &mut F,
@@ -55,7 +55,7 @@ pub fn read_word_files<F: Files, I: Source, E: Sink>(
     };
     let inputs = inputs_named(&paths);
     if inputs > 1 {
-        write_report(Report::RefusedWords(NAMED_TWICE), err);
+        err.write_report(Report::RefusedWords(NAMED_TWICE));
         return Err(2);
     }
     match read_lists(alloc, &paths, files, input, err) {
@@ -68,7 +68,7 @@ pub fn read_word_files<F: Files, I: Source, E: Sink>(
 }
 
 /// Reads the files at these paths, of which at most one names standard input, in order. Reports why one can't be read.
-fn read_lists<F: Files, I: Source, E: Sink>(
+fn read_lists<F: Files, I: Source, E: Messages>(
     alloc: Global,
     paths: &[&str],
     files: &mut F,

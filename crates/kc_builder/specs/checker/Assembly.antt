@@ -22,7 +22,7 @@ use Rattle.kc_builder.specs.checker.UnitList.{units_read}
 use Rattle.kc_builder.specs.declared.builder.ChoiceParts.{ChoiceParts}
 use Rattle.kc_builder.specs.declared.builder.SymbolParts.{SymbolParts}
 use Rattle.kc_tree.specs.declared.tree_lists.TreeLists.{TreeLists}
-use Rattle.kc_builder.specs.declared.listing_walk.WalkedListing.{WalkedListing}
+use Rattle.kc_conditions.specs.declared.listing_walk.WalkedListing.{WalkedListing}
 
 -- a walked listing represents the statements read from files, with their conditions and the language; the files have no fault
 pub record IsWalk (w : WalkedListing) (files : Files) (root : List ℕ) : Type 0 where

@@ -21,10 +21,10 @@ use Rattle.kc_tree.specs.between.Views.{member_default_view, MemberDefaultFits}
 use Rattle.kc_tree.specs.between.GatheredAttributes.{AreKeys}
 use Rattle.kc_tree.specs.between.GroupedItems.{items_of}
 use Rattle.kc_checks.specs.between.Summaries.{is_choice_code}
-use Rattle.kc_builder.specs.checker.Walks.{RepresentsAllConditions}
+use Rattle.kc_conditions.specs.between.Walks.{RepresentsAllConditions}
 use Rattle.kc_tree.specs.declared.items_with_keys.ItemsWithKeys.{ItemsWithKeys}
 use Rattle.kc_tree.specs.declared.symbol.MemberDefault.{MemberDefault}
-use Rattle.kc_builder.specs.declared.group_walk.GroupConditions.{GroupConditions}
+use Rattle.kc_conditions.specs.declared.group_walk.GroupConditions.{GroupConditions}
 
 -- a listing represents the statements read, and `groups` and `conditions` represent the conditions of statements and attributes
 pub record IsWalkOf (language : Language) (l : Listing) (groups : List GroupConditions) (conditions : List ℕ) (read : List Group) : Type 0 where

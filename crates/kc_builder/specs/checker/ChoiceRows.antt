@@ -11,10 +11,10 @@ use Rattle.kc_listing.specs.declared.listing.Line.{Line as CodeLine}
 use Rattle.kc_listing.specs.declared.listing.Listing.{Listing}
 use Rattle.kc_listing.specs.between.ListingView.{RepresentsListing}
 use Rattle.kc_checks.specs.between.Attributes.{is_optional_code}
-use Rattle.kc_builder.specs.checker.Firsts.{first_prompt}
-use Rattle.kc_builder.specs.checker.Walks.{RepresentsAllConditions}
+use Rattle.kc_conditions.specs.between.Firsts.{first_prompt}
+use Rattle.kc_conditions.specs.between.Walks.{RepresentsAllConditions}
 use Rattle.kc_tree.specs.declared.parts.ChoiceRow.{ChoiceRow}
-use Rattle.kc_builder.specs.declared.group_walk.GroupConditions.{GroupConditions}
+use Rattle.kc_conditions.specs.declared.group_walk.GroupConditions.{GroupConditions}
 
 -- a listing represents some statements, and `groups` and `conditions` the conditions of these and of their attributes
 pub record IsGoneThrough (l : Listing) (groups : List GroupConditions) (conditions : List ℕ) : Type 0 where

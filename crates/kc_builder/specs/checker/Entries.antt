@@ -6,7 +6,7 @@ use Rattle.kc_listing.specs.declared.listing.GroupHead.{GroupHead}
 use Rattle.kc_listing.specs.declared.listing.GroupHead.TheVariants as codes
 use Rattle.kc_tree.specs.declared.parts.EntryRow.{EntryRow}
 use Rattle.kc_tree.specs.declared.parts.EntryRow.TheVariants.{Definition, ChoiceBegins, MenuBegins, MenuEnds, Comment}
-use Rattle.kc_builder.specs.declared.group_walk.GroupConditions.{GroupConditions}
+use Rattle.kc_conditions.specs.declared.group_walk.GroupConditions.{GroupConditions}
 
 -- the row of a menu's end, from the conditions of the group that ends it; `None` if the group ends no menu
 abbrev pub menu_end_row : GroupConditions → Option EntryRow

@@ -1,5 +1,5 @@
 -- The items that the attributes of a definition give symbols.
-use Rattle.std.specs.Prelude.{◌≡◌, ℕ, List, [], ◌∷◌, ◌++◌, Option, Some, None, option_map, option_and_then, if◌then◌else◌}
+use Rattle.std.specs.Prelude.{◌≡◌, ℕ, Bool, ◌||◌, is_some, List, [], ◌∷◌, ◌++◌, Option, Some, None, option_map, option_and_then, if◌then◌else◌}
 use Rattle.std.specs.List.{cons_option}
 use Rattle.kc_statements.specs.declared.statement.Attribute.{Attribute as CodeAttribute}
 use Rattle.kc_statements.specs.declared.statement.Attribute.TheVariants as attributes
@@ -43,6 +43,10 @@ gathered_target_name Select (attributes.Select a) = Some a.name
 gathered_target_name Select a = None
 gathered_target_name Imply (attributes.Imply a) = Some a.name
 gathered_target_name Imply a = None
+
+-- whether an attribute line selects or implies a name
+abbrev pub has_target : CodeLine → Bool
+has_target l = is_some (gathered_target_name Select l.attribute) || is_some (gathered_target_name Imply l.attribute)
 
 -- the number of the symbol that an attribute line selects or implies; `None` if there is no such symbol
 abbrev pub gathered_target : SymbolTable → ReverseKind → CodeLine → Option ℕ

@@ -14,12 +14,12 @@ use Rattle.kc_dotconfig.specs.Fragments.{users_of, notice_pair}
 use Rattle.kc_files.specs.TreeContents.{FileContent}
 use Rattle.kmin_report.specs.KnownBytes.{AreKnownBytes}
 use Rattle.kmin_report.specs.Reports.{file_notices, notice_lines}
-use Rattle.kmin_report.specs.StandardError.{TakesLines}
+use Rattle.kmin_report.specs.StandardError.{SpelledBytes, TakesLines}
 use Rattle.kmin_run.specs.Answers.{FilesMean}
 
 -- a configuration file, whose bytes match what is known of it, is accepted, `fragment` has its assignments and notices, and its
 -- notices were reported on standard error
-pub record IsLoaded (content : FileContent) (format : FileFormat) (tree : Tree) (path : List ℕ) (fragment : Fragment) (taken : Option (List ℕ)) (failed : ℕ) (taken_after : Option (List ℕ)) (failed_after : ℕ) : Type 0 where
+pub record IsLoaded (content : FileContent) (format : FileFormat) (tree : Tree) (path : List ℕ) (fragment : Fragment) (taken : SpelledBytes) (failed : ℕ) (taken_after : SpelledBytes) (failed_after : ℕ) : Type 0 where
   pub bytes : List ℕ
   pub meanings : List LineMeaning
   pub matches : AreKnownBytes content bytes
@@ -32,7 +32,7 @@ pub record IsLoaded (content : FileContent) (format : FileFormat) (tree : Tree) 
 
 -- configuration files, whose bytes match what is known of them, are accepted, `users` is the assignment `before` overridden by
 -- theirs, and their notices were reported on standard error
-pub record AreLoaded (content_of : List ℕ → FileContent) (format : FileFormat) (strict : Bool) (tree : Tree) (paths : List (List ℕ)) (before users : List (Option UserValue)) (taken : Option (List ℕ)) (failed : ℕ) (taken_after : Option (List ℕ)) (failed_after : ℕ) : Type 0 where
+pub record AreLoaded (content_of : List ℕ → FileContent) (format : FileFormat) (strict : Bool) (tree : Tree) (paths : List (List ℕ)) (before users : List (Option UserValue)) (taken : SpelledBytes) (failed : ℕ) (taken_after : SpelledBytes) (failed_after : ℕ) : Type 0 where
   pub meanings : List (List LineMeaning)
   pub mean : FilesMean content_of format strict tree paths meanings
   pub users_are : users ≡ overlaid_by tree before meanings
@@ -44,6 +44,6 @@ lists_of chosen = map (λ (lines : Vec ChoiceLine). lines.items) chosen
 
 -- configuration files are loaded as `AreLoaded` has it, and `chosen` are the lists `chosen_before` and after them the lines of
 -- members of each of the files
-pub record AreRead (content_of : List ℕ → FileContent) (format : FileFormat) (strict : Bool) (tree : Tree) (paths : List (List ℕ)) (before users : List (Option UserValue)) (chosen_before chosen : List (List ChoiceLine)) (taken : Option (List ℕ)) (failed : ℕ) (taken_after : Option (List ℕ)) (failed_after : ℕ) : Type 0 where
+pub record AreRead (content_of : List ℕ → FileContent) (format : FileFormat) (strict : Bool) (tree : Tree) (paths : List (List ℕ)) (before users : List (Option UserValue)) (chosen_before chosen : List (List ChoiceLine)) (taken : SpelledBytes) (failed : ℕ) (taken_after : SpelledBytes) (failed_after : ℕ) : Type 0 where
   pub loaded : AreLoaded content_of format strict tree paths before users taken failed taken_after failed_after
   pub chosen_are : chosen ≡ chosen_before ++ map (choice_lines_from 1) loaded.meanings

@@ -13,7 +13,7 @@ use Rattle.kc_dotconfig_model.specs.declared.choice_line.ChoiceLine.{ChoiceLine}
 use Rattle.kc_dotconfig_model.specs.OtherChoices.{other_choices_of, placed_from}
 use Rattle.kmin_report.specs.Reports.{ErrorLine, fault_line, notice_line, choice_notice_lines}
 use Rattle.kmin_run.specs.Strictness.{RefusesNotices}
-use Rattle.kmin_report.specs.StandardError.{TakesLines}
+use Rattle.kmin_report.specs.StandardError.{SpelledBytes, TakesLines}
 use Rattle.kmin_words.specs.Jobs.{Settings, Task, paths_of}
 use Rattle.kmin_run.specs.Stops.{StopsAtFile, StopsAmongFiles, StopsAtChoices}
 
@@ -33,7 +33,7 @@ abbrev pub fragment_notices : (path : List ℕ) → Fragment → List ErrorLine
 fragment_notices path fragment = map (λ notice. notice_line path (notice_pair notice)) fragment.notices.items
 
 -- reading a configuration file ended with a fault of this exit status, which was reported on standard error
-pub record StopsLoad (format : FileFormat) (tree : Tree) (path : List ℕ) (left left_after : Option (List ℕ)) (read_failed read_failed_after : ℕ) (status : ℕ) (taken : Option (List ℕ)) (failed : ℕ) (taken_after : Option (List ℕ)) (failed_after : ℕ) : Type 0 where
+pub record StopsLoad (format : FileFormat) (tree : Tree) (path : List ℕ) (left left_after : Option (List ℕ)) (read_failed read_failed_after : ℕ) (status : ℕ) (taken : SpelledBytes) (failed : ℕ) (taken_after : SpelledBytes) (failed_after : ℕ) : Type 0 where
   pub kind : LoadKind
   pub number : ℕ
   pub fault : ReportsFault format tree left left_after read_failed read_failed_after kind number
@@ -53,7 +53,7 @@ StopsOverTree content_of settings tree task status lines =
 
 -- the notices on the choices of a configuration ended a run: it is refused for them, after they were reported on standard error, or
 -- memory ran out before that
-pub data StopsNoticing (tree : Tree) (values : List UnitValue) (strict : Bool) (paths : List (List ℕ)) (chosen : List (List ChoiceLine)) (status : ℕ) (taken : Option (List ℕ)) (failed : ℕ) (taken_after : Option (List ℕ)) (failed_after : ℕ) : Type 0 where
+pub data StopsNoticing (tree : Tree) (values : List UnitValue) (strict : Bool) (paths : List (List ℕ)) (chosen : List (List ChoiceLine)) (status : ℕ) (taken : SpelledBytes) (failed : ℕ) (taken_after : SpelledBytes) (failed_after : ℕ) : Type 0 where
   refused : RefusesNotices strict (other_choices_of tree values (placed_from 0 chosen)) → status ≡ 4
       → TakesLines taken failed (choice_notice_lines paths (other_choices_of tree values (placed_from 0 chosen))) taken_after failed_after
       → StopsNoticing tree values strict paths chosen status taken failed taken_after failed_after

@@ -9,7 +9,7 @@ use Rattle.kc_macros_model.specs.AnswerFiles.{RecordedAnswers}
 use Rattle.kc_answers.specs.ReadAnswers.{IsRefused}
 use Rattle.kc_files.specs.TreeContents.{FileContent}
 use Rattle.kmin_trees.specs.FileContents.{VariableContent, MatchVariable}
-use Rattle.kmin_report.specs.StandardError.{TakesLines}
+use Rattle.kmin_report.specs.StandardError.{SpelledBytes, TakesLines}
 use Rattle.kmin_report.specs.Reports.{ErrorLine, answers_line}
 use Rattle.kmin_words.specs.Jobs.{Expansion}
 use Rattle.kc_answers.specs.RunStates.{questions_of}
@@ -27,7 +27,7 @@ pub data ReportsAnswersFault (left left_after : Option (List ℕ)) (failed faile
   refused : IsRefused left left_after failed failed_after earlier fault → ReportsAnswersFault left left_after failed failed_after earlier fault
 
 -- reading an answer file ended with a fault of this exit status, which was reported on standard error
-pub record StopsReading (path : List ℕ) (left left_after : Option (List ℕ)) (read_failed read_failed_after : ℕ) (earlier : RecordedAnswers) (status : ℕ) (taken : Option (List ℕ)) (failed : ℕ) (taken_after : Option (List ℕ)) (failed_after : ℕ) : Type 0 where
+pub record StopsReading (path : List ℕ) (left left_after : Option (List ℕ)) (read_failed read_failed_after : ℕ) (earlier : RecordedAnswers) (status : ℕ) (taken : SpelledBytes) (failed : ℕ) (taken_after : SpelledBytes) (failed_after : ℕ) : Type 0 where
   pub fault : AnswersFault
   pub reports : ReportsAnswersFault left left_after read_failed read_failed_after earlier fault
   pub status_is : status ≡ answers_status fault.kind

@@ -1,6 +1,6 @@
 use Rattle.std.proofs.Common.{◌<◌, ◌^◌, ◌∙◌, length, reverse, subst, sym}
 use Rattle.kc_tree_model.specs.TreeReading.{reading}
-use Rattle.kc_builder.specs.checker.Walks.{RepresentsAllConditions}
+use Rattle.kc_conditions.specs.between.Walks.{RepresentsAllConditions}
 use Rattle.kc_builder.proofs.RepresentedGroups.{summed_of}
 use Rattle.kc_builder.proofs.builder.lists_of.Goals as goal
 

@@ -3,7 +3,7 @@ use Rattle.kc_tokens.specs.declared.language.Language.{Language}
 use Rattle.kc_expr.specs.between.Arena.{Exprs}
 use Rattle.kc_tree_model.specs.Blocks.{Group as ModelGroup}
 use Rattle.kc_listing.specs.between.ListingView.{RepresentsListing}
-use Rattle.kc_builder.specs.checker.Walks.{RepresentsAllConditions}
+use Rattle.kc_conditions.specs.between.Walks.{RepresentsAllConditions}
 use Rattle.kc_builder.proofs.ChoiceRowSteps.{AreRowsTo}
 use Rattle.kc_builder.proofs.choice_rows.choice_rows.Given as goal
 

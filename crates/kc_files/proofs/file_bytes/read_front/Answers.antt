@@ -1,4 +1,4 @@
-use Rattle.std.proofs.Common.{arith}
+use Rattle.std.proofs.Common.{rules, arith}
 use Rattle.std.proofs.lemmas.Grind.{common_steps, elements}
 use Rattle.kc_files.proofs.file_bytes.read_front.Goals as goal
 
@@ -22,3 +22,6 @@ slice_bounds-read_some-end c = grind (arith, common_steps)
 
 pub loop-bytes-preserved : goal.loop-bytes-preserved
 loop-bytes-preserved c = grind (arith, common_steps)
+
+pub returns-in_default : goal.returns-in_default
+returns-in_default c = search rules

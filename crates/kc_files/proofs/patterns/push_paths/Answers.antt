@@ -1,4 +1,4 @@
-use Rattle.std.proofs.Common.{◌≡◌, ap, ◌∙◌, sym, subst, ◌++◌, ◌∷◌, [], cond, ℕ}
+use Rattle.std.proofs.Common.{rules, ◌≡◌, ap, ◌∙◌, sym, subst, ◌++◌, ◌∷◌, [], cond, ℕ}
 use Rattle.std.specs.Prelude.{Vec}
 use Rattle.std.specs.declared.alloc.Global.{Global}
 use Rattle.std.proofs.lemmas.List.{map-append}
@@ -36,3 +36,6 @@ returns-clause-finds g c = λ at.
           (same_by known (paths_in_folder at piece folder listed) one (as_it_is at piece folder listed (sym c.if-is_pattern.ensures)))
           (comes_at_once known (found ((folder ++ piece) ∷ []) listed)),
     )
+
+pub returns-then-is_err : goal.returns-then-is_err
+returns-then-is_err g c = search rules

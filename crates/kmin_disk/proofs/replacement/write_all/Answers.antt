@@ -1,4 +1,4 @@
-use Rattle.std.proofs.Common.{◌≡◌, ◌-◌, ◌<◌, ◌≤◌, ◌∙◌, List, ℕ, length, take, drop, ap, subst, arith, length-drop}
+use Rattle.std.proofs.Common.{rules, ◌≡◌, ◌-◌, ◌<◌, ◌≤◌, ◌∙◌, List, ℕ, length, take, drop, ap, subst, arith, length-drop}
 use Rattle.kmin_disk.specs.NewFiles.{Takes}
 use Rattle.kmin_disk.proofs.Drafts.{takes_next, failures_after_write-some, rest_from}
 use Rattle.kmin_disk.proofs.replacement.write_all.Goals as goal
@@ -20,3 +20,9 @@ loop-written-preserved g c =
       state = c.in-Ok.ensures.same ∙ c.loop-written.invariant.state;
       failures = c.in-Ok.ensures.failures ∙ (failures_after_write-some _ count rest some ∙ c.loop-written.invariant.failures);
     }
+
+pub returns-in-Err : goal.returns-in-Err
+returns-in-Err g c = search rules
+
+pub returns-in-Ok-eq0 : goal.returns-in-Ok-eq0
+returns-in-Ok-eq0 g c = search rules

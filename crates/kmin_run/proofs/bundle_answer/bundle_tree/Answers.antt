@@ -21,8 +21,8 @@ returns-clause-stopped g c =
     let texts = c.in_ok-insert.ensures.ok ∙ ap (λ (fs : Files). with_file fs (codes "Kconfig") c.args.tree.now) c.with_seed-texts.ensures in
     let stops = λ (fs : Files) (names : Files). IfErr c.settled_tree.result (λ stop. (lines : List ErrorLine)
     × StopsAtTexts fs names (codes "Kconfig") (status_of stop) lines × TakesLines
-    (g.E.Sink.taken c.args.err.now) (g.E.Sink.failures c.args.err.now) lines (g.E.Sink.taken c.settled_tree.new.err)
-    (g.E.Sink.failures c.settled_tree.new.err)) in
+    (g.E.Messages.taken c.args.err.now) (g.E.Messages.failures c.args.err.now) lines (g.E.Messages.taken c.settled_tree.new.err)
+    (g.E.Messages.failures c.settled_tree.new.err)) in
     subst (λ (fs : Files). stops fs fs) texts (subst (λ (names : Files). stops c.insert.new.self names) c.of_texts-names.ensures c.settled_tree.ensures.stopped)
 
 pub returns-in_err-insert-clause-stopped : goal.returns-in_err-insert-clause-stopped

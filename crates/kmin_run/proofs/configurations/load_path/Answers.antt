@@ -26,8 +26,8 @@ returns-in-Ok-clause-loaded g c =
     (rw c.in-Ok.is at c.load-loaded.ensures.notices) in
     if_ok_map c.allowed.result _ _
     (λ f h. subst (λ (f : Fragment). IsLoaded ((g.F.Files.surroundings c.args.files.now).content c.args.path.now) (file_format c.args.settings.now.format)
-    (tree_of_settled c.args.settled.now) c.args.path.now f (g.E.Sink.taken c.args.err.now) (g.E.Sink.failures c.args.err.now)
-    (g.E.Sink.taken c.load-loaded.new.err) (g.E.Sink.failures c.load-loaded.new.err)) (sym h.0) loaded) c.allowed.ensures.ok
+    (tree_of_settled c.args.settled.now) c.args.path.now f (g.E.Messages.taken c.args.err.now) (g.E.Messages.failures c.args.err.now)
+    (g.E.Messages.taken c.load-loaded.new.err) (g.E.Messages.failures c.load-loaded.new.err)) (sym h.0) loaded) c.allowed.ensures.ok
 
 pub returns-in-Ok-clause-stopped : goal.returns-in-Ok-clause-stopped
 returns-in-Ok-clause-stopped g c =

@@ -35,9 +35,9 @@ returns-then-is_refused g c =
       allowed = tt;
       noticed = tt;
       stopped = refused (asked.0, λ e. asked.1 (c.deref-4.ensures.value ∙ same ∙ e)) refl
-          (subst (λ places. TakesLines (g.E.Sink.taken c.args.err.now) (g.E.Sink.failures c.args.err.now)
+          (subst (λ places. TakesLines (g.E.Messages.taken c.args.err.now) (g.E.Messages.failures c.args.err.now)
           (choice_notice_lines (map (λ (path : Bor (List ℕ)). path.now) c.args.paths.now) places)
-          (g.E.Sink.taken c.report_choices.new.err) (g.E.Sink.failures c.report_choices.new.err))
+          (g.E.Messages.taken c.report_choices.new.err) (g.E.Messages.failures c.report_choices.new.err))
           (c.deref-3.ensures.value ∙ same) c.report_choices.ensures);
     }
 
@@ -49,9 +49,9 @@ returns g c =
     c.deref.ensures.value c.in_ok-places.ensures in record {
       allowed = λ e. sym same ∙ sym c.deref-4.ensures.value ∙ c.is_refused.ensures.allowed c.if-is_refused.false e;
       noticed =
-          subst (λ places. TakesLines (g.E.Sink.taken c.args.err.now) (g.E.Sink.failures c.args.err.now)
+          subst (λ places. TakesLines (g.E.Messages.taken c.args.err.now) (g.E.Messages.failures c.args.err.now)
           (choice_notice_lines (map (λ (path : Bor (List ℕ)). path.now) c.args.paths.now) places)
-          (g.E.Sink.taken c.report_choices.new.err) (g.E.Sink.failures c.report_choices.new.err))
+          (g.E.Messages.taken c.report_choices.new.err) (g.E.Messages.failures c.report_choices.new.err))
           (c.deref-3.ensures.value ∙ same) c.report_choices.ensures;
       stopped = tt;
     }

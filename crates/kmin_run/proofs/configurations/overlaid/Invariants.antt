@@ -13,6 +13,6 @@ invariant-loop-path g l = record {
   settled : l.read.config.system ≡ l.settled;
   solved : IsSolved l.read.config;
   loaded : AreRead (g.F.Files.surroundings l.fn.files).content (file_format l.settings.format) l.settings.strict (tree_of_settled l.settled)
-      (map (λ (path : Bor (List ℕ)). path.now) (take l.path-index l.paths)) l.fn.begun.config.users l.read.config.users (lists_of l.fn.begun.chosen.items) (lists_of l.read.chosen.items) (g.E.Sink.taken l.fn.err)
-      (g.E.Sink.failures l.fn.err) (g.E.Sink.taken l.err) (g.E.Sink.failures l.err);
+      (map (λ (path : Bor (List ℕ)). path.now) (take l.path-index l.paths)) l.fn.begun.config.users l.read.config.users (lists_of l.fn.begun.chosen.items) (lists_of l.read.chosen.items) (g.E.Messages.taken l.fn.err)
+      (g.E.Messages.failures l.fn.err) (g.E.Messages.taken l.err) (g.E.Messages.failures l.err);
 }

@@ -6,6 +6,6 @@ use Rattle.kmin_run.proofs.configurations.report_choices.Given as goal
 
 abbrev pub invariant-loop-place : goal.invariant-loop-place
 invariant-loop-place g l =
-    TakesLines (g.E.Sink.taken l.fn.err) (g.E.Sink.failures l.fn.err)
+    TakesLines (g.E.Messages.taken l.fn.err) (g.E.Messages.failures l.fn.err)
     (choice_notice_lines (map (λ (path : Bor (List ℕ)). path.now) l.paths) (take l.place-index l.places))
-    (g.E.Sink.taken l.err) (g.E.Sink.failures l.err)
+    (g.E.Messages.taken l.err) (g.E.Messages.failures l.err)

@@ -6,5 +6,5 @@ use Rattle.kmin_run.proofs.configurations.report_notices.Given as goal
 
 abbrev pub invariant-loop-notice : goal.invariant-loop-notice
 invariant-loop-notice g l =
-    TakesLines (g.E.Sink.taken l.fn.err) (g.E.Sink.failures l.fn.err) (map (λ notice. notice_line l.path (notice_pair notice)) (take l.notice-index l.notices))
-    (g.E.Sink.taken l.err) (g.E.Sink.failures l.err)
+    TakesLines (g.E.Messages.taken l.fn.err) (g.E.Messages.failures l.fn.err) (map (λ notice. notice_line l.path (notice_pair notice)) (take l.notice-index l.notices))
+    (g.E.Messages.taken l.err) (g.E.Messages.failures l.err)

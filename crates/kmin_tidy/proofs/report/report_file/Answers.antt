@@ -14,6 +14,6 @@ returns g c =
     let same : map (λ notice. notice_line path (notice_pair notice)) c.deref.result.now ≡ notice_lines path (map notice_pair items) =
     ap (map (λ notice. notice_line path (notice_pair notice))) c.deref.ensures.value ∙ map_twice (notice_line path) notice_pair items in
     lines_append _ _ _ _ _ _ _ _
-    (subst (λ lines. TakesLines (g.E.Sink.taken c.args.err.now) (g.E.Sink.failures c.args.err.now) lines (g.E.Sink.taken c.report_notices.new.err)
-    (g.E.Sink.failures c.report_notices.new.err)) same c.report_notices.ensures)
+    (subst (λ lines. TakesLines (g.E.Messages.taken c.args.err.now) (g.E.Messages.failures c.args.err.now) lines (g.E.Messages.taken c.report_notices.new.err)
+    (g.E.Messages.failures c.report_notices.new.err)) same c.report_notices.ensures)
     c.report_problem.ensures

@@ -13,8 +13,8 @@ returns-clause-run g c =
     subst (λ (sys : Settled). IfOk c.tidy_each.result (λ tidied. (reports : List ErrorLine)
     × Tidies (settings_of sys c.args.format.now c.args.options) (g.D.ReadDisk.disk c.args.disk.now) (g.D.ReadDisk.disk c.tidy_each.new.disk)
     (paths_of c.args.paths.now) tidied.text.items reports tidied.status
-    × TakesLines (g.E.Sink.taken c.args.err.now) (g.E.Sink.failures c.args.err.now) reports (g.E.Sink.taken c.tidy_each.new.err)
-    (g.E.Sink.failures c.tidy_each.new.err)))
+    × TakesLines (g.E.Messages.taken c.args.err.now) (g.E.Messages.failures c.args.err.now) reports (g.E.Messages.taken c.tidy_each.new.err)
+    (g.E.Messages.failures c.tidy_each.new.err)))
     c.in_ok-config.ensures.settled c.tidy_each.ensures.run
 
 pub returns-clause-stopped : goal.returns-clause-stopped
@@ -22,8 +22,8 @@ returns-clause-stopped g c =
     subst (λ (sys : Settled). IfErr c.tidy_each.result (λ stop. (reports : List ErrorLine)
     × StopsRun (settings_of sys c.args.format.now c.args.options) (g.D.ReadDisk.disk c.args.disk.now)
     (g.D.ReadDisk.disk c.tidy_each.new.disk) (paths_of c.args.paths.now) reports stop
-    × TakesLines (g.E.Sink.taken c.args.err.now) (g.E.Sink.failures c.args.err.now) reports (g.E.Sink.taken c.tidy_each.new.err)
-    (g.E.Sink.failures c.tidy_each.new.err)))
+    × TakesLines (g.E.Messages.taken c.args.err.now) (g.E.Messages.failures c.args.err.now) reports (g.E.Messages.taken c.tidy_each.new.err)
+    (g.E.Messages.failures c.tidy_each.new.err)))
     c.in_ok-config.ensures.settled c.tidy_each.ensures.stopped
 
 pub returns-in_err-config-clause-stopped : goal.returns-in_err-config-clause-stopped

@@ -11,5 +11,5 @@ invariant-loop-path g l = record {
   ran : (reports : List ErrorLine)
       × Tidies (settings_of l.fn.config.system l.format l.options) (g.D.ReadDisk.disk l.fn.disk)
       (g.D.ReadDisk.disk l.disk) (paths_of (take l.path-index l.paths)) l.text.items reports l.status
-      × TakesLines (g.E.Sink.taken l.fn.err) (g.E.Sink.failures l.fn.err) reports (g.E.Sink.taken l.err) (g.E.Sink.failures l.err);
+      × TakesLines (g.E.Messages.taken l.fn.err) (g.E.Messages.failures l.fn.err) reports (g.E.Messages.taken l.err) (g.E.Messages.failures l.err);
 }

@@ -22,8 +22,8 @@ returns-in-Ok-clause-expanded g c =
     let reported = rw c.deref.ensures.value at c.report_macro_notices.ensures in (
       map notice_of items,
       expanded,
-      subst (λ ls. TakesLines (g.E.Sink.taken c.args.err.now) (g.E.Sink.failures c.args.err.now) ls (g.E.Sink.taken c.report_macro_notices.new.err)
-          (g.E.Sink.failures c.report_macro_notices.new.err)) (map_twice macro_notice_line notice_of items) reported,
+      subst (λ ls. TakesLines (g.E.Messages.taken c.args.err.now) (g.E.Messages.failures c.args.err.now) ls (g.E.Messages.taken c.report_macro_notices.new.err)
+          (g.E.Messages.failures c.report_macro_notices.new.err)) (map_twice macro_notice_line notice_of items) reported,
     )
 
 pub returns-clause-stopped : goal.returns-clause-stopped
@@ -31,9 +31,9 @@ returns-clause-stopped g c =
     let items = c.in_ok-notices.field-0.notices.items in
     let expanded = rw c.in-Err.is at c.in_ok-notices.ensures.expanded in
     let reported = rw c.deref-in-Err.ensures.value at c.report_macro_notices-in-Err.ensures in
-    let lines = subst (λ ls. TakesLines (g.E.Sink.taken c.args.err.now) (g.E.Sink.failures c.args.err.now) ls
-    (g.E.Sink.taken c.report_macro_notices-in-Err.new.err)
-    (g.E.Sink.failures c.report_macro_notices-in-Err.new.err)) (map_twice macro_notice_line notice_of items) reported in (
+    let lines = subst (λ ls. TakesLines (g.E.Messages.taken c.args.err.now) (g.E.Messages.failures c.args.err.now) ls
+    (g.E.Messages.taken c.report_macro_notices-in-Err.new.err)
+    (g.E.Messages.failures c.report_macro_notices-in-Err.new.err)) (map_twice macro_notice_line notice_of items) reported in (
       map macro_notice_line (map notice_of items) ++ macro_fault_line (fault_of c.in-Err.fault) ∷ [],
       at_fault (map notice_of items) (fault_of c.in-Err.fault) expanded refl refl,
       lines_append _ _ _ _ (map macro_notice_line (map notice_of items)) (macro_fault_line (fault_of c.in-Err.fault) ∷ []) _ _ lines

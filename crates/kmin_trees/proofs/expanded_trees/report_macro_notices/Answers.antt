@@ -13,5 +13,5 @@ pub loop-notice-preserved : goal.loop-notice-preserved
 loop-notice-preserved g c =
     lines_next (λ notice. macro_notice_line (notice_of notice)) c.args.notices.now c.loop-notice.notice-index
     c.notice-item.result _ _ _ _ _ _ (search rules) c.loop-notice.invariant
-    (subst (λ (notice : MacroNotice). TakesLine (g.E.Sink.taken c.loop-notice.err) (g.E.Sink.failures c.loop-notice.err) (macro_notice_line (notice_of notice))
-    (g.E.Sink.taken c.write_report.new.sink) (g.E.Sink.failures c.write_report.new.sink)) c.notice-item.is c.write_report.ensures)
+    (subst (λ (notice : MacroNotice). TakesLine (g.E.Messages.taken c.loop-notice.err) (g.E.Messages.failures c.loop-notice.err) (macro_notice_line (notice_of notice))
+    (g.E.Messages.taken c.write_report.new.self) (g.E.Messages.failures c.write_report.new.self)) c.notice-item.is c.write_report.ensures)

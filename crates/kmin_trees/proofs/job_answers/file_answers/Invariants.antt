@@ -9,5 +9,5 @@ invariant-loop-path g l = record {
   same : g.F.Files.surroundings l.files ≡ g.F.Files.surroundings l.fn.files;
   rising : g.F.Files.failures l.fn.files ≤ g.F.Files.failures l.files;
   recorded : FilesRecord (g.F.Files.surroundings l.fn.files).content (map (λ (path : Bor (List ℕ)). path.now) (take l.path-index l.paths)) [] l.answers;
-  reported : TakesLines (g.E.Sink.taken l.fn.err) (g.E.Sink.failures l.fn.err) [] (g.E.Sink.taken l.err) (g.E.Sink.failures l.err);
+  reported : TakesLines (g.E.Messages.taken l.fn.err) (g.E.Messages.failures l.fn.err) [] (g.E.Messages.taken l.err) (g.E.Messages.failures l.err);
 }

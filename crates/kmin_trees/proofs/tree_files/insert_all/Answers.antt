@@ -1,4 +1,4 @@
-use Rattle.std.proofs.Common.{◌≡◌, ◌+◌, ◌∙◌, None, ap, subst, take, arith, refl, List, ℕ, get_or}
+use Rattle.std.proofs.Common.{rules, ◌≡◌, ◌+◌, ◌∙◌, None, ap, subst, take, arith, refl, List, ℕ, get_or}
 use Rattle.std.specs.Prelude.{string_bytes}
 use Rattle.std.proofs.lemmas.List.{take_all}
 use Rattle.std.proofs.lemmas.List.Elements.{All-map}
@@ -52,3 +52,9 @@ returns-clause-inserted g c =
           → MayBeMissing (known.content (path_below c.args.root.now path)) (g.F.Files.failures c.args.files.now) (g.F.Files.failures c.paths.files))
           string_bytes c.args.paths.now (rw all at (i.tried le));
     }
+
+pub returns-in_err-inserted : goal.returns-in_err-inserted
+returns-in_err-inserted g c = search rules
+
+pub returns-then-is_used : goal.returns-then-is_used
+returns-then-is_used g c = search rules

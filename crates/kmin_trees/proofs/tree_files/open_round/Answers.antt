@@ -27,3 +27,9 @@ returns-in-Err-2-clause-missing g c =
     let other : c.in-Err.fault.kind ≢ OutOfMemory = first_of (search rules, grind (arith, common_steps)) in
     λ _. lacks_by_fault (g.F.Files.surroundings c.args.files.now).content c.args.root.now c.args.first.now c.args.texts.now _ _ c.in-Err.fault
     c.in-Err.ensures.fault other
+
+pub returns-in-Err : goal.returns-in-Err
+returns-in-Err g c = search rules
+
+pub returns-in_err-insert_all-in-Ok : goal.returns-in_err-insert_all-in-Ok
+returns-in_err-insert_all-in-Ok g c = search rules

@@ -13,5 +13,5 @@ invariant-loop-path g l = record {
   input_unfailed : g.I.Source.failures l.input ≡ g.I.Source.failures l.fn.input;
   untouched : inputs_named (map (λ (path : Bor (List ℕ)). path.now) (take l.path-index l.paths)) ≡ 0 → g.I.Source.left l.input ≡ g.I.Source.left l.fn.input;
   read : AreFilesRead (g.F.Files.surroundings l.fn.files).content (g.I.Source.left l.fn.input) (map (λ (path : Bor (List ℕ)). path.now) (take l.path-index l.paths)) (texts_of l.all);
-  reported : TakesLines (g.E.Sink.taken l.fn.err) (g.E.Sink.failures l.fn.err) [] (g.E.Sink.taken l.err) (g.E.Sink.failures l.err);
+  reported : TakesLines (g.E.Messages.taken l.fn.err) (g.E.Messages.failures l.fn.err) [] (g.E.Messages.taken l.err) (g.E.Messages.failures l.err);
 }

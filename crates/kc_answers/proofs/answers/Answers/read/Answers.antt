@@ -1,4 +1,4 @@
-use Rattle.std.proofs.Common.{◌∙◌, ap, sym, inl, inr, ⊎_elim, take}
+use Rattle.std.proofs.Common.{rules, ◌∙◌, ap, sym, inl, inr, ⊎_elim, take}
 use Rattle.kc_value.specs.declared.limits.TheConstants.{MAX_ANSWER_BYTES}
 use Rattle.kc_tree_model.specs.LogicalLines.{split_at_newlines}
 use Rattle.kc_macros_model.specs.declared.fault.AnswersFault.{AnswersFault}
@@ -43,3 +43,6 @@ returns-clause-no_memory g c =
     memory_has_no_line (g.R.Source.left c.args.source.now) (g.R.Source.left c.read_whole.new.source) (g.R.Source.failures c.args.source.now)
     (g.R.Source.failures c.read_whole.new.source) _ c.args.self.now c.in-Ok.ensures.read c.in-Ok.cut c.in-Ok.ensures.end c.in-Err.fault
     (⊎_elim (λ m. inl m) (λ h. inr (e ∙ h)) c.in-Err.ensures.err)
+
+pub returns-in_default : goal.returns-in_default
+returns-in_default g c = search rules

@@ -32,3 +32,6 @@ returns-clause-ok c =
     let same : c.push_first.new.self ≡ old = c.in_ok-push_first.ensures.ok ∙ sym (kept_there path path c.in_ok-clone.field-0.value.items old there) in
     let beside = c.keep_beside-2 in
     subst (λ (fs : List ExpandedFile). IfOk beside.result (λ key. beside.new.self ≡ with_file (key_of root fs path text) path text fs)) same beside.ensures.ok
+
+pub returns-then-eq : goal.returns-then-eq
+returns-then-eq c = search rules

@@ -39,3 +39,6 @@ returns-in_err-insert-clause-grows g c =
     subst (λ (fs : List (List ℕ × FileRead)). let new : KnownFiles = record { files = fs; folders = old.folders } in
     Grows (g.F.TreeFiles.contents c.args.files.now) (g.F.TreeFiles.contents c.read_file.new.files) (known_of old) new) (sym same)
     (grows_later _ _ (known_of old) c.read_file.ensures.same)
+
+pub returns-in-Some : goal.returns-in-Some
+returns-in-Some g c = search rules

@@ -33,3 +33,6 @@ returns-clause-listed g c =
 
 pub returns-in_err-read-clause-grows : goal.returns-in_err-read-clause-grows
 returns-in_err-read-clause-grows g c = grows_later _ _ _ c.list_folder.ensures.same
+
+pub returns-then-is_some : goal.returns-then-is_some
+returns-then-is_some g c = search rules

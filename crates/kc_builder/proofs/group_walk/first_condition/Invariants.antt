@@ -1,6 +1,0 @@
-use Rattle.std.specs.Prelude.{◌≡◌, drop}
-use Rattle.kc_builder.specs.checker.Firsts.{first_prompt}
-use Rattle.kc_builder.proofs.group_walk.first_condition.Given as goal
-
-abbrev pub invariant-loop-i : goal.invariant-loop-i
-invariant-loop-i l = first_prompt l.lines l.conditions ≡ first_prompt (drop l.i l.lines) (drop l.i l.conditions)

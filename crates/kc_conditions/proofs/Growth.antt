@@ -1,0 +1,222 @@
+-- Joined expressions stay so as the arena grows.
+use Rattle.std.proofs.Common.{◌≡◌, ℕ, ◌<◌, Bool, true, false, cond, List, [], ◌∷◌, ◌++◌, length, get_or, take, map, Option, Some, None, suc, ◌+◌, refl, ap, sym, subst, ◌∙◌, arith, append_assoc, append-nil}
+use Rattle.std.specs.Prelude.{All, IfSome}
+use Rattle.std.proofs.lemmas.List.{map-append, take_more}
+use Rattle.std.proofs.lemmas.List.Elements.{All-append, All-cons, All-nil}
+use Rattle.kc_expr.specs.between.Arena.{Exprs, Represents, node_expr, Grows}
+use Rattle.kc_expr.specs.Expr.{Expr}
+use Rattle.kc_expr.proofs.StoreLemmas.{represents_on}
+use Rattle.kc_statements.specs.between.StatementViews.{AttributeNodesExist, IfNodeExists}
+use Rattle.kc_statements.specs.declared.statement.Attribute.{Attribute as CodeAttribute}
+use Rattle.kc_statements.specs.declared.statement.Attribute.TheVariants as attributes
+use Rattle.kc_statements.proofs.ArenaGrowth.{grows_on}
+use Rattle.kc_statements.proofs.GrownArenas.{node_held, node_same}
+use Rattle.kc_listing.specs.declared.listing.Line.{Line as CodeLine}
+use Rattle.kc_listing.specs.between.ListingView.{LineNodesExist}
+use Rattle.kc_tree_model.specs.Conditions.{conjunction_of, visible_conjunct}
+use Rattle.kc_conditions.specs.checker.Conjunctions.{Conjoins, conjunct}
+use Rattle.kc_checks.specs.between.Attributes.{is_prompt}
+use Rattle.kc_conditions.specs.checker.Conjuncts.{if_view, conjunct_view, conjunct_views, AreJoined, AreAppended, condition_view, line_condition}
+use Rattle.kc_conditions.specs.between.Walks.{or_yes}
+use Rattle.kc_conditions.specs.declared.conditions.Conjuncts.{Conjuncts}
+use Rattle.kc_conditions.specs.declared.conditions.Conjuncts.TheVariants.{Dependencies, Visibles}
+use Rattle.kc_conditions.specs.declared.conditions.EntryConditions.{EntryConditions}
+
+pub conjoins_on : (old new : Exprs) → Grows old new → (o : Option ℕ) (es : List Expr) → Conjoins old o es → Conjoins new o es
+conjoins_on old new g None es h = h
+conjoins_on old new g (Some i) es h = (h.0, represents_on old new i (conjunction_of es) g h.1)
+
+pub there_on : (old new : Exprs) → Grows old new → (o : Option ℕ) → IfSome o (λ i. i < length old.nodes) → IfSome o (λ i. i < length new.nodes)
+there_on old new g None h = tt
+there_on old new g (Some i) h = node_held old new i g h
+
+-- the number of a conjunction, if it has one, is a node of the arena
+pub conjoins_there : (exprs : Exprs) (o : Option ℕ) (es : List Expr) → Conjoins exprs o es → IfSome o (λ i. i < length exprs.nodes)
+conjoins_there exprs None es h = tt
+conjoins_there exprs (Some i) es h = h.1.within
+
+-- an optional node is the conjunction of its own expression, or without a node of nothing
+pub conjoins_own : (exprs : Exprs) (o : Option ℕ) → IfSome o (λ i. i < length exprs.nodes) → Conjoins exprs o (conjunct exprs o)
+conjoins_own exprs None h = refl
+conjoins_own exprs (Some i) h = (omega arith, record { within = h; is = refl })
+
+pub conjunct_on : (old new : Exprs) → Grows old new → (o : Option ℕ) → IfSome o (λ i. i < length old.nodes) → conjunct new o ≡ conjunct old o
+conjunct_on old new g None h = refl
+conjunct_on old new g (Some i) h = ap (λ e. e ∷ []) (node_same old new i g h)
+
+pub joined_on : (old new : Exprs) → Grows old new → (e : EntryConditions) (ds vs own : List Expr) → AreJoined old e ds vs own → AreJoined new e ds vs own
+joined_on old new g e ds vs own j = record {
+  dependencies_are = conjoins_on old new g e.dependencies ds j.dependencies_are;
+  visibles_are = conjoins_on old new g e.visibles (vs ++ own) j.visibles_are;
+  shown_is = conjoins_on old new g e.shown (ds ++ visible_conjunct vs) j.shown_is;
+}
+
+-- the conjunct of an attribute whose nodes exist is a node of the arena
+pub reported_there : (w : Conjuncts) (exprs : Exprs) (a : CodeAttribute) → AttributeNodesExist exprs a
+    → IfSome (conjunct_view w a) (λ i. i < length exprs.nodes)
+reported_there Dependencies exprs (attributes.Typed k) h = tt
+reported_there Dependencies exprs (attributes.TypedPrompt k c) h = tt
+reported_there Dependencies exprs (attributes.TypedDefault k d) h = tt
+reported_there Dependencies exprs (attributes.Prompt c) h = tt
+reported_there Dependencies exprs (attributes.Default d) h = tt
+reported_there Dependencies exprs (attributes.Depends id) h = h
+reported_there Dependencies exprs (attributes.Select s) h = tt
+reported_there Dependencies exprs (attributes.Imply s) h = tt
+reported_there Dependencies exprs (attributes.Range r) h = tt
+reported_there Dependencies exprs (attributes.Visible id) h = tt
+reported_there Dependencies exprs attributes.Help h = tt
+reported_there Dependencies exprs attributes.Modules h = tt
+reported_there Dependencies exprs attributes.Optional h = tt
+reported_there Visibles exprs (attributes.Typed k) h = tt
+reported_there Visibles exprs (attributes.TypedPrompt k c) h = tt
+reported_there Visibles exprs (attributes.TypedDefault k d) h = tt
+reported_there Visibles exprs (attributes.Prompt c) h = tt
+reported_there Visibles exprs (attributes.Default d) h = tt
+reported_there Visibles exprs (attributes.Depends id) h = tt
+reported_there Visibles exprs (attributes.Select s) h = tt
+reported_there Visibles exprs (attributes.Imply s) h = tt
+reported_there Visibles exprs (attributes.Range r) h = tt
+reported_there Visibles exprs (attributes.Visible id) h = h
+reported_there Visibles exprs attributes.Help h = tt
+reported_there Visibles exprs attributes.Modules h = tt
+reported_there Visibles exprs attributes.Optional h = tt
+
+if_there : (exprs : Exprs) (c : Option ℕ) → IfNodeExists exprs c → IfSome c (λ i. i < length exprs.nodes)
+if_there exprs None h = tt
+if_there exprs (Some i) h = h
+
+-- the `if` of an attribute whose nodes exist is a node of the arena
+pub if_node_exists : (exprs : Exprs) (a : CodeAttribute) → AttributeNodesExist exprs a → IfSome (if_view a) (λ i. i < length exprs.nodes)
+if_node_exists exprs (attributes.Typed k) h = tt
+if_node_exists exprs (attributes.TypedPrompt k c) h = if_there exprs c h
+if_node_exists exprs (attributes.TypedDefault k d) h = if_there exprs d.condition h.1
+if_node_exists exprs (attributes.Prompt c) h = if_there exprs c h
+if_node_exists exprs (attributes.Default d) h = if_there exprs d.condition h.1
+if_node_exists exprs (attributes.Depends id) h = tt
+if_node_exists exprs (attributes.Select s) h = if_there exprs s.condition h.1
+if_node_exists exprs (attributes.Imply s) h = if_there exprs s.condition h.1
+if_node_exists exprs (attributes.Range r) h = if_there exprs r.condition h.2
+if_node_exists exprs (attributes.Visible id) h = tt
+if_node_exists exprs attributes.Help h = tt
+if_node_exists exprs attributes.Modules h = tt
+if_node_exists exprs attributes.Optional h = tt
+
+reported_append : (w : Conjuncts) (exprs : Exprs) (xs ys : List CodeLine)
+    → conjunct_views w exprs (xs ++ ys) ≡ conjunct_views w exprs xs ++ conjunct_views w exprs ys
+reported_append w exprs [] ys = refl
+reported_append w exprs (x ∷ xs) ys =
+    ap (λ es. conjunct exprs (conjunct_view w x.attribute) ++ es) (reported_append w exprs xs ys)
+    ∙ sym (append_assoc (conjunct exprs (conjunct_view w x.attribute)) (conjunct_views w exprs xs) (conjunct_views w exprs ys))
+
+-- the conjuncts of the first `k + 1` attribute lines are those of the first `k` and, after them, that of line `k`
+pub reported_more : (w : Conjuncts) (exprs : Exprs) (lines : List CodeLine) (k : ℕ) (d : CodeLine) → k < length lines
+    → conjunct_views w exprs (take (k + 1) lines) ≡ conjunct_views w exprs (take k lines) ++ conjunct exprs (conjunct_view w (get_or lines k d).attribute)
+reported_more w exprs lines k d h =
+    ap (conjunct_views w exprs) (take_more lines k d h) ∙ reported_append w exprs (take k lines) (get_or lines k d ∷ [])
+    ∙ ap (λ es. conjunct_views w exprs (take k lines) ++ es) (append-nil (conjunct exprs (conjunct_view w (get_or lines k d).attribute)))
+
+-- the conjuncts of attribute lines are the same after the arena grew
+pub reported_on : (w : Conjuncts) (old new : Exprs) (lines : List CodeLine) → Grows old new → All (LineNodesExist old) lines
+    → conjunct_views w new lines ≡ conjunct_views w old lines
+reported_on w old new [] g h = refl
+reported_on w old new (l ∷ lines) g h =
+    let a : AttributeNodesExist old l.attribute = h 0 l (omega arith) in
+    let e = conjunct_on old new g (conjunct_view w l.attribute) (reported_there w old l.attribute a) in
+    let f = reported_on w old new lines g (λ k d i. h (suc k) d (omega arith)) in
+    cc
+
+-- an optional conjunction, or `y` without one, represents the conjunction of all its conjuncts
+pub represents_all : (exprs : Exprs) (o : Option ℕ) (y : ℕ) (es : List Expr) → Conjoins exprs o es → Represents exprs y (conjunction_of [])
+    → Represents exprs (or_yes y o) (conjunction_of es)
+represents_all exprs None y es h s = subst (λ xs. Represents exprs y (conjunction_of xs)) (sym h) s
+represents_all exprs (Some i) y es h s = h.1
+
+-- the number of a conjunction of `visible if`s, as a list of conjuncts, is the one conjunct that the model makes of them
+pub one_visible : (exprs : Exprs) (o : Option ℕ) (vs : List Expr) → Conjoins exprs o vs → conjunct exprs o ≡ visible_conjunct vs
+one_visible exprs None vs h = rw h refl
+one_visible exprs (Some i) [] h = absurd (omega (arith, h.0))
+one_visible exprs (Some i) (v ∷ vs) h = ap (λ e. e ∷ []) h.1.is
+
+-- the conjunct of line `k` joined to those of the lines before it gives the conjunction of the first `k + 1` lines
+pub with_more : (old mid new : Exprs) (w : Conjuncts) (lines : List CodeLine) (k : ℕ) (d : CodeLine) (all joined c more : Option ℕ) → Grows old mid
+    → All (LineNodesExist old) lines → k < length lines → d ≡ get_or lines k d → more ≡ conjunct_view w d.attribute
+    → ((es : List Expr) → Conjoins old all es → Conjoins mid joined (es ++ conjunct_views w old (take k lines)))
+    → ((es : List Expr) → Conjoins mid joined es → Conjoins new c (es ++ conjunct mid more))
+    → (es : List Expr) → Conjoins old all es → Conjoins new c (es ++ conjunct_views w old (take (k + 1) lines))
+with_more old mid new w lines k d all joined c more g held h e m f step es j =
+    let a : AttributeNodesExist old (get_or lines k d).attribute = held k d h in
+    let n : more ≡ conjunct_view w (get_or lines k d).attribute = m ∙ ap (λ (l : CodeLine). conjunct_view w l.attribute) e in
+    let t : IfSome (conjunct_view w (get_or lines k d).attribute) (λ i. i < length old.nodes) = reported_there w old (get_or lines k d).attribute a in
+    let same : conjunct mid more ≡ conjunct old (conjunct_view w (get_or lines k d).attribute) = ap (conjunct mid) n
+    ∙ conjunct_on old mid g (conjunct_view w (get_or lines k d).attribute) t in
+    subst (Conjoins new c)
+    (append_assoc es (conjunct_views w old (take k lines)) (conjunct mid more) ∙ ap (λ xs. es ++ (conjunct_views w old (take k lines) ++ xs)) same
+    ∙ ap (λ xs. es ++ xs) (sym (reported_more w old lines k d h)))
+    (step (es ++ conjunct_views w old (take k lines)) (f es j))
+
+by_test : (b : Bool) (x y u v : Expr) → x ≡ u → y ≡ v → cond b x y ≡ cond b u v
+by_test true x y u v e f = e
+by_test false x y u v e f = f
+
+-- the joined condition of an attribute is the same after the arena grew
+pub condition_on : (old new : Exprs) (ds vs : List Expr) (a : CodeAttribute) → Grows old new → AttributeNodesExist old a
+    → condition_view new ds vs a ≡ condition_view old ds vs a
+condition_on old new ds vs a g h =
+    let e = conjunct_on old new g (if_view a) (if_node_exists old a h) in
+    by_test (is_prompt a) _ _ _ _ (ap (λ c. conjunction_of (ds ++ (visible_conjunct vs ++ c))) e) (ap (λ c. conjunction_of (ds ++ c)) e)
+
+pub represent_on : (old new : Exprs) (ids : List ℕ) → Grows old new → All (λ i. i < length old.nodes) ids → map (node_expr new) ids ≡ map (node_expr old) ids
+represent_on old new [] g h = refl
+represent_on old new (i ∷ ids) g h =
+    let e = node_same old new i g (h 0 0 (omega arith)) in
+    let f = represent_on old new ids g (λ k d l. h (suc k) d (omega arith)) in
+    cc
+
+pub held_on : (old new : Exprs) (ids : List ℕ) → Grows old new → All (λ i. i < length old.nodes) ids → All (λ i. i < length new.nodes) ids
+held_on old new ids g h = λ k d l. node_held old new (get_or ids k d) g (h k d l)
+
+-- the condition of line `k` appended to those of the lines before it gives the conditions of the first `k + 1` lines
+pub after_more : (old mid new : Exprs) (before after : List ℕ) (ds vs : List Expr) (lines : List CodeLine) (k id : ℕ) (d : CodeLine) → Grows old mid
+    → Grows mid new → All (LineNodesExist old) lines → k < length lines → d ≡ get_or lines k d
+    → AreAppended old mid before after ds vs (take k lines) → Represents new id (condition_view mid ds vs d.attribute)
+    → AreAppended old new before (after ++ id ∷ []) ds vs (take (k + 1) lines)
+after_more old mid new before after ds vs lines k id d g m held h e b s =
+    let l : d ≡ get_or lines k d = e in
+    let a : AttributeNodesExist old d.attribute = subst (λ (x : CodeLine). AttributeNodesExist old x.attribute) (sym l) (held k d h) in
+    let here : node_expr new id ≡ line_condition old ds vs (get_or lines k d) = s.is ∙ condition_on old mid ds vs d.attribute g a
+    ∙ ap (line_condition old ds vs) l in
+    record {
+      own = b.own ++ id ∷ [];
+      is = ap (λ xs. xs ++ id ∷ []) b.is ∙ append_assoc before b.own (id ∷ []);
+      exprs_are = map-append (node_expr new) b.own (id ∷ [])
+          ∙ ap (λ xs. xs ++ node_expr new id ∷ []) (represent_on mid new b.own m b.held ∙ b.exprs_are)
+          ∙ ap (λ x. map (line_condition old ds vs) (take k lines) ++ x ∷ []) here
+          ∙ sym (map-append (line_condition old ds vs) (take k lines) (get_or lines k d ∷ []))
+          ∙ ap (map (line_condition old ds vs)) (sym (take_more lines k d h));
+      held = All-append (λ i. i < length new.nodes) b.own (id ∷ []) (held_on mid new b.own m b.held)
+          (All-cons (λ i. i < length new.nodes) id [] s.within (All-nil (λ i. i < length new.nodes)));
+    }
+
+-- an unchanged list of conditions has those of no attribute lines appended
+pub none_after : (exprs : Exprs) (before : List ℕ) (ds vs : List Expr) → AreAppended exprs exprs before before ds vs []
+none_after exprs before ds vs = record { own = []; is = sym (append-nil before); exprs_are = refl; held = All-nil (λ i. i < length exprs.nodes) }
+
+-- the enclosing conditions and an entry's own conjuncts, joined one after the other, are the entry's joined conditions
+pub entry_joined : (old mid far new : Exprs) (lines : List CodeLine) (dependencies visibles d v s : Option ℕ) → Grows old mid → Grows mid far → Grows far new
+    → All (LineNodesExist old) lines
+    → IfSome visibles (λ i. i < length old.nodes)
+    → ((es : List Expr) → Conjoins old dependencies es → Conjoins mid d (es ++ conjunct_views Dependencies old lines))
+    → ((es : List Expr) → Conjoins mid visibles es → Conjoins far v (es ++ conjunct_views Visibles mid lines))
+    → ((es : List Expr) → Conjoins far d es → Conjoins new s (es ++ conjunct far visibles))
+    → (ds vs : List Expr) → Conjoins old dependencies ds → Conjoins old visibles vs
+    → AreJoined new (record { dependencies = d; visibles = v; shown = s }) (ds ++ conjunct_views Dependencies old lines) vs (conjunct_views Visibles old lines)
+entry_joined old mid far new lines dependencies visibles d v s g h i held there f k l ds vs p q =
+    let dm = f ds p in
+    let same : conjunct far visibles ≡ visible_conjunct vs = one_visible far visibles vs (conjoins_on old far (grows_on old mid far g h) visibles vs q) in
+    record {
+      dependencies_are = conjoins_on mid new (grows_on mid far new h i) d (ds ++ conjunct_views Dependencies old lines) dm;
+      visibles_are = conjoins_on far new i v (vs ++ conjunct_views Visibles old lines)
+          (subst (λ es. Conjoins far v (vs ++ es)) (reported_on Visibles old mid lines g held) (k vs (conjoins_on old mid g visibles vs q)));
+      shown_is = subst (λ es. Conjoins new s ((ds ++ conjunct_views Dependencies old lines) ++ es)) same
+          (l (ds ++ conjunct_views Dependencies old lines) (conjoins_on mid far h d (ds ++ conjunct_views Dependencies old lines) dm));
+    }

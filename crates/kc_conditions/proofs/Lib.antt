@@ -1,0 +1,4 @@
+pub mod ConjunctionLemmas
+pub mod GroupConditionLemmas
+pub mod Growth
+pub mod WalkSteps

@@ -1,0 +1,2 @@
+pub mod between
+pub mod checker

@@ -1,0 +1,2 @@
+pub mod Conjunctions
+pub mod Conjuncts

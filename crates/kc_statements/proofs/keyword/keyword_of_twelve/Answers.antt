@@ -1,6 +1,0 @@
-use Rattle.kc_statements.specs.checker.WordLengths.{of_length}
-use Rattle.kc_statements.proofs.WordLemmas.{absent}
-use Rattle.kc_statements.proofs.keyword.keyword_of_twelve.Goals as goal
-
-pub returns-in_default : goal.returns-in_default
-returns-in_default c = record { value = absent (of_length 12) c.args.word.now (c.in_default.not-def_tristate, (c.in_default.not-transitional, tt)) }
