@@ -16,7 +16,7 @@ use Rattle.kc_reasons_model.specs.declared.cases.TriCase.TheVariants as tri
 use Rattle.kc_reasons_model.specs.declared.cases.TextCase.TheVariants as text
 use Rattle.kc_reasons_model.specs.Reasons.{ExplainedRun, LowPart, low_part, low_parts, names_of, is_empty, unless_one_lacks_nothing}
 use Rattle.kc_located_reasons.specs.LocatedNeeds.{LocatedPart, at_place, lacking_at, located_lacking}
-use Rattle.kc_located_reasons.specs.Laws.{told, NeedsAreLocated, UnmetAreLocated, GivenPlacesAreTold}
+use Rattle.kc_located_reasons.specs.Laws.{told, NeedsAreLocated, UnmetAreLocated, GivenPlacesAgree}
 
 module _ (run : ExplainedRun) where
   parts_told : (at : Position) (ps : List Part) → map (low_part run at) ps ≡ map (told run) (map (at_place at) ps)
@@ -69,7 +69,7 @@ unmet run symbol lines =
     some_or true lists = refl
     some_or false lists = refl
 
-pub given : GivenPlacesAreTold
+pub given : GivenPlacesAgree
 given run symbol lines (cases.Tri tri.User lift) = refl
 given run symbol lines (cases.Tri tri.Visibility lift) = refl
 given run symbol lines (cases.Tri tri.Default lift) = refl

@@ -24,6 +24,6 @@ UnmetAreLocated = (run : ExplainedRun) (symbol : Symbol) (lines : SymbolLines)
     → unmet_parts run symbol lines ≡ map (map (told run)) (dependencies_lack_at run.tree run.values symbol lines)
 
 -- law: and so for the place of what gives the value
-abbrev pub GivenPlacesAreTold : Type 0
-GivenPlacesAreTold = (run : ExplainedRun) (symbol : Symbol) (lines : SymbolLines) (case : Case)
+abbrev pub GivenPlacesAgree : Type 0
+GivenPlacesAgree = (run : ExplainedRun) (symbol : Symbol) (lines : SymbolLines) (case : Case)
     → place_of_case run symbol lines case ≡ given_place run.tree run.values symbol lines case

@@ -1,4 +1,4 @@
-use Rattle.kc_located_reasons.proofs.laws.given_places_are_told.Goals as goal
+use Rattle.kc_located_reasons.proofs.laws.given_places_agree.Goals as goal
 use Rattle.kc_located_reasons.proofs.LocatedLaws.{given as law}
 
 pub returns : goal.returns
