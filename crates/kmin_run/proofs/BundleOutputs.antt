@@ -21,7 +21,7 @@ use Rattle.kc_dotconfig.specs.ConfigStates.{Configured, IsSolved, tree_in}
 use Rattle.kc_dotconfig.specs.Fragments.{users_of}
 use Rattle.kc_dotconfig.specs.ReadResults.{IsReadAs}
 use Rattle.kc_minimal_model.specs.FullFile.{full_file}
-use Rattle.kmin_words.specs.declared.job.Verb.TheVariants.{Full}
+use Rattle.kmin_options.specs.declared.job.Verb.TheVariants.{Full}
 use Rattle.kmin_report.specs.declared.run_error.RunError.{RunError}
 use Rattle.kmin_report.specs.Reports.{ErrorLine, notice_lines, choice_notice_lines, last_lines}
 use Rattle.kmin_report.specs.StandardError.{TakesLines}

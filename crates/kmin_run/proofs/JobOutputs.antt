@@ -16,9 +16,9 @@ use Rattle.kc_rules_model.specs.declared.values.UnitValue.{UnitValue}
 use Rattle.kc_dotconfig.specs.ConfigStates.{Configured, IsSolved, tree_in}
 use Rattle.kc_minimal_model.specs.Differences.{differences}
 use Rattle.kc_files.specs.TreeContents.{FileContent}
-use Rattle.kmin_words.specs.Jobs.{Settings, Task, over, compare}
-use Rattle.kmin_words.specs.declared.job.Verb.{Verb}
-use Rattle.kmin_words.specs.declared.job.Verb.TheVariants.{Min, Full, Missed, Check}
+use Rattle.kmin_options.specs.Jobs.{Settings, Task, over, compare}
+use Rattle.kmin_options.specs.declared.job.Verb.{Verb}
+use Rattle.kmin_options.specs.declared.job.Verb.TheVariants.{Min, Full, Missed, Check}
 use Rattle.kc_minimal_model.specs.CanonicalText.{IsCanonicalText}
 use Rattle.kc_rules_model.specs.declared.values.UserValue.{UserValue}
 use Rattle.kmin_report.specs.declared.run_error.RunError.{RunError}

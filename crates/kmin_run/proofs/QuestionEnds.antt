@@ -3,7 +3,7 @@ use Rattle.std.proofs.Common.{◌≡◌, ℕ, List, [], ◌∷◌, ◌++◌, Opt
 use Rattle.std.specs.List.{flat_map}
 use Rattle.std.specs.declared.alloc.Global.{Global}
 use Rattle.kc_files.specs.TextViews.{items_of}
-use Rattle.kmin_words.specs.Jobs.{Questions}
+use Rattle.kmin_options.specs.Jobs.{Questions}
 use Rattle.kmin_report.specs.declared.run_error.RunError.{RunError}
 use Rattle.kmin_trees.specs.FileContents.{Surroundings}
 use Rattle.kmin_report.specs.Reports.{ErrorLine, last_lines, output_line}

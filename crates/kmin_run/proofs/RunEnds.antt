@@ -14,7 +14,7 @@ use Rattle.kmin_trees.specs.WordFiles as stops
 use Rattle.kmin_report.specs.declared.run_error.RunError.{RunError}
 use Rattle.kmin_report.specs.declared.run_error.RunError.TheVariants.{Tree, Configuration, Failed, Memory}
 use Rattle.kmin_report.specs.between.RunErrors.{status_of}
-use Rattle.kmin_words.specs.Jobs.{Settings, Questions, Task}
+use Rattle.kmin_options.specs.Jobs.{Settings, Questions, Task}
 use Rattle.kmin_words.specs.Parses.{AreParsedBeside, AreReadAs}
 use Rattle.kmin_words.specs.WordOrder.{command_first}
 use Rattle.kmin_words.specs.declared.command_line.ParsedWords.{ParsedWords}

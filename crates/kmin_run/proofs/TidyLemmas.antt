@@ -22,9 +22,9 @@ use Rattle.kmin_report.specs.between.RunErrors as errors
 use Rattle.kmin_report.proofs.WriterLemmas.{lines_append, lines_one}
 use Rattle.kmin_lines.specs.Lists.{paths_in}
 use Rattle.kmin_tidy.specs.declared.options.TidyOptions.{TidyOptions}
-use Rattle.kmin_words.specs.declared.job.TidyFlags.{TidyFlags}
-use Rattle.kmin_words.specs.Jobs as jobs
-use Rattle.kmin_words.specs.Jobs.{TidyJob}
+use Rattle.kmin_options.specs.declared.job.TidyFlags.{TidyFlags}
+use Rattle.kmin_options.specs.Jobs as jobs
+use Rattle.kmin_options.specs.Jobs.{TidyJob}
 use Rattle.kc_rules.specs.declared.rules.Settled.{Settled}
 use Rattle.kc_rules.specs.between.SettledViews.{tree_of_settled, profile_of}
 use Rattle.kc_dotconfig_model.specs.declared.format.Format.{Format}

@@ -20,9 +20,9 @@ use Rattle.kc_minimal_model.specs.Differences.{Difference, differences}
 use Rattle.kc_dotconfig_model.specs.declared.format.Strings.{Strings}
 use Rattle.kc_minimal_model.specs.SymbolLine.{spelled}
 use Rattle.kc_files.specs.TreeContents.{FileContent}
-use Rattle.kmin_words.specs.Jobs.{Settings, Task, over, compare}
-use Rattle.kmin_words.specs.declared.job.Verb.{Verb}
-use Rattle.kmin_words.specs.declared.job.Verb.TheVariants.{Min, Full, Missed, Check}
+use Rattle.kmin_options.specs.Jobs.{Settings, Task, over, compare}
+use Rattle.kmin_options.specs.declared.job.Verb.{Verb}
+use Rattle.kmin_options.specs.declared.job.Verb.TheVariants.{Min, Full, Missed, Check}
 use Rattle.kmin_report.specs.KnownBytes.{AreKnownBytes}
 use Rattle.kmin_report.specs.Reports.{ErrorLine, name_at, notice_lines, choice_notice_lines}
 use Rattle.kmin_trees.specs.AcceptedTrees.{AreAccepted}

@@ -10,8 +10,8 @@ use Rattle.kc_dotconfig_model.specs.Formats.{plain_format}
 use Rattle.kc_dotconfig_model.specs.declared.fault.LoadKind.{LoadKind}
 use Rattle.kc_dotconfig_model.specs.declared.fault.LoadKind.TheVariants.{Read, TooLarge}
 use Rattle.kc_files.specs.TreeContents.{FileContent}
-use Rattle.kmin_words.specs.Jobs.{Settings, Task, over}
-use Rattle.kmin_words.specs.declared.job.Verb.TheVariants.{Full}
+use Rattle.kmin_options.specs.Jobs.{Settings, Task, over}
+use Rattle.kmin_options.specs.declared.job.Verb.TheVariants.{Full}
 use Rattle.kmin_report.specs.Reports.{ErrorLine, fault_line, output_line}
 use Rattle.kmin_run.specs.Bundles.{IsBundle, ReadsToEnd}
 use Rattle.kmin_run.specs.Answers.{Answer}

@@ -1,7 +1,7 @@
 -- Outputs of which a part is written.
 use Rattle.std.specs.Prelude.{ℕ, ◌<◌, List, Option, length, take}
 use Rattle.std.specs.Io.KnownBytes.{Appends}
-use Rattle.kmin_words.specs.Jobs.{Settings, Task}
+use Rattle.kmin_options.specs.Jobs.{Settings, Task}
 use Rattle.kmin_trees.specs.FileContents.{Surroundings}
 use Rattle.kmin_trees.specs.JobTexts.{TreeTexts, AreTextsOfJob}
 use Rattle.kmin_run.specs.Answers.{Answer}

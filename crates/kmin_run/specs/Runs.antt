@@ -4,7 +4,7 @@ use Rattle.std.specs.Io.KnownBytes.{Appends}
 use Rattle.kc_value.specs.declared.limits.TheConstants.{MAX_BUNDLE_BYTES}
 use Rattle.kmin_report.specs.Reports.{ErrorLine, last_lines, output_line, refused_line}
 use Rattle.kmin_report.specs.StandardError.{HasRisen}
-use Rattle.kmin_words.specs.Jobs.{Settings, Questions, Task, settings_view, questions_view, task_view, tidy_job_view}
+use Rattle.kmin_options.specs.Jobs.{Settings, Questions, Task, settings_view, questions_view, task_view, tidy_job_view}
 use Rattle.kmin_words.specs.Parses.{AreReadAs}
 use Rattle.kmin_words.specs.declared.command_line.ParsedWords.{ParsedWords}
 use Rattle.kmin_words.specs.declared.command_line.ParsedWords.TheVariants.{Job, Save, Questions as TheQuestions, Tidy, Help, Refused}

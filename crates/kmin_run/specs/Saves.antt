@@ -10,7 +10,7 @@ use Rattle.kmin_disk.specs.declared.fault.ReplaceFault.TheVariants.{NotRegular, 
 use Rattle.kmin_disk.specs.declared.fault.UpdateFault.{UpdateFault}
 use Rattle.kmin_disk.specs.declared.fault.UpdateFault.TheVariants.{Unread, Replace}
 use Rattle.kmin_report.specs.Reports.{ErrorLine, not_regular_line, write_line, left_line, last_lines}
-use Rattle.kmin_words.specs.Jobs.{Settings, Task}
+use Rattle.kmin_options.specs.Jobs.{Settings, Task}
 use Rattle.kmin_trees.specs.FileContents.{Surroundings}
 use Rattle.kmin_trees.specs.JobTexts.{TreeTexts, AreTextsOfJob}
 use Rattle.kmin_run.specs.Answers.{Answer}

@@ -6,8 +6,8 @@ use Rattle.kc_rules_model.specs.Reports.{unmet}
 use Rattle.kc_rules_model.specs.declared.values.UnitValue.{UnitValue}
 use Rattle.kc_rules_model.specs.declared.values.UserValue.{UserValue}
 use Rattle.kc_dotconfig_model.specs.MissedAssignments.{missed}
-use Rattle.kmin_words.specs.declared.job.Verb.{Verb}
-use Rattle.kmin_words.specs.declared.job.Verb.TheVariants.{Min, Full, Missed, Check}
+use Rattle.kmin_options.specs.declared.job.Verb.{Verb}
+use Rattle.kmin_options.specs.declared.job.Verb.TheVariants.{Min, Full, Missed, Check}
 
 -- the exit status of a command that lists something: 1 if it is to report that by its status and anything is listed, 0 if not
 abbrev pub status_of_list : {A : Type 0} → (exit_code : Bool) → (listed : List A) → ℕ

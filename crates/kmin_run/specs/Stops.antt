@@ -8,7 +8,7 @@ use Rattle.kc_dotconfig_model.specs.ConfigLines.{LineMeaning}
 use Rattle.kc_dotconfig_model.specs.LoadFaults.{IsAccepted, IsFirstFault, complete, cut_short}
 use Rattle.kc_dotconfig_model.specs.ConfigFiles.{FileMeans, notices_from}
 use Rattle.kc_files.specs.TreeContents.{FileContent}
-use Rattle.kmin_words.specs.Jobs.{Settings, Task, over, compare, paths_of}
+use Rattle.kmin_options.specs.Jobs.{Settings, Task, over, compare, paths_of}
 use Rattle.kmin_trees.specs.FileContents.{Surroundings}
 use Rattle.kmin_report.specs.KnownBytes.{AreKnownBytes}
 use Rattle.kmin_disk.specs.Contents.{OpensAs}

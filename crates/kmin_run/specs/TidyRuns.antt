@@ -11,8 +11,8 @@ use Rattle.kmin_tidy.specs.Options.{Settings as RunSettings}
 use Rattle.kmin_disk.specs.Disks.{Disk}
 use Rattle.kmin_tidy.specs.Ends.{Ends}
 use Rattle.kmin_tidy.specs.Promises.{IsKeptOrLeft, AreTidy}
-use Rattle.kmin_words.specs.declared.job.TidyFlags.{TidyFlags}
-use Rattle.kmin_words.specs.Jobs.{Settings, PathList, TidyJob}
+use Rattle.kmin_options.specs.declared.job.TidyFlags.{TidyFlags}
+use Rattle.kmin_options.specs.Jobs.{Settings, PathList, TidyJob}
 use Rattle.kmin_trees.specs.FileContents.{Surroundings}
 use Rattle.kmin_trees.specs.ListFiles.{IsListRead, StopsReadingList, list_content, malformed_line}
 use Rattle.kmin_trees.specs.JobTexts.{TreeTexts, AreTextsOfJob}

@@ -8,7 +8,7 @@ ghost use Rattle.kc_rules.specs.between.SettledViews.{tree_of_settled, profile_o
 ghost use Rattle.kc_dotconfig_model.specs.between.Formats.{file_format};
 ghost use Rattle.kc_dotconfig.specs.ConfigStates.{IsSolved, tree_in};
 ghost use Rattle.kc_minimal_model.specs.Differences.{differences};
-ghost use Rattle.kmin_words.specs.Jobs.{Settings as GivenSettings, settings_view, task_view, over, compare};
+ghost use Rattle.kmin_options.specs.Jobs.{Settings as GivenSettings, settings_view, task_view, over, compare};
 ghost use Rattle.kmin_run.specs.Answers.{Answer, IsTextOfVerb, difference_line};
 ghost use Rattle.kmin_run.specs.Statuses.{status_of_list, status_of_verb};
 ghost use Rattle.kmin_trees.specs.AcceptedTrees.{AreAccepted};

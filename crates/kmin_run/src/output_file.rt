@@ -1,7 +1,7 @@
 //! Commands whose output goes to a file.
 ghost use Rattle.std.specs.Prelude.{◌≡◌, ◌≢◌, ◌≤◌, ◌⊎◌, [], List, ℕ, IfErr, OnOk};
 ghost use Rattle.kmin_disk.specs.declared.fault.UpdateFault.{UpdateFault as TheFault};
-ghost use Rattle.kmin_words.specs.Jobs.{settings_view, task_view};
+ghost use Rattle.kmin_options.specs.Jobs.{settings_view, task_view};
 ghost use Rattle.kmin_report.specs.StandardError.{HasRisen, TakesLine, TakesLines};
 ghost use Rattle.kmin_run.specs.Saves.{IsSaved, IsUnsaved, SaveEnds, replace_lines, replace_status, update_lines, update_status};
 ghost use Rattle.kmin_report.specs.between.ReportLines.{report_line};

@@ -4,7 +4,7 @@ ghost use Rattle.std.specs.List.{list_all};
 ghost use Rattle.std.specs.Str.{is_utf8};
 ghost use Rattle.std.specs.Borrow.{Bor};
 ghost use Rattle.kmin_lines.specs.Lists.{paths_in, is_one_line};
-ghost use Rattle.kmin_words.specs.Jobs.{list_view, settings_view, tidy_job_view};
+ghost use Rattle.kmin_options.specs.Jobs.{list_view, settings_view, tidy_job_view};
 ghost use Rattle.kmin_report.specs.Reports.{ErrorLine};
 ghost use Rattle.kmin_report.specs.StandardError.{HasRisen, TakesLine, TakesLines};
 ghost use Rattle.kmin_run.specs.TidyRuns.{IsGoneOver, AreListBytes, AreNamed, StopsAtList, PathsEnd, TidyEnds, is_ended_by_nul, options_of, outputs_of};

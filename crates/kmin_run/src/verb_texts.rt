@@ -9,7 +9,7 @@ ghost use Rattle.kc_dotconfig.specs.ConfigStates.{tree_in};
 ghost use Rattle.kc_dotconfig_model.specs.between.Formats as formats;
 ghost use Rattle.kmin_run.specs.Answers.{name_line, IsTextOfVerb, difference_line};
 ghost use Rattle.kmin_run.specs.Statuses.{status_of_list, status_of_verb};
-ghost use Rattle.kmin_words.specs.Jobs.{Settings};
+ghost use Rattle.kmin_options.specs.Jobs.{Settings};
 
 use crate::symbol_lines::{difference_lines, name_lines};
 use kc_dotconfig::{Config, Format, Strings};

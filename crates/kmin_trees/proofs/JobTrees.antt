@@ -8,7 +8,7 @@ use Rattle.kc_macros_model.specs.ReadingStates.{ExpandedFile}
 use Rattle.kc_rules.specs.declared.rules.Settled.{Settled}
 use Rattle.kc_rules.specs.between.SettledViews.{tree_of_settled}
 use Rattle.kc_expansion.specs.Expansions.{IsExpansion}
-use Rattle.kmin_words.specs.Jobs.{Expansion, Settings}
+use Rattle.kmin_options.specs.Jobs.{Expansion, Settings}
 use Rattle.kmin_report.specs.declared.run_error.RunError.{RunError}
 use Rattle.kmin_trees.specs.declared.expanded_trees.ExpandedTexts.{ExpandedTexts}
 use Rattle.kmin_trees.specs.FileContents.{Surroundings, AreTextsBelow}

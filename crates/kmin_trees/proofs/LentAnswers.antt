@@ -11,8 +11,8 @@ use Rattle.kc_tree_model.specs.Limits.{is_in_list}
 use Rattle.kc_macros_model.specs.Programs.{Answer}
 use Rattle.kc_macros_model.specs.AnswerFiles.{RecordedAnswers}
 use Rattle.kc_files.specs.TreeContents.{FileContent}
-use Rattle.kmin_words.specs.declared.job.Definition.{Definition as DeclaredDefinition}
-use Rattle.kmin_words.specs.Jobs.{Definition, Expansion, definition_view}
+use Rattle.kmin_options.specs.declared.job.Definition.{Definition as DeclaredDefinition}
+use Rattle.kmin_options.specs.Jobs.{Definition, Expansion, definition_view}
 use Rattle.kmin_trees.specs.FileContents.{VariableContent, MatchVariable}
 use Rattle.kmin_trees.specs.JobAnswers.{defined_answer, answer_of_variable, lent_answer, FilesRecord, AreJobAnswers}
 use Rattle.kc_answers.specs.RunStates.{questions_of}

@@ -3,7 +3,7 @@ use Rattle.std.proofs.Common.{◌≡◌, ℕ, true, false, List, Result, sym, su
 use Rattle.kc_macros_model.specs.AnswerFiles.{RecordedAnswers}
 use Rattle.kc_macros_model.specs.Programs.{Fault}
 use Rattle.kc_expansion.specs.Expansions.{AreWanted, AreUnused}
-use Rattle.kmin_words.specs.Jobs.{Questions}
+use Rattle.kmin_options.specs.Jobs.{Questions}
 use Rattle.kmin_trees.specs.FileContents.{Surroundings}
 use Rattle.kmin_trees.specs.JobAnswers.{AreJobAnswers}
 use Rattle.kmin_trees.specs.TreeFolders.{contents_below}

@@ -8,7 +8,7 @@ use Rattle.kc_value.specs.Lines.{has_newline}
 use Rattle.kc_macros_model.specs.Programs.{Answer}
 use Rattle.kc_macros_model.specs.AnswerFiles.{RecordedAnswers, complete, answers_read}
 use Rattle.kc_files.specs.TreeContents.{FileContent}
-use Rattle.kmin_words.specs.Jobs.{Definition, Expansion}
+use Rattle.kmin_options.specs.Jobs.{Definition, Expansion}
 use Rattle.kmin_trees.specs.FileContents.{VariableContent, MatchVariable}
 use Rattle.kmin_report.specs.KnownBytes.{AreKnownBytes}
 

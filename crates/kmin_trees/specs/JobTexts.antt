@@ -8,7 +8,7 @@ use Rattle.kc_macros_model.specs.AnswerFiles.{RecordedAnswers}
 use Rattle.kc_macros_model.specs.ReadingStates.{ExpandedFile}
 use Rattle.kc_expansion.specs.Expansions.{IsExpansion}
 use Rattle.kc_files.specs.PathsOfKeys.{path_of_key}
-use Rattle.kmin_words.specs.Jobs.{Expansion, Settings}
+use Rattle.kmin_options.specs.Jobs.{Expansion, Settings}
 use Rattle.kmin_trees.specs.FileContents.{Surroundings, AreTextsBelow}
 use Rattle.kmin_trees.specs.TreeFolders.{contents_below}
 use Rattle.kmin_trees.specs.JobAnswers.{AreJobAnswers}

@@ -8,7 +8,7 @@ use Rattle.kc_tree_model.specs.TreesOfFiles.{IsReportedFault, AreWanted}
 use Rattle.kc_files.specs.TreeContents.{FileContent}
 use Rattle.kmin_report.specs.Reports.{ErrorLine}
 use Rattle.kmin_report.specs.StandardError.{HasRisen}
-use Rattle.kmin_words.specs.Jobs.{Settings}
+use Rattle.kmin_options.specs.Jobs.{Settings}
 use Rattle.kmin_trees.specs.FileContents.{Surroundings, AreTextsBelow, path_below}
 use Rattle.kmin_trees.specs.Stops.{RefusesTexts}
 

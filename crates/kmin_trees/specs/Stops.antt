@@ -9,7 +9,7 @@ use Rattle.kc_rules_model.specs.Dependencies.{dependencies}
 use Rattle.kc_macros_model.specs.Programs.{Fault, Notice}
 use Rattle.kc_macros_model.specs.AnswerFiles.{RecordedAnswers}
 use Rattle.kc_expansion.specs.Expansions.{IsExpansion}
-use Rattle.kmin_words.specs.Jobs.{Expansion, Settings}
+use Rattle.kmin_options.specs.Jobs.{Expansion, Settings}
 use Rattle.kmin_trees.specs.FileContents.{Surroundings}
 use Rattle.kmin_trees.specs.JobAnswers.{AreJobAnswers}
 use Rattle.kmin_trees.specs.JobTexts.{TreeTexts, AreTextsOfJob}

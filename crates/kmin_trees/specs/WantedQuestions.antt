@@ -7,7 +7,7 @@ use Rattle.kc_macros_model.specs.AnswerFiles.{RecordedAnswers}
 use Rattle.kc_answers.specs.RunStates.{questions_of}
 use Rattle.kc_files.specs.TreeContents.{TreeContents}
 use Rattle.kc_expansion.specs.Expansions.{AreWanted, AreUnused}
-use Rattle.kmin_words.specs.Jobs.{Questions}
+use Rattle.kmin_options.specs.Jobs.{Questions}
 use Rattle.kmin_trees.specs.FileContents.{Surroundings}
 use Rattle.kmin_trees.specs.JobAnswers.{AreJobAnswers}
 use Rattle.kmin_trees.specs.TreeFolders.{contents_below}

@@ -3,7 +3,7 @@ ghost use Rattle.std.specs.Prelude.{◌≡◌, ◌∷◌, [], ℕ, ◌≤◌, Li
 ghost use Rattle.std.specs.Borrow.{Bor};
 ghost use Rattle.std.specs.Option.{option_or};
 ghost use Rattle.kc_tree_model.specs.Keywords.{keyword_in_table};
-ghost use Rattle.kmin_words.specs.Jobs.{definition_view, expansion_view};
+ghost use Rattle.kmin_options.specs.Jobs.{definition_view, expansion_view};
 ghost use Rattle.kmin_trees.specs.JobAnswers.{FilesRecord, AreJobAnswers, defined_answer, answer_of_variable};
 ghost use Rattle.kc_answers.specs.ReadAnswers.{AreRecorded};
 ghost use Rattle.kmin_trees.specs.AnswerStops.{StopsAmongAnswers, answers_status};

@@ -2,7 +2,7 @@
 ghost use Rattle.std.specs.Prelude.{◌≡◌, ◌≤◌, [], ℕ, List, None, IfOk, IfErr};
 ghost use Rattle.kc_tree_model.specs.TreeFiles as trees;
 ghost use Rattle.kc_rules.specs.between.SettledViews.{tree_of_settled, profile_of};
-ghost use Rattle.kmin_words.specs.Jobs.{expansion_view, settings_view};
+ghost use Rattle.kmin_options.specs.Jobs.{expansion_view, settings_view};
 ghost use Rattle.kmin_trees.specs.AcceptedTrees.{AreAccepted};
 ghost use Rattle.kmin_trees.specs.FileContents.{AreTextsBelow};
 ghost use Rattle.kmin_trees.specs.MissingFiles.{MissesOnlyMissing, IsRefusedTree};

@@ -1,7 +1,7 @@
 //! The open questions of the macros of a job's tree, and the answers that they don't use.
 ghost use Rattle.std.specs.Prelude.{◌≡◌, [], ℕ, true, false, List, IfOk, IfErr};
 ghost use Rattle.kc_expansion.specs.Expansions.{questions_of};
-ghost use Rattle.kmin_words.specs.Jobs.{questions_view};
+ghost use Rattle.kmin_options.specs.Jobs.{questions_view};
 ghost use Rattle.kmin_trees.specs.WantedQuestions.{AreAsked, StopsWanting};
 ghost use Rattle.kmin_report.specs.StandardError.{HasRisen, TakesLines};
 ghost use Rattle.kmin_report.specs.between.RunErrors.{status_of};

@@ -14,7 +14,7 @@ use Rattle.kc_dotconfig_model.specs.OtherChoices.{other_choices_of, placed_from}
 use Rattle.kmin_report.specs.Reports.{ErrorLine, fault_line, notice_line, choice_notice_lines}
 use Rattle.kmin_run.specs.Strictness.{RefusesNotices}
 use Rattle.kmin_report.specs.StandardError.{TakesLines}
-use Rattle.kmin_words.specs.Jobs.{Settings, Task, paths_of}
+use Rattle.kmin_options.specs.Jobs.{Settings, Task, paths_of}
 use Rattle.kmin_run.specs.Stops.{StopsAtFile, StopsAmongFiles, StopsAtChoices}
 
 -- the exit status for a fault of a configuration file: 6 for lack of memory, 5 for a failed read, and 4 for any other fault

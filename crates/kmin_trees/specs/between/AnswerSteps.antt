@@ -11,7 +11,7 @@ use Rattle.kc_files.specs.TreeContents.{FileContent}
 use Rattle.kmin_trees.specs.FileContents.{VariableContent, MatchVariable}
 use Rattle.kmin_report.specs.StandardError.{TakesLines}
 use Rattle.kmin_report.specs.Reports.{ErrorLine, answers_line}
-use Rattle.kmin_words.specs.Jobs.{Expansion}
+use Rattle.kmin_options.specs.Jobs.{Expansion}
 use Rattle.kc_answers.specs.RunStates.{questions_of}
 use Rattle.kmin_trees.specs.JobAnswers.{lent_answer, AreJobAnswers}
 use Rattle.kmin_trees.specs.AnswerStops.{StopsAtAnswers, answers_status}

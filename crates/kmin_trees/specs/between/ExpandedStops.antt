@@ -1,7 +1,7 @@
 -- Ends of a run at a tree whose macros are expanded.
 use Rattle.std.specs.Prelude.{◌≡◌, ℕ, List, ◌++◌}
 use Rattle.kc_tokens.specs.declared.language.Language.{Language}
-use Rattle.kmin_words.specs.Jobs.{Expansion}
+use Rattle.kmin_options.specs.Jobs.{Expansion}
 use Rattle.kmin_trees.specs.FileContents.{Surroundings}
 use Rattle.kmin_trees.specs.JobTexts.{TreeTexts, AreExpandedTexts}
 use Rattle.kmin_trees.specs.Stops.{StopsInExpansion}

@@ -1,7 +1,7 @@
 use Rattle.std.proofs.Common.{inl, sym, ◌∙◌}
 use Rattle.kc_dotconfig.specs.ConfigStates.{tree_in}
 use Rattle.kc_minimal_model.specs.Differences.{differences}
-use Rattle.kmin_words.specs.Jobs.{settings_view}
+use Rattle.kmin_options.specs.Jobs.{settings_view}
 use Rattle.kmin_report.proofs.Results.{if_err_map}
 use Rattle.kmin_run.proofs.ReadFailures.{comparing_unfailed}
 use Rattle.kmin_run.proofs.JobOutputs.{comparison_answers, comparison_stops, list_status_small}

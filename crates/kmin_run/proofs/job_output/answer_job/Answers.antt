@@ -1,6 +1,6 @@
 use Rattle.std.proofs.Common.{rules}
 use Rattle.kc_rules.specs.between.SettledViews.{tree_of_settled}
-use Rattle.kmin_words.specs.Jobs.{settings_view, task_view}
+use Rattle.kmin_options.specs.Jobs.{settings_view, task_view}
 use Rattle.kmin_run.specs.Stops.{at_tree}
 use Rattle.kmin_report.proofs.Results.{if_err, if_err_map}
 use Rattle.kmin_trees.proofs.FailureCounts.{rises_later}

@@ -1,5 +1,5 @@
 use Rattle.std.proofs.Common.{[], ◌∷◌, inl, inr, refl, arith}
-use Rattle.kmin_words.specs.Jobs.{settings_view, questions_view, task_view}
+use Rattle.kmin_options.specs.Jobs.{settings_view, questions_view, task_view}
 use Rattle.kmin_report.specs.Reports.{refused_line}
 use Rattle.kmin_report.proofs.WriterLemmas.{lines_one}
 use Rattle.kmin_run.specs.TidyRuns.{outputs_of}

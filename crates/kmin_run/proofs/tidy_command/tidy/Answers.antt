@@ -1,5 +1,5 @@
 use Rattle.std.proofs.Common.{refl, inl, inr, sym, ◌∙◌}
-use Rattle.kmin_words.specs.Jobs.{tidy_job_view}
+use Rattle.kmin_options.specs.Jobs.{tidy_job_view}
 use Rattle.kmin_trees.proofs.FailureCounts.{rises_later}
 use Rattle.kmin_run.proofs.RunStatuses.{fault_at_most_six}
 use Rattle.kmin_run.proofs.TidyLemmas.{list_ends, read_before}

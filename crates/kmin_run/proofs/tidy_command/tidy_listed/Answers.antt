@@ -1,6 +1,6 @@
 use Rattle.std.proofs.Common.{ℕ, List, [], map, inl, inr, refl, arith, rules}
 use Rattle.std.specs.Borrow.{Bor}
-use Rattle.kmin_words.specs.Jobs.{tidy_job_view}
+use Rattle.kmin_options.specs.Jobs.{tidy_job_view}
 use Rattle.kmin_report.specs.Reports.{last_lines}
 use Rattle.kmin_report.specs.declared.run_error.RunError.TheVariants.{Memory}
 use Rattle.kmin_run.specs.TidyRuns.{at_list, for_memory}

@@ -1,5 +1,5 @@
 use Rattle.std.proofs.Common.{inl, inr, refl, sym, ◌∙◌, arith}
-use Rattle.kmin_words.specs.Jobs.{questions_view}
+use Rattle.kmin_options.specs.Jobs.{questions_view}
 use Rattle.kmin_run.proofs.JobOutputs.{lines_kept, no_other_status}
 use Rattle.kmin_run.proofs.QuestionEnds.{write_stops, questions_end}
 use Rattle.kmin_run.proofs.RunEnds.{of_fault}

@@ -1,5 +1,5 @@
 use Rattle.std.proofs.Common.{ℕ, List, ap, subst, arith, rules}
-use Rattle.kmin_words.specs.Jobs.{expansion_view}
+use Rattle.kmin_options.specs.Jobs.{expansion_view}
 use Rattle.kmin_trees.specs.FileContents.{Surroundings, VariableContent}
 use Rattle.kmin_trees.specs.between.AnswerSteps.{AreLent}
 use Rattle.kmin_trees.proofs.LentAnswers.{questions_of_job}

@@ -1,7 +1,7 @@
 use Rattle.std.proofs.Common.{[], ℕ, List, refl, ◌∙◌, arith, rules}
 use Rattle.std.specs.Borrow.{Bor}
 use Rattle.std.proofs.lemmas.List.{take_all}
-use Rattle.kmin_words.specs.declared.job.Definition.{Definition as DeclaredDefinition}
+use Rattle.kmin_options.specs.declared.job.Definition.{Definition as DeclaredDefinition}
 use Rattle.kmin_trees.proofs.LentAnswers.{defined_next}
 use Rattle.kmin_trees.proofs.job_answers.define.Goals as goal
 

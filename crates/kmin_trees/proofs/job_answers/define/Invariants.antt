@@ -1,7 +1,7 @@
 use Rattle.std.proofs.Common.{◌≡◌, ℕ, List, map, take}
 use Rattle.std.specs.Option.{option_or}
 use Rattle.kc_tree_model.specs.Keywords.{keyword_in_table}
-use Rattle.kmin_words.specs.Jobs.{definition_view}
+use Rattle.kmin_options.specs.Jobs.{definition_view}
 use Rattle.kmin_trees.specs.JobAnswers.{defined_answer}
 use Rattle.kmin_trees.proofs.job_answers.define.Given as goal
 

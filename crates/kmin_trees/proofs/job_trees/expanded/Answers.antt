@@ -1,5 +1,5 @@
 use Rattle.std.proofs.Common.{rules}
-use Rattle.kmin_words.specs.Jobs.{expansion_view}
+use Rattle.kmin_options.specs.Jobs.{expansion_view}
 use Rattle.kmin_trees.specs.between.ExpandedStops.{in_expansion}
 use Rattle.kmin_trees.proofs.JobTrees.{settled_accepted, settled_stopped}
 use Rattle.kmin_trees.proofs.FailureCounts.{texts_unfailed}

@@ -1,5 +1,5 @@
 use Rattle.std.proofs.Common.{rules}
-use Rattle.kmin_words.specs.Jobs.{expansion_view}
+use Rattle.kmin_options.specs.Jobs.{expansion_view}
 use Rattle.kmin_trees.specs.Stops.{among_answers}
 use Rattle.kmin_trees.proofs.JobTrees.{stopped_expanding, both_expanded}
 use Rattle.kmin_trees.proofs.FailureCounts.{expanding_unfailed}

@@ -1,6 +1,6 @@
 use Rattle.std.proofs.Common.{ap}
 use Rattle.std.specs.Prelude.{option_map}
-use Rattle.kmin_words.specs.Jobs.{expansion_view, settings_view}
+use Rattle.kmin_options.specs.Jobs.{expansion_view, settings_view}
 use Rattle.kmin_trees.proofs.JobTrees.{plain_accepted, plain_stopped, plain_missing, not_plain, expanded_accepted, expanded_stopped}
 use Rattle.kmin_trees.proofs.job_trees.job_tree.Goals as goal
 

@@ -1,5 +1,5 @@
 use Rattle.std.proofs.Common.{[], refl, arith, rules}
-use Rattle.kmin_words.specs.Jobs.{questions_view}
+use Rattle.kmin_options.specs.Jobs.{questions_view}
 use Rattle.kmin_trees.specs.WantedQuestions.{among_answers, for_memory}
 use Rattle.kmin_trees.proofs.ListedQuestions.{asked_unused}
 use Rattle.kmin_report.proofs.Results.{if_err, memory_err}

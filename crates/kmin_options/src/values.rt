@@ -2,21 +2,21 @@
 ghost use Rattle.std.specs.Prelude.{◌≡◌, nat_lt, length, map, List, ℕ, IfOk};
 ghost use Rattle.std.specs.Borrow.{Bor};
 ghost use Rattle.clap.specs.Words.{found_of};
-ghost use Rattle.kmin_words.specs.between.WordValues as parsed;
+ghost use Rattle.kmin_options.specs.between.OptionValues as parsed;
 
 use clap::ArgMatches;
 use std::alloc::{AllocError, Global};
 
 /// The value of an option with a default, of a required word, or of a flag, which is `true` or `false`; empty where
 /// there is none.
-pub(crate) fn value_of<'a>(matches: &ArgMatches<'a>, id: &str) -> &'a str
+pub fn value_of<'a>(matches: &ArgMatches<'a>, id: &str) -> &'a str
     ensures { result.now ≡ parsed.value_of (found_of matches.now) id.now }
 {
     matches.get_str(id).unwrap_or("")
 }
 
 /// Whether a flag is given on the command line.
-pub(crate) fn is_given(matches: &ArgMatches<'_>, id: &str) -> bool
+pub fn is_given(matches: &ArgMatches<'_>, id: &str) -> bool
     ensures { result ≡ parsed.is_given (found_of matches.now) id.now }
 {
     value_of(matches, id) == "true"
@@ -33,7 +33,7 @@ pub(crate) fn has_values(matches: &ArgMatches<'_>, id: &str) -> bool
 }
 
 /// The values of a repeatable option or word, in order.
-pub(crate) fn values_of<'a>(
+pub fn values_of<'a>(
     alloc: Global,
     matches: &ArgMatches<'a>,
     id: &str,

@@ -5,16 +5,16 @@ use Rattle.kc_tokens.specs.declared.language.Language.{Language}
 use Rattle.kc_rules_model.specs.declared.profile.Profile.{Profile}
 use Rattle.kc_dotconfig_model.specs.Formats.{FileFormat}
 use Rattle.kc_dotconfig_model.specs.between.Formats.{file_format}
-use Rattle.kmin_words.specs.declared.job.Verb.{Verb}
-use Rattle.kmin_words.specs.declared.job.Definition.{Definition as DeclaredDefinition}
-use Rattle.kmin_words.specs.declared.job.Expansion.{Expansion as DeclaredExpansion}
-use Rattle.kmin_words.specs.declared.job.Settings.{Settings as DeclaredSettings}
-use Rattle.kmin_words.specs.declared.job.TidyFlags.{TidyFlags}
-use Rattle.kmin_words.specs.declared.job.PathList.{PathList as DeclaredPathList}
-use Rattle.kmin_words.specs.declared.job.TidyJob.{TidyJob as DeclaredTidyJob}
-use Rattle.kmin_words.specs.declared.job.Questions.{Questions as DeclaredQuestions}
-use Rattle.kmin_words.specs.declared.job.Task.{Task as DeclaredTask}
-use Rattle.kmin_words.specs.declared.job.Task.TheVariants.{Over, Compare}
+use Rattle.kmin_options.specs.declared.job.Verb.{Verb}
+use Rattle.kmin_options.specs.declared.job.Definition.{Definition as DeclaredDefinition}
+use Rattle.kmin_options.specs.declared.job.Expansion.{Expansion as DeclaredExpansion}
+use Rattle.kmin_options.specs.declared.job.Settings.{Settings as DeclaredSettings}
+use Rattle.kmin_options.specs.declared.job.TidyFlags.{TidyFlags}
+use Rattle.kmin_options.specs.declared.job.PathList.{PathList as DeclaredPathList}
+use Rattle.kmin_options.specs.declared.job.TidyJob.{TidyJob as DeclaredTidyJob}
+use Rattle.kmin_options.specs.declared.job.Questions.{Questions as DeclaredQuestions}
+use Rattle.kmin_options.specs.declared.job.Task.{Task as DeclaredTask}
+use Rattle.kmin_options.specs.declared.job.Task.TheVariants.{Over, Compare}
 
 -- a definition of the command line: one `--define NAME=VALUE`
 pub record Definition : Type 0 where

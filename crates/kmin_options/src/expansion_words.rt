@@ -6,9 +6,9 @@ ghost use Rattle.clap.specs.Words.{found_of};
 ghost use Rattle.kc_tokens.specs.Token.{is_white_byte};
 ghost use Rattle.kc_macros_model.specs.Variables.{is_environment_name};
 ghost use Rattle.kc_tree_model.specs.LogicalLines.{without_white_end};
-ghost use Rattle.kmin_words.specs.Jobs.{definition_view, expansion_view};
-ghost use Rattle.kmin_words.specs.between.WordValues as parsed;
-ghost use Rattle.kmin_words.specs.checker.Refusals.{Agrees};
+ghost use Rattle.kmin_options.specs.Jobs.{definition_view, expansion_view};
+ghost use Rattle.kmin_options.specs.between.OptionValues as parsed;
+ghost use Rattle.kmin_options.specs.between.Refusals.{Agrees};
 
 use crate::job::{Definition, Expansion};
 use crate::refusal::Refusal;
@@ -194,7 +194,7 @@ fn name_files(matches: &ArgMatches<'_>, paths: &[&str]) -> bool
 
 /// Refuses `-` among the answer files and these configuration files; and standard input that is named twice among them, since
 /// the second reading would find no bytes. Paths are compared as texts.
-pub(crate) fn check_inputs(matches: &ArgMatches<'_>, paths: &[&str]) -> Result<(), Refusal>
+pub fn check_inputs(matches: &ArgMatches<'_>, paths: &[&str]) -> Result<(), Refusal>
     ensures { Agrees (λ _. map (λ (path : Bor (List ℕ)). path.now) paths.now) (parsed.paths_beside (parsed.values_of (found_of matches.now) (codes "answers")) (map (λ (path : Bor (List ℕ)). path.now) paths.now)) result }
 {
     if !name_files(matches, paths) {
@@ -217,10 +217,7 @@ fn is_input_found_twice(matches: &ArgMatches<'_>, paths: &[&str]) -> bool
 }
 
 /// The values of `--answers`, `--define` and `--env`. Also refuses a value of `--tree` with a newline.
-pub(crate) fn expansion_of<'a>(
-    alloc: Global,
-    matches: &ArgMatches<'a>,
-) -> Result<Expansion<'a>, Refusal>
+pub fn expansion_of<'a>(alloc: Global, matches: &ArgMatches<'a>) -> Result<Expansion<'a>, Refusal>
     ensures { Agrees expansion_view (parsed.expansion_of (found_of matches.now)) result }
 {
     let texts = values_of(alloc, matches, "define")?;
@@ -245,7 +242,7 @@ fn is_expanded(matches: &ArgMatches<'_>) -> bool
 }
 
 /// The values of `--answers`, `--define` and `--env`, if an option turns the expansion of macros on.
-pub(crate) fn expansion_if_given<'a>(
+pub fn expansion_if_given<'a>(
     alloc: Global,
     matches: &ArgMatches<'a>,
 ) -> Result<Option<Expansion<'a>>, Refusal>

@@ -1,12 +1,12 @@
 //! Refusals of words that `clap` accepts.
-ghost use Rattle.kmin_words.specs.declared.refusal.Refusal.TheVariants.{OutOfMemory};
+ghost use Rattle.kmin_options.specs.declared.refusal.Refusal.TheVariants.{OutOfMemory};
 ghost use Rattle.std.specs.Prelude.{◌≡◌};
 
 use std::alloc::{AllocError, AllocFailed};
 
 /// Why words that `clap` accepts give no command.
 #[derive(Clone, Copy, Debug)]
-pub(crate) enum Refusal {
+pub enum Refusal {
     /// A value isn't allowed. The text is the line of the message, which names the option or the word.
     Words(&'static str),
     OutOfMemory,

@@ -1,7 +1,7 @@
 use Rattle.std.proofs.Common.{◌≡◌, ℕ, ◌≤◌, List, codes, take}
 use Rattle.std.specs.Prelude.{bytes_eq, count_by}
 use Rattle.std.specs.Borrow.{Bor}
-use Rattle.kmin_words.proofs.expansion_words.inputs_among.Given as goal
+use Rattle.kmin_options.proofs.expansion_words.inputs_among.Given as goal
 
 -- `count` is the number of paths before this one that are `/dev/stdin`
 abbrev pub invariant-loop-path : goal.invariant-loop-path

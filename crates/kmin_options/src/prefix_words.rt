@@ -2,8 +2,8 @@
 ghost use Rattle.std.specs.Prelude.{◌≡◌};
 ghost use Rattle.clap.specs.Words.{found_of, is_present};
 ghost use Rattle.kc_dotconfig_model.specs.between.Prefixes.{prefix_bytes};
-ghost use Rattle.kmin_words.specs.between.WordValues as parsed;
-ghost use Rattle.kmin_words.specs.checker.Refusals.{Agrees};
+ghost use Rattle.kmin_options.specs.between.OptionValues as parsed;
+ghost use Rattle.kmin_options.specs.between.Refusals.{Agrees};
 
 use crate::refusal::Refusal;
 use crate::values::{is_given, value_of};
@@ -19,7 +19,7 @@ For more information, try '--help'.
 
 /// What comes before names in configuration files: nothing with `--no-prefix`, which is refused beside `--prefix`, and
 /// else the value of `--prefix`.
-pub(crate) fn name_prefix_of(matches: &ArgMatches<'_>) -> Result<Prefix, Refusal>
+pub fn name_prefix_of(matches: &ArgMatches<'_>) -> Result<Prefix, Refusal>
     ensures { Agrees prefix_bytes (parsed.name_prefix_of (found_of matches.now)) result }
 {
     if !is_given(matches, "no-prefix") {

@@ -1,7 +1,7 @@
 use Rattle.std.proofs.Common.{◌≡◌, ◌+◌, ◌-◌, ◌<◌, ◌≤◌, true, length, take, get_or}
 use Rattle.std.specs.List.{suffix_len}
 use Rattle.kc_tokens.specs.Token.{is_white_byte}
-use Rattle.kmin_words.proofs.expansion_words.white_end.Given as goal
+use Rattle.kmin_options.proofs.expansion_words.white_end.Given as goal
 
 -- the bytes of the value from `end` on are white
 abbrev pub invariant-loop-end : goal.invariant-loop-end
