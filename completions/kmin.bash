@@ -12,7 +12,7 @@ _kmin_words() {
         help) echo "min full missed check compare tidy wants help NotUtf8 LineTooLong BadToken UnclosedQuote UnknownStatement Malformed Unclosed StrayEnd Misplaced NoType TypeConflict SecondPrompt DefaultShape RangeType SelectType ChoiceMember ChoiceDefault ModulesType MissingFile SourceLoop TooDeep TooMany Cycle LeftOut rsource osource orsource transitional optional def_string def_int def_hex env defconfig_list allnoconfig_y Unterminated Undefined Recursion Arguments Error Unanswered JoinedAssignment Info Warning TwoAnswers TooManyLines TooLarge Read UnknownSymbol NotOfType Escape OtherChoice NotRegular Write Left NamedTwice" ;;
     esac
     case $1 in
-        min|full|missed|check|compare|tidy|wants) echo "--root --tree --expand --answers --define --env -h --help" ;;
+        min|full|missed|check|compare|tidy|wants) echo "--root --tree --expand --answers --define --env --messages -h --help" ;;
     esac
     case $1 in
         min|full|missed|check|compare|tidy) echo "--language --prefix --no-prefix --strings --imply --strict" ;;
@@ -45,6 +45,7 @@ _kmin_value() {
         --imply) echo "one of present classic" ;;
         --answers|-o|--output|--from) echo "file" ;;
         --env) echo "name" ;;
+        --messages) echo "one of plain long json" ;;
     esac
 }
 

@@ -47,6 +47,7 @@ complete -c kmin -n "__fish_seen_subcommand_from min full missed check compare t
 complete -c kmin -n "__fish_seen_subcommand_from min full missed check compare tidy wants" -l answers -d "File of answers to the questions of macros; repeatable" -r
 complete -c kmin -n "__fish_seen_subcommand_from min full missed check compare tidy wants" -l define -d "Value of a name, in place of any in a file; repeatable" -x
 complete -c kmin -n "__fish_seen_subcommand_from min full missed check compare tidy wants" -l env -d "Name that the environment answers where no file does; repeatable" -x -a "(set --names --export)"
+complete -c kmin -n "__fish_seen_subcommand_from min full missed check compare tidy wants" -l messages -d "Form of messages" -x -a "plain long json"
 complete -c kmin -n "__fish_seen_subcommand_from min full missed check compare tidy wants" -s h -l help -d "Print help"
 complete -c kmin -n "__fish_seen_subcommand_from min full missed check compare tidy" -l language -d "Tree language" -x -a "strict linux linux-6.1 linux-6.12"
 complete -c kmin -n "__fish_seen_subcommand_from min full missed check compare tidy" -l prefix -d "Text before each name in a file" -x

@@ -44,6 +44,7 @@ _kmin_specs() {
             '*--answers=[File of answers to the questions of macros; repeatable]:FILE:_files'
             '*--define=[Value of a name, in place of any in a file; repeatable]:NAME=VALUE:'
             '*--env=[Name that the environment answers where no file does; repeatable]:NAME:_parameters -g "*export*"'
+            '--messages=[Form of messages]:FORM:(plain long json)'
             '(- *)'{-h,--help}'[Print help]'
         ) ;;
     esac

@@ -142,11 +142,13 @@ class Help:
 
 
 def roff(text):
-    """A text as lines of roff: what is between two backquotes is set apart, and each row of two columns begins a line."""
-    made = []
+    """A text as lines of roff: what is between two backquotes is set apart, and each row of two columns begins a line, as does what
+    follows the last one."""
+    made, is_in_rows = [], False
     for line in text.splitlines():
-        row = re.match(ROW, line)
-        made += [".br"] if row else []
+        was_in_rows, row = is_in_rows, re.match(ROW, line)
+        is_in_rows = bool(row) or was_in_rows and line[:1] == " "
+        made += [".br"] if row or (was_in_rows and not is_in_rows and line) else []
         line = re.sub(r"`([^`]+)`", r"\\fI\1\\fP", line.strip().replace("\\", "\\e").replace("-", "\\-"))
         line = re.sub(ROW, r"\\fB\1\\fP: ", line)
         made.append(re.sub(r"^(?=[.'])", r"\\&", line) or ".sp")

@@ -25,6 +25,7 @@ so does one with '-- room N', which lets no file that it writes have more than N
 """
 import concurrent.futures
 import contextlib
+import json
 import multiprocessing
 import os
 import re
@@ -70,6 +71,21 @@ def split_bundle(bundle):
         if line.rstrip(b"\n") == b"%%":
             return b"".join(lines[:number]), b"".join(lines[number + 1 :])
     return bundle, None
+
+
+def plain_line(line, root):
+    """A message of standard error in any form as a plain line without its text, and with its path below the folder of the tree."""
+    if line.startswith(b"{"):
+        it = json.loads(line)
+        path, number, kind = it["file"], it["line"], it["kind"]
+    else:
+        found = re.fullmatch(r"(?:kmin|([^\n]*?):(\d+)): (?:(?:error|warning): )?(\w+)(?:[: ].*)?\n?", os.fsdecode(line))
+        if not found:
+            return line
+        path, number, kind = found.groups()
+    if path is None:
+        return {"OutOfMemory": b"out of memory\n", "Write": b"output: Write\n"}.get(kind, line)
+    return os.fsencode(f"{path.removeprefix(f'{root}/')}:{number}: {kind}\n")
 
 
 def side_by_side(call, *items):
@@ -245,6 +261,19 @@ class Row:
         """Whether one of the words before a `--` is `@FILE`."""
         words = [*map(os.fsdecode, self.words), "--"]
         return any(word.startswith("@") for word in words[: words.index("--")])
+
+    def value_of(self, option, otherwise):
+        """The value that the words give to an option, or another one."""
+        words = self.represented()
+        values = [words[k + 1] for k, word in enumerate(words[:-1]) if word == option]
+        return [otherwise, *values, *(word.partition("=")[2] for word in words if word.startswith(f"{option}="))][-1]
+
+    def plainly(self, err):
+        """Standard error as it is; where the words ask for a form of messages, as plain lines without texts. A text may be missing
+        where its file isn't read again or memory runs out, and where this runs out for the form, too, a line is plain."""
+        if self.value_of("--messages", "plain") == "plain":
+            return err
+        return b"".join(plain_line(line, self.value_of("--root", ".")) for line in err.splitlines(keepends=True))
 
     def is_expanded(self):
         """Whether the words ask for an expansion of the tree."""

@@ -7,7 +7,8 @@ use Rattle.std.proofs.lemmas.Grind.{flat_map-append}
 use Rattle.std.proofs.lemmas.List.{take-append-le, map-append}
 use Rattle.std.proofs.Math.Seq.{take-append-add, take-suc}
 use Rattle.kmin_report.specs.Reports.{ErrorLine}
-use Rattle.kmin_report.specs.StandardError.{SpelledBytes, TakesWhole, TakesPart, TakesLine, TakesLines, none, one_more, HasRisen}
+use Rattle.kmin_report.specs.StandardError.{SpelledBytes, TakesWhole, TakesPart, TakesLine, TakesLines, none, one_more}
+use Rattle.kc_files.specs.TreeContents.{HasRisen}
 
 -- a writer takes the empty text whole, and is as before
 pub whole_none : (before : Option (List ℕ)) (failed : ℕ) → TakesWhole before failed [] before failed

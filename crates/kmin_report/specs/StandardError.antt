@@ -1,11 +1,8 @@
 -- The lines that standard error takes, one after another, and how it spells them.
-use Rattle.std.specs.Prelude.{◌≡◌, ℕ, ◌<◌, ◌-◌, ◌^◌, ◌⊎◌, List, [], ◌∷◌, ◌++◌, Option, length, take}
+use Rattle.std.specs.Prelude.{◌≡◌, ℕ, ◌<◌, ◌⊎◌, List, [], ◌∷◌, ◌++◌, Option, length, take}
 use Rattle.std.specs.Io.KnownBytes.{Appends}
+use Rattle.kc_files.specs.TreeContents.{HasRisen}
 use Rattle.kmin_report.specs.Reports.{ErrorLine}
-
--- a count of failed writes rose, unless it was at its limit, 2 ^ 64 - 1
-abbrev pub HasRisen : (before after : ℕ) → Type 0
-HasRisen before after = before < 2 ^ 64 - 1 → before < after
 
 -- a writer took a text to its end, and no write failed
 pub record TakesWhole (before : Option (List ℕ)) (failed : ℕ) (text : List ℕ) (after : Option (List ℕ)) (failed_after : ℕ) : Type 0 where

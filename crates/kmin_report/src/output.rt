@@ -2,7 +2,8 @@
 ghost use Rattle.std.specs.Prelude.{◌≡◌, ◌∷◌, [], ◌<◌, length, take, IfErr, OnOk, OnErr};
 ghost use Rattle.std.specs.Io.KnownBytes.{Appends};
 ghost use Rattle.kmin_report.specs.Reports.{last_lines, output_line};
-ghost use Rattle.kmin_report.specs.StandardError.{HasRisen, TakesLines};
+ghost use Rattle.kmin_report.specs.StandardError.{TakesLines};
+ghost use Rattle.kc_files.specs.TreeContents.{HasRisen};
 ghost use Rattle.kmin_report.specs.between.RunErrors.{status_of};
 
 use crate::messages::Messages;

@@ -11,19 +11,25 @@ ghost use Rattle.kmin_report.specs.between.ReportLines.{report_line};
 use crate::symbol_names::name_of;
 use itoa::Buffer;
 use kc_dotconfig_model::{LoadKind, NoticeKind};
+use kc_files::ExpandedTree;
 use kc_macros::{AnswersKind, MacroFault, MacroNotice};
 use kc_output::{WriteFault, write_out};
-use kc_tree::{Tree, TreeKind, Unit};
+use kc_tree::{Texts, Tree, TreeKind, Unit};
 use kc_value::Sink;
 
 /// An event that a line on standard error reports.
 #[derive(Drop)]
 pub enum Report<'a> {
-    /// A fault of a tree.
+    /// A fault of a tree: its line in the file at `path`, and the texts that were read from the path `first` on, among which the file
+    /// has the number `file`; of a tree whose macros were expanded also the expanded files, of which the texts are.
     TreeFault {
         path: &'a [u8],
         line: u32,
         kind: TreeKind,
+        file: Option<u32>,
+        texts: &'a Texts,
+        first: &'a str,
+        expanded: Option<&'a ExpandedTree>,
     },
     /// Symbols and choices of a tree that depend on each other in a circle, at the file and line of the first.
     Cycle {
@@ -40,10 +46,12 @@ pub enum Report<'a> {
     },
     /// A notice of a configuration file: a line with an unknown symbol, with a value that isn't of its symbol's type, or with a string
     /// that has other escapes than those of `"` and `\`, or on whose account Linux since 6.10 selects another member of a choice.
+    /// The file is read over this tree.
     Notice {
         path: &'a str,
         line: u32,
         kind: NoticeKind,
+        tree: &'a Tree,
     },
     /// A fault of an answer file.
     AnswersFault {
@@ -53,8 +61,11 @@ pub enum Report<'a> {
     },
     /// A notice of the expansion of a tree's macros.
     MacroNotice(&'a MacroNotice),
-    /// A fault of the expansion of a tree's macros.
-    MacroFault(&'a MacroFault),
+    /// A fault of the expansion of a tree's macros, and the path of the file that couldn't be opened last, if that is known.
+    MacroFault {
+        fault: &'a MacroFault,
+        missing: Option<&'a [u8]>,
+    },
     /// A write of the output failed.
     OutputFault,
     /// The path of the output file leads to a link, a folder, a pipe or a device.
@@ -70,12 +81,17 @@ pub enum Report<'a> {
 }
 
 /// Writes the plain line of a report, up to the first write that fails. Takes no memory.
-pub(crate) fn write_line<W: Sink>(report: &Report<'_>, sink: &mut W) -> Result<(), WriteFault>
+pub fn write_plain_line<W: Sink>(report: &Report<'_>, sink: &mut W) -> Result<(), WriteFault>
     ensures whole { OnOk result (TakesWhole (W.taken sink.old) (W.failures sink.old) (plain_line (report_line report.now)) (W.taken sink.new) (W.failures sink.new)) }
     ensures part { OnErr result (TakesPart (W.taken sink.old) (W.failures sink.old) (plain_line (report_line report.now)) (W.taken sink.new) (W.failures sink.new)) }
 {
     match report {
-        Report::TreeFault { path, line, kind } => write_place(path, *line, kind.name(), sink),
+        Report::TreeFault {
+            path,
+            line,
+            kind,
+            ..
+        } => write_place(path, *line, kind.name(), sink),
         Report::Cycle {
             path,
             line,
@@ -85,14 +101,17 @@ pub(crate) fn write_line<W: Sink>(report: &Report<'_>, sink: &mut W) -> Result<(
         Report::FileFault { path, line, kind } => {
             write_place(path.as_bytes(), *line, kind.name(), sink)
         }
-        Report::Notice { path, line, kind } => {
-            write_place(path.as_bytes(), *line, kind.name(), sink)
-        }
+        Report::Notice {
+            path,
+            line,
+            kind,
+            ..
+        } => write_place(path.as_bytes(), *line, kind.name(), sink),
         Report::AnswersFault { path, line, kind } => {
             write_place(path.as_bytes(), *line, kind.name(), sink)
         }
         Report::MacroNotice(notice) => write_macro_notice(notice, sink),
-        Report::MacroFault(fault) => write_macro_fault(fault, sink),
+        Report::MacroFault { fault, .. } => write_macro_fault(fault, sink),
         Report::OutputFault => write_pieces(&[b"output: Write\n"], sink),
         Report::NotRegular(path) => write_place(path.as_bytes(), 0, "NotRegular", sink),
         Report::Unwritten(path) => write_pieces(&[path.as_bytes(), b": Write\n"], sink),

@@ -21,23 +21,23 @@ use Rattle.kc_dotconfig.specs.ConfigStates.{Configured, IsSolved, tree_in}
 use Rattle.kc_dotconfig.specs.Fragments.{users_of}
 use Rattle.kc_dotconfig.specs.ReadResults.{IsReadAs}
 use Rattle.kc_minimal_model.specs.FullFile.{full_file}
-use Rattle.kmin_words.specs.declared.job.Verb.TheVariants.{Full}
+use Rattle.kmin_options.specs.declared.job.Verb.TheVariants.{Full}
 use Rattle.kmin_report.specs.declared.run_error.RunError.{RunError}
 use Rattle.kmin_report.specs.Reports.{ErrorLine, notice_lines, choice_notice_lines, last_lines}
 use Rattle.kmin_report.specs.StandardError.{SpelledBytes, TakesLines}
 use Rattle.kmin_trees.specs.AcceptedTrees.{AreAccepted}
-use Rattle.kmin_run.specs.Answers.{Resolve, of_files}
-use Rattle.kmin_run.specs.Stops.{StopsAmongFiles}
+use Rattle.kmin_answers.specs.Answers.{Resolve, of_files}
+use Rattle.kmin_answers.specs.Stops.{StopsAmongFiles}
 use Rattle.kmin_run.specs.Bundles.{IsBundle}
 use Rattle.kmin_run.specs.BundleAnswers.{AnswersBundle, StopsInBundle, StopsOnBundle, at_tree, in_configuration, bundle_content, bundle_files, bundle_settings}
 use Rattle.kmin_run.specs.BundleAnswers as bundles
-use Rattle.kmin_run.specs.between.LoadResults.{AreLoaded}
-use Rattle.kmin_run.specs.between.LoadStops.{StopsLoad, fragment_notices}
+use Rattle.kmin_answers.specs.between.LoadResults.{AreLoaded}
+use Rattle.kmin_answers.specs.between.LoadStops.{StopsLoad, fragment_notices}
 use Rattle.kmin_report.specs.between.RunErrors.{status_of}
 use Rattle.kmin_trees.specs.between.TreeStops.{StopsAtTexts, at_texts, for_memory}
 use Rattle.kmin_report.proofs.WriterLemmas.{lines_append}
-use Rattle.kmin_run.proofs.Sequences.{stopped_at, stopped_path, loaded_from, loaded_one}
-use Rattle.kmin_run.proofs.JobOutputs.{resolved}
+use Rattle.kmin_answers.proofs.Sequences.{stopped_at, stopped_path, loaded_from, loaded_one}
+use Rattle.kmin_answers.proofs.JobOutputs.{resolved}
 
 -- a tree has the language of the files in which it was read
 language_of_groups : (language : Language) (groups : List Group) → (tree_of_groups language groups).language ≡ language

@@ -1,13 +1,8 @@
-pub mod LoadLines
-pub mod ErrorExits
-pub mod Sequences
-pub mod ReadFailures
+pub mod RunFailures
 pub mod BundleCuts
-pub mod NamedLines
 pub mod QuestionEnds
 pub mod RunStatuses
 pub mod RunEnds
-pub mod JobOutputs
 pub mod BundleOutputs
 pub mod TidyLemmas
 pub mod SaveLemmas

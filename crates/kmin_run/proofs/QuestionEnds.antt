@@ -3,9 +3,9 @@ use Rattle.std.proofs.Common.{◌≡◌, ℕ, List, [], ◌∷◌, ◌++◌, Ok,
 use Rattle.std.specs.List.{flat_map}
 use Rattle.std.specs.declared.alloc.Global.{Global}
 use Rattle.kc_files.specs.TextViews.{items_of}
-use Rattle.kmin_words.specs.Jobs.{Questions}
+use Rattle.kmin_options.specs.Jobs.{Questions}
 use Rattle.kmin_report.specs.declared.run_error.RunError.{RunError}
-use Rattle.kmin_trees.specs.FileContents.{Surroundings}
+use Rattle.kmin_inputs.specs.FileContents.{Surroundings}
 use Rattle.kmin_report.specs.Reports.{ErrorLine, last_lines, output_line}
 use Rattle.kmin_report.specs.StandardError.{SpelledBytes, TakesLines}
 use Rattle.kmin_trees.specs.WantedQuestions.{AreAsked, StopsWanting, at_write, question_line, questions_text}
@@ -13,27 +13,27 @@ use Rattle.kmin_report.specs.between.RunErrors.{status_of}
 use Rattle.kmin_report.proofs.WriterLemmas.{lines_append}
 
 -- a run of `wants` that failed to write its output, and reported that, ends as `StopsWanting` defines, with all these lines
-pub write_stops : (known : Surroundings) (questions : Questions) (asked : List (List ℕ)) (status : ℕ) (taken middle taken_after : SpelledBytes)
+pub write_stops : (known : Surroundings) (counted counted_after : ℕ) (questions : Questions) (asked : List (List ℕ)) (status : ℕ) (taken middle taken_after : SpelledBytes)
     (failed failed_middle failed_after : ℕ)
-    → status ≡ 5 → AreAsked known questions (Ok asked) → TakesLines taken failed [] middle failed_middle
+    → status ≡ 5 → AreAsked known counted counted_after questions (Ok asked) → TakesLines taken failed [] middle failed_middle
     → TakesLines middle failed_middle (output_line ∷ []) taken_after failed_after
-    → (lines : List ErrorLine) × StopsWanting known questions status lines × TakesLines taken failed (lines ++ last_lines status) taken_after failed_after
-write_stops known questions asked status taken middle taken_after failed failed_middle failed_after e a before h = (
+    → (lines : List ErrorLine) × StopsWanting known counted counted_after questions status lines × TakesLines taken failed (lines ++ last_lines status) taken_after failed_after
+write_stops known counted counted_after questions asked status taken middle taken_after failed failed_middle failed_after e a before h = (
   output_line ∷ [],
   at_write asked a e refl,
   rw e (lines_append taken middle failed failed_middle [] (output_line ∷ []) taken_after failed_after before h),
 )
 
 -- a run of `wants` that ended early, and then reported its last line, ends as `StopsWanting` defines, with all these lines
-pub questions_end : (known : Surroundings) (questions : Questions) (stop : RunError) (status : ℕ) (taken middle taken_after : SpelledBytes)
+pub questions_end : (known : Surroundings) (counted counted_after : ℕ) (questions : Questions) (stop : RunError) (status : ℕ) (taken middle taken_after : SpelledBytes)
     (failed failed_middle failed_after : ℕ)
     → status ≡ status_of stop
-    → (lines : List ErrorLine) × StopsWanting known questions (status_of stop) lines × TakesLines taken failed lines middle failed_middle
+    → (lines : List ErrorLine) × StopsWanting known counted counted_after questions (status_of stop) lines × TakesLines taken failed lines middle failed_middle
     → TakesLines middle failed_middle (last_lines status) taken_after failed_after
-    → (lines : List ErrorLine) × StopsWanting known questions status lines × TakesLines taken failed (lines ++ last_lines status) taken_after failed_after
-questions_end known questions stop status taken middle taken_after failed failed_middle failed_after e w h = (
+    → (lines : List ErrorLine) × StopsWanting known counted counted_after questions status lines × TakesLines taken failed (lines ++ last_lines status) taken_after failed_after
+questions_end known counted counted_after questions stop status taken middle taken_after failed failed_middle failed_after e w h = (
   w.0,
-  subst (λ n. StopsWanting known questions n w.0) (sym e) w.1,
+  subst (λ n. StopsWanting known counted counted_after questions n w.0) (sym e) w.1,
   lines_append taken middle failed failed_middle w.0 (last_lines status) taken_after failed_after w.2 h,
 )
 

@@ -2,29 +2,29 @@
 use Rattle.std.proofs.Common.{◌≡◌, ℕ, List, ◌++◌, refl, sym, ◌∙◌, subst}
 use Rattle.kmin_disk.specs.declared.fault.UpdateFault.{UpdateFault}
 use Rattle.kmin_disk.specs.Disks.{Disk}
-use Rattle.kmin_words.specs.Jobs.{Settings, Task}
-use Rattle.kmin_trees.specs.FileContents.{Surroundings}
+use Rattle.kmin_options.specs.Jobs.{Settings, Task}
+use Rattle.kmin_inputs.specs.FileContents.{Surroundings}
 use Rattle.kmin_trees.specs.JobTexts.{TreeTexts, AreTextsOfJob}
-use Rattle.kmin_run.specs.Answers.{Answer}
+use Rattle.kmin_answers.specs.Answers.{Answer}
 use Rattle.kmin_report.specs.Reports.{ErrorLine, last_lines}
 use Rattle.kmin_report.specs.StandardError.{SpelledBytes, TakesLines}
-use Rattle.kmin_run.specs.Stops.{StopsBefore}
+use Rattle.kmin_answers.specs.Stops.{StopsBefore}
 use Rattle.kmin_run.specs.Saves.{IsUnsaved, SaveEnds, at_file, before_answer, update_lines, update_status}
 use Rattle.kmin_report.specs.declared.run_error.RunError.{RunError}
 use Rattle.kmin_report.specs.between.RunErrors.{status_of}
 use Rattle.kmin_report.proofs.WriterLemmas.{lines_append}
 
-module _ (known : Surroundings) (settings : Settings) (task : Task) (path : List ℕ) (old new : Disk) (stop : RunError) (status : ℕ)
+module _ (known : Surroundings) (counted counted_after : ℕ) (settings : Settings) (task : Task) (path : List ℕ) (old new : Disk) (stop : RunError) (status : ℕ)
     (is : status ≡ status_of stop)
     (taken : SpelledBytes) (failed : ℕ) (last : SpelledBytes) (failed_last : ℕ) where
   -- a command with an output file that ended before it had an output, and then reported its last line, ends as `SaveEnds` defines
   pub ends_before : (middle : SpelledBytes) (failed_middle : ℕ) → new ≡ old
-      → (own : List ErrorLine) × StopsBefore known settings task (status_of stop) own × TakesLines taken failed own middle failed_middle
+      → (own : List ErrorLine) × StopsBefore known counted counted_after settings task (status_of stop) own × TakesLines taken failed own middle failed_middle
       → TakesLines middle failed_middle (last_lines status) last failed_last
-      → (lines : List ErrorLine) × SaveEnds known settings task path old new lines status × TakesLines taken failed lines last failed_last
+      → (lines : List ErrorLine) × SaveEnds known counted counted_after settings task path old new lines status × TakesLines taken failed lines last failed_last
   ends_before middle failed_middle same w h = (
     w.0 ++ last_lines status,
-    before_answer w.0 (subst (λ n. StopsBefore known settings task n w.0) (sym is) w.1) same refl,
+    before_answer w.0 (subst (λ n. StopsBefore known counted counted_after settings task n w.0) (sym is) w.1) same refl,
     lines_append taken middle failed failed_middle w.0 (last_lines status) last failed_last w.2 h,
   )
 
@@ -35,7 +35,7 @@ module _ (known : Surroundings) (settings : Settings) (task : Task) (path : List
       → (fault : UpdateFault) × IsUnsaved old new path text fault × (status_of stop ≡ update_status fault)
       × TakesLines answered failed_answered (update_lines path fault) reported failed_reported
       → TakesLines reported failed_reported (last_lines status) last failed_last
-      → (lines : List ErrorLine) × SaveEnds known settings task path old new lines status × TakesLines taken failed lines last failed_last
+      → (lines : List ErrorLine) × SaveEnds known counted counted_after settings task path old new lines status × TakesLines taken failed lines last failed_last
   ends_at_file text made answered reported failed_answered failed_reported w f h =
       let own = (w.0.lines ++ w.1) ++ update_lines path f.0 in
       let lines_taken = lines_append taken answered failed failed_answered (w.0.lines ++ w.1) (update_lines path f.0) reported failed_reported w.4 f.3 in (

@@ -10,21 +10,21 @@ use Rattle.kmin_tidy.specs.declared.outcome.FileOutcome.TheVariants.{Minimal, No
 use Rattle.kmin_tidy.specs.Promises.{IsKeptOrLeft, AreTidy}
 use Rattle.std.specs.Io.KnownBytes.{Appends}
 use Rattle.kmin_report.specs.StandardError.{SpelledBytes, TakesLine, TakesLines}
-use Rattle.kmin_trees.specs.FileContents.{Surroundings}
+use Rattle.kmin_inputs.specs.FileContents.{Surroundings}
 use Rattle.kmin_report.specs.Reports.{ErrorLine, last_lines}
 use Rattle.kmin_trees.specs.AcceptedTrees.{AreAccepted}
 use Rattle.kmin_trees.specs.JobTexts.{TreeTexts, AreTextsOfJob}
 use Rattle.kmin_trees.specs.Stops.{StopsAtTree}
 use Rattle.kmin_run.specs.TidyRuns.{AreListBytes, AreNamed, AreMalformed, StopsAtList, malformed, PathsEnd, at_tree, over_files, GoesOver, TidyEnds, at_list, over_paths, Outputs, is_ended_by_nul, listed_paths, options_of, run_settings}
-use Rattle.kmin_trees.specs.ListFiles.{malformed_line}
+use Rattle.kmin_inputs.specs.ListFiles.{malformed_line}
 use Rattle.kmin_report.specs.declared.run_error.RunError.{RunError}
 use Rattle.kmin_report.specs.between.RunErrors as errors
 use Rattle.kmin_report.proofs.WriterLemmas.{lines_append, lines_one}
 use Rattle.kmin_lines.specs.Lists.{paths_in}
 use Rattle.kmin_tidy.specs.declared.options.TidyOptions.{TidyOptions}
-use Rattle.kmin_words.specs.declared.job.TidyFlags.{TidyFlags}
-use Rattle.kmin_words.specs.Jobs as jobs
-use Rattle.kmin_words.specs.Jobs.{TidyJob}
+use Rattle.kmin_options.specs.declared.job.TidyFlags.{TidyFlags}
+use Rattle.kmin_options.specs.Jobs as jobs
+use Rattle.kmin_options.specs.Jobs.{TidyJob}
 use Rattle.kc_rules.specs.declared.rules.Settled.{Settled}
 use Rattle.kc_rules.specs.between.SettledViews.{tree_of_settled, profile_of}
 use Rattle.kc_dotconfig_model.specs.declared.format.Format.{Format}
@@ -93,19 +93,19 @@ settings_are settled format settings flags options p q o =
 
 module _ (taken middle taken_after : SpelledBytes) (failed failed_middle failed_after : ℕ) (status : ℕ) where
   -- a run of `tidy` that ended at its tree, and then reported its last line, ends as `PathsEnd` defines
-  pub tree_ends : (known : Surroundings) (settings : jobs.Settings) (flags : TidyFlags) (paths : List (List ℕ)) (old : Outputs) (stop : RunError)
+  pub tree_ends : (known : Surroundings) (counted counted_after : ℕ) (settings : jobs.Settings) (flags : TidyFlags) (paths : List (List ℕ)) (old : Outputs) (stop : RunError)
       → status ≡ errors.status_of stop
-      → (lines : List ErrorLine) × StopsAtTree known settings (errors.status_of stop) lines × TakesLines taken failed lines middle failed_middle
+      → (lines : List ErrorLine) × StopsAtTree known counted counted_after settings (errors.status_of stop) lines × TakesLines taken failed lines middle failed_middle
       → TakesLines middle failed_middle (last_lines status) taken_after failed_after
-      → (lines : List ErrorLine) × PathsEnd known settings flags paths old old lines status × TakesLines taken failed lines taken_after failed_after
-  tree_ends known settings flags paths old stop e w h = (
+      → (lines : List ErrorLine) × PathsEnd known counted counted_after settings flags paths old old lines status × TakesLines taken failed lines taken_after failed_after
+  tree_ends known counted counted_after settings flags paths old stop e w h = (
     w.0 ++ last_lines status,
-    at_tree w.0 (subst (λ n. StopsAtTree known settings n w.0) (sym e) w.1) refl refl,
+    at_tree w.0 (subst (λ n. StopsAtTree known counted counted_after settings n w.0) (sym e) w.1) refl refl,
     lines_append taken middle failed failed_middle w.0 (last_lines status) taken_after failed_after w.2 h,
   )
 
   -- a run of `tidy` whose tree was accepted, and whose files `tidy_files` went over, ends as `PathsEnd` defines
-  pub went_over : (known : Surroundings) (settings : jobs.Settings) (flags : TidyFlags) (settled : Settled) (format : Format) (options : TidyOptions)
+  pub went_over : (known : Surroundings) (counted counted_after : ℕ) (settings : jobs.Settings) (flags : TidyFlags) (settled : Settled) (format : Format) (options : TidyOptions)
       (paths : List (List ℕ)) (old new : Outputs)
       → profile_of settled ≡ settings.profile → file_format format ≡ settings.format → options ≡ options_of settings.strict flags
       → (t : TreeTexts) × AreTextsOfJob known settings t × AreAccepted t.texts settings.tree (tree_of_settled settled)
@@ -116,8 +116,8 @@ module _ (taken middle taken_after : SpelledBytes) (failed failed_middle failed_
       → ((place : List ℕ) → IsKeptOrLeft (settings_of settled format options) (old.disk.state.history place) (new.disk.state.history place))
       → (AreTidy (settings_of settled format options) old.disk.state paths → new.disk.state ≡ old.disk.state)
       → (AreTidy (settings_of settled format options) old.disk.state paths → Appends old.taken new.taken [])
-      → (lines : List ErrorLine) × PathsEnd known settings flags paths old new lines status × TakesLines taken failed lines taken_after failed_after
-  went_over known settings flags settled format options paths old new p q o accepted ends became again silent =
+      → (lines : List ErrorLine) × PathsEnd known counted counted_after settings flags paths old new lines status × TakesLines taken failed lines taken_after failed_after
+  went_over known counted counted_after settings flags settled format options paths old new p q o accepted ends became again silent =
       let run : GoesOver (settings_of settled format options) old new paths ends.0 status =
       record { ends = ends.1; became = became; again = again; silent = silent } in
       let same = settings_are settled format settings flags options p q o in (
@@ -128,47 +128,47 @@ module _ (taken middle taken_after : SpelledBytes) (failed failed_middle failed_
       )
 
   -- a run of `tidy` that ended at its list, and then reported its last line, ends as `TidyEnds` defines
-  pub list_ends : (known : Surroundings) (left : Option (List ℕ)) (t : TidyJob) (old : Outputs) (stop : RunError)
+  pub list_ends : (known : Surroundings) (counted counted_after : ℕ) (left : Option (List ℕ)) (t : TidyJob) (old : Outputs) (stop : RunError)
       → status ≡ errors.status_of stop
       → (lines : List ErrorLine) × StopsAtList known.content left t.list (errors.status_of stop) lines × TakesLines taken failed lines middle failed_middle
       → TakesLines middle failed_middle (last_lines status) taken_after failed_after
-      → (lines : List ErrorLine) × TidyEnds known left t old old lines status × TakesLines taken failed lines taken_after failed_after
-  list_ends known left t old stop e w h = (
+      → (lines : List ErrorLine) × TidyEnds known counted counted_after left t old old lines status × TakesLines taken failed lines taken_after failed_after
+  list_ends known counted counted_after left t old stop e w h = (
     w.0 ++ last_lines status,
     at_list w.0 (subst (λ n. StopsAtList known.content left t.list n w.0) (sym e) w.1) refl refl,
     lines_append taken middle failed failed_middle w.0 (last_lines status) taken_after failed_after w.2 h,
   )
 
   -- a run of `tidy` that read its list without a report ends as the rest of the run does
-  pub read_before : (known : Surroundings) (left : Option (List ℕ)) (t : TidyJob) (bytes : List ℕ) (old new : Outputs)
+  pub read_before : (known : Surroundings) (counted counted_after : ℕ) (left : Option (List ℕ)) (t : TidyJob) (bytes : List ℕ) (old new : Outputs)
       → AreListBytes known.content left t.list bytes → TakesLines taken failed [] middle failed_middle
       → (AreListBytes known.content left t.list bytes
-      → (lines : List ErrorLine) × TidyEnds known left t old new lines status × TakesLines middle failed_middle lines taken_after failed_after)
-      → (lines : List ErrorLine) × TidyEnds known left t old new lines status × TakesLines taken failed lines taken_after failed_after
-  read_before known left t bytes old new b before h =
+      → (lines : List ErrorLine) × TidyEnds known counted counted_after left t old new lines status × TakesLines middle failed_middle lines taken_after failed_after)
+      → (lines : List ErrorLine) × TidyEnds known counted counted_after left t old new lines status × TakesLines taken failed lines taken_after failed_after
+  read_before known counted counted_after left t bytes old new b before h =
       let ended = h b in (ended.0, ended.1, lines_append taken middle failed failed_middle [] ended.0 taken_after failed_after before ended.2)
 
 -- a run of `tidy` that reported a malformed path in its list, and ended with the status 2, ends as `TidyEnds` defines
-pub malformed_ends : (taken taken_after : SpelledBytes) (failed failed_after status : ℕ) (known : Surroundings) (left : Option (List ℕ)) (t : TidyJob)
+pub malformed_ends : (taken taken_after : SpelledBytes) (failed failed_after status : ℕ) (known : Surroundings) (counted counted_after : ℕ) (left : Option (List ℕ)) (t : TidyJob)
     (bytes : List ℕ) (old : Outputs) → AreListBytes known.content left t.list bytes → AreMalformed (listed_paths t.list bytes) → status ≡ 2
     → TakesLine taken failed malformed_line taken_after failed_after
-    → (lines : List ErrorLine) × TidyEnds known left t old old lines status × TakesLines taken failed lines taken_after failed_after
-malformed_ends taken taken_after failed failed_after status known left t bytes old b m e h = (
+    → (lines : List ErrorLine) × TidyEnds known counted counted_after left t old old lines status × TakesLines taken failed lines taken_after failed_after
+malformed_ends taken taken_after failed failed_after status known counted counted_after left t bytes old b m e h = (
   malformed_line ∷ [],
   at_list (malformed_line ∷ []) (malformed bytes b m e refl) (rw e refl) refl,
   lines_one taken taken_after failed failed_after malformed_line h,
 )
 
 -- a run of `tidy` over its files and the paths in its list, as one list of paths, ends as `TidyEnds` defines
-pub over_all : (known : Surroundings) (left : Option (List ℕ)) (t : TidyJob) (bytes : List ℕ) (old new : Outputs) (lines : List ErrorLine) (status : ℕ)
+pub over_all : (known : Surroundings) (counted counted_after : ℕ) (left : Option (List ℕ)) (t : TidyJob) (bytes : List ℕ) (old new : Outputs) (lines : List ErrorLine) (status : ℕ)
     (ended_by_nul : Bool) (files paths : List (List ℕ)) → ended_by_nul ≡ is_ended_by_nul t.list → files ≡ t.files
     → AreListBytes known.content left t.list bytes → AreNamed (paths_in ended_by_nul bytes) → paths ≡ files ++ paths_in ended_by_nul bytes
-    → PathsEnd known t.settings t.flags paths old new lines status → TidyEnds known left t old new lines status
-over_all known left t bytes old new lines status ended_by_nul files paths e f b n p h =
+    → PathsEnd known counted counted_after t.settings t.flags paths old new lines status → TidyEnds known counted counted_after left t old new lines status
+over_all known counted counted_after left t bytes old new lines status ended_by_nul files paths e f b n p h =
     let all : paths ≡ t.files ++ listed_paths t.list bytes =
     p ∙ ap (λ files. files ++ paths_in ended_by_nul bytes) f ∙ ap (λ ended. t.files ++ paths_in ended bytes) e in
     over_paths bytes b (subst (λ ended. AreNamed (paths_in ended bytes)) e n)
-    (subst (λ paths. PathsEnd known t.settings t.flags paths old new lines status) all h)
+    (subst (λ paths. PathsEnd known counted counted_after t.settings t.flags paths old new lines status) all h)
 
 -- of two facts, one of which holds with a flag and the other without it, one holds
 pub by_asking : {P Q : Type 0} (write : Bool) → (write ≡ false → P) → (write ≡ true → Q) → P ⊎ Q

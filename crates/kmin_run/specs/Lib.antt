@@ -1,7 +1,3 @@
-pub mod Statuses
-pub mod Strictness
-pub mod Answers
-pub mod Stops
 pub mod between
 pub mod Bundles
 pub mod BundleAnswers

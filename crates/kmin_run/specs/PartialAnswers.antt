@@ -1,10 +1,10 @@
 -- Outputs of which a part is written.
 use Rattle.std.specs.Prelude.{ℕ, ◌<◌, List, Option, length, take}
 use Rattle.std.specs.Io.KnownBytes.{Appends}
-use Rattle.kmin_words.specs.Jobs.{Settings, Task}
-use Rattle.kmin_trees.specs.FileContents.{Surroundings}
+use Rattle.kmin_options.specs.Jobs.{Settings, Task}
+use Rattle.kmin_inputs.specs.FileContents.{Surroundings}
 use Rattle.kmin_trees.specs.JobTexts.{TreeTexts, AreTextsOfJob}
-use Rattle.kmin_run.specs.Answers.{Answer}
+use Rattle.kmin_answers.specs.Answers.{Answer}
 use Rattle.kmin_report.specs.Reports.{ErrorLine}
 
 -- standard output took the first bytes of the output of a command over the texts of its tree, but not all of them

@@ -1,24 +1,27 @@
--- What a run of the program does with these words.
-use Rattle.std.specs.Prelude.{◌≡◌, ◌≢◌, ◌<◌, ◌≤◌, ◌⊎◌, ℕ, Bool, true, false, List, [], ◌∷◌, ◌++◌, Option, Ok, length, take}
+-- What a run of the program does with these words. `counted` and `counted_after` are how many calls on files failed before and after,
+-- without those on the disk.
+use Rattle.std.specs.Prelude.{◌≡◌, ◌≢◌, ◌<◌, ◌≤◌, ◌⊎◌, ℕ, Bool, true, false, List, [], ◌∷◌, ◌++◌, Option, None, Ok, length, take, option_map}
 use Rattle.std.specs.Io.KnownBytes.{Appends}
 use Rattle.kc_value.specs.declared.limits.TheConstants.{MAX_BUNDLE_BYTES}
 use Rattle.kmin_report.specs.Reports.{ErrorLine, last_lines, output_line, refused_line}
-use Rattle.kmin_report.specs.StandardError.{HasRisen}
-use Rattle.kmin_words.specs.Jobs.{Settings, Questions, Task, settings_view, questions_view, task_view, tidy_job_view}
+use Rattle.kc_files.specs.TreeContents.{HasRisen}
+use Rattle.kmin_messages.specs.declared.message.Form.{Form}
+use Rattle.kmin_texts.specs.Spellings.{AskedForm}
+use Rattle.kmin_options.specs.Jobs.{Settings, Questions, Task, settings_view, questions_view, task_view, tidy_job_view}
 use Rattle.kmin_words.specs.Parses.{AreReadAs}
 use Rattle.kmin_words.specs.declared.command_line.ParsedWords.{ParsedWords}
 use Rattle.kmin_words.specs.declared.command_line.ParsedWords.TheVariants.{Job, Save, Questions as TheQuestions, Tidy, Help, Refused}
-use Rattle.kmin_trees.specs.FileContents.{Surroundings}
+use Rattle.kmin_inputs.specs.FileContents.{Surroundings}
 use Rattle.kmin_trees.specs.JobTexts.{TreeTexts, AreTextsOfJob}
-use Rattle.kmin_trees.specs.WordFiles.{Represent, StopsAtWords, is_input_read_for}
+use Rattle.kmin_inputs.specs.WordFiles.{Represent, StopsAtWords, is_input_read_for}
 use Rattle.kmin_trees.specs.WantedQuestions.{AreAsked, AsksInPart, StopsWanting, questions_text}
-use Rattle.kmin_run.specs.Answers.{Answer}
+use Rattle.kmin_answers.specs.Answers.{Answer}
 use Rattle.kmin_run.specs.BundleAnswers.{AnswersBundle, StopsOnBundle, WritesPart}
 use Rattle.kmin_run.specs.Bundles.{ReadsToEnd}
 use Rattle.kmin_run.specs.PartialAnswers.{AnswersInPart}
 use Rattle.kmin_run.specs.Saves.{SaveEnds}
-use Rattle.kmin_run.specs.Statuses.{status_of_list}
-use Rattle.kmin_run.specs.Stops.{Stops}
+use Rattle.kmin_answers.specs.Statuses.{status_of_list}
+use Rattle.kmin_answers.specs.Stops.{Stops}
 use Rattle.kmin_run.specs.TidyRuns.{Outputs, TidyEnds}
 
 -- the status of a run that ended with a fault, and not by words that are refused
@@ -31,23 +34,23 @@ WritesAtMost part old new status = (new.taken ≡ old.taken) ⊎ ((status ≡ 5)
 
 -- A command over configuration files ends: its output is written, and no write failed; or it ended without its whole output. The
 -- disk is unchanged.
-pub data JobEnds (known : Surroundings) (settings : Settings) (task : Task) (old new : Outputs) (lines : List ErrorLine) (status : ℕ) : Type 0 where
+pub data JobEnds (known : Surroundings) (counted counted_after : ℕ) (settings : Settings) (task : Task) (old new : Outputs) (lines : List ErrorLine) (status : ℕ) : Type 0 where
   done : (t : TreeTexts) (text : List ℕ) (notices : List ErrorLine) → AreTextsOfJob known settings t
       → Answer known.content settings t.texts task text status notices → (status ≡ 0) ⊎ (status ≡ 1) → Appends old.taken new.taken text
-      → new.failures ≡ old.failures → new.disk ≡ old.disk → lines ≡ t.lines ++ notices → JobEnds known settings task old new lines status
-  stopped : (own : List ErrorLine) → Stops known settings task status own → IsOfFault status
+      → new.failures ≡ old.failures → new.disk ≡ old.disk → lines ≡ t.lines ++ notices → JobEnds known counted counted_after settings task old new lines status
+  stopped : (own : List ErrorLine) → Stops known counted counted_after settings task status own → IsOfFault status
       → WritesAtMost (AnswersInPart known settings task old.taken new.taken) old new status → new.disk ≡ old.disk → lines ≡ own ++ last_lines status
-      → JobEnds known settings task old new lines status
+      → JobEnds known counted counted_after settings task old new lines status
 
 -- The command `wants` ends: the open questions are written, and no write failed; or it ended without all of them. The disk is
 -- unchanged.
-pub data QuestionsEnd (known : Surroundings) (questions : Questions) (old new : Outputs) (lines : List ErrorLine) (status : ℕ) : Type 0 where
-  done : (asked : List (List ℕ)) → AreAsked known questions (Ok asked) → status ≡ status_of_list true asked
+pub data QuestionsEnd (known : Surroundings) (counted counted_after : ℕ) (questions : Questions) (old new : Outputs) (lines : List ErrorLine) (status : ℕ) : Type 0 where
+  done : (asked : List (List ℕ)) → AreAsked known counted counted_after questions (Ok asked) → status ≡ status_of_list true asked
       → Appends old.taken new.taken (questions_text asked) → new.failures ≡ old.failures → new.disk ≡ old.disk → lines ≡ []
-      → QuestionsEnd known questions old new lines status
-  stopped : (own : List ErrorLine) → StopsWanting known questions status own → IsOfFault status
-      → WritesAtMost (AsksInPart known questions old.taken new.taken) old new status → new.disk ≡ old.disk → lines ≡ own ++ last_lines status
-      → QuestionsEnd known questions old new lines status
+      → QuestionsEnd known counted counted_after questions old new lines status
+  stopped : (own : List ErrorLine) → StopsWanting known counted counted_after questions status own → IsOfFault status
+      → WritesAtMost (AsksInPart known counted counted_after questions old.taken new.taken) old new status → new.disk ≡ old.disk → lines ≡ own ++ last_lines status
+      → QuestionsEnd known counted counted_after questions old new lines status
 
 -- A help ends: its text is written, or the first bytes of it before a write that failed. The disk is unchanged.
 pub data HelpEnds (text : List ℕ) (old new : Outputs) (lines : List ErrorLine) (status : ℕ) : Type 0 where
@@ -58,32 +61,45 @@ pub data HelpEnds (text : List ℕ) (old new : Outputs) (lines : List ErrorLine)
 
 -- What was parsed ends: a command as its job does, a help, or a message that refuses the words, with status 2. Only `tidy --write`
 -- and an output file change the disk.
-abbrev pub ParsedEnds : Surroundings → (left : Option (List ℕ)) → ParsedWords → (old new : Outputs) → (lines : List ErrorLine) → (status : ℕ) → Type 0
-ParsedEnds known left (Job job) old new lines status = JobEnds known (settings_view job.settings) (task_view job.task) old new lines status
-ParsedEnds known left (Save output_job) old new lines status =
-    SaveEnds known (settings_view output_job.job.settings) (task_view output_job.job.task) output_job.output.now old.disk new.disk lines status
+abbrev pub ParsedEnds : Surroundings → (counted counted_after : ℕ) → (left : Option (List ℕ)) → ParsedWords → (old new : Outputs) → (lines : List ErrorLine) → (status : ℕ) → Type 0
+ParsedEnds known counted counted_after left (Job job) old new lines status = JobEnds known counted counted_after (settings_view job.settings) (task_view job.task) old new lines status
+ParsedEnds known counted counted_after left (Save output_job) old new lines status =
+    SaveEnds known counted counted_after (settings_view output_job.job.settings) (task_view output_job.job.task) output_job.output.now old.disk new.disk lines status
     × (new.taken ≡ old.taken) × (new.failures ≡ old.failures)
-ParsedEnds known left (TheQuestions questions) old new lines status = QuestionsEnd known (questions_view questions) old new lines status
-ParsedEnds known left (Tidy tidy_job) old new lines status =
-    TidyEnds known left (tidy_job_view tidy_job) old new lines status × (tidy_job.flags.write ≡ false → new.disk.state ≡ old.disk.state)
-ParsedEnds known left (Help text) old new lines status = HelpEnds text.bytes.items old new lines status
-ParsedEnds known left (Refused text) old new lines status = (status ≡ 2) × (new ≡ old) × (lines ≡ refused_line text.bytes.items ∷ [])
+ParsedEnds known counted counted_after left (TheQuestions questions) old new lines status = QuestionsEnd known counted counted_after (questions_view questions) old new lines status
+ParsedEnds known counted counted_after left (Tidy tidy_job) old new lines status =
+    TidyEnds known counted counted_after left (tidy_job_view tidy_job) old new lines status × (tidy_job.flags.write ≡ false → new.disk.state ≡ old.disk.state)
+ParsedEnds known counted counted_after left (Help text) old new lines status = HelpEnds text.bytes.items old new lines status
+ParsedEnds known counted counted_after left (Refused text) old new lines status = (status ≡ 2) × (new ≡ old) × (lines ≡ refused_line text.bytes.items ∷ [])
 
--- A run on words without `@FILE` ends as what they are read as does, or memory ran out before, and nothing changes. Where standard
--- input was read before for words in a file (`is_input_read`), they are refused if they read it once more.
-pub data ReadEnd (known : Surroundings) (is_input_read : Bool) (words : List (List ℕ)) (left : Option (List ℕ)) (old new : Outputs) (lines : List ErrorLine) (status : ℕ) : Type 0 where
-  parsed : (what : ParsedWords) → AreReadAs is_input_read words what → ParsedEnds known left what old new lines status
-      → ReadEnd known is_input_read words left old new lines status
-  for_memory : status ≡ 6 → new ≡ old → lines ≡ last_lines status → ReadEnd known is_input_read words left old new lines status
+-- the form of messages and the folder of the tree by these values; None for plain messages
+abbrev pub form_with : Option Form → (root : List ℕ) → Option AskedForm
+form_with messages root = option_map (λ form. record { form = form; root = root }) messages
+
+-- the form of messages for which the words of a command ask; a help and a message that refuses the words have plain ones
+abbrev pub form_asked : ParsedWords → Option AskedForm
+form_asked (Job job) = form_with job.settings.messages job.settings.root.now
+form_asked (Save output_job) = form_with output_job.job.settings.messages output_job.job.settings.root.now
+form_asked (TheQuestions questions) = form_with questions.messages questions.root.now
+form_asked (Tidy tidy_job) = form_with tidy_job.settings.messages tidy_job.settings.root.now
+form_asked what = None
+
+-- A run on words without `@FILE` ends as what they are read as does, with lines in the form for which they ask, or memory ran out
+-- before, and nothing changes. Where standard input was read before for words in a file (`is_input_read`), they are refused if they
+-- read it once more.
+pub data ReadEnd (known : Surroundings) (counted counted_after : ℕ) (is_input_read : Bool) (words : List (List ℕ)) (left : Option (List ℕ)) (old new : Outputs) (form : Option AskedForm) (lines : List ErrorLine) (status : ℕ) : Type 0 where
+  parsed : (what : ParsedWords) → AreReadAs is_input_read words what → form ≡ form_asked what → ParsedEnds known counted counted_after left what old new lines status
+      → ReadEnd known counted counted_after is_input_read words left old new form lines status
+  for_memory : status ≡ 6 → new ≡ old → form ≡ None → lines ≡ last_lines status → ReadEnd known counted counted_after is_input_read words left old new form lines status
 
 -- A run on words ends as one on the words that they represent does, each `@FILE` those in its file; or such a file ends it, and
 -- nothing changes. Of standard input all is left then but where it is one of these files.
-pub data WordsEnd (known : Surroundings) (words : List (List ℕ)) (left : Option (List ℕ)) (old new : Outputs) (lines : List ErrorLine) (status : ℕ) : Type 0 where
+pub data WordsEnd (known : Surroundings) (counted counted_after : ℕ) (words : List (List ℕ)) (left : Option (List ℕ)) (old new : Outputs) (form : Option AskedForm) (lines : List ErrorLine) (status : ℕ) : Type 0 where
   represented : (represented : List (List ℕ)) (left_after : Option (List ℕ)) → Represent known.content left words represented
       → (is_input_read_for words ≡ false → left_after ≡ left)
-      → ReadEnd known (is_input_read_for words) represented left_after old new lines status → WordsEnd known words left old new lines status
-  stopped : (own : List ErrorLine) → StopsAtWords known.content left words status own → new ≡ old → lines ≡ own ++ last_lines status
-      → WordsEnd known words left old new lines status
+      → ReadEnd known counted counted_after (is_input_read_for words) represented left_after old new form lines status → WordsEnd known counted counted_after words left old new form lines status
+  stopped : (own : List ErrorLine) → StopsAtWords known.content left words status own → new ≡ old → form ≡ None → lines ≡ own ++ last_lines status
+      → WordsEnd known counted counted_after words left old new form lines status
 
 -- standard input: the bytes that are left, as far as that is known, and the count of its failed reads
 pub record Input : Type 0 where
@@ -111,10 +127,10 @@ pub data BundleEnds (input input_after : Input) (old new : Outputs) (lines : Lis
       → (status ≡ 5 → HasRisen input.failures input_after.failures ⊎ HasRisen old.failures new.failures)
       → new.disk ≡ old.disk → lines ≡ own ++ last_lines status → BundleEnds input input_after old new lines status
 
--- a run ends, without words on a bundle, and with words as they are parsed
-abbrev pub Ends : Surroundings → (words : List (List ℕ)) → (input input_after : Input) → (old new : Outputs) → (lines : List ErrorLine) → (status : ℕ) → Type 0
-Ends known [] input input_after old new lines status = BundleEnds input input_after old new lines status
-Ends known (word ∷ words) input input_after old new lines status = WordsEnd known (word ∷ words) input.left old new lines status
+-- a run ends, without words on a bundle, with plain lines, and with words as they are parsed
+abbrev pub Ends : Surroundings → (counted counted_after : ℕ) → (words : List (List ℕ)) → (input input_after : Input) → (old new : Outputs) → (form : Option AskedForm) → (lines : List ErrorLine) → (status : ℕ) → Type 0
+Ends known counted counted_after [] input input_after old new form lines status = BundleEnds input input_after old new lines status × (form ≡ None)
+Ends known counted counted_after (word ∷ words) input input_after old new form lines status = WordsEnd known counted counted_after (word ∷ words) input.left old new form lines status
 
 -- what was parsed is `tidy --write`, or a command with an output file
 abbrev pub MayChangeFiles : ParsedWords → Type 0

@@ -1,4 +1,5 @@
--- Commands whose output goes to a file.
+-- Commands whose output goes to a file. `counted` and `counted_after` are how many calls on files failed before and after, without
+-- those on the disk.
 use Rattle.std.specs.Prelude.{◌≡◌, ◌≢◌, ℕ, List, [], ◌∷◌, ◌++◌, Some, string_bytes}
 use Rattle.kmin_disk.specs.Contents.{IsOfKind, file, special}
 use Rattle.kmin_disk.specs.Disks.{Disk, content_at}
@@ -10,11 +11,11 @@ use Rattle.kmin_disk.specs.declared.fault.ReplaceFault.TheVariants.{NotRegular, 
 use Rattle.kmin_disk.specs.declared.fault.UpdateFault.{UpdateFault}
 use Rattle.kmin_disk.specs.declared.fault.UpdateFault.TheVariants.{Unread, Replace}
 use Rattle.kmin_report.specs.Reports.{ErrorLine, not_regular_line, write_line, left_line, last_lines}
-use Rattle.kmin_words.specs.Jobs.{Settings, Task}
-use Rattle.kmin_trees.specs.FileContents.{Surroundings}
+use Rattle.kmin_options.specs.Jobs.{Settings, Task}
+use Rattle.kmin_inputs.specs.FileContents.{Surroundings}
 use Rattle.kmin_trees.specs.JobTexts.{TreeTexts, AreTextsOfJob}
-use Rattle.kmin_run.specs.Answers.{Answer}
-use Rattle.kmin_run.specs.Stops.{StopsBefore}
+use Rattle.kmin_answers.specs.Answers.{Answer}
+use Rattle.kmin_answers.specs.Stops.{StopsBefore}
 
 -- the lines of standard error for an output file that wasn't replaced, or not for good; none where memory ran out
 abbrev pub replace_lines : (path : List ℕ) → ReplaceFault → List ErrorLine
@@ -55,13 +56,13 @@ pub record IsUnsaved (old new : Disk) (path text : List ℕ) (fault : UpdateFaul
 
 -- A command with an output file ends, with this status and these lines of standard error: the file has the output, or the command
 -- ended without one and the disk is unchanged, or the file couldn't be updated.
-pub data SaveEnds (known : Surroundings) (settings : Settings) (task : Task) (path : List ℕ) (old new : Disk) (lines : List ErrorLine) (status : ℕ) : Type 0 where
+pub data SaveEnds (known : Surroundings) (counted counted_after : ℕ) (settings : Settings) (task : Task) (path : List ℕ) (old new : Disk) (lines : List ErrorLine) (status : ℕ) : Type 0 where
   saved : (t : TreeTexts) (text : List ℕ) (notices : List ErrorLine) → AreTextsOfJob known settings t
       → Answer known.content settings t.texts task text status notices → IsSaved old new path text → lines ≡ t.lines ++ notices
-      → SaveEnds known settings task path old new lines status
-  before_answer : (own : List ErrorLine) → StopsBefore known settings task status own → new ≡ old → lines ≡ own ++ last_lines status
-      → SaveEnds known settings task path old new lines status
+      → SaveEnds known counted counted_after settings task path old new lines status
+  before_answer : (own : List ErrorLine) → StopsBefore known counted counted_after settings task status own → new ≡ old → lines ≡ own ++ last_lines status
+      → SaveEnds known counted counted_after settings task path old new lines status
   at_file : (t : TreeTexts) (text : List ℕ) (answer_status : ℕ) (notices : List ErrorLine) (fault : UpdateFault) → AreTextsOfJob known settings t
       → Answer known.content settings t.texts task text answer_status notices → IsUnsaved old new path text fault → status ≡ update_status fault
       → lines ≡ ((t.lines ++ notices) ++ update_lines path fault) ++ last_lines status
-      → SaveEnds known settings task path old new lines status
+      → SaveEnds known counted counted_after settings task path old new lines status

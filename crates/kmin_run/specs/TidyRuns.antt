@@ -1,4 +1,5 @@
--- The command `tidy`: the list of further paths, and the ends of a run over files.
+-- The command `tidy`: the list of further paths, and the ends of a run over files. `counted` and `counted_after` are how many calls on
+-- files failed before and after, without those on the disk.
 use Rattle.std.specs.Prelude.{◌≡◌, ℕ, Bool, true, false, List, [], ◌∷◌, ◌++◌, Option, Some, None, ◌⊎◌}
 use Rattle.std.specs.List.{list_all}
 use Rattle.std.specs.Str.{is_utf8}
@@ -11,10 +12,10 @@ use Rattle.kmin_tidy.specs.Options.{Settings as RunSettings}
 use Rattle.kmin_disk.specs.Disks.{Disk}
 use Rattle.kmin_tidy.specs.Ends.{Ends}
 use Rattle.kmin_tidy.specs.Promises.{IsKeptOrLeft, AreTidy}
-use Rattle.kmin_words.specs.declared.job.TidyFlags.{TidyFlags}
-use Rattle.kmin_words.specs.Jobs.{Settings, PathList, TidyJob}
-use Rattle.kmin_trees.specs.FileContents.{Surroundings}
-use Rattle.kmin_trees.specs.ListFiles.{IsListRead, StopsReadingList, list_content, malformed_line}
+use Rattle.kmin_options.specs.declared.job.TidyFlags.{TidyFlags}
+use Rattle.kmin_options.specs.Jobs.{Settings, PathList, TidyJob}
+use Rattle.kmin_inputs.specs.FileContents.{Surroundings}
+use Rattle.kmin_inputs.specs.ListFiles.{IsListRead, StopsReadingList, list_content, malformed_line}
 use Rattle.kmin_trees.specs.JobTexts.{TreeTexts, AreTextsOfJob}
 use Rattle.kmin_trees.specs.AcceptedTrees.{AreAccepted}
 use Rattle.kmin_report.specs.Reports.{ErrorLine, last_lines}
@@ -83,18 +84,18 @@ abbrev pub IsGoneOver : (old new : Outputs) → (status : ℕ) → Type 0
 IsGoneOver old new status = (s : RunSettings) × (paths : List (List ℕ)) × (reports : List ErrorLine) × GoesOver s old new paths reports status
 
 -- The command `tidy` over these paths ends: the files are tidied; or its tree is refused or memory ran out, and nothing changes.
-pub data PathsEnd (known : Surroundings) (settings : Settings) (flags : TidyFlags) (paths : List (List ℕ)) (old new : Outputs) (lines : List ErrorLine) (status : ℕ) : Type 0 where
-  at_tree : (own : List ErrorLine) → StopsAtTree known settings status own → lines ≡ own ++ last_lines status → new ≡ old
-      → PathsEnd known settings flags paths old new lines status
+pub data PathsEnd (known : Surroundings) (counted counted_after : ℕ) (settings : Settings) (flags : TidyFlags) (paths : List (List ℕ)) (old new : Outputs) (lines : List ErrorLine) (status : ℕ) : Type 0 where
+  at_tree : (own : List ErrorLine) → StopsAtTree known counted counted_after settings status own → lines ≡ own ++ last_lines status → new ≡ old
+      → PathsEnd known counted counted_after settings flags paths old new lines status
   over_files : (texts : TreeTexts) (tree : Tree) (reports : List ErrorLine) → AreTextsOfJob known settings texts
       → AreAccepted texts.texts settings.tree tree → GoesOver (run_settings settings flags tree) old new paths reports status
-      → lines ≡ texts.lines ++ reports → PathsEnd known settings flags paths old new lines status
+      → lines ≡ texts.lines ++ reports → PathsEnd known counted counted_after settings flags paths old new lines status
 
 -- The command `tidy` ends: its files are tidied, and then those that its list names; or the list or the tree is refused or memory
 -- ran out, and nothing changes.
-pub data TidyEnds (known : Surroundings) (left : Option (List ℕ)) (t : TidyJob) (old new : Outputs) (lines : List ErrorLine) (status : ℕ) : Type 0 where
+pub data TidyEnds (known : Surroundings) (counted counted_after : ℕ) (left : Option (List ℕ)) (t : TidyJob) (old new : Outputs) (lines : List ErrorLine) (status : ℕ) : Type 0 where
   at_list : (own : List ErrorLine) → StopsAtList known.content left t.list status own → lines ≡ own ++ last_lines status → new ≡ old
-      → TidyEnds known left t old new lines status
+      → TidyEnds known counted counted_after left t old new lines status
   over_paths : (bytes : List ℕ) → AreListBytes known.content left t.list bytes → AreNamed (listed_paths t.list bytes)
-      → PathsEnd known t.settings t.flags (t.files ++ listed_paths t.list bytes) old new lines status
-      → TidyEnds known left t old new lines status
+      → PathsEnd known counted counted_after t.settings t.flags (t.files ++ listed_paths t.list bytes) old new lines status
+      → TidyEnds known counted counted_after left t old new lines status

@@ -1,5 +1,1 @@
-pub mod Lines
-pub mod LoadStops
-pub mod LoadResults
-pub mod Comparisons
 pub mod WordRuns

@@ -2,7 +2,8 @@
 ghost use Rattle.std.specs.Prelude.{◌≡◌, ◌≤◌, [], IfOk, IfErr, OnOk, ℕ, List, length};
 ghost use Rattle.kmin_run.specs.Bundles.{IsBundle, ReadsToEnd};
 ghost use Rattle.kmin_run.specs.BundleAnswers.{StopsOnBundle, bundle_line};
-ghost use Rattle.kmin_report.specs.StandardError.{HasRisen, TakesLine, TakesLines};
+ghost use Rattle.kmin_report.specs.StandardError.{TakesLine, TakesLines};
+ghost use Rattle.kc_files.specs.TreeContents.{HasRisen};
 ghost use Rattle.kmin_report.specs.between.RunErrors.{status_of};
 ghost use Rattle.kmin_report.specs.Reports.{ErrorLine};
 

@@ -8,26 +8,29 @@ ghost use Rattle.kc_rules.specs.between.SettledViews.{tree_of_settled, profile_o
 ghost use Rattle.kc_dotconfig_model.specs.between.Formats.{file_format};
 ghost use Rattle.kc_dotconfig.specs.ConfigStates.{IsSolved, tree_in};
 ghost use Rattle.kc_minimal_model.specs.Differences.{differences};
-ghost use Rattle.kmin_words.specs.Jobs.{Settings as GivenSettings, settings_view, task_view, over, compare};
-ghost use Rattle.kmin_run.specs.Answers.{Answer, IsTextOfVerb, difference_line};
-ghost use Rattle.kmin_run.specs.Statuses.{status_of_list, status_of_verb};
+ghost use Rattle.kmin_options.specs.Jobs.{Settings as GivenSettings, settings_view, task_view, over, compare};
+ghost use Rattle.kmin_answers.specs.Answers.{Answer, IsTextOfVerb, difference_line};
+ghost use Rattle.kmin_answers.specs.Statuses.{status_of_list, status_of_verb};
 ghost use Rattle.kmin_trees.specs.AcceptedTrees.{AreAccepted};
 ghost use Rattle.kmin_trees.specs.JobTexts.{TreeTexts, AreTextsOfJob};
 ghost use Rattle.kmin_run.specs.PartialAnswers.{AnswersInPart};
 ghost use Rattle.kmin_report.specs.Reports.{ErrorLine, last_lines};
-ghost use Rattle.kmin_report.specs.StandardError.{HasRisen, TakesLines};
-ghost use Rattle.kmin_run.specs.Stops.{Stops, StopsAmongFiles, StopsBefore};
-ghost use Rattle.kmin_run.specs.between.Comparisons.{AreBothNoticed, AreBothRead, AreNoticed, StopsAnswering, StopsComparing};
-ghost use Rattle.kmin_run.specs.between.LoadStops.{StopsOverTree};
+ghost use Rattle.kmin_report.specs.StandardError.{TakesLines};
+ghost use Rattle.kc_files.specs.TreeContents.{HasRisen};
+ghost use Rattle.kmin_answers.specs.Stops.{Stops, StopsAmongFiles, StopsBefore};
+ghost use Rattle.kmin_answers.specs.between.Comparisons.{AreBothNoticed, AreBothRead, AreNoticed, StopsAnswering, StopsComparing};
+ghost use Rattle.kmin_answers.specs.between.LoadStops.{StopsOverTree};
 ghost use Rattle.kmin_report.specs.between.RunErrors.{status_of};
 
-use crate::configurations::{ReadFiles, configured, configured_by, notice_choices};
-use crate::verb_texts::{AnswerText, answer_of, compared};
 use kc_rules::Settled;
 use kc_value::Sink;
+use kmin_answers::{
+    AnswerText, ReadFiles, answer_of, compared, configured, configured_by, notice_choices,
+};
+use kmin_inputs::Files;
+use kmin_options::{Job, Settings, Task, Verb};
 use kmin_report::{Messages, RunError, exit_status, write_answer};
-use kmin_trees::{Files, job_tree};
-use kmin_words::{Job, Settings, Task, Verb};
+use kmin_trees::job_tree;
 use std::alloc::Global;
 
 /// Runs a command over configuration files, writes its output, and returns the exit status: 0 done, 1 a comparison
@@ -57,7 +60,7 @@ pub fn serve<F: Files, O: Sink, E: Messages>(
 
     // On every other status the fault that ended the run is reported, after the notices of the tree's expansion and of
     // the files accepted before.
-    ensures stopped { (result ≢ 0) × (result ≢ 1) → (lines : List ErrorLine) × Stops (F.surroundings files.old) (settings_view job.now.settings) (task_view job.now.task) result lines × TakesLines (E.taken err.old) (E.failures err.old) (lines ++ last_lines result) (E.taken err.new) (E.failures err.new) }
+    ensures stopped { (result ≢ 0) × (result ≢ 1) → (lines : List ErrorLine) × Stops (F.surroundings files.old) (F.failures files.old) (F.failures files.new) (settings_view job.now.settings) (task_view job.now.task) result lines × TakesLines (E.taken err.old) (E.failures err.old) (lines ++ last_lines result) (E.taken err.new) (E.failures err.new) }
 
     // On status 5 the writer took the first bytes of the output, or nothing.
     ensures part { result ≡ 5 → (O.taken out.new ≡ O.taken out.old) ⊎ AnswersInPart (F.surroundings files.old) (settings_view job.now.settings) (task_view job.now.task) (O.taken out.old) (O.taken out.new) }
@@ -85,7 +88,7 @@ pub(crate) fn answer_job<F: Files, E: Messages>(
 ) -> Result<AnswerText, RunError>
     ensures status { IfOk result (λ answer. answer.status ≤ 1) }
     ensures answer { IfOk result (λ answer. (t : TreeTexts) × (notices : List ErrorLine) × AreTextsOfJob (F.surroundings files.old) (settings_view job.now.settings) t × Answer (F.surroundings files.old).content (settings_view job.now.settings) t.texts (task_view job.now.task) answer.text.items answer.status notices × TakesLines (E.taken err.old) (E.failures err.old) (t.lines ++ notices) (E.taken err.new) (E.failures err.new)) }
-    ensures stopped { IfErr result (λ stop. (lines : List ErrorLine) × StopsBefore (F.surroundings files.old) (settings_view job.now.settings) (task_view job.now.task) (status_of stop) lines × TakesLines (E.taken err.old) (E.failures err.old) lines (E.taken err.new) (E.failures err.new)) }
+    ensures stopped { IfErr result (λ stop. (lines : List ErrorLine) × StopsBefore (F.surroundings files.old) (F.failures files.old) (F.failures files.new) (settings_view job.now.settings) (task_view job.now.task) (status_of stop) lines × TakesLines (E.taken err.old) (E.failures err.old) lines (E.taken err.new) (E.failures err.new)) }
     ensures failed { IfErr result (λ stop. status_of stop ≡ 5 → HasRisen (F.failures files.old) (F.failures files.new)) }
 {
     let settled = job_tree(alloc, &job.settings, files, err)?;

@@ -1,19 +1,17 @@
 //! The commands of `kmin` and its bundles: what each reads, what it writes, and its exit status.
 #![tactic(auto)]
 
+mod asked_forms;
 mod bundle;
 mod bundle_answer;
-mod configurations;
 mod job_output;
 mod output_file;
 mod program;
-mod symbol_lines;
 mod tidy_command;
-mod verb_texts;
 mod wants_command;
 
 pub use job_output::serve;
-pub use kmin_trees::{FileStop, Files};
+pub use kmin_inputs::{FileStop, Files};
 pub use output_file::save;
 pub use program::run;
 pub use tidy_command::tidy;

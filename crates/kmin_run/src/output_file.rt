@@ -1,8 +1,9 @@
 //! Commands whose output goes to a file.
 ghost use Rattle.std.specs.Prelude.{◌≡◌, ◌≢◌, ◌≤◌, ◌⊎◌, [], List, ℕ, IfErr, OnOk};
 ghost use Rattle.kmin_disk.specs.declared.fault.UpdateFault.{UpdateFault as TheFault};
-ghost use Rattle.kmin_words.specs.Jobs.{settings_view, task_view};
-ghost use Rattle.kmin_report.specs.StandardError.{HasRisen, TakesLine, TakesLines};
+ghost use Rattle.kmin_options.specs.Jobs.{settings_view, task_view};
+ghost use Rattle.kmin_report.specs.StandardError.{TakesLine, TakesLines};
+ghost use Rattle.kc_files.specs.TreeContents.{HasRisen};
 ghost use Rattle.kmin_run.specs.Saves.{IsSaved, IsUnsaved, SaveEnds, replace_lines, replace_status, update_lines, update_status};
 ghost use Rattle.kmin_report.specs.between.ReportLines.{report_line};
 ghost use Rattle.kmin_report.specs.between.RunErrors.{status_of};
@@ -10,9 +11,9 @@ ghost use Rattle.kmin_report.specs.Reports.{ErrorLine};
 
 use crate::job_output::answer_job;
 use kmin_disk::{ReplaceFault, UpdateFault, WriteDisk, update};
+use kmin_inputs::Files;
+use kmin_options::OutputJob;
 use kmin_report::{Messages, Report, RunError, exit_status};
-use kmin_trees::Files;
-use kmin_words::OutputJob;
 use std::alloc::Global;
 
 /// Runs a command over configuration files, writes its output to a file of the disk, and returns the exit status: 0 done or
@@ -33,7 +34,7 @@ pub fn save<F: Files, D: WriteDisk, E: Messages>(
 
     // The file has exactly the output, or there is no output, or the file can't be written; and the reason is reported,
     // after the notices of the files that were accepted.
-    ensures ends { (lines : List ErrorLine) × SaveEnds (F.surroundings files.old) (settings_view output_job.now.job.settings) (task_view output_job.now.job.task) output_job.now.output.now
+    ensures ends { (lines : List ErrorLine) × SaveEnds (F.surroundings files.old) (F.failures files.old) (F.failures files.new) (settings_view output_job.now.job.settings) (task_view output_job.now.job.task) output_job.now.output.now
         (D.disk disk.old) (D.disk disk.new) lines result × TakesLines (E.taken err.old) (E.failures err.old) lines (E.taken err.new) (E.failures err.new) }
 
     // On status 5 a file couldn't be opened, or a read of a file failed, or the output file wasn't updated, or not for good.

@@ -1,23 +1,25 @@
 //! The command `tidy`, which compares each configuration file with its minimal file, or replaces it.
-ghost use Rattle.std.specs.Prelude.{◌≡◌, ◌≢◌, ◌≤◌, ◌⊎◌, ◌++◌, [], List, ℕ, Option, false, map, option_map, IfOk, IfErr, IsErrOf};
+ghost use Rattle.std.specs.Prelude.{◌≡◌, ◌≢◌, ◌≤◌, ◌⊎◌, ◌++◌, [], List, ℕ, Option, false, map, option_map, IfOk, IfErr, IsErrOf, OnOk};
 ghost use Rattle.std.specs.List.{list_all};
 ghost use Rattle.std.specs.Str.{is_utf8};
 ghost use Rattle.std.specs.Borrow.{Bor};
 ghost use Rattle.kmin_lines.specs.Lists.{paths_in, is_one_line};
-ghost use Rattle.kmin_words.specs.Jobs.{list_view, settings_view, tidy_job_view};
+ghost use Rattle.kmin_options.specs.Jobs.{list_view, settings_view, tidy_job_view};
 ghost use Rattle.kmin_report.specs.Reports.{ErrorLine};
-ghost use Rattle.kmin_report.specs.StandardError.{HasRisen, TakesLine, TakesLines};
+ghost use Rattle.kmin_report.specs.StandardError.{TakesLine, TakesLines};
+ghost use Rattle.kc_files.specs.TreeContents.{HasRisen};
 ghost use Rattle.kmin_run.specs.TidyRuns.{IsGoneOver, AreListBytes, AreNamed, StopsAtList, PathsEnd, TidyEnds, is_ended_by_nul, options_of, outputs_of};
-ghost use Rattle.kmin_trees.specs.ListFiles.{malformed_line};
+ghost use Rattle.kmin_inputs.specs.ListFiles.{malformed_line};
 ghost use Rattle.kmin_report.specs.between.RunErrors.{status_of};
 
 use kc_value::{Sink, Source};
 use kmin_disk::WriteDisk;
+use kmin_inputs::{Files, read_list};
 use kmin_lines::{ListFault, listed_paths};
+use kmin_options::{PathList, TidyFlags, TidyJob};
 use kmin_report::{Messages, Report, RunError, exit_status};
 use kmin_tidy::{TidyOptions, tidy_files};
-use kmin_trees::{Files, job_tree, read_list};
-use kmin_words::{PathList, TidyFlags, TidyJob};
+use kmin_trees::job_tree;
 use std::alloc::{AllocError, Global};
 
 /// Tidies the files of the command on the disk, and then those that its list names, and returns the exit status: 2 a
@@ -38,7 +40,7 @@ pub fn tidy<F: Files, D: WriteDisk, I: Source, O: Sink, E: Messages>(
 
     // The files are tidied as by `tidy_files`; or the list or the tree is refused, which is reported, and nothing
     // changes.
-    ensures ends { (lines : List ErrorLine) × TidyEnds (F.surroundings files.old) (I.left input.old) (tidy_job_view tidy_job.now)
+    ensures ends { (lines : List ErrorLine) × TidyEnds (F.surroundings files.old) (F.failures files.old) (F.failures files.new) (I.left input.old) (tidy_job_view tidy_job.now)
         (outputs_of (D.disk disk.old) (O.taken out.old) (O.failures out.old))
         (outputs_of (D.disk disk.new) (O.taken out.new) (O.failures out.new)) lines result × TakesLines (E.taken err.old) (E.failures err.old) lines (E.taken err.new) (E.failures err.new) }
 
@@ -70,7 +72,7 @@ fn tidy_listed<F: Files, D: WriteDisk, O: Sink, E: Messages>(
 ) -> u8
     ensures status { result ≤ 6 }
     ensures ends { (left : Option (List ℕ)) → AreListBytes (F.surroundings files.old).content left (tidy_job_view tidy_job.now).list list.now
-        → (lines : List ErrorLine) × TidyEnds (F.surroundings files.old) left (tidy_job_view tidy_job.now)
+        → (lines : List ErrorLine) × TidyEnds (F.surroundings files.old) (F.failures files.old) (F.failures files.new) left (tidy_job_view tidy_job.now)
         (outputs_of (D.disk disk.old) (O.taken out.old) (O.failures out.old))
         (outputs_of (D.disk disk.new) (O.taken out.new) (O.failures out.new)) lines result × TakesLines (E.taken err.old) (E.failures err.old) lines (E.taken err.new) (E.failures err.new) }
     ensures unasked { tidy_job.now.flags.write ≡ false → (D.disk disk.new).state ≡ (D.disk disk.old).state }
@@ -107,7 +109,7 @@ fn tidy_paths<F: Files, D: WriteDisk, O: Sink, E: Messages>(
     err: &mut E,
 ) -> u8
     ensures status { result ≤ 6 }
-    ensures ends { (lines : List ErrorLine) × PathsEnd (F.surroundings files.old) (settings_view tidy_job.now.settings) tidy_job.now.flags (map (λ (path : Bor (List ℕ)). path.now) paths.now)
+    ensures ends { (lines : List ErrorLine) × PathsEnd (F.surroundings files.old) (F.failures files.old) (F.failures files.new) (settings_view tidy_job.now.settings) tidy_job.now.flags (map (λ (path : Bor (List ℕ)). path.now) paths.now)
         (outputs_of (D.disk disk.old) (O.taken out.old) (O.failures out.old))
         (outputs_of (D.disk disk.new) (O.taken out.new) (O.failures out.new)) lines result × TakesLines (E.taken err.old) (E.failures err.old) lines (E.taken err.new) (E.failures err.new) }
     ensures unasked { tidy_job.now.flags.write ≡ false → (D.disk disk.new).state ≡ (D.disk disk.old).state }
@@ -194,6 +196,7 @@ fn list_bytes<F: Files, I: Source, E: Messages>(
     ensures unreported { IfOk result (λ bytes. TakesLines (E.taken err.old) (E.failures err.old) [] (E.taken err.new) (E.failures err.new)) }
     ensures stopped { IfErr result (λ stop. (lines : List ErrorLine) × StopsAtList (F.surroundings files.old).content (I.left input.old) (option_map list_view list.entry) (status_of stop) lines × TakesLines (E.taken err.old) (E.failures err.old) lines (E.taken err.new) (E.failures err.new)) }
     ensures rising { F.failures files.old ≤ F.failures files.new }
+    ensures unfailed { OnOk result (F.failures files.new ≡ F.failures files.old) }
     ensures failed { IfErr result (λ stop. status_of stop ≡ 5 → HasRisen (F.failures files.old) (F.failures files.new) ⊎ HasRisen (I.failures input.old) (I.failures input.new)) }
 {
     match list {

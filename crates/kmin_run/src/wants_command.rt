@@ -4,18 +4,20 @@ ghost use Rattle.std.specs.declared.alloc.Global.{Global};
 ghost use Rattle.std.specs.List.{flat_map};
 ghost use Rattle.std.specs.Io.KnownBytes.{Appends};
 ghost use Rattle.kc_files.specs.TextViews.{items_of};
-ghost use Rattle.kmin_words.specs.Jobs.{questions_view};
+ghost use Rattle.kmin_options.specs.Jobs.{questions_view};
 ghost use Rattle.kmin_report.specs.Reports.{ErrorLine, last_lines};
-ghost use Rattle.kmin_report.specs.StandardError.{HasRisen, TakesLines};
+ghost use Rattle.kmin_report.specs.StandardError.{TakesLines};
+ghost use Rattle.kc_files.specs.TreeContents.{HasRisen};
 ghost use Rattle.kmin_trees.specs.WantedQuestions.{AreAsked, AsksInPart, StopsWanting, question_line, questions_text};
-ghost use Rattle.kmin_run.specs.Statuses.{status_of_list};
+ghost use Rattle.kmin_answers.specs.Statuses.{status_of_list};
 ghost use Rattle.kmin_report.specs.between.RunErrors.{status_of};
 
-use crate::verb_texts::AnswerText;
 use kc_value::Sink;
+use kmin_answers::AnswerText;
+use kmin_inputs::Files;
+use kmin_options::Questions;
 use kmin_report::{Messages, Report, RunError, exit_status, write_answer};
-use kmin_trees::{Files, wanted_of};
-use kmin_words::Questions;
+use kmin_trees::{Wanted, wanted_of};
 use std::alloc::{AllocError, Global};
 
 /// Lists the open questions of a tree's macros, a line each, in the order in which the expansion asks them; with `--unused`, where
@@ -36,14 +38,14 @@ pub fn list_questions<F: Files, O: Sink, E: Messages>(
     ensures accepted_words { result ≢ 2 }
 
     // The answer files are accepted, exactly these questions are written, and no write failed.
-    ensures done { (result ≡ 0) ⊎ (result ≡ 1) → (asked : List (List ℕ)) × AreAsked (F.surroundings files.old) (questions_view questions.now) (Ok asked) × (result ≡ status_of_list true asked) × Appends (O.taken out.old) (O.taken out.new) (questions_text asked) × TakesLines (E.taken err.old) (E.failures err.old) [] (E.taken err.new) (E.failures err.new) }
+    ensures done { (result ≡ 0) ⊎ (result ≡ 1) → (asked : List (List ℕ)) × AreAsked (F.surroundings files.old) (F.failures files.old) (F.failures files.new) (questions_view questions.now) (Ok asked) × (result ≡ status_of_list true asked) × Appends (O.taken out.old) (O.taken out.new) (questions_text asked) × TakesLines (E.taken err.old) (E.failures err.old) [] (E.taken err.new) (E.failures err.new) }
     ensures unfailed { (result ≡ 0) ⊎ (result ≡ 1) → O.failures out.new ≡ O.failures out.old }
 
     // On every other status the fault that ended the run is reported.
-    ensures stopped { (result ≢ 0) × (result ≢ 1) → (lines : List ErrorLine) × StopsWanting (F.surroundings files.old) (questions_view questions.now) result lines × TakesLines (E.taken err.old) (E.failures err.old) (lines ++ last_lines result) (E.taken err.new) (E.failures err.new) }
+    ensures stopped { (result ≢ 0) × (result ≢ 1) → (lines : List ErrorLine) × StopsWanting (F.surroundings files.old) (F.failures files.old) (F.failures files.new) (questions_view questions.now) result lines × TakesLines (E.taken err.old) (E.failures err.old) (lines ++ last_lines result) (E.taken err.new) (E.failures err.new) }
 
     // On status 5 the writer took the first bytes of the questions, or nothing.
-    ensures part { result ≡ 5 → (O.taken out.new ≡ O.taken out.old) ⊎ AsksInPart (F.surroundings files.old) (questions_view questions.now) (O.taken out.old) (O.taken out.new) }
+    ensures part { result ≡ 5 → (O.taken out.new ≡ O.taken out.old) ⊎ AsksInPart (F.surroundings files.old) (F.failures files.old) (F.failures files.new) (questions_view questions.now) (O.taken out.old) (O.taken out.new) }
 
     ensures unwritten { result ≢ 0 → result ≢ 1 → result ≢ 5 → O.taken out.new ≡ O.taken out.old }
 
@@ -67,16 +69,19 @@ fn answer_questions<F: Files, E: Messages>(
     err: &mut E,
 ) -> Result<AnswerText, RunError>
     ensures status { IfOk result (λ answer. answer.status ≤ 1) }
-    ensures answer { IfOk result (λ answer. (asked : List (List ℕ)) × AreAsked (F.surroundings files.old) (questions_view questions.now) (Ok asked) × (answer.text.items ≡ questions_text asked) × (answer.status ≡ status_of_list true asked)) }
+    ensures answer { IfOk result (λ answer. (asked : List (List ℕ)) × AreAsked (F.surroundings files.old) (F.failures files.old) (F.failures files.new) (questions_view questions.now) (Ok asked) × (answer.text.items ≡ questions_text asked) × (answer.status ≡ status_of_list true asked)) }
     ensures unreported { IfOk result (λ answer. TakesLines (E.taken err.old) (E.failures err.old) [] (E.taken err.new) (E.failures err.new)) }
-    ensures stopped { IfErr result (λ stop. (lines : List ErrorLine) × StopsWanting (F.surroundings files.old) (questions_view questions.now) (status_of stop) lines × TakesLines (E.taken err.old) (E.failures err.old) lines (E.taken err.new) (E.failures err.new)) }
+    ensures stopped { IfErr result (λ stop. (lines : List ErrorLine) × StopsWanting (F.surroundings files.old) (F.failures files.old) (F.failures files.new) (questions_view questions.now) (status_of stop) lines × TakesLines (E.taken err.old) (E.failures err.old) lines (E.taken err.new) (E.failures err.new)) }
     ensures failed { IfErr result (λ stop. status_of stop ≡ 5 → HasRisen (F.failures files.old) (F.failures files.new)) }
 {
-    let wanted = wanted_of(alloc, questions, files, err)?;
-    match wanted {
+    let Wanted { listed, missing } = wanted_of(alloc, questions, files, err)?;
+    match listed {
         Ok(asked) => Ok(lines_of(alloc, &asked)?),
         Err(fault) => {
-            err.write_report(Report::MacroFault(&fault));
+            err.write_report(Report::MacroFault {
+                fault: &fault,
+                missing: missing.as_deref(),
+            });
             Err(RunError::Tree)
         }
     }

@@ -3,7 +3,7 @@ use Rattle.std.proofs.Common.{◌≡◌, ℕ, ◌+◌, ◌<◌, List, [], ◌∷
 use Rattle.std.specs.List.{flat_map}
 use Rattle.std.proofs.lemmas.Grind.{flat_map-append}
 use Rattle.std.proofs.lemmas.List.{take_more, map-append}
-use Rattle.kmin_texts.specs.declared.cycle_steps.Step.{Step as CodeStep}
+use Rattle.kmin_faults.specs.declared.steps.Step.{Step as CodeStep}
 use Rattle.kmin_texts.specs.Texts.{Step, step_text, cycle_text}
 use Rattle.kmin_texts.specs.between.CycleSteps.{step_of}
 

@@ -3,3 +3,4 @@ pub mod ChangeBounds
 pub mod NearSteps
 pub mod OneLines
 pub mod NumberedLines
+pub mod SymbolNames

@@ -6,10 +6,10 @@ use Rattle.kc_tree_model.specs.TreeLookup.{is_name_byte}
 use Rattle.kc_value.specs.declared.limits.TheConstants.{MAX_CHOICES, MAX_FILES, MAX_LISTED_NAMES, MAX_NAME_BYTES, MAX_SYMBOLS, MAX_TREE_BYTES, MAX_WORK}
 use Rattle.kmin_texts.specs.declared.places.Unreadable.{Unreadable}
 use Rattle.kmin_texts.specs.declared.places.Unreadable.TheVariants.{NotThere, NoPermission, Folder, FailedRead}
-use Rattle.kmin_texts.specs.declared.limits.Limit.{Limit}
-use Rattle.kmin_texts.specs.declared.limits.Limit.TheVariants.{Symbols, Choices, Files, TreeBytes, NameBytes, ListedNames, Work}
-use Rattle.kmin_texts.specs.declared.cycle_steps.Cause.{Cause}
-use Rattle.kmin_texts.specs.declared.cycle_steps.Cause.TheVariants.{DependsOn, Prompt, Default, Range, Select, Imply, Member, Tristate}
+use Rattle.kmin_faults.specs.declared.passed_limits.Limit.{Limit}
+use Rattle.kmin_faults.specs.declared.passed_limits.Limit.TheVariants.{Symbols, Choices, Files, TreeBytes, NameBytes, ListedNames, Work}
+use Rattle.kmin_faults.specs.declared.causes.Cause.{Cause}
+use Rattle.kmin_faults.specs.declared.causes.Cause.TheVariants.{DependsOn, Prompt, Default, Range, Select, Imply, Member, Tristate}
 
 -- a name as it stands in a text: in quotes where it has a byte that names of symbols don't have, as a space
 abbrev pub name_word : (name : List ℕ) → List ℕ
@@ -75,7 +75,7 @@ cause_text Default = codes "has a default by"
 cause_text Range = codes "has a range by"
 cause_text Select = codes "is selected by"
 cause_text Imply = codes "is implied by"
-cause_text Member = codes "has the member"
+cause_text Member = codes "has a member's prompt by"
 cause_text Tristate = codes "is a tristate by"
 
 -- a step of a cycle: the name of a symbol or a choice, what makes it depend on another, and the name of that

@@ -3,46 +3,23 @@ ghost use Rattle.std.specs.Prelude.{◌≡◌, ◌++◌, codes, map, IfOk, OnOk,
 ghost use Rattle.kmin_texts.specs.Texts.{cause_text, step_text, cycle_text};
 ghost use Rattle.kmin_texts.specs.between.CycleSteps.{step_of};
 
+use kmin_faults::{Cause, Step};
 use std::alloc::{AllocError, Global};
 
-/// What makes one symbol or choice depend on another.
-#[derive(Clone, Copy, Debug, PartialEq, Eq)]
-pub enum Cause {
-    DependsOn,
-    Prompt,
-    Default,
-    Range,
-    Select,
-    Imply,
-    Member,
-    /// A tristate depends on `MODULES`.
-    Tristate,
-}
-
-impl Cause {
-    /// The words between the two names of a step.
-    pub fn text(self) -> &'static str
-        ensures { result.now ≡ cause_text self }
-    {
-        match self {
-            Cause::DependsOn => "depends on",
-            Cause::Prompt => "has a prompt by",
-            Cause::Default => "has a default by",
-            Cause::Range => "has a range by",
-            Cause::Select => "is selected by",
-            Cause::Imply => "is implied by",
-            Cause::Member => "has the member",
-            Cause::Tristate => "is a tristate by",
-        }
+/// The words between the two names of a step.
+fn text_of_cause(cause: Cause) -> &'static str
+    ensures { result.now ≡ cause_text cause }
+{
+    match cause {
+        Cause::DependsOn => "depends on",
+        Cause::Prompt => "has a prompt by",
+        Cause::Default => "has a default by",
+        Cause::Range => "has a range by",
+        Cause::Select => "is selected by",
+        Cause::Imply => "is implied by",
+        Cause::Member => "has a member's prompt by",
+        Cause::Tristate => "is a tristate by",
     }
-}
-
-/// A step of a cycle: the name of a symbol or a choice, what makes it depend on another, and the name of that.
-#[derive(Clone, Copy)]
-pub struct Step<'a> {
-    pub name: &'a str,
-    pub cause: Cause,
-    pub other: &'a str,
 }
 
 /// The text for a cycle: its steps.
@@ -65,7 +42,19 @@ fn push_step(text: &mut String, between: &str, step: &Step<'_>) -> Result<(), Al
     text.push_str(between)?;
     text.push_str(step.name)?;
     text.push_str(" ")?;
-    text.push_str(step.cause.text())?;
+    text.push_str(text_of_cause(step.cause))?;
     text.push_str(" ")?;
     text.push_str(step.other)
+}
+
+/// Names with a space between them.
+pub(crate) fn spaced(alloc: Global, names: &[String]) -> Result<String, AllocError> {
+    let mut words = String::new(alloc);
+    let mut between = "";
+    for name in names {
+        words.push_str(between)?;
+        words.push_str(name)?;
+        between = " ";
+    }
+    Ok(words)
 }

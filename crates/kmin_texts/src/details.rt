@@ -5,10 +5,11 @@ ghost use Rattle.kmin_messages.specs.ShownTexts.{shown, has_no_control_byte};
 ghost use Rattle.kmin_messages.specs.declared.shown_text.TheConstants.{MAX_SHOWN_BYTES};
 ghost use Rattle.kmin_texts.specs.between.Details.{detail_text, detail_names, without_words};
 
-use crate::cycle_steps::{Step, cycle_text};
-use crate::limits::{Limit, limit_text};
+use crate::cycle_steps::cycle_text;
+use crate::limits::limit_text;
 use crate::names::{unknown_text, value_text};
 use crate::places::{Unreadable, first_place_text, missing_text};
+use kmin_faults::{Limit, Step};
 use kmin_messages::shown;
 use std::alloc::{AllocError, Global};
 

@@ -57,6 +57,13 @@ fn up_to_white(bytes: &[u8]) -> &[u8]
     }
 }
 
+/// The first word of a line, up to white space.
+pub(crate) fn first_word(line: &[u8]) -> &[u8]
+    ensures { result.now ≡ up_to_white (after_white line.now) }
+{
+    up_to_white(after_white(line))
+}
+
 /// The text for a line without a meaning: its first word, up to white space, or that it begins with a byte order mark.
 pub fn first_run(alloc: Global, line: &[u8]) -> Result<String, AllocError>
     ensures { IfOk result (λ text. string_bytes text ≡ first_run line.now) }
@@ -64,5 +71,5 @@ pub fn first_run(alloc: Global, line: &[u8]) -> Result<String, AllocError>
     if line.starts_with(b"\xEF\xBB\xBF") {
         return String::from_str(alloc, "a byte order mark");
     }
-    String::from_utf8_lossy(alloc, up_to_white(after_white(line)))
+    String::from_utf8_lossy(alloc, first_word(line))
 }

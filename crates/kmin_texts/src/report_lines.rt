@@ -4,13 +4,13 @@ ghost use Rattle.std.specs.Global.{Vec};
 ghost use Rattle.kmin_messages.specs.ShownTexts.{shown};
 ghost use Rattle.kmin_messages.specs.between.MessageViews.{bytes_of};
 ghost use Rattle.kmin_texts.specs.between.Details.{detail_names, detail_text};
-ghost use Rattle.kmin_texts.specs.between.MessageLines.{form_line};
+ghost use Rattle.kmin_messages.specs.Messages.{form_line};
 ghost use Rattle.kmin_texts.specs.ReportMessages.{file_of, kind_of, line_in, message_of, number_of, severity_of};
 ghost use Rattle.kmin_report.specs.between.ReportLines.{report_line};
 
 use crate::details::Detail;
-use crate::message_lines::{Form, MessageParts, message_line};
-use kmin_messages::Severity;
+use crate::message_lines::{MessageParts, message_line};
+use kmin_messages::{Form, Severity};
 use kmin_report::Report;
 use std::alloc::{AllocError, Global};
 
@@ -73,7 +73,7 @@ fn kind_of(report: &Report<'_>) -> &'static str
         Report::Notice { kind, .. } => kind.name(),
         Report::AnswersFault { kind, .. } => kind.name(),
         Report::MacroNotice(notice) => notice.kind.name(),
-        Report::MacroFault(fault) => fault.kind.name(),
+        Report::MacroFault { fault, .. } => fault.kind.name(),
         Report::OutputFault | Report::Unwritten(_) => "Write",
         Report::NotRegular(_) => "NotRegular",
         Report::Left(_) => "Left",
@@ -103,7 +103,7 @@ fn number_of(report: &Report<'_>) -> u32
         | Report::Notice { line, .. }
         | Report::AnswersFault { line, .. } => *line,
         Report::MacroNotice(notice) => notice.line,
-        Report::MacroFault(fault) => fault.line,
+        Report::MacroFault { fault, .. } => fault.line,
         _ => 0,
     }
 }
@@ -115,7 +115,7 @@ fn file_of(alloc: Global, root: &[u8], report: &Report<'_>) -> Result<Option<Vec
     match report {
         Report::TreeFault { path, .. } | Report::Cycle { path, .. } => below(alloc, root, path),
         Report::MacroNotice(notice) => below(alloc, root, notice.file.as_slice()),
-        Report::MacroFault(fault) => below(alloc, root, fault.file.as_slice()),
+        Report::MacroFault { fault, .. } => below(alloc, root, fault.file.as_slice()),
         Report::FileFault { path, .. }
         | Report::Notice { path, .. }
         | Report::AnswersFault { path, .. }

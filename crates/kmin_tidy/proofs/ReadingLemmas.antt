@@ -16,7 +16,7 @@ use Rattle.kc_value.specs.declared.reader_bytes.ReadEnd.{ReadEnd}
 use Rattle.kc_value.specs.declared.reader_bytes.ReadEnd.TheVariants.{AtEnd, AtLimit, AtFailure}
 use Rattle.kc_value.specs.Lines.{newline_count}
 use Rattle.kc_value.specs.ReaderFailures.{failures_after_reading}
-use Rattle.kmin_report.specs.StandardError.{HasRisen}
+use Rattle.kc_files.specs.TreeContents.{HasRisen}
 use Rattle.kmin_disk.specs.Contents.{OpensAs}
 use Rattle.kmin_report.specs.KnownBytes.{AreKnownBytes}
 use Rattle.kmin_tidy.specs.checker.Readings.{IsFragmentOf, IsFaultOf, IsFaultOfPart, in_front, at_failure, no_memory, IsFaulty, refused, unread, for_memory}

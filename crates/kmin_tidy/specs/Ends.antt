@@ -7,7 +7,7 @@ use Rattle.kmin_disk.specs.NewFiles.{IsNewPath}
 use Rattle.kmin_tidy.specs.Options.{Settings, Notices}
 use Rattle.kmin_tidy.specs.MinimalFiles.{IsNotMinimal}
 use Rattle.kmin_report.specs.Reports.{ErrorLine, left_line, output_line, memory_line}
-use Rattle.kmin_report.specs.StandardError.{HasRisen}
+use Rattle.kc_files.specs.TreeContents.{HasRisen}
 use Rattle.kmin_tidy.specs.Runs.{Tidies}
 
 -- The option `--write` is given, and the file at this path is accepted, isn't refused for its notices, and differs from its

@@ -4,7 +4,7 @@ ghost use Rattle.kc_rules.specs.between.SettledViews.{tree_of_settled};
 ghost use Rattle.kc_dotconfig_model.specs.between.Formats.{file_format};
 ghost use Rattle.kmin_disk.specs.Contents.{readable, OpensAs};
 ghost use Rattle.kmin_disk.specs.Disks.{content_at};
-ghost use Rattle.kmin_report.specs.StandardError.{HasRisen};
+ghost use Rattle.kc_files.specs.TreeContents.{HasRisen};
 ghost use Rattle.kmin_tidy.specs.checker.Readings.{IsAcceptedAs, IsFaulty, IsFaultOf, IsFaultOfPart, IsFragmentOf};
 
 use crate::part_reader::PartReader;

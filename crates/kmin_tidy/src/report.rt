@@ -9,6 +9,7 @@ ghost use Rattle.kmin_tidy.specs.checker.ReportLines.{problem_line, problem_line
 use crate::outcome::FileOutcome;
 use crate::stop::Stop;
 use kc_dotconfig::{LoadFault, Notice};
+use kc_tree::Tree;
 use kmin_report::{Messages, Report};
 
 /// Why a file isn't read or replaced.
@@ -31,21 +32,26 @@ pub(crate) struct FileReport {
 }
 
 /// Writes the lines of a file's report: its notices, and then its problem.
-pub(crate) fn report_file<E: Messages>(path: &str, report: &FileReport, err: &mut E)
+pub(crate) fn report_file<E: Messages>(path: &str, report: &FileReport, tree: &Tree, err: &mut E)
     ensures { TakesLines (E.taken err.old) (E.failures err.old) (report_lines path.now report.now) (E.taken err.new) (E.failures err.new) }
 {
-    report_notices(path, &report.notices, err);
+    report_notices(path, &report.notices, tree, err);
     report_problem(path, report.problem, err);
 }
 
 /// Writes the notices of a file.
-fn report_notices<E: Messages>(path: &str, notices: &[Notice], err: &mut E)
+fn report_notices<E: Messages>(path: &str, notices: &[Notice], tree: &Tree, err: &mut E)
     ensures { TakesLines (E.taken err.old) (E.failures err.old) (map (λ notice. notice_line path.now (notice_pair notice)) notices.now)
         (E.taken err.new) (E.failures err.new) }
 {
     for notice in notices {
         let Notice { line, kind } = *notice;
-        err.write_report(Report::Notice { path, line, kind });
+        err.write_report(Report::Notice {
+            path,
+            line,
+            kind,
+            tree,
+        });
     }
 }
 

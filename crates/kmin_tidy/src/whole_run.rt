@@ -67,7 +67,7 @@ fn tidy_each<D: WriteDisk, E: Messages>(
     let mut status = 0;
     for path in paths {
         let report = tidy_file(alloc, config, format, options, path, disk, &mut text)?;
-        report_file(path, &report, err);
+        report_file(path, &report, config.settled().tree(), err);
         status = report.outcome.status_after(status);
     }
     Ok(RunResult { text, status })

@@ -1,5 +1,5 @@
 -- The tree of a job, as it is or expanded: what its texts are, and where a run ends at it.
-use Rattle.std.proofs.Common.{◌≡◌, ℕ, List, [], ◌++◌, Some, None, Result, Ok, Err, IfOk, IfErr, map, refl, sym, ap, ◌∙◌, subst, append-nil, arith}
+use Rattle.std.proofs.Common.{◌≡◌, ℕ, ◌≤◌, List, [], ◌++◌, Some, None, Result, Ok, Err, IfOk, IfErr, map, refl, sym, ap, ◌∙◌, subst, append-nil}
 use Rattle.kc_tokens.specs.declared.language.Language.{Language}
 use Rattle.kc_tree_model.specs.TreeFiles.{Files}
 use Rattle.kc_macros_model.specs.Programs.{Notice}
@@ -8,11 +8,11 @@ use Rattle.kc_macros_model.specs.ReadingStates.{ExpandedFile}
 use Rattle.kc_rules.specs.declared.rules.Settled.{Settled}
 use Rattle.kc_rules.specs.between.SettledViews.{tree_of_settled}
 use Rattle.kc_expansion.specs.Expansions.{IsExpansion}
-use Rattle.kmin_words.specs.Jobs.{Expansion, Settings}
+use Rattle.kmin_options.specs.Jobs.{Expansion, Settings}
 use Rattle.kmin_report.specs.declared.run_error.RunError.{RunError}
 use Rattle.kmin_trees.specs.declared.expanded_trees.ExpandedTexts.{ExpandedTexts}
-use Rattle.kmin_trees.specs.FileContents.{Surroundings, AreTextsBelow}
-use Rattle.kmin_trees.specs.JobAnswers.{AreJobAnswers}
+use Rattle.kmin_inputs.specs.FileContents.{Surroundings, AreTextsBelow}
+use Rattle.kmin_inputs.specs.JobAnswers.{AreJobAnswers}
 use Rattle.kmin_trees.specs.JobTexts.{TreeTexts, AreExpandedTexts, AreTextsOfJob, as_they_are, expanded, expanded_texts, named_texts}
 use Rattle.kmin_trees.specs.TreeFolders.{contents_below}
 use Rattle.kmin_trees.specs.AcceptedTrees.{AreAccepted}
@@ -20,7 +20,7 @@ use Rattle.kmin_report.specs.Reports.{ErrorLine, macro_notice_line}
 use Rattle.kmin_report.specs.StandardError.{SpelledBytes, TakesLines}
 use Rattle.kmin_trees.specs.Stops.{StopsInExpansion, StopsAtTree}
 use Rattle.kmin_trees.specs.Stops as stops
-use Rattle.kmin_trees.specs.MissingFiles.{MissesOnlyMissing, IsRefusedTree}
+use Rattle.kmin_trees.specs.MissingFiles.{MissesOnlyMissing}
 use Rattle.kmin_trees.specs.between.ExpansionStops.{StopsExpanding}
 use Rattle.kmin_trees.specs.between.ExpandedStops.{StopsAtExpanded}
 use Rattle.kmin_trees.specs.between.ExpandedStops as expanded_stops
@@ -28,6 +28,7 @@ use Rattle.kmin_trees.specs.between.ExpansionStops as expanding
 use Rattle.kmin_report.specs.between.RunErrors.{status_of}
 use Rattle.kmin_trees.specs.between.TreeStops.{StopsAtTexts}
 use Rattle.kmin_trees.specs.between.TreeStops as tree_stops
+use Rattle.kmin_inputs.proofs.FailureCounts.{rises_later}
 use Rattle.kmin_report.proofs.WriterLemmas.{lines_append}
 
 -- the texts of a tree without expansion: they are named by their paths, and there are no notices
@@ -40,25 +41,18 @@ pub are_plain : (known : Surroundings) (settings : Settings) (texts : Files) →
 are_plain known settings texts e h = as_they_are e h refl refl
 
 -- texts that end a run end the job at its tree, whether macros are expanded or not
-texts_stop : (known : Surroundings) (settings : Settings) (t : TreeTexts) (status : ℕ) (more lines : List ErrorLine) → AreTextsOfJob known settings t
-    → StopsAtTexts t.texts t.names settings.tree status more → lines ≡ t.lines ++ more → StopsAtTree known settings status lines
-texts_stop known settings t status more lines h (tree_stops.at_texts line r s l) e = stops.at_texts t line h r s (e ∙ ap (λ ls. t.lines ++ ls) l)
-texts_stop known settings t status more lines h (tree_stops.for_memory s l) e =
+texts_stop : (known : Surroundings) (counted counted_after : ℕ) (settings : Settings) (t : TreeTexts) (status : ℕ) (more lines : List ErrorLine)
+    → AreTextsOfJob known settings t → StopsAtTexts t.texts t.names settings.tree status more
+    → (status ≡ 3 → settings.expansion ≡ None → MissesOnlyMissing known.content settings.root settings.tree t.texts counted counted_after)
+    → lines ≡ t.lines ++ more → StopsAtTree known counted counted_after settings status lines
+texts_stop known counted counted_after settings t status more lines h (tree_stops.at_texts line r s l) missing e =
+    stops.at_texts t line h r (missing s) s (e ∙ ap (λ ls. t.lines ++ ls) l)
+texts_stop known counted counted_after settings t status more lines h (tree_stops.for_memory s l) missing e =
     stops.for_memory t h s (e ∙ ap (λ ls. t.lines ++ ls) l ∙ append-nil t.lines)
 
--- texts of a tree that isn't expanded are refused, where the status is 3
-refused_plain : (known : Surroundings) (settings : Settings) (counted counted_after : ℕ) (texts : Files) (status : ℕ) (lines : List ErrorLine) → status ≡ 3
-    → AreTextsBelow known.content settings.root settings.language texts → StopsAtTexts texts texts settings.tree status lines
-    → MissesOnlyMissing known.content settings.root settings.tree texts counted counted_after → IsRefusedTree known settings counted counted_after lines
-refused_plain known settings counted counted_after texts status lines three below (tree_stops.at_texts line r s l) missing =
-    record { texts = texts; below = below; line = line; refused = r; lines_are = l; missing = missing }
-refused_plain known settings counted counted_after texts status lines three below (tree_stops.for_memory s l) missing = absurd (omega arith)
-
 -- a tree whose macros are expanded isn't one without expansion
-pub not_plain : (settings : Settings) (P : RunError → Type 0) (expansion : Expansion) → settings.expansion ≡ Some expansion → (r : Result Settled RunError)
-    → IfErr r (λ stop. settings.expansion ≡ None → P stop)
-not_plain settings P expansion e (Ok settled) = tt
-not_plain settings P expansion e (Err stop) = λ none. absurd (let z : ⊥ = cc in z)
+not_plain : {P : Type 0} (settings : Settings) (expansion : Expansion) → settings.expansion ≡ Some expansion → settings.expansion ≡ None → P
+not_plain settings expansion e none = absurd (let z : ⊥ = cc in z)
 
 module _ (known : Surroundings) (settings : Settings) (taken taken_after : SpelledBytes) (failed failed_after : ℕ) where
   -- without the expansion of macros
@@ -76,21 +70,15 @@ module _ (known : Surroundings) (settings : Settings) (taken taken_after : Spell
         → IfErr r (λ stop. (texts : Files) × (lines : List ErrorLine) × AreTextsBelow known.content settings.root settings.language texts
         × StopsAtTexts texts texts settings.tree (status_of stop) lines × TakesLines taken failed lines taken_after failed_after
         × (status_of stop ≡ 3 → MissesOnlyMissing known.content settings.root settings.tree texts counted counted_after))
-        → IfErr r (λ stop. (lines : List ErrorLine) × StopsAtTree known settings (status_of stop) lines × TakesLines taken failed lines taken_after failed_after)
-    plain_stopped counted counted_after (Ok settled) h = tt
-    plain_stopped counted counted_after (Err stop) h =
-        (h.1, texts_stop known settings (plain_texts h.0) (status_of stop) h.1 h.1 (are_plain known settings h.0 e h.2) h.3 refl, h.4)
-
-    -- and a file that is known to be there is missing only where a failure was counted
-    pub plain_missing : (counted counted_after : ℕ) (r : Result Settled RunError)
-        → IfErr r (λ stop. (texts : Files) × (lines : List ErrorLine) × AreTextsBelow known.content settings.root settings.language texts
-        × StopsAtTexts texts texts settings.tree (status_of stop) lines × TakesLines taken failed lines taken_after failed_after
-        × (status_of stop ≡ 3 → MissesOnlyMissing known.content settings.root settings.tree texts counted counted_after))
-        → IfErr r (λ stop. settings.expansion ≡ None → status_of stop ≡ 3 → (lines : List ErrorLine) × IsRefusedTree known settings counted counted_after lines
+        → IfErr r (λ stop. (lines : List ErrorLine) × StopsAtTree known counted counted_after settings (status_of stop) lines
         × TakesLines taken failed lines taken_after failed_after)
-    plain_missing counted counted_after (Ok settled) h = tt
-    plain_missing counted counted_after (Err stop) h =
-        λ none three. (h.1, refused_plain known settings counted counted_after h.0 (status_of stop) h.1 three h.2 h.3 (h.5 three), h.4)
+    plain_stopped counted counted_after (Ok settled) h = tt
+    plain_stopped counted counted_after (Err stop) h = (
+      h.1,
+      texts_stop known counted counted_after settings (plain_texts h.0) (status_of stop) h.1 h.1 (are_plain known settings h.0 e h.2) h.3
+          (λ three none. h.5 three) refl,
+      h.4,
+    )
 
   -- with the expansion of macros
   module _ (expansion : Expansion) (e : settings.expansion ≡ Some expansion) where
@@ -102,17 +90,21 @@ module _ (known : Surroundings) (settings : Settings) (taken taken_after : Spell
     expanded_accepted (Err stop) h = tt
     expanded_accepted (Ok settled) h = (h.0, expanded expansion e h.1, h.2, h.3)
 
-    stops_of : (status : ℕ) (lines : List ErrorLine) → StopsAtExpanded known settings.root settings.tree settings.language expansion status lines
-        → StopsAtTree known settings status lines
-    stops_of status lines (expanded_stops.in_expansion s) = stops.in_expansion expansion e s
-    stops_of status lines (expanded_stops.at_texts t more h s l) = texts_stop known settings t status more lines (expanded expansion e h) s l
+    stops_of : (counted counted_after status : ℕ) (lines : List ErrorLine)
+        → StopsAtExpanded known counted counted_after settings.root settings.tree settings.language expansion status lines
+        → StopsAtTree known counted counted_after settings status lines
+    stops_of counted counted_after status lines (expanded_stops.in_expansion s) = stops.in_expansion expansion e s
+    stops_of counted counted_after status lines (expanded_stops.at_texts t more h s l) =
+        texts_stop known counted counted_after settings t status more lines (expanded expansion e h) s (λ three none. not_plain settings expansion e none) l
 
-    pub expanded_stopped : (r : Result Settled RunError)
-        → IfErr r (λ stop. (lines : List ErrorLine) × StopsAtExpanded known settings.root settings.tree settings.language expansion (status_of stop) lines
+    pub expanded_stopped : (counted counted_after : ℕ) (r : Result Settled RunError)
+        → IfErr r (λ stop. (lines : List ErrorLine)
+        × StopsAtExpanded known counted counted_after settings.root settings.tree settings.language expansion (status_of stop) lines
         × TakesLines taken failed lines taken_after failed_after)
-        → IfErr r (λ stop. (lines : List ErrorLine) × StopsAtTree known settings (status_of stop) lines × TakesLines taken failed lines taken_after failed_after)
-    expanded_stopped (Ok settled) h = tt
-    expanded_stopped (Err stop) h = (h.0, stops_of (status_of stop) h.0 h.1, h.2)
+        → IfErr r (λ stop. (lines : List ErrorLine) × StopsAtTree known counted counted_after settings (status_of stop) lines
+        × TakesLines taken failed lines taken_after failed_after)
+    expanded_stopped counted counted_after (Ok settled) h = tt
+    expanded_stopped counted counted_after (Err stop) h = (h.0, stops_of counted counted_after (status_of stop) h.0 h.1, h.2)
 
 -- expanded files, settled
 module _ (known : Surroundings) (root first : List ℕ) (language : Language) (expansion : Expansion) (texts names : Files)
@@ -132,13 +124,13 @@ module _ (known : Surroundings) (root first : List ℕ) (language : Language) (e
         (lines_append taken middle failed failed_middle h.0.lines [] taken_after failed_after h.4 k),
   )
 
-  pub settled_stopped : (r : Result Settled RunError)
+  pub settled_stopped : (counted counted_after : ℕ) (r : Result Settled RunError)
       → IfErr r (λ stop. (lines : List ErrorLine) × StopsAtTexts texts names first (status_of stop) lines
       × TakesLines middle failed_middle lines taken_after failed_after)
-      → IfErr r (λ stop. (lines : List ErrorLine) × StopsAtExpanded known root first language expansion (status_of stop) lines
+      → IfErr r (λ stop. (lines : List ErrorLine) × StopsAtExpanded known counted counted_after root first language expansion (status_of stop) lines
       × TakesLines taken failed lines taken_after failed_after)
-  settled_stopped (Ok settled) s = tt
-  settled_stopped (Err stop) s =
+  settled_stopped counted counted_after (Ok settled) s = tt
+  settled_stopped counted counted_after (Err stop) s =
       let a = subst (λ (fs : Files). StopsAtTexts fs names first (status_of stop) s.0) (sym h.2) s.1 in
       let b = subst (λ (fs : Files). StopsAtTexts h.0.texts fs first (status_of stop) s.0) (sym h.3) a in (
         h.0.lines ++ s.0,
@@ -180,15 +172,19 @@ module _ (known : Surroundings) (root first : List ℕ) (language : Language) (e
   both_expanded (Err stop) e h = tt
   both_expanded (Ok tree) e h = are_expanded tree.tree tree.texts e h
 
-  expanding_stops : (status : ℕ) (lines : List ErrorLine) → StopsExpanding (contents_below known root) answers first status lines
-      → StopsInExpansion known root first expansion status lines
-  expanding_stops status lines (expanding.at_fault notices fault h s l) =
-      stops.at_fault answers notices fault answered h s l
-  expanding_stops status lines (expanding.for_memory s l) = stops.for_memory s l
+  module _ (counted counted_middle counted_after : ℕ) (le : counted ≤ counted_middle) (up : counted_middle ≤ counted_after) where
+    expanding_stops : (status : ℕ) (lines : List ErrorLine)
+        → StopsExpanding (contents_below known root) counted_middle counted_after answers first status lines
+        → StopsInExpansion known counted counted_after root first expansion status lines
+    expanding_stops status lines (expanding.at_fault notices fault h s l) =
+        stops.at_fault answers notices fault answered
+        (h.0, (λ none. h.1 (λ rose. none (rises_later counted counted_middle counted_after le up rose)))) s l
+    expanding_stops status lines (expanding.for_memory s l) = stops.for_memory s l
 
-  pub stopped_expanding : (status : ℕ)
-      → (lines : List ErrorLine) × StopsExpanding (contents_below known root) answers first status lines
-      × TakesLines middle failed_middle lines taken_after failed_after
-      → (lines : List ErrorLine) × StopsInExpansion known root first expansion status lines × TakesLines taken failed lines taken_after failed_after
-  stopped_expanding status h =
-      (h.0, expanding_stops status h.0 h.1, lines_append taken middle failed failed_middle [] h.0 taken_after failed_after before h.2)
+    pub stopped_expanding : (status : ℕ)
+        → (lines : List ErrorLine) × StopsExpanding (contents_below known root) counted_middle counted_after answers first status lines
+        × TakesLines middle failed_middle lines taken_after failed_after
+        → (lines : List ErrorLine) × StopsInExpansion known counted counted_after root first expansion status lines
+        × TakesLines taken failed lines taken_after failed_after
+    stopped_expanding status h =
+        (h.0, expanding_stops status h.0 h.1, lines_append taken middle failed failed_middle [] h.0 taken_after failed_after before h.2)

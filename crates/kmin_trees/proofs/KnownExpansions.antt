@@ -5,7 +5,7 @@ use Rattle.std.specs.Str.{is_utf8}
 use Rattle.kc_files.specs.TreeContents.{FileContent, FolderContent}
 use Rattle.kc_macros_model.specs.Programs.{Notice}
 use Rattle.kc_expansion.proofs.KnownExpansions.{known_files_determine}
-use Rattle.kmin_trees.specs.FileContents.{Surroundings, path_below}
+use Rattle.kmin_inputs.specs.FileContents.{Surroundings, path_below}
 use Rattle.kmin_trees.specs.TreeFolders.{regular_below, names_below, contents_below}
 use Rattle.kmin_trees.specs.KnownExpansions.{KnownFilesDetermineTheExpandedTree}
 use Rattle.kmin_report.specs.Reports.{macro_notice_line}

@@ -10,7 +10,7 @@ use Rattle.kc_tree_model.proofs.MoreFiles.{more_files}
 use Rattle.kc_tree_model.proofs.ReadingLaws.ReadingCompleteness.{whole_read}
 use Rattle.kc_tree_model.proofs.ReadingLaws.ReadingSoundness.{whole_related, one_whole}
 use Rattle.kc_files.specs.TreeContents.{FileContent}
-use Rattle.kmin_trees.specs.FileContents.{MatchContentStart, path_below}
+use Rattle.kmin_inputs.specs.FileContents.{MatchContentStart, path_below}
 use Rattle.kmin_trees.specs.KnownTrees.{known_bytes, BytesHaveOneTree, KnownFilesDetermineTheTree}
 
 -- texts that match what is known are among the known bytes

@@ -1,15 +1,11 @@
 pub mod TreeResults
 pub mod TextGrowth
 pub mod MissingFiles
-pub mod AnswerReads
-pub mod AnswerFileLists
-pub mod LentAnswers
 pub mod TreeFolders
 pub mod ExpandedTexts
-pub mod FailureCounts
+pub mod UnfailedStops
 pub mod FileNameLemmas
 pub mod ListedQuestions
 pub mod JobTrees
 pub mod KnownTrees
 pub mod KnownExpansions
-pub mod ListReads

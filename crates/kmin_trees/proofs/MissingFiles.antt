@@ -20,13 +20,12 @@ use Rattle.kc_tree_model.specs.declared.fault.TreeKind.TheVariants.{MissingFile,
 use Rattle.kc_tree_model.proofs.ReadingLaws.TreesOfRelation.{tree_related, reported_related}
 use Rattle.kc_tree.specs.TreeModel.{TreeModel}
 use Rattle.kmin_trees.specs.between.Readings.{IsRead}
-use Rattle.kc_files.specs.TreeContents.{FileContent}
+use Rattle.kc_files.specs.TreeContents.{FileContent, HasRisen}
 use Rattle.kmin_disk.specs.Contents.{OpensAs}
-use Rattle.kmin_report.specs.StandardError.{HasRisen}
-use Rattle.kmin_trees.specs.FileContents.{path_below}
+use Rattle.kmin_inputs.specs.FileContents.{path_below}
 use Rattle.kmin_trees.specs.MissingFiles.{MayBeMissing, LacksOnlyMissing, lacks_none, lacks_some, MissesOnlyMissing}
 use Rattle.kmin_trees.specs.between.InsertedFiles.{AreTried, AreInserted}
-use Rattle.kmin_trees.proofs.FailureCounts.{rises_earlier, rises_later, closed_rises}
+use Rattle.kmin_inputs.proofs.FailureCounts.{rises_earlier, rises_later, closed_rises}
 
 -- a file that can't be opened isn't known to be there
 pub unopened : (content : FileContent) (a b : ℕ) → OpensAs content None → MayBeMissing content a b

@@ -12,7 +12,7 @@ use Rattle.kc_value.specs.declared.limits.TheConstants.{MAX_FILE_BYTES}
 use Rattle.kc_tokens.specs.declared.language.Language.{Language}
 use Rattle.kc_tree_model.specs.TreeFiles.{Files, file_at, with_path, with_file}
 use Rattle.kc_files.specs.TreeContents.{FileContent}
-use Rattle.kmin_trees.specs.FileContents.{MatchContentStart, AreTextsBelow, path_below}
+use Rattle.kmin_inputs.specs.FileContents.{MatchContentStart, AreTextsBelow, path_below}
 use Rattle.kmin_disk.specs.Contents.{OpensAs}
 
 -- bytes that were read up to the end, or up to the limit, begin a file

@@ -10,10 +10,10 @@ use Rattle.kc_macros_model.specs.AnswerFiles.{RecordedAnswers}
 use Rattle.kc_macros_model.specs.Programs.{Fault, Notice}
 use Rattle.kc_macros_model.specs.ReadingStates.{ExpandedFile}
 use Rattle.kc_macros_model.specs.Worlds.{World}
-use Rattle.kc_expansion.specs.Expansions.{IsExpansion, AreWanted, AreUnused}
-use Rattle.kc_files.specs.TreeContents.{FileContent, FolderContent, TreeContents, StaysKnown, ListsAs, IsWorldOf}
+use Rattle.kc_expansion.specs.Expansions.{IsCountedExpansion, AreCountedWanted, AreCountedUnused}
+use Rattle.kc_files.specs.TreeContents.{FileContent, FolderContent, TreeContents, StaysKnown, ListsAs, IsWorldOf, IsWholeWorldOf}
 use Rattle.kc_files.specs.TreeContents as tree
-use Rattle.kmin_trees.specs.FileContents.{Surroundings, path_below}
+use Rattle.kmin_inputs.specs.FileContents.{Surroundings, path_below}
 use Rattle.kmin_disk.specs.Contents.{OpensAs}
 use Rattle.kmin_trees.specs.TreeFolders.{regular_below, names_below, contents_through, contents_below}
 
@@ -70,51 +70,76 @@ world_below : (reference failures : ℕ) (known : Surroundings) (root : List ℕ
     → IsWorldOf (contents_below known root) w
 world_below reference failures known root w h = record { files = h.files; folders = h.folders }
 
-through_any : (reference failures : ℕ) (known : Surroundings) (root first : List ℕ) (answers : RecordedAnswers) (notices : List Notice)
-    (r : Result (List ExpandedFile) Fault)
-    → IsExpansion (contents_through reference failures known root) answers first notices r → IsExpansion (contents_below known root) answers first notices r
-through_any reference failures known root first answers notices r h = record {
-  world = h.world;
-  of_contents = world_below reference failures known root h.world h.of_contents;
-  answered = h.answered;
-  has_notices = h.has_notices;
-  ends_so = h.ends_so;
-}
+whole_below : (reference failures : ℕ) (known : Surroundings) (root : List ℕ) (w : World) → IsWholeWorldOf (contents_through reference failures known root) w
+    → IsWholeWorldOf (contents_below known root) w
+whole_below reference failures known root w h = record { files = h.files; folders = h.folders }
 
-pub expansion_below : (reference failures : ℕ) (known : Surroundings) (root first path : List ℕ) (answers : RecordedAnswers) (notices : List Notice)
-    (r : Result (List ExpandedFile) Fault)
-    → path ≡ first → IsExpansion (contents_through reference failures known root) answers path notices r → IsExpansion
-    (contents_below known root) answers first notices r
-expansion_below reference failures known root first path answers notices r e h =
-    subst (λ p. IsExpansion (contents_below known root) answers p notices r) e (through_any reference failures known root path answers notices r h)
+through_any : (reference failures : ℕ) (known : Surroundings) (root first : List ℕ) (counted counted_after : ℕ) (answers : RecordedAnswers)
+    (notices : List Notice) (r : Result (List ExpandedFile) Fault)
+    → IsCountedExpansion (contents_through reference failures known root) counted counted_after answers first notices r
+    → IsCountedExpansion (contents_below known root) counted counted_after answers first notices r
+through_any reference failures known root first counted counted_after answers notices r h = (
+  record {
+    world = h.0.world;
+    of_contents = world_below reference failures known root h.0.world h.0.of_contents;
+    answered = h.0.answered;
+    has_notices = h.0.has_notices;
+    ends_so = h.0.ends_so;
+  },
+  (λ none. whole_below reference failures known root h.0.world (h.1 none)),
+)
 
-wanted_any : (reference failures : ℕ) (known : Surroundings) (root first : List ℕ) (answers : RecordedAnswers) (asked : Result (List (List ℕ)) Fault)
-    → AreWanted (contents_through reference failures known root) answers first asked → AreWanted (contents_below known root) answers first asked
-wanted_any reference failures known root first answers asked h = record {
-  world = h.world;
-  of_contents = world_below reference failures known root h.world h.of_contents;
-  answered = h.answered;
-  are_wanted = h.are_wanted;
-}
+pub expansion_below : (reference failures : ℕ) (known : Surroundings) (root first path : List ℕ) (counted opened counted_after : ℕ) (answers : RecordedAnswers)
+    (notices : List Notice) (r : Result (List ExpandedFile) Fault) → path ≡ first → opened ≡ counted_after
+    → IsCountedExpansion (contents_through reference failures known root) counted opened answers path notices r
+    → IsCountedExpansion (contents_below known root) counted counted_after answers first notices r
+expansion_below reference failures known root first path counted opened counted_after answers notices r e same h =
+    subst (λ n. IsCountedExpansion (contents_below known root) counted n answers first notices r) same
+    (subst (λ p. IsCountedExpansion (contents_below known root) counted opened answers p notices r) e
+    (through_any reference failures known root path counted opened answers notices r h))
 
-pub wanted_below : (reference failures : ℕ) (known : Surroundings) (root first path : List ℕ) (answers : RecordedAnswers)
-    (asked : Result (List (List ℕ)) Fault) → path ≡ first
-    → AreWanted (contents_through reference failures known root) answers path asked → AreWanted (contents_below known root) answers first asked
-wanted_below reference failures known root first path answers asked e h =
-    subst (λ p. AreWanted (contents_below known root) answers p asked) e (wanted_any reference failures known root path answers asked h)
+wanted_any : (reference failures : ℕ) (known : Surroundings) (root first : List ℕ) (counted counted_after : ℕ) (answers : RecordedAnswers)
+    (asked : Result (List (List ℕ)) Fault)
+    → AreCountedWanted (contents_through reference failures known root) counted counted_after answers first asked
+    → AreCountedWanted (contents_below known root) counted counted_after answers first asked
+wanted_any reference failures known root first counted counted_after answers asked h = (
+  record {
+    world = h.0.world;
+    of_contents = world_below reference failures known root h.0.world h.0.of_contents;
+    answered = h.0.answered;
+    are_wanted = h.0.are_wanted;
+  },
+  (λ none. whole_below reference failures known root h.0.world (h.1 none)),
+)
 
-unused_any : (reference failures : ℕ) (known : Surroundings) (root first : List ℕ) (answers : RecordedAnswers) (answered : List (List ℕ))
-    (listed : Result (List (List ℕ)) Fault)
-    → AreUnused (contents_through reference failures known root) answers first answered listed → AreUnused (contents_below known root) answers first answered listed
-unused_any reference failures known root first answers answered listed h = record {
-  world = h.world;
-  of_contents = world_below reference failures known root h.world h.of_contents;
-  answered_so = h.answered_so;
-  are_unused = h.are_unused;
-}
+pub wanted_below : (reference failures : ℕ) (known : Surroundings) (root first path : List ℕ) (counted opened counted_after : ℕ) (answers : RecordedAnswers)
+    (asked : Result (List (List ℕ)) Fault) → path ≡ first → opened ≡ counted_after
+    → AreCountedWanted (contents_through reference failures known root) counted opened answers path asked
+    → AreCountedWanted (contents_below known root) counted counted_after answers first asked
+wanted_below reference failures known root first path counted opened counted_after answers asked e same h =
+    subst (λ n. AreCountedWanted (contents_below known root) counted n answers first asked) same
+    (subst (λ p. AreCountedWanted (contents_below known root) counted opened answers p asked) e
+    (wanted_any reference failures known root path counted opened answers asked h))
 
-pub unused_below : (reference failures : ℕ) (known : Surroundings) (root first path : List ℕ) (answers : RecordedAnswers) (answered : List (List ℕ))
-    (listed : Result (List (List ℕ)) Fault) → path ≡ first
-    → AreUnused (contents_through reference failures known root) answers path answered listed → AreUnused (contents_below known root) answers first answered listed
-unused_below reference failures known root first path answers answered listed e h =
-    subst (λ p. AreUnused (contents_below known root) answers p answered listed) e (unused_any reference failures known root path answers answered listed h)
+unused_any : (reference failures : ℕ) (known : Surroundings) (root first : List ℕ) (counted counted_after : ℕ) (answers : RecordedAnswers)
+    (answered : List (List ℕ)) (listed : Result (List (List ℕ)) Fault)
+    → AreCountedUnused (contents_through reference failures known root) counted counted_after answers first answered listed
+    → AreCountedUnused (contents_below known root) counted counted_after answers first answered listed
+unused_any reference failures known root first counted counted_after answers answered listed h = (
+  record {
+    world = h.0.world;
+    of_contents = world_below reference failures known root h.0.world h.0.of_contents;
+    answered_so = h.0.answered_so;
+    are_unused = h.0.are_unused;
+  },
+  (λ none. whole_below reference failures known root h.0.world (h.1 none)),
+)
+
+pub unused_below : (reference failures : ℕ) (known : Surroundings) (root first path : List ℕ) (counted opened counted_after : ℕ) (answers : RecordedAnswers)
+    (answered : List (List ℕ)) (listed : Result (List (List ℕ)) Fault) → path ≡ first → opened ≡ counted_after
+    → AreCountedUnused (contents_through reference failures known root) counted opened answers path answered listed
+    → AreCountedUnused (contents_below known root) counted counted_after answers first answered listed
+unused_below reference failures known root first path counted opened counted_after answers answered listed e same h =
+    subst (λ n. AreCountedUnused (contents_below known root) counted n answers first answered listed) same
+    (subst (λ p. AreCountedUnused (contents_below known root) counted opened answers p answered listed) e
+    (unused_any reference failures known root path counted opened answers answered listed h))

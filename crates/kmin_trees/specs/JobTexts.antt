@@ -8,10 +8,10 @@ use Rattle.kc_macros_model.specs.AnswerFiles.{RecordedAnswers}
 use Rattle.kc_macros_model.specs.ReadingStates.{ExpandedFile}
 use Rattle.kc_expansion.specs.Expansions.{IsExpansion}
 use Rattle.kc_files.specs.PathsOfKeys.{path_of_key}
-use Rattle.kmin_words.specs.Jobs.{Expansion, Settings}
-use Rattle.kmin_trees.specs.FileContents.{Surroundings, AreTextsBelow}
+use Rattle.kmin_options.specs.Jobs.{Expansion, Settings}
+use Rattle.kmin_inputs.specs.FileContents.{Surroundings, AreTextsBelow}
 use Rattle.kmin_trees.specs.TreeFolders.{contents_below}
-use Rattle.kmin_trees.specs.JobAnswers.{AreJobAnswers}
+use Rattle.kmin_inputs.specs.JobAnswers.{AreJobAnswers}
 use Rattle.kmin_report.specs.Reports.{ErrorLine, macro_notice_line}
 
 -- the texts of a tree with one more expanded file, at its key, which is its path in `source` lines; a file whose key isn't UTF-8

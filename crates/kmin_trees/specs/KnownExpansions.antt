@@ -6,10 +6,10 @@ use Rattle.kc_macros_model.specs.Programs.{Notice}
 use Rattle.kc_macros_model.specs.ReadingStates.{ExpandedFile}
 use Rattle.kc_macros_model.specs.Worlds.{Outcome, returned, expansion}
 use Rattle.kc_expansion.specs.Expansions.{known_world}
-use Rattle.kmin_words.specs.Jobs.{Expansion}
-use Rattle.kmin_trees.specs.FileContents.{Surroundings, path_below}
+use Rattle.kmin_options.specs.Jobs.{Expansion}
+use Rattle.kmin_inputs.specs.FileContents.{Surroundings, path_below}
 use Rattle.kmin_trees.specs.TreeFolders.{contents_below}
-use Rattle.kmin_trees.specs.JobAnswers.{AreJobAnswers}
+use Rattle.kmin_inputs.specs.JobAnswers.{AreJobAnswers}
 use Rattle.kmin_trees.specs.JobTexts.{TreeTexts, expanded_texts, named_texts, AreExpandedTexts}
 use Rattle.kmin_report.specs.Reports.{macro_notice_line}
 

@@ -9,7 +9,7 @@ use Rattle.kc_tree_model.specs.ReadingRelation.{IsWholeReading}
 use Rattle.kc_tree_model.specs.Contents.{tree_of_groups}
 use Rattle.kc_tree_model.specs.TreeFaults.{tree_faults}
 use Rattle.kc_files.specs.TreeContents.{FileContent}
-use Rattle.kmin_trees.specs.FileContents.{AreTextsBelow, path_below}
+use Rattle.kmin_inputs.specs.FileContents.{AreTextsBelow, path_below}
 use Rattle.kmin_trees.specs.AcceptedTrees.{AreAccepted}
 
 -- the known bytes of a file, but no more than the first `MAX_FILE_BYTES`; `None` if they aren't known, or the file can't be

@@ -1,14 +1,9 @@
 pub mod AcceptedTrees
-pub mod FileContents
 pub mod TreeFolders
-pub mod JobAnswers
 pub mod JobTexts
-pub mod AnswerStops
 pub mod Stops
 pub mod MissingFiles
 pub mod KnownTrees
 pub mod KnownExpansions
 pub mod WantedQuestions
-pub mod ListFiles
-pub mod WordFiles
 pub mod between

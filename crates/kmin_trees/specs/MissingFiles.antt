@@ -1,16 +1,12 @@
 -- Files that count as missing, in a tree that is read without the expansion of macros.
-use Rattle.std.specs.Prelude.{◌≡◌, ℕ, List, [], ◌∷◌, Some, None, Ok, Err}
+use Rattle.std.specs.Prelude.{◌≡◌, ℕ, List, Some, None, Ok, Err}
 use Rattle.std.specs.List.{All}
 use Rattle.kc_tree_model.specs.declared.fault.TreeFault.{TreeFault}
 use Rattle.kc_tree_model.specs.declared.fault.TreeKind.TheVariants.{MissingFile}
 use Rattle.kc_tree_model.specs.TreeFiles.{Files}
 use Rattle.kc_tree_model.specs.TreesOfFiles.{IsReportedFault, AreWanted}
-use Rattle.kc_files.specs.TreeContents.{FileContent}
-use Rattle.kmin_report.specs.Reports.{ErrorLine}
-use Rattle.kmin_report.specs.StandardError.{HasRisen}
-use Rattle.kmin_words.specs.Jobs.{Settings}
-use Rattle.kmin_trees.specs.FileContents.{Surroundings, AreTextsBelow, path_below}
-use Rattle.kmin_trees.specs.Stops.{RefusesTexts}
+use Rattle.kc_files.specs.TreeContents.{FileContent, HasRisen}
+use Rattle.kmin_inputs.specs.FileContents.{path_below}
 
 -- a file of this known content may count as missing, where the count of failures went from one number to another: the file isn't
 -- known to be there, or the count rose
@@ -29,13 +25,3 @@ pub data LacksOnlyMissing (content_of : List ℕ → FileContent) (root first : 
 abbrev pub MissesOnlyMissing : (content_of : List ℕ → FileContent) → (root first : List ℕ) → Files → (failed failed_after : ℕ) → Type 0
 MissesOnlyMissing content_of root first texts failed failed_after = (fault : TreeFault) → IsReportedFault texts first fault → fault.kind ≡ MissingFile
     → LacksOnlyMissing content_of root first texts failed failed_after
-
--- a tree that is read without the expansion of macros is refused, with these lines of standard error; for a missing file only where
--- each file that it lacks isn't known to be there, or a failure was counted
-pub record IsRefusedTree (known : Surroundings) (settings : Settings) (failed failed_after : ℕ) (lines : List ErrorLine) : Type 0 where
-  pub texts : Files
-  pub below : AreTextsBelow known.content settings.root settings.language texts
-  pub line : ErrorLine
-  pub refused : RefusesTexts texts texts settings.tree line
-  pub lines_are : lines ≡ line ∷ []
-  pub missing : MissesOnlyMissing known.content settings.root settings.tree texts failed failed_after

@@ -2,7 +2,7 @@
 use Rattle.std.specs.Prelude.{ℕ, List, [], Some, None, if◌then◌else◌}
 use Rattle.std.specs.Str.{is_utf8}
 use Rattle.kc_files.specs.TreeContents.{FileContent, FolderContent, TreeContents}
-use Rattle.kmin_trees.specs.FileContents.{Surroundings, path_below}
+use Rattle.kmin_inputs.specs.FileContents.{Surroundings, path_below}
 
 -- what is known of a file of a tree: the regular file at its path below the root; there is no file if its path isn't UTF-8
 abbrev pub regular_below : (List ℕ → FileContent) → (root path : List ℕ) → FileContent

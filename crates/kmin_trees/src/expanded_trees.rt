@@ -3,7 +3,7 @@ ghost use Rattle.std.specs.Prelude.{◌≡◌, ◌≤◌, ℕ, List, Ok, IfOk, I
 ghost use Rattle.std.specs.Str.{is_utf8};
 ghost use Rattle.kc_macros_model.specs.Programs.{Notice};
 ghost use Rattle.kc_macros.specs.Runs.{notice_of};
-ghost use Rattle.kc_expansion.specs.Expansions.{IsExpansion, AreWanted, AreUnused, tree_of, questions_of};
+ghost use Rattle.kc_expansion.specs.Expansions.{IsExpansion, IsCountedExpansion, AreCountedWanted, AreCountedUnused, tree_of, questions_of};
 ghost use Rattle.kc_files.specs.TextViews.{texts_of};
 ghost use Rattle.kc_tree_model.specs.TreeFiles.{with_file};
 ghost use Rattle.kmin_trees.specs.JobTexts.{expanded_texts};
@@ -14,7 +14,6 @@ ghost use Rattle.kmin_trees.specs.between.FilesByPlace.{with_file_at};
 ghost use Rattle.kmin_trees.specs.between.ExpansionStops.{StopsExpanding};
 ghost use Rattle.kmin_report.specs.between.RunErrors.{status_of};
 
-use crate::files::Files;
 use crate::tree_folder::{TreeFolder, text_of};
 use kc_answers::Answers;
 use kc_expansion::{ExpandedTree, Expansion, expand, unused, wants};
@@ -22,8 +21,9 @@ use kc_macros::{MacroFault, MacroNotice};
 use kc_tokens::Language;
 use kc_tree::Texts;
 use kc_value::Seed;
+use kmin_inputs::Files;
+use kmin_options::Settings;
 use kmin_report::{Messages, Report, RunError};
-use kmin_words::Settings;
 use std::alloc::{AllocError, Global};
 
 /// A tree whose macros are expanded, and its expanded files as the texts to read as a Kconfig tree.
@@ -31,6 +31,22 @@ use std::alloc::{AllocError, Global};
 pub(crate) struct ExpandedTexts {
     pub(crate) tree: ExpandedTree,
     pub(crate) texts: Texts,
+}
+
+/// The expansion of a tree below a folder, and the path of the file that couldn't be opened last, if that is known.
+#[derive(Drop)]
+struct ExpansionBelow {
+    notices: Vec<MacroNotice>,
+    tree: Result<ExpandedTree, MacroFault>,
+    missing: Option<Vec<u8>>,
+}
+
+/// What `wants` lists of a tree's macros, and the path of the file that couldn't be opened last, if that is known.
+#[derive(Drop)]
+pub struct Wanted {
+    /// The questions, or the fault of the expansion where it lists none.
+    pub listed: Result<Vec<Vec<u8>>, MacroFault>,
+    pub missing: Option<Vec<u8>>,
 }
 
 /// Expands the macros of a job's tree. Reports the notices of the expansion, and its fault.
@@ -44,17 +60,15 @@ pub(crate) fn expanded_tree<F: Files, E: Messages>(
     ensures same { (F.surroundings files.new).content ≡ (F.surroundings files.old).content }
     ensures texts { IfOk result (λ t. t.texts ≡ expanded_texts settings.now.language t.tree) }
     ensures expanded { IfOk result (λ t. (notices : List Notice) × IsExpansion (contents_below (F.surroundings files.old) settings.now.root.now) answers.now settings.now.tree.now notices (Ok t.tree) × TakesLines (E.taken err.old) (E.failures err.old) (map macro_notice_line notices) (E.taken err.new) (E.failures err.new)) }
-    ensures stopped { IfErr result (λ stop. (lines : List ErrorLine) × StopsExpanding (contents_below (F.surroundings files.old) settings.now.root.now) answers.now settings.now.tree.now (status_of stop) lines × TakesLines (E.taken err.old) (E.failures err.old) lines (E.taken err.new) (E.failures err.new)) }
+    ensures stopped { IfErr result (λ stop. (lines : List ErrorLine) × StopsExpanding (contents_below (F.surroundings files.old) settings.now.root.now) (F.failures files.old) (F.failures files.new) answers.now settings.now.tree.now (status_of stop) lines × TakesLines (E.taken err.old) (E.failures err.old) lines (E.taken err.new) (E.failures err.new)) }
     ensures rising { F.failures files.old ≤ F.failures files.new }
 {
     let seed = files.seed();
-    let Expansion { notices, tree } = expansion_below(
-        alloc,
-        settings.root,
-        settings.tree,
-        answers,
-        files,
-    )?;
+    let ExpansionBelow {
+        notices,
+        tree,
+        missing,
+    } = expansion_below(alloc, settings.root, settings.tree, answers, files)?;
     match tree {
         Ok(expanded) => {
             let texts = texts_of(alloc, seed, settings.language, &expanded)?;
@@ -66,44 +80,77 @@ pub(crate) fn expanded_tree<F: Files, E: Messages>(
         }
         Err(fault) => {
             report_macro_notices(&notices, err);
-            err.write_report(Report::MacroFault(&fault));
+            let missing = borrowed(&missing);
+            err.write_report(Report::MacroFault {
+                fault: &fault,
+                missing,
+            });
             Err(RunError::Tree)
         }
     }
 }
 
-/// The expansion of the tree below a folder.
+/// A path, borrowed.
+fn borrowed(path: &Option<Vec<u8>>) -> Option<&[u8]> {
+    match path {
+        Some(path) => Some(path.as_slice()),
+        None => None,
+    }
+}
+
+/// The expansion of the tree below a folder, with the path of the file that couldn't be opened, if none was asked for after it.
 fn expansion_below<F: Files>(
     alloc: Global,
     root: &str,
     first: &str,
     answers: &Answers,
     files: &mut F,
-) -> Result<Expansion, AllocError>
+) -> Result<ExpansionBelow, AllocError>
     ensures same { (F.surroundings files.new).content ≡ (F.surroundings files.old).content }
-    ensures expanded { IfOk result (λ e. IsExpansion (contents_below (F.surroundings files.old) root.now) answers.now first.now (map notice_of e.notices.items) (tree_of e.tree)) }
+    ensures expanded { IfOk result (λ e. IsCountedExpansion (contents_below (F.surroundings files.old) root.now) (F.failures files.old) (F.failures files.new) answers.now first.now (map notice_of e.notices.items) (tree_of e.tree)) }
     ensures rising { F.failures files.old ≤ F.failures files.new }
 {
-    let mut tree = TreeFolder { files, root };
-    expand(alloc, &mut tree, first.as_bytes(), answers)
+    let mut missing = None;
+    let mut tree = TreeFolder {
+        files,
+        root,
+        missing: &mut missing,
+    };
+    let Expansion {
+        notices,
+        tree: expanded,
+    } = expand(alloc, &mut tree, first.as_bytes(), answers)?;
+    Ok(ExpansionBelow {
+        notices,
+        tree: expanded,
+        missing,
+    })
 }
 
-/// The open questions of the macros of the tree below a folder, or the fault of its expansion.
+/// The open questions of the macros of the tree below a folder, or the fault of its expansion, with the path of the file that
+/// couldn't be opened, if none was asked for after it.
 pub(crate) fn wanted_below<F: Files>(
     alloc: Global,
     root: &str,
     first: &str,
     answers: &Answers,
     files: &mut F,
-) -> Result<Result<Vec<Vec<u8>>, MacroFault>, AllocError>
-    ensures { IfOk result (λ w. AreWanted (contents_below (F.surroundings files.old) root.now) answers.now first.now (questions_of w)) }
+) -> Result<Wanted, AllocError>
+    ensures asked { IfOk result (λ w. AreCountedWanted (contents_below (F.surroundings files.old) root.now) (F.failures files.old) (F.failures files.new) answers.now first.now (questions_of w.listed)) }
+    ensures rising { F.failures files.old ≤ F.failures files.new }
 {
-    let mut tree = TreeFolder { files, root };
-    wants(alloc, &mut tree, first.as_bytes(), answers)
+    let mut missing = None;
+    let mut tree = TreeFolder {
+        files,
+        root,
+        missing: &mut missing,
+    };
+    let listed = wants(alloc, &mut tree, first.as_bytes(), answers)?;
+    Ok(Wanted { listed, missing })
 }
 
 /// The questions of `answered` that the macros of the tree below a folder don't ask; or their open questions, or the fault of its
-/// expansion.
+/// expansion, with the path of the file that couldn't be opened, if none was asked for after it.
 pub(crate) fn unused_below<F: Files>(
     alloc: Global,
     root: &str,
@@ -111,11 +158,18 @@ pub(crate) fn unused_below<F: Files>(
     answers: &Answers,
     answered: Vec<Vec<u8>>,
     files: &mut F,
-) -> Result<Result<Vec<Vec<u8>>, MacroFault>, AllocError>
-    ensures { IfOk result (λ w. AreUnused (contents_below (F.surroundings files.old) root.now) answers.now first.now (texts_of answered) (questions_of w)) }
+) -> Result<Wanted, AllocError>
+    ensures asked { IfOk result (λ w. AreCountedUnused (contents_below (F.surroundings files.old) root.now) (F.failures files.old) (F.failures files.new) answers.now first.now (texts_of answered) (questions_of w.listed)) }
+    ensures rising { F.failures files.old ≤ F.failures files.new }
 {
-    let mut tree = TreeFolder { files, root };
-    unused(alloc, &mut tree, first.as_bytes(), answers, answered)
+    let mut missing = None;
+    let mut tree = TreeFolder {
+        files,
+        root,
+        missing: &mut missing,
+    };
+    let listed = unused(alloc, &mut tree, first.as_bytes(), answers, answered)?;
+    Ok(Wanted { listed, missing })
 }
 
 /// The texts of expanded files by their keys, in a language; a file whose key isn't UTF-8 is left out.

@@ -11,8 +11,8 @@ use kc_tree::Texts;
 /// read.
 #[derive(Drop)]
 pub struct FileNames<'a> {
-    texts: &'a Texts,
-    expanded: Option<&'a ExpandedTree>,
+    pub(crate) texts: &'a Texts,
+    pub(crate) expanded: Option<&'a ExpandedTree>,
 }
 
 /// The path that was read for the key of an expanded file.

@@ -1,13 +1,14 @@
 //! The tree of a job, read with or without the expansion of macros.
-ghost use Rattle.std.specs.Prelude.{◌≡◌, ◌≤◌, [], ℕ, List, None, IfOk, IfErr};
+ghost use Rattle.std.specs.Prelude.{◌≡◌, ◌≤◌, [], ℕ, List, IfOk, IfErr};
 ghost use Rattle.kc_tree_model.specs.TreeFiles as trees;
 ghost use Rattle.kc_rules.specs.between.SettledViews.{tree_of_settled, profile_of};
-ghost use Rattle.kmin_words.specs.Jobs.{expansion_view, settings_view};
+ghost use Rattle.kmin_options.specs.Jobs.{expansion_view, settings_view};
 ghost use Rattle.kmin_trees.specs.AcceptedTrees.{AreAccepted};
-ghost use Rattle.kmin_trees.specs.FileContents.{AreTextsBelow};
-ghost use Rattle.kmin_trees.specs.MissingFiles.{MissesOnlyMissing, IsRefusedTree};
+ghost use Rattle.kmin_inputs.specs.FileContents.{AreTextsBelow};
+ghost use Rattle.kmin_trees.specs.MissingFiles.{MissesOnlyMissing};
 ghost use Rattle.kmin_trees.specs.JobTexts.{TreeTexts, AreExpandedTexts, AreTextsOfJob, named_texts};
-ghost use Rattle.kmin_report.specs.StandardError.{HasRisen, TakesLines};
+ghost use Rattle.kmin_report.specs.StandardError.{TakesLines};
+ghost use Rattle.kc_files.specs.TreeContents.{HasRisen};
 ghost use Rattle.kmin_trees.specs.Stops.{StopsAtTree, StopsInExpansion};
 ghost use Rattle.kmin_trees.specs.between.ExpandedStops.{StopsAtExpanded};
 ghost use Rattle.kmin_report.specs.between.RunErrors.{status_of};
@@ -16,16 +17,16 @@ ghost use Rattle.kmin_trees.specs.between.TreeStops.{StopsAtTexts};
 
 use crate::expanded_trees::{ExpandedTexts, expanded_tree};
 use crate::file_names::FileNames;
-use crate::files::Files;
-use crate::job_answers::job_answers;
 use crate::tree_files::{TreeReading, gather};
 use crate::trees::{read_texts, settled_tree};
 use kc_rules::{Profile, Settled};
+use kmin_inputs::{Files, job_answers};
+use kmin_options::{Expansion, Settings};
 use kmin_report::{Messages, RunError};
-use kmin_words::{Expansion, Settings};
 use std::alloc::Global;
 
-/// The settled tree of a job. Reports the notices of the expansion of its macros, and why it is refused.
+/// The settled tree of a job. Reports the notices of the expansion of its macros, and why it is refused: for a missing file that is
+/// known to be there only if a call on a file failed, which was counted.
 pub fn job_tree<F: Files, E: Messages>(
     alloc: Global,
     settings: &Settings<'_>,
@@ -35,9 +36,7 @@ pub fn job_tree<F: Files, E: Messages>(
     ensures same { (F.surroundings files.new).content ≡ (F.surroundings files.old).content }
     ensures accepted { IfOk result (λ settled. (t : TreeTexts) × AreTextsOfJob (F.surroundings files.old) (settings_view settings.now) t × AreAccepted t.texts settings.now.tree.now (tree_of_settled settled) × TakesLines (E.taken err.old) (E.failures err.old) t.lines (E.taken err.new) (E.failures err.new)) }
     ensures profile { IfOk result (λ settled. profile_of settled ≡ settings.now.profile) }
-    ensures stopped { IfErr result (λ stop. (lines : List ErrorLine) × StopsAtTree (F.surroundings files.old) (settings_view settings.now) (status_of stop) lines × TakesLines (E.taken err.old) (E.failures err.old) lines (E.taken err.new) (E.failures err.new)) }
-    // Where the tree isn't expanded, a file that is known to be there counts as missing only if a failure was counted.
-    ensures missing { IfErr result (λ stop. (settings_view settings.now).expansion ≡ None → status_of stop ≡ 3 → (lines : List ErrorLine) × IsRefusedTree (F.surroundings files.old) (settings_view settings.now) (F.failures files.old) (F.failures files.new) lines × TakesLines (E.taken err.old) (E.failures err.old) lines (E.taken err.new) (E.failures err.new)) }
+    ensures stopped { IfErr result (λ stop. (lines : List ErrorLine) × StopsAtTree (F.surroundings files.old) (F.failures files.old) (F.failures files.new) (settings_view settings.now) (status_of stop) lines × TakesLines (E.taken err.old) (E.failures err.old) lines (E.taken err.new) (E.failures err.new)) }
     ensures rising { F.failures files.old ≤ F.failures files.new }
     ensures failed { IfErr result (λ stop. status_of stop ≡ 5 → HasRisen (F.failures files.old) (F.failures files.new)) }
 {
@@ -92,7 +91,7 @@ fn expanded<F: Files, E: Messages>(
     ensures same { (F.surroundings files.new).content ≡ (F.surroundings files.old).content }
     ensures accepted { IfOk result (λ settled. (t : TreeTexts) × AreExpandedTexts (F.surroundings files.old) settings.now.root.now settings.now.tree.now settings.now.language (expansion_view expansion.now) t × AreAccepted t.texts settings.now.tree.now (tree_of_settled settled) × TakesLines (E.taken err.old) (E.failures err.old) t.lines (E.taken err.new) (E.failures err.new)) }
     ensures profile { IfOk result (λ settled. profile_of settled ≡ settings.now.profile) }
-    ensures stopped { IfErr result (λ stop. (lines : List ErrorLine) × StopsAtExpanded (F.surroundings files.old) settings.now.root.now settings.now.tree.now settings.now.language (expansion_view expansion.now) (status_of stop) lines × TakesLines (E.taken err.old) (E.failures err.old) lines (E.taken err.new) (E.failures err.new)) }
+    ensures stopped { IfErr result (λ stop. (lines : List ErrorLine) × StopsAtExpanded (F.surroundings files.old) (F.failures files.old) (F.failures files.new) settings.now.root.now settings.now.tree.now settings.now.language (expansion_view expansion.now) (status_of stop) lines × TakesLines (E.taken err.old) (E.failures err.old) lines (E.taken err.new) (E.failures err.new)) }
     ensures rising { F.failures files.old ≤ F.failures files.new }
     ensures failed { IfErr result (λ stop. status_of stop ≡ 5 → HasRisen (F.failures files.old) (F.failures files.new)) }
 {
@@ -110,7 +109,7 @@ fn expanded_files<F: Files, E: Messages>(
 ) -> Result<ExpandedTexts, RunError>
     ensures same { (F.surroundings files.new).content ≡ (F.surroundings files.old).content }
     ensures expanded { IfOk result (λ tree. (t : TreeTexts) × AreExpandedTexts (F.surroundings files.old) settings.now.root.now settings.now.tree.now settings.now.language (expansion_view expansion.now) t × (t.texts ≡ tree.texts) × (t.names ≡ named_texts tree.tree tree.texts) × TakesLines (E.taken err.old) (E.failures err.old) t.lines (E.taken err.new) (E.failures err.new)) }
-    ensures stopped { IfErr result (λ stop. (lines : List ErrorLine) × StopsInExpansion (F.surroundings files.old) settings.now.root.now settings.now.tree.now (expansion_view expansion.now) (status_of stop) lines × TakesLines (E.taken err.old) (E.failures err.old) lines (E.taken err.new) (E.failures err.new)) }
+    ensures stopped { IfErr result (λ stop. (lines : List ErrorLine) × StopsInExpansion (F.surroundings files.old) (F.failures files.old) (F.failures files.new) settings.now.root.now settings.now.tree.now (expansion_view expansion.now) (status_of stop) lines × TakesLines (E.taken err.old) (E.failures err.old) lines (E.taken err.new) (E.failures err.new)) }
     ensures rising { F.failures files.old ≤ F.failures files.new }
     ensures failed { IfErr result (λ stop. status_of stop ≡ 5 → HasRisen (F.failures files.old) (F.failures files.new)) }
 {

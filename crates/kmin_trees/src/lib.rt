@@ -3,24 +3,17 @@
 
 mod expanded_trees;
 mod file_names;
-mod files;
-mod job_answers;
 mod job_trees;
 mod laws;
-mod list_files;
 mod prefetch;
 mod questions;
 mod tree_files;
 mod tree_folder;
 mod trees;
-mod word_files;
 
+pub use expanded_trees::Wanted;
 pub use file_names::FileNames;
-pub use files::Files;
 pub use job_trees::job_tree;
-pub use kc_files::FileStop;
 pub use laws::{known_files_determine_the_expanded_tree, known_files_determine_the_tree};
-pub use list_files::read_list;
 pub use questions::wanted_of;
 pub use trees::{read_texts, settled_tree};
-pub use word_files::{WordFiles, read_word_files};

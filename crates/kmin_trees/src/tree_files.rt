@@ -4,19 +4,19 @@ ghost use Rattle.std.specs.List.{All};
 ghost use Rattle.std.specs.Io.KnownBytes.{Consumes, IsAtEnd};
 ghost use Rattle.kc_tree_model.specs.TreeFiles.{file_at};
 ghost use Rattle.kc_tree_model.specs.declared.fault.TreeKind.TheVariants.{MissingFile};
-ghost use Rattle.kmin_report.specs.StandardError.{HasRisen};
-ghost use Rattle.kmin_trees.specs.FileContents.{AreTextsBelow, MatchContentStart, path_below};
+ghost use Rattle.kc_files.specs.TreeContents.{HasRisen};
+ghost use Rattle.kmin_inputs.specs.FileContents.{AreTextsBelow, MatchContentStart, path_below};
 ghost use Rattle.kmin_trees.specs.MissingFiles.{MayBeMissing, LacksOnlyMissing};
 ghost use Rattle.kmin_trees.specs.between.InsertedFiles.{AreInserted};
 ghost use Rattle.kmin_trees.specs.between.Readings.{IsRead};
 
-use crate::files::Files;
 use crate::prefetch::absent_paths_of_file;
 use crate::trees::read_texts;
 use kc_builder::wanted;
 use kc_tokens::Language;
 use kc_tree::{Texts, Tree, TreeFault, TreeKind};
 use kc_value::{MAX_FILE_BYTES, MAX_FILES, ReadBytes, ReadEnd, Source, read_up_to};
+use kmin_inputs::Files;
 use std::alloc::{AllocError, Global};
 
 /// The texts of a tree's files, and the result of reading them as a tree.

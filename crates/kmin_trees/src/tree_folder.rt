@@ -1,12 +1,12 @@
 //! The files and folders of a tree below its root.
 ghost use Rattle.std.specs.Prelude.{◌≡◌, IfOk, IfSome, is_some, string_bytes};
 ghost use Rattle.std.specs.Str.{is_utf8};
-ghost use Rattle.kmin_trees.specs.FileContents.{path_below};
+ghost use Rattle.kmin_inputs.specs.FileContents.{path_below};
 ghost use Rattle.kmin_trees.specs.TreeFolders.{contents_through};
 
-use crate::files::Files;
 use kc_files::{FileStop, TreeFiles};
 use kc_value::Seed;
+use kmin_inputs::Files;
 use std::alloc::{AllocError, Global};
 
 /// The files and folders below a root, by their paths in it; even an absolute path is taken as one below the root.
@@ -14,6 +14,8 @@ use std::alloc::{AllocError, Global};
 pub(crate) struct TreeFolder<'a, F> {
     pub(crate) files: &'a mut F,
     pub(crate) root: &'a str,
+    /// The path of the file that couldn't be opened, if that was the last call; `None` also where memory runs out for it.
+    pub(crate) missing: &'a mut Option<Vec<u8>>,
 }
 
 /// The path, for the system, of a file or folder of a tree below its root.
@@ -37,6 +39,14 @@ pub(crate) fn text_of(bytes: &[u8]) -> Option<&str>
     }
 }
 
+/// The path of a file that couldn't be opened; `None` of one that is open, and where memory runs out.
+fn missing_path<R, E>(alloc: Global, path: &str, opened: &Result<Option<R>, E>) -> Option<Vec<u8>> {
+    match opened {
+        Ok(Some(_)) => None,
+        _ => Vec::from_slice(alloc, path.as_bytes()).ok(),
+    }
+}
+
 impl<F: Files> TreeFiles for TreeFolder<'_, F> {
     type File = F::File;
 
@@ -47,11 +57,14 @@ impl<F: Files> TreeFiles for TreeFolder<'_, F> {
     }
 
     fn open(&mut self, alloc: Global, path: &[u8]) -> Result<Option<F::File>, FileStop> {
+        *self.missing = None;
         let Some(path) = text_of(path) else {
             return Ok(None);
         };
         let place = path_in(alloc, self.root, path)?;
-        match self.files.regular_reader_for(&place) {
+        let opened = self.files.regular_reader_for(&place);
+        *self.missing = missing_path(alloc, path, &opened);
+        match opened {
             Ok(reader) => Ok(reader),
             Err(_) => Err(FileStop::Failed),
         }
@@ -71,6 +84,7 @@ impl<F: Files> TreeFiles for TreeFolder<'_, F> {
         folder: &[u8],
         most: usize,
     ) -> Result<Option<Vec<Vec<u8>>>, FileStop> {
+        *self.missing = None;
         let Some(folder) = text_of(folder) else {
             return Ok(Some(Vec::new(alloc)));
         };

@@ -74,8 +74,16 @@ fn report_tree_fault<'a, E: Messages>(
         Some(number) => path_of_file(names, first, number),
         None => first.as_bytes(),
     };
-    let TreeFault { line, kind, .. } = fault;
-    err.write_report(Report::TreeFault { path, line, kind });
+    let TreeFault { file, line, kind } = fault;
+    err.write_report(Report::TreeFault {
+        path,
+        line,
+        kind,
+        file,
+        texts: names.texts,
+        first,
+        expanded: names.expanded,
+    });
 }
 
 /// The name of the file of this number; that of the first file if there is none.

@@ -1,4 +1,3 @@
 pub mod CommandWords
-pub mod Lists
 pub mod TidyRefusals
 pub mod WordOrders

@@ -1,13 +1,14 @@
 -- A command is refused with the refusal of its options.
 use Rattle.std.proofs.Common.{◌≡◌, ℕ, List, Option, Result, Ok, Err, codes, ap, sym, ◌∙◌}
 use Rattle.clap.specs.declared.parser.matches.Found.{Found}
-use Rattle.kmin_words.specs.declared.job.Settings.{Settings as DeclaredSettings}
-use Rattle.kmin_words.specs.declared.job.TidyJob.{TidyJob as DeclaredTidyJob}
-use Rattle.kmin_words.specs.declared.refusal.Refusal.{Refusal}
-use Rattle.kmin_words.specs.declared.refusal.Refusal.TheVariants.{Words, OutOfMemory}
-use Rattle.kmin_words.specs.Jobs.{Settings, PathList, TidyJob, settings_view, tidy_job_view}
-use Rattle.kmin_words.specs.between.WordValues.{ValueResult, and_then, values_of, flags_of, list_of, one_line_paths, paths_read, settings_of, tidy_job_of}
-use Rattle.kmin_words.specs.checker.Refusals.{Agrees}
+use Rattle.kmin_options.specs.declared.job.Settings.{Settings as DeclaredSettings}
+use Rattle.kmin_options.specs.declared.job.TidyJob.{TidyJob as DeclaredTidyJob}
+use Rattle.kmin_options.specs.declared.refusal.Refusal.{Refusal}
+use Rattle.kmin_options.specs.declared.refusal.Refusal.TheVariants.{Words, OutOfMemory}
+use Rattle.kmin_options.specs.Jobs.{Settings, PathList, TidyJob, settings_view, tidy_job_view}
+use Rattle.kmin_options.specs.between.OptionValues.{ValueResult, and_then, values_of}
+use Rattle.kmin_words.specs.between.WordValues.{flags_of, list_of, one_line_paths, paths_read, settings_of, tidy_job_of}
+use Rattle.kmin_options.specs.between.Refusals.{Agrees}
 
 abbrev made : Found → List (List ℕ) → Settings → ValueResult TidyJob
 made found files settings = Ok (record { settings = settings; flags = flags_of found; list = list_of found; files = files })

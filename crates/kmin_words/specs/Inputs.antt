@@ -1,7 +1,7 @@
 -- Words that name standard input.
 use Rattle.std.specs.Prelude.{ℕ, Bool, false, ◌||◌, List, Option, Some, None, bytes_eq, codes, count_by}
 use Rattle.std.specs.List.{list_any}
-use Rattle.kmin_words.specs.Jobs.{Settings, PathList, TidyJob, paths_of, questions_view, settings_view, task_view, tidy_job_view}
+use Rattle.kmin_options.specs.Jobs.{Settings, PathList, TidyJob, paths_of, questions_view, settings_view, task_view, tidy_job_view}
 use Rattle.kmin_words.specs.declared.command_line.ParsedWords.{ParsedWords}
 use Rattle.kmin_words.specs.declared.command_line.ParsedWords.TheVariants.{Job, Save, Questions as TheQuestions, Tidy}
 

@@ -2,25 +2,26 @@
 ghost use Rattle.std.specs.Prelude.{◌≡◌, ◌≢◌, Ok, IfOk, map, option_map, List, ℕ};
 ghost use Rattle.std.specs.Borrow.{Bor};
 ghost use Rattle.clap.specs.Words.{found_of, kind_of};
-ghost use Rattle.kmin_words.specs.Jobs.{settings_view, questions_view, task_view, paths_of};
+ghost use Rattle.kmin_options.specs.Jobs.{settings_view, questions_view, task_view, paths_of};
 ghost use Rattle.kmin_words.specs.Parses.{AreParsedAs, IsText};
+ghost use Rattle.kmin_options.specs.between.OptionValues as options;
 ghost use Rattle.kmin_words.specs.between.WordValues as parsed;
-ghost use Rattle.kmin_words.specs.checker.Refusals.{Agrees};
+ghost use Rattle.kmin_options.specs.between.Refusals.{Agrees};
 
-use crate::expansion_words::{check_inputs, expansion_if_given, expansion_of};
-use crate::job::{Job, OutputJob, Questions, Settings, Task, TidyJob, Verb};
 use crate::names::{nearest, with_tip};
 use crate::output_words::job_and_output;
-use crate::prefix_words::name_prefix_of;
-use crate::refusal::Refusal;
 use crate::tidy_words::tidy_job_of;
-use crate::values::{is_given, value_of, values_of};
 use clap::error::ErrorKind;
 use clap::{ArgMatches, Error};
 use kc_dotconfig_model::{Format, Strings};
 use kc_rules_model::Profile;
 use kc_tokens::{Language, LinuxVersion};
 use kmin_commands::{command_names, explained_names, kind_asked, message_tables, program};
+use kmin_messages::Form;
+use kmin_options::{
+    Job, OutputJob, Questions, Refusal, Settings, Task, TidyJob, Verb, check_inputs,
+    expansion_if_given, expansion_of, is_given, name_prefix_of, value_of, values_of,
+};
 use std::alloc::{AllocError, Global};
 
 /// The words after the program's name, parsed.
@@ -182,6 +183,7 @@ fn questions_of<'a>(alloc: Global, matches: &ArgMatches<'a>) -> Result<Questions
         tree,
         expansion,
         unused,
+        messages: form_of(value_of(matches, "messages")),
     })
 }
 
@@ -235,6 +237,7 @@ pub(crate) fn settings_of<'a>(
         profile: profile_of(value_of(matches, "imply")),
         strict: is_given(matches, "strict"),
         expansion,
+        messages: form_of(value_of(matches, "messages")),
     })
 }
 
@@ -270,6 +273,17 @@ fn profile_of(value: &str) -> Profile
     match value {
         "classic" => Profile::Classic,
         _ => Profile::Present,
+    }
+}
+
+/// The form of messages that a value of `--messages` names; `None` for plain ones.
+fn form_of(value: &str) -> Option<Form>
+    ensures { result ≡ parsed.form_of value.now }
+{
+    match value {
+        "long" => Some(Form::Long),
+        "json" => Some(Form::Json),
+        _ => None,
     }
 }
 

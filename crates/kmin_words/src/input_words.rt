@@ -3,11 +3,11 @@ ghost use Rattle.std.specs.Prelude.{◌≡◌, ◌&&◌, ◌||◌, map, option_m
 ghost use Rattle.std.specs.List.{list_any};
 ghost use Rattle.std.specs.Borrow.{Bor};
 ghost use Rattle.kmin_words.specs.Inputs.{do_settings_read_input, does_tidy_read_input, inputs_named, is_input, is_list_input, reads_input};
-ghost use Rattle.kmin_words.specs.Jobs.{list_view, paths_of, settings_view, task_view, tidy_job_view};
+ghost use Rattle.kmin_options.specs.Jobs.{list_view, paths_of, settings_view, task_view, tidy_job_view};
 ghost use Rattle.kmin_words.specs.Parses.{AreParsedBeside};
 
 use crate::command_line::{ParsedWords, read_words};
-use crate::job::{Job, PathList, Settings, Task, TidyJob};
+use kmin_options::{Job, PathList, Settings, Task, TidyJob};
 use std::alloc::{AllocError, Global};
 
 /// The message with which standard input that is named twice is refused.
@@ -65,7 +65,7 @@ fn is_any_input(paths: &[&str]) -> bool
 }
 
 /// Whether what was parsed reads standard input: an answer file, a configuration file or the list of `tidy` is it.
-#[tactic(auto, using(crate::proofs::Lists::any_map))]
+#[tactic(auto, using(kmin_options::proofs::Lists::any_map))]
 fn reads_input(parsed: &ParsedWords<'_>) -> bool
     ensures { result ≡ reads_input parsed.now }
 {
@@ -87,7 +87,7 @@ fn does_job_read_input(job: &Job<'_>) -> bool
 }
 
 /// Whether one of the configuration files of a command is standard input.
-#[tactic(auto, using(crate::proofs::Lists::any_map))]
+#[tactic(auto, using(kmin_options::proofs::Lists::any_map))]
 fn does_task_read_input(task: &Task<'_>) -> bool
     ensures { result ≡ list_any is_input (paths_of (task_view task.now)) }
 {
@@ -98,7 +98,7 @@ fn does_task_read_input(task: &Task<'_>) -> bool
 }
 
 /// Whether the options of a command have an answer file that is standard input.
-#[tactic(auto, using(crate::proofs::Lists::any_map))]
+#[tactic(auto, using(kmin_options::proofs::Lists::any_map))]
 fn do_settings_read_input(settings: &Settings<'_>) -> bool
     ensures { result ≡ do_settings_read_input (settings_view settings.now) }
 {
@@ -109,7 +109,7 @@ fn do_settings_read_input(settings: &Settings<'_>) -> bool
 }
 
 /// Whether the command `tidy` reads standard input.
-#[tactic(auto, using(crate::proofs::Lists::any_map))]
+#[tactic(auto, using(kmin_options::proofs::Lists::any_map))]
 fn does_tidy_read_input(tidy_job: &TidyJob<'_>) -> bool
     ensures { result ≡ does_tidy_read_input (tidy_job_view tidy_job.now) }
 {

@@ -3,16 +3,15 @@ ghost use Rattle.std.specs.Prelude.{◌≡◌, ℕ, List, bytes_eq, option_map};
 ghost use Rattle.std.specs.List.{list_any};
 ghost use Rattle.std.specs.Borrow.{Bor};
 ghost use Rattle.clap.specs.Words.{found_of};
-ghost use Rattle.kmin_words.specs.Jobs.{settings_view, task_view};
+ghost use Rattle.kmin_options.specs.Jobs.{settings_view, task_view};
+ghost use Rattle.kmin_options.specs.between.OptionValues as options;
 ghost use Rattle.kmin_words.specs.between.WordValues as parsed;
-ghost use Rattle.kmin_words.specs.checker.Refusals.{Agrees};
+ghost use Rattle.kmin_options.specs.between.Refusals.{Agrees};
 
 use crate::command_line::job_with;
-use crate::job::{Job, Task, Verb};
-use crate::refusal::Refusal;
-use crate::values::is_given;
 use clap::ArgMatches;
 use kc_value::has_newline;
+use kmin_options::{Job, Refusal, Task, Verb, is_given};
 use std::alloc::Global;
 
 /// The command with this name over configuration files, and the path of its output file, if one is given.

@@ -3,16 +3,15 @@ ghost use Rattle.std.specs.Prelude.{◌≡◌, List, ℕ, map, option_map, IfOk}
 ghost use Rattle.std.specs.List.{list_all};
 ghost use Rattle.std.specs.Borrow.{Bor};
 ghost use Rattle.clap.specs.Words.{found_of};
-ghost use Rattle.kmin_words.specs.Jobs.{settings_view, tidy_job_view, list_view};
+ghost use Rattle.kmin_options.specs.Jobs.{settings_view, tidy_job_view, list_view};
+ghost use Rattle.kmin_options.specs.between.OptionValues as options;
 ghost use Rattle.kmin_words.specs.between.WordValues as parsed;
-ghost use Rattle.kmin_words.specs.checker.Refusals.{Agrees};
+ghost use Rattle.kmin_options.specs.between.Refusals.{Agrees};
 
 use crate::command_line::settings_of;
-use crate::job::{PathList, Settings, TidyFlags, TidyJob};
-use crate::refusal::Refusal;
-use crate::values::{is_given, values_of};
 use clap::ArgMatches;
 use kc_value::has_newline;
+use kmin_options::{PathList, Refusal, Settings, TidyFlags, TidyJob, is_given, values_of};
 use std::alloc::{AllocError, Global};
 
 /// The command `kmin tidy`, with its options, flags and files.
@@ -48,7 +47,7 @@ fn settings_beside<'a>(
 }
 
 /// Refuses paths of which one has a newline, and else returns them.
-#[tactic(auto, using(crate::proofs::Lists::all_map))]
+#[tactic(auto, using(kmin_options::proofs::Lists::all_map))]
 fn one_line_paths(paths: Vec<&str>) -> Result<Vec<&str>, Refusal>
     ensures { Agrees (λ v. map (λ (path : Bor (List ℕ)). path.now) v.items) (parsed.one_line_paths (map (λ (path : Bor (List ℕ)). path.now) paths.entry.items)) result }
 {

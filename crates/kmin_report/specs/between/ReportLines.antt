@@ -6,13 +6,13 @@ use Rattle.kmin_report.specs.Reports.{ErrorLine, tree_line, cycle_line, fault_li
 
 -- the line of standard error for a report
 abbrev pub report_line : Report → ErrorLine
-report_line (TreeFault path line kind) = tree_line path.now line kind
+report_line (TreeFault path line kind file texts first expanded) = tree_line path.now line kind
 report_line (Cycle path line tree units) = cycle_line path.now line tree.now.tree units.now
 report_line (FileFault path line kind) = fault_line path.now line kind
-report_line (Notice path line kind) = notice_line path.now (line, kind)
+report_line (Notice path line kind tree) = notice_line path.now (line, kind)
 report_line (AnswersFault path line kind) = answers_line path.now line kind
 report_line (MacroNotice notice) = macro_notice_line (notice_of notice.now)
-report_line (MacroFault fault) = macro_fault_line (fault_of fault.now)
+report_line (MacroFault fault missing) = macro_fault_line (fault_of fault.now)
 report_line OutputFault = output_line
 report_line (NotRegular path) = not_regular_line path.now
 report_line (Unwritten path) = write_line path.now

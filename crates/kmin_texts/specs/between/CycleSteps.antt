@@ -1,5 +1,5 @@
 -- Steps of a cycle of the code as the definitions see them.
-use Rattle.kmin_texts.specs.declared.cycle_steps.Step.{Step as CodeStep}
+use Rattle.kmin_faults.specs.declared.steps.Step.{Step as CodeStep}
 use Rattle.kmin_texts.specs.Texts.{Step}
 
 -- a step of the code as the definitions see it

@@ -2,7 +2,7 @@
 use Rattle.std.specs.Prelude.{◌≡◌, ◌<◌, ℕ, List, [], ◌∷◌, Option, length, take}
 use Rattle.std.specs.Io.KnownBytes.{Appends}
 use Rattle.kmin_report.specs.Reports.{ErrorLine, output_line}
-use Rattle.kmin_report.specs.StandardError.{HasRisen}
+use Rattle.kc_files.specs.TreeContents.{HasRisen}
 use Rattle.kmin_tidy.specs.declared.stop.Stop.{Stop}
 use Rattle.kmin_tidy.specs.declared.stop.Stop.TheVariants.{Memory, Left}
 use Rattle.kmin_tidy.specs.declared.whole_run.RunResult.{RunResult}

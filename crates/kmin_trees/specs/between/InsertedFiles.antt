@@ -3,7 +3,7 @@ use Rattle.std.specs.Prelude.{◌≡◌, ℕ, ◌≤◌, List, None, length}
 use Rattle.std.specs.List.{All}
 use Rattle.kc_tree_model.specs.TreeFiles.{Files, file_at}
 use Rattle.kc_files.specs.TreeContents.{FileContent}
-use Rattle.kmin_trees.specs.FileContents.{path_below}
+use Rattle.kmin_inputs.specs.FileContents.{path_below}
 use Rattle.kmin_trees.specs.MissingFiles.{MayBeMissing}
 
 -- each of these files that the texts lack may count as missing

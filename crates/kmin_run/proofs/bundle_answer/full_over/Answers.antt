@@ -4,7 +4,7 @@ use Rattle.kc_dotconfig_model.specs.ConfigFiles.{empty_assignment}
 use Rattle.kc_dotconfig.proofs.UserValueUnits.{lies_alone}
 use Rattle.kmin_run.specs.BundleAnswers.{bundle_content}
 use Rattle.kmin_report.proofs.Results.{if_err, memory_err}
-use Rattle.kmin_run.proofs.Sequences.{stopped_for_memory}
+use Rattle.kmin_answers.proofs.Sequences.{stopped_for_memory}
 use Rattle.kmin_run.proofs.BundleOutputs.{memory_stops, memory_loaded, full_answers}
 use Rattle.kmin_run.proofs.bundle_answer.full_over.Goals as goal
 

@@ -1,10 +1,10 @@
 use Rattle.std.proofs.Common.{rules}
 use Rattle.kc_rules.specs.between.SettledViews.{tree_of_settled}
-use Rattle.kmin_words.specs.Jobs.{settings_view, task_view}
-use Rattle.kmin_run.specs.Stops.{at_tree}
+use Rattle.kmin_options.specs.Jobs.{settings_view, task_view}
+use Rattle.kmin_answers.specs.Stops.{at_tree}
 use Rattle.kmin_report.proofs.Results.{if_err, if_err_map}
-use Rattle.kmin_trees.proofs.FailureCounts.{rises_later}
-use Rattle.kmin_run.proofs.JobOutputs.{job_answers, job_stops}
+use Rattle.kmin_inputs.proofs.FailureCounts.{rises_later}
+use Rattle.kmin_answers.proofs.JobOutputs.{job_answers, job_stops}
 use Rattle.kmin_run.proofs.job_output.answer_job.Goals as goal
 
 pub returns-in_err-settled-clause-stopped : goal.returns-in_err-settled-clause-stopped
@@ -24,7 +24,7 @@ returns-clause-stopped g c =
     let accepted = c.in_ok-settled.ensures.accepted in
     job_stops (g.F.Files.surroundings c.args.files.now) (settings_view c.args.job.now.settings)
     (task_view c.args.job.now.task) (tree_of_settled c.in_ok-settled.settled) accepted.0
-    accepted.1 accepted.2 _ _ _ _ _ _ accepted.3 c.answer_over-answer.result (rw c.job_tree.ensures.same at c.answer_over-answer.ensures.stopped)
+    accepted.1 accepted.2 _ _ _ _ _ _ accepted.3 _ _ c.answer_over-answer.result (rw c.job_tree.ensures.same at c.answer_over-answer.ensures.stopped)
 
 pub returns-in_err-settled-clause-failed : goal.returns-in_err-settled-clause-failed
 returns-in_err-settled-clause-failed g c = if_err c.from_residual.result c.in_err-settled.field-0.0 _ (search rules) c.in_err-settled.ensures.failed

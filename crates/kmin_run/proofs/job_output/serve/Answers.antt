@@ -1,6 +1,6 @@
 use Rattle.std.proofs.Common.{inl, inr, refl, ◌++◌, sym, ◌∙◌, arith}
-use Rattle.kmin_words.specs.Jobs.{settings_view, task_view}
-use Rattle.kmin_run.proofs.JobOutputs.{lines_kept, no_other_status, write_stops, job_ends}
+use Rattle.kmin_options.specs.Jobs.{settings_view, task_view}
+use Rattle.kmin_answers.proofs.JobOutputs.{lines_kept, no_other_status, write_stops, job_ends}
 use Rattle.kmin_run.proofs.RunEnds.{of_fault}
 use Rattle.kmin_run.proofs.RunStatuses.{output_at_most_six, output_not_two, output_not_five, output_no_other, failed_at_most_six, failed_not_two, failed_not_done, fault_at_most_six, fault_not_done}
 use Rattle.kmin_run.proofs.job_output.serve.Goals as goal
@@ -37,7 +37,7 @@ returns-in-Ok g c =
       done = λ e. failed_not_done c.status.result c.status.ensures e;
       unfailed = λ e. failed_not_done c.status.result c.status.ensures e;
       stopped = λ e.
-          write_stops (g.F.Files.surroundings c.args.files.now) (settings_view c.args.job.now.settings) (task_view c.args.job.now.task) c.in-Ok.answer.text.items
+          write_stops (g.F.Files.surroundings c.args.files.now) _ _ (settings_view c.args.job.now.settings) (task_view c.args.job.now.task) c.in-Ok.answer.text.items
           c.in-Ok.answer.status c.status.result _ _ _ _ _ _ c.status.ensures c.in-Ok.ensures.answer c.in-Err-write_answer.ensures.reported;
       part = λ e. inr (record {
         read = w.0;
@@ -63,7 +63,7 @@ returns g c =
       done = λ e. fault_not_done status fault e;
       unfailed = λ e. refl;
       stopped = λ e.
-          job_ends (g.F.Files.surroundings c.args.files.now) (settings_view c.args.job.now.settings) (task_view c.args.job.now.task) c.in-Err.stop status
+          job_ends (g.F.Files.surroundings c.args.files.now) _ _ (settings_view c.args.job.now.settings) (task_view c.args.job.now.task) c.in-Err.stop status
           _ _ _ _ _ _ c.exit_status.ensures.status c.in-Err.ensures.stopped c.exit_status.ensures.reported;
       part = λ e. inl refl;
       unwritten = λ zero one five. refl;

@@ -1,7 +1,7 @@
 use Rattle.std.proofs.Common.{inl, inr, refl, sym, ◌∙◌, arith, ◌++◌}
 use Rattle.kmin_run.specs.Saves.{saved}
-use Rattle.kmin_words.specs.Jobs.{settings_view, task_view}
-use Rattle.kmin_run.proofs.JobOutputs.{lines_kept}
+use Rattle.kmin_options.specs.Jobs.{settings_view, task_view}
+use Rattle.kmin_answers.proofs.JobOutputs.{lines_kept}
 use Rattle.kmin_run.proofs.RunEnds.{of_fault}
 use Rattle.kmin_run.proofs.RunStatuses.{output_at_most_six, output_not_two, fault_at_most_six}
 use Rattle.kmin_run.proofs.SaveLemmas.{ends_before, ends_at_file}
@@ -29,7 +29,7 @@ returns-in-Ok g c =
       status = fault_at_most_six stop status c.exit_status.ensures.status;
       accepted_words = (of_fault stop status c.exit_status.ensures.status).2;
       ends =
-          ends_at_file (g.F.Files.surroundings files)
+          ends_at_file (g.F.Files.surroundings files) _ _
           (settings_view c.args.output_job.now.job.settings) (task_view c.args.output_job.now.job.task) c.args.output_job.now.output.now _ _
           stop status c.exit_status.ensures.status _ _ _ _
           c.in-Ok.answer.text.items c.in-Ok.answer.status _ _ _ _ c.in-Ok.ensures.answer (rw c.deref.ensures.value at c.in-Err-save_text.ensures.unsaved)
@@ -45,7 +45,7 @@ returns g c =
       status = fault_at_most_six c.in-Err.stop status c.exit_status-in-Err.ensures.status;
       accepted_words = (of_fault c.in-Err.stop status c.exit_status-in-Err.ensures.status).2;
       ends =
-          ends_before (g.F.Files.surroundings files)
+          ends_before (g.F.Files.surroundings files) _ _
           (settings_view c.args.output_job.now.job.settings) (task_view c.args.output_job.now.job.task) c.args.output_job.now.output.now _ _
           c.in-Err.stop status c.exit_status-in-Err.ensures.status _ _ _ _ _ _ refl c.in-Err.ensures.stopped
           c.exit_status-in-Err.ensures.reported;

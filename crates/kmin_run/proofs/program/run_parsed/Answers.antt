@@ -1,9 +1,9 @@
 use Rattle.std.proofs.Common.{[], ◌∷◌, inl, inr, refl, arith}
-use Rattle.kmin_words.specs.Jobs.{settings_view, questions_view, task_view}
+use Rattle.kmin_options.specs.Jobs.{settings_view, questions_view, task_view}
 use Rattle.kmin_report.specs.Reports.{refused_line}
 use Rattle.kmin_report.proofs.WriterLemmas.{lines_one}
 use Rattle.kmin_run.specs.TidyRuns.{outputs_of}
-use Rattle.kmin_run.proofs.ReadFailures.{help_rises}
+use Rattle.kmin_run.proofs.RunFailures.{help_rises}
 use Rattle.kmin_run.proofs.RunEnds.{job_ended, questions_ended}
 use Rattle.kmin_run.proofs.RunStatuses.{on_four_of_outputs, two_at_most_six, help_at_most_six, help_no_other, help_not_four}
 use Rattle.kmin_run.proofs.TidyLemmas.{by_asking}
@@ -15,7 +15,7 @@ returns-in-Job g c =
     let disk = g.D.ReadDisk.disk c.args.disk.now in record {
       status = c.serve.ensures.status;
       ends = rw c.in-Job.is (
-          job_ended (g.F.Files.surroundings c.args.files.now)
+          job_ended (g.F.Files.surroundings c.args.files.now) _ _
           (outputs_of disk (g.O.Sink.taken c.args.out.now) (g.O.Sink.failures c.args.out.now))
           _ c.serve.result _ _ _ _ refl c.serve.ensures.accepted_words c.serve.ensures.unfailed c.serve.ensures.unwritten
           (settings_view job.settings) (task_view job.task) c.serve.ensures.done c.serve.ensures.stopped c.serve.ensures.part
@@ -42,7 +42,7 @@ returns-in-Questions g c =
     let disk = g.D.ReadDisk.disk c.args.disk.now in record {
       status = c.list_questions.ensures.status;
       ends = rw c.in-Questions.is (
-          questions_ended (g.F.Files.surroundings c.args.files.now)
+          questions_ended (g.F.Files.surroundings c.args.files.now) _ _
           (outputs_of disk (g.O.Sink.taken c.args.out.now) (g.O.Sink.failures c.args.out.now))
           _ c.list_questions.result _ _ _ _ refl c.list_questions.ensures.accepted_words c.list_questions.ensures.unfailed c.list_questions.ensures.unwritten
           (questions_view c.in-Questions.questions) c.list_questions.ensures.done c.list_questions.ensures.stopped c.list_questions.ensures.part

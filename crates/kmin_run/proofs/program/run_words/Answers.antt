@@ -1,10 +1,9 @@
-use Rattle.std.proofs.Common.{◌≡◌, ◌⊎◌, [], ℕ, List, Option, map, inl, inr, refl, subst}
+use Rattle.std.proofs.Common.{◌≡◌, ◌⊎◌, ℕ, List, Option, map, inl, inr, refl, subst}
 use Rattle.std.specs.Borrow.{Bor}
 use Rattle.kc_files.specs.TextViews.{texts_of}
-use Rattle.kmin_report.specs.StandardError.{HasRisen}
-use Rattle.kmin_report.proofs.WriterLemmas.{lines_append}
+use Rattle.kc_files.specs.TreeContents.{HasRisen}
 use Rattle.kmin_run.specs.between.WordRuns.{AreWordsRead}
-use Rattle.kmin_run.proofs.RunEnds.{words_at_most_six, words_stopped}
+use Rattle.kmin_run.proofs.RunEnds.{formed_since, words_at_most_six, words_stopped}
 use Rattle.kmin_run.proofs.program.run_words.Goals as goal
 
 -- what failed after a step without a failure failed since before it
@@ -23,10 +22,10 @@ returns-in-Ok g c =
     let read : AreWordsRead (g.F.Files.surroundings c.args.files.now).content left (g.I.Source.left c.read_word_files.new.input)
     (map (λ (word : Bor (List ℕ)). word.now) c.args.words.now) (texts_of c.in-Ok.read.files) c.in-Ok.read.is_input_read =
     record { read = c.in-Ok.ensures.read; input = c.in-Ok.ensures.input; untouched = c.read_word_files.ensures.untouched } in
-    let ends = (rw c.read_word_files.ensures.same at (c.run_given.ensures.ends left)) read in
+    let ends = (rw (c.read_word_files.ensures.same, c.in-Ok.ensures.unfailed) at (c.run_given.ensures.ends left)) read in
     record {
       status = c.run_given.ensures.status;
-      ends = (ends.0, ends.1, lines_append _ _ _ _ [] ends.0 _ _ c.in-Ok.ensures.unreported ends.2);
+      ends = (ends.0, ends.1, ends.2, formed_since ends.0 ends.1 _ _ _ _ _ _ c.in-Ok.ensures.unreported ends.3);
       unasked = (rw c.read_word_files.ensures.same at (c.run_given.ensures.unasked left)) read;
       refused = (rw c.read_word_files.ensures.same at (c.run_given.ensures.refused left)) read;
       unwritten = c.run_given.ensures.unwritten;
@@ -43,7 +42,7 @@ pub returns-in-Err : goal.returns-in-Err
 returns-in-Err g c =
     let stopped = c.in-Err.ensures.stopped in record {
       status = words_at_most_six _ _ _ _ _ stopped.1;
-      ends = words_stopped _ _ _ _ _ _ _ _ _ stopped;
+      ends = words_stopped _ _ _ _ _ _ _ _ _ _ _ stopped;
       unasked = inl refl;
       refused = λ four. inl refl;
       unwritten = λ zero one four five. refl;

@@ -1,5 +1,5 @@
 use Rattle.std.proofs.Common.{ap, option_map}
-use Rattle.kmin_words.specs.Jobs.{list_view}
+use Rattle.kmin_options.specs.Jobs.{list_view}
 use Rattle.kmin_report.specs.StandardError.{none}
 use Rattle.kmin_run.specs.TidyRuns.{reading}
 use Rattle.kmin_report.proofs.Results.{if_err_map}

@@ -1,6 +1,6 @@
 use Rattle.std.proofs.Common.{refl, inl, inr, sym, ◌∙◌}
-use Rattle.kmin_words.specs.Jobs.{tidy_job_view}
-use Rattle.kmin_trees.proofs.FailureCounts.{rises_later}
+use Rattle.kmin_options.specs.Jobs.{tidy_job_view}
+use Rattle.kmin_inputs.proofs.FailureCounts.{rises_later}
 use Rattle.kmin_run.proofs.RunStatuses.{fault_at_most_six}
 use Rattle.kmin_run.proofs.TidyLemmas.{list_ends, read_before}
 use Rattle.kmin_run.proofs.tidy_command.tidy.Goals as goal
@@ -10,9 +10,9 @@ returns-in-Ok g c = record {
   status = c.tidy_listed.ensures.status;
   ends =
       read_before _ _ _ _ _ _ c.tidy_listed.result
-      (g.F.Files.surroundings c.args.files.now) (g.I.Source.left c.args.input.now) (tidy_job_view c.args.tidy_job.now) c.deref.result.now _ _
+      (g.F.Files.surroundings c.args.files.now) _ _ (g.I.Source.left c.args.input.now) (tidy_job_view c.args.tidy_job.now) c.deref.result.now _ _
       (rw c.deref.ensures.value c.in-Ok.ensures.bytes) c.in-Ok.ensures.unreported
-      (rw c.in-Ok.ensures.same at (c.tidy_listed.ensures.ends (g.I.Source.left c.args.input.now)));
+      (rw (c.in-Ok.ensures.same, c.in-Ok.ensures.unfailed) at (c.tidy_listed.ensures.ends (g.I.Source.left c.args.input.now)));
   unasked = c.tidy_listed.ensures.unasked;
   unwritten = c.tidy_listed.ensures.unwritten;
   failed = λ five. elim (c.tidy_listed.ensures.failed five) [
@@ -27,7 +27,7 @@ pub returns-in-Err : goal.returns-in-Err
 returns-in-Err g c = record {
   status = fault_at_most_six c.in-Err.stop c.exit_status.result c.exit_status.ensures.status;
   ends =
-      list_ends _ _ _ _ _ _ c.exit_status.result (g.F.Files.surroundings c.args.files.now)
+      list_ends _ _ _ _ _ _ c.exit_status.result (g.F.Files.surroundings c.args.files.now) _ _
       (g.I.Source.left c.args.input.now) (tidy_job_view c.args.tidy_job.now) _ c.in-Err.stop c.exit_status.ensures.status c.in-Err.ensures.stopped
       c.exit_status.ensures.reported;
   unasked = λ e. refl;

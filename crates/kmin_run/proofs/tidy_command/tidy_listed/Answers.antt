@@ -1,6 +1,6 @@
 use Rattle.std.proofs.Common.{ℕ, List, [], map, inl, inr, refl, arith, rules}
 use Rattle.std.specs.Borrow.{Bor}
-use Rattle.kmin_words.specs.Jobs.{tidy_job_view}
+use Rattle.kmin_options.specs.Jobs.{tidy_job_view}
 use Rattle.kmin_report.specs.Reports.{last_lines}
 use Rattle.kmin_report.specs.declared.run_error.RunError.TheVariants.{Memory}
 use Rattle.kmin_run.specs.TidyRuns.{at_list, for_memory}
@@ -15,7 +15,7 @@ returns-in-Ok g c =
       ends = λ left bytes. (
         ended.0,
         over_all
-            (g.F.Files.surroundings c.args.files.now)
+            (g.F.Files.surroundings c.args.files.now) _ _
             left (tidy_job_view c.args.tidy_job.now) c.args.list.now _ _ ended.0 c.tidy_paths.result c.is_ended_by_nul.result
             (map (λ (path : Bor (List ℕ)). path.now) c.args.tidy_job.now.files.items) (map (λ (path : Bor (List ℕ)). path.now) c.deref-in-Ok.result.now)
             c.is_ended_by_nul.ensures refl bytes c.in-Ok.ensures.named (search rules) ended.1,
@@ -42,7 +42,7 @@ returns-in-Err-NotUtf8 g c = record {
   status = two_at_most_six c.refuse_list.result c.refuse_list.ensures.status;
   ends = λ left bytes.
       malformed_ends _ _ _ _ _
-      (g.F.Files.surroundings c.args.files.now)
+      (g.F.Files.surroundings c.args.files.now) _ _
       left (tidy_job_view c.args.tidy_job.now) c.args.list.now _ bytes (inl (search rules)) c.refuse_list.ensures.status c.refuse_list.ensures.reported;
   unasked = λ e. refl;
   unwritten = λ zero one four five. refl;
@@ -55,7 +55,7 @@ returns-in-Err-HasNewline g c = record {
   status = two_at_most_six c.refuse_list-in-Err-HasNewline.result c.refuse_list-in-Err-HasNewline.ensures.status;
   ends = λ left bytes.
       malformed_ends _ _ _ _ _
-      (g.F.Files.surroundings c.args.files.now)
+      (g.F.Files.surroundings c.args.files.now) _ _
       left (tidy_job_view c.args.tidy_job.now) c.args.list.now _ bytes (inr (search rules)) c.refuse_list-in-Err-HasNewline.ensures.status
       c.refuse_list-in-Err-HasNewline.ensures.reported;
   unasked = λ e. refl;

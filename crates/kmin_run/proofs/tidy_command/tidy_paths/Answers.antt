@@ -1,5 +1,5 @@
 use Rattle.std.proofs.Common.{inl, inr, refl, sym, ◌∙◌}
-use Rattle.kmin_words.specs.Jobs.{settings_view}
+use Rattle.kmin_options.specs.Jobs.{settings_view}
 use Rattle.kmin_run.proofs.RunStatuses.{fault_at_most_six}
 use Rattle.kmin_run.proofs.TidyLemmas.{ends_small, ends_unwritten, went_over, tree_ends}
 use Rattle.kmin_run.proofs.tidy_command.tidy_paths.Goals as goal
@@ -10,7 +10,7 @@ returns-in-Ok g c =
       status = ends_small _ _ _ _ _ _ _ _ _ _ run.ends.1;
       ends =
           went_over _ _ _ _ _ _ c.tidy_files-status.result
-          (g.F.Files.surroundings c.args.files.now)
+          (g.F.Files.surroundings c.args.files.now) _ _
           (settings_view c.args.tidy_job.now.settings) c.args.tidy_job.now.flags c.in-Ok.settled c.args.tidy_job.now.settings.format
           c.options_of-options.result _ _ _ c.in-Ok.ensures.profile refl c.options_of-options.ensures c.in-Ok.ensures.accepted run.ends run.became
           run.again run.silent;
@@ -25,7 +25,7 @@ returns-in-Err g c = record {
   status = fault_at_most_six c.in-Err.stop c.exit_status.result c.exit_status.ensures.status;
   ends =
       tree_ends _ _ _ _ _ _ c.exit_status.result
-      (g.F.Files.surroundings c.args.files.now)
+      (g.F.Files.surroundings c.args.files.now) _ _
       (settings_view c.args.tidy_job.now.settings) c.args.tidy_job.now.flags _ _ c.in-Err.stop c.exit_status.ensures.status c.in-Err.ensures.stopped
       c.exit_status.ensures.reported;
   unasked = λ e. refl;

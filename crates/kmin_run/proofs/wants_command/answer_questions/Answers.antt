@@ -5,22 +5,22 @@ use Rattle.kmin_report.proofs.WriterLemmas.{lines_append, lines_one}
 use Rattle.kmin_report.proofs.Results.{if_err}
 use Rattle.kmin_run.proofs.wants_command.answer_questions.Goals as goal
 
-pub returns-in_err-wanted-clause-stopped : goal.returns-in_err-wanted-clause-stopped
-returns-in_err-wanted-clause-stopped g c =
-    if_err c.from_residual.result c.in_err-wanted.field-0.0 _ (search rules) c.in_err-wanted.ensures.stopped
+pub returns-in_err-listed-clause-stopped : goal.returns-in_err-listed-clause-stopped
+returns-in_err-listed-clause-stopped g c =
+    if_err c.from_residual.result c.in_err-listed.field-0.0 _ (search rules) c.in_err-listed.ensures.stopped
 
-pub returns-in_ok-lines_of-in-Ok-clause-answer : goal.returns-in_ok-lines_of-in-Ok-clause-answer
-returns-in_ok-lines_of-in-Ok-clause-answer g c = (
+pub returns-in-Ok-clause-answer : goal.returns-in-Ok-clause-answer
+returns-in-Ok-clause-answer g c = (
   items_of c.in-Ok.asked.items,
-  rw c.in-Ok.is at c.in_ok-wanted.ensures.asked,
+  rw c.in-Ok.is at c.in_ok-listed.ensures.asked,
   rw c.deref.ensures.value at c.in_ok-lines_of-in-Ok.ensures.text,
   rw c.deref.ensures.value at c.in_ok-lines_of-in-Ok.ensures.status,
 )
 
-pub returns-in-Err-clause-stopped : goal.returns-in-Err-clause-stopped
-returns-in-Err-clause-stopped g c =
-    let asked = rw c.in-Err.is at c.in_ok-wanted.ensures.asked in
-    (_, at_fault _ asked refl refl, lines_append _ _ _ _ [] (_ ∷ []) _ _ c.in_ok-wanted.ensures.unreported (lines_one _ _ _ _ _ c.write_report.ensures))
+pub returns-clause-stopped : goal.returns-clause-stopped
+returns-clause-stopped g c =
+    let asked = rw c.in-Err.is at c.in_ok-listed.ensures.asked in
+    (_, at_fault _ asked refl refl, lines_append _ _ _ _ [] (_ ∷ []) _ _ c.in_ok-listed.ensures.unreported (lines_one _ _ _ _ _ c.write_report.ensures))
 
-pub returns-in_err-wanted-clause-failed : goal.returns-in_err-wanted-clause-failed
-returns-in_err-wanted-clause-failed g c = if_err c.from_residual.result c.in_err-wanted.field-0.0 _ (search rules) c.in_err-wanted.ensures.failed
+pub returns-in_err-listed-clause-failed : goal.returns-in_err-listed-clause-failed
+returns-in_err-listed-clause-failed g c = if_err c.from_residual.result c.in_err-listed.field-0.0 _ (search rules) c.in_err-listed.ensures.failed

@@ -1,6 +1,6 @@
 use Rattle.std.proofs.Common.{inl, inr, refl, sym, ◌∙◌, arith}
-use Rattle.kmin_words.specs.Jobs.{questions_view}
-use Rattle.kmin_run.proofs.JobOutputs.{lines_kept, no_other_status}
+use Rattle.kmin_options.specs.Jobs.{questions_view}
+use Rattle.kmin_answers.proofs.JobOutputs.{lines_kept, no_other_status}
 use Rattle.kmin_run.proofs.QuestionEnds.{write_stops, questions_end}
 use Rattle.kmin_run.proofs.RunEnds.{of_fault}
 use Rattle.kmin_run.proofs.RunStatuses.{output_at_most_six, output_not_two, output_not_five, output_no_other, failed_at_most_six, failed_not_two, failed_not_done, fault_at_most_six, fault_not_done}
@@ -36,7 +36,7 @@ returns-in-Ok g c =
       done = λ e. failed_not_done c.status.result c.status.ensures e;
       unfailed = λ e. failed_not_done c.status.result c.status.ensures e;
       stopped = λ e.
-          write_stops (g.F.Files.surroundings c.args.files.now)
+          write_stops (g.F.Files.surroundings c.args.files.now) _ _
           (questions_view c.args.questions.now) _ _ _ _ _ _ _ _ c.status.ensures w.1 c.in-Ok.ensures.unreported c.in-Err-write_answer.ensures.reported;
       part = λ e. inr (record {
         asked = w.0;
@@ -58,7 +58,7 @@ returns g c =
       done = λ e. fault_not_done status fault e;
       unfailed = λ e. refl;
       stopped = λ e.
-          questions_end (g.F.Files.surroundings c.args.files.now) (questions_view c.args.questions.now) c.in-Err.stop status
+          questions_end (g.F.Files.surroundings c.args.files.now) _ _ (questions_view c.args.questions.now) c.in-Err.stop status
           _ _ _ _ _ _ c.exit_status.ensures.status c.in-Err.ensures.stopped c.exit_status.ensures.reported;
       part = λ e. inl refl;
       unwritten = λ zero one five. refl;

@@ -1,6 +1,6 @@
 use Rattle.std.proofs.Common.{◌≡◌, ℕ, List, take, map}
 use Rattle.std.specs.Borrow.{Bor}
-use Rattle.kmin_texts.specs.declared.cycle_steps.Step.{Step}
+use Rattle.kmin_faults.specs.declared.steps.Step.{Step}
 use Rattle.kmin_texts.proofs.details.step_names.Given as goal
 
 abbrev pub invariant-loop-step : goal.invariant-loop-step

@@ -21,7 +21,7 @@ returns-in-Ok-clause-expanded g c =
     let expanded = rw c.in-Ok.is at c.in_ok-notices.ensures.expanded in
     let reported = rw c.deref.ensures.value at c.report_macro_notices.ensures in (
       map notice_of items,
-      expanded,
+      expanded.0,
       subst (λ ls. TakesLines (g.E.Messages.taken c.args.err.now) (g.E.Messages.failures c.args.err.now) ls (g.E.Messages.taken c.report_macro_notices.new.err)
           (g.E.Messages.failures c.report_macro_notices.new.err)) (map_twice macro_notice_line notice_of items) reported,
     )

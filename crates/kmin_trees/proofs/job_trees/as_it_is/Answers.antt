@@ -5,7 +5,7 @@ use Rattle.kmin_report.specs.StandardError.{none}
 use Rattle.kmin_report.specs.between.RunErrors.{status_of}
 use Rattle.kmin_trees.specs.between.TreeStops.{StopsAtTexts, for_memory}
 use Rattle.kmin_trees.proofs.TextGrowth.{below_none}
-use Rattle.kmin_trees.proofs.FailureCounts.{texts_unfailed}
+use Rattle.kmin_trees.proofs.UnfailedStops.{texts_unfailed}
 use Rattle.kmin_trees.proofs.MissingFiles.{misses_only, both_err}
 use Rattle.kmin_report.proofs.Results.{if_err_map, memory_err}
 use Rattle.kmin_trees.proofs.job_trees.as_it_is.Goals as goal

@@ -1,8 +1,8 @@
 use Rattle.std.proofs.Common.{rules}
-use Rattle.kmin_words.specs.Jobs.{expansion_view}
+use Rattle.kmin_options.specs.Jobs.{expansion_view}
 use Rattle.kmin_trees.specs.between.ExpandedStops.{in_expansion}
 use Rattle.kmin_trees.proofs.JobTrees.{settled_accepted, settled_stopped}
-use Rattle.kmin_trees.proofs.FailureCounts.{texts_unfailed}
+use Rattle.kmin_trees.proofs.UnfailedStops.{texts_unfailed}
 use Rattle.kmin_report.proofs.Results.{if_err, if_err_map}
 use Rattle.kmin_trees.proofs.job_trees.expanded.Goals as goal
 
@@ -20,7 +20,7 @@ returns-clause-accepted g c =
 pub returns-clause-stopped : goal.returns-clause-stopped
 returns-clause-stopped g c =
     settled_stopped (g.F.Files.surroundings c.args.files.now) _ _ c.args.settings.now.language (expansion_view c.args.expansion.now) _ _ _ _ _ _ _ _
-    c.in_ok-tree.ensures.expanded
+    c.in_ok-tree.ensures.expanded _ _
     c.settled_expanded.result c.settled_expanded.ensures.stopped
 
 pub returns-in_err-tree-clause-failed : goal.returns-in_err-tree-clause-failed

@@ -1,7 +1,7 @@
 use Rattle.std.proofs.Common.{ap}
 use Rattle.std.specs.Prelude.{option_map}
-use Rattle.kmin_words.specs.Jobs.{expansion_view, settings_view}
-use Rattle.kmin_trees.proofs.JobTrees.{plain_accepted, plain_stopped, plain_missing, not_plain, expanded_accepted, expanded_stopped}
+use Rattle.kmin_options.specs.Jobs.{expansion_view, settings_view}
+use Rattle.kmin_trees.proofs.JobTrees.{plain_accepted, plain_stopped, expanded_accepted, expanded_stopped}
 use Rattle.kmin_trees.proofs.job_trees.job_tree.Goals as goal
 
 pub returns-in-Some-clause-accepted : goal.returns-in-Some-clause-accepted
@@ -13,7 +13,7 @@ returns-in-Some-clause-accepted g c =
 pub returns-in-Some-clause-stopped : goal.returns-in-Some-clause-stopped
 returns-in-Some-clause-stopped g c =
     expanded_stopped (g.F.Files.surroundings c.args.files.now)
-    (settings_view c.args.settings.now) _ _ _ _ (expansion_view c.in-Some.expansion) (ap (option_map expansion_view) c.in-Some.is) c.expanded.result
+    (settings_view c.args.settings.now) _ _ _ _ (expansion_view c.in-Some.expansion) (ap (option_map expansion_view) c.in-Some.is) _ _ c.expanded.result
     c.expanded.ensures.stopped
 
 pub returns-in-None-clause-accepted : goal.returns-in-None-clause-accepted
@@ -26,12 +26,3 @@ pub returns-in-None-clause-stopped : goal.returns-in-None-clause-stopped
 returns-in-None-clause-stopped g c =
     plain_stopped (g.F.Files.surroundings c.args.files.now)
     (settings_view c.args.settings.now) _ _ _ _ (ap (option_map expansion_view) c.in-None.is) _ _ c.as_it_is.result c.as_it_is.ensures.stopped
-
-pub returns-in-None-clause-missing : goal.returns-in-None-clause-missing
-returns-in-None-clause-missing g c =
-    plain_missing (g.F.Files.surroundings c.args.files.now)
-    (settings_view c.args.settings.now) _ _ _ _ (ap (option_map expansion_view) c.in-None.is) _ _ c.as_it_is.result c.as_it_is.ensures.stopped
-
-pub returns-in-Some-clause-missing : goal.returns-in-Some-clause-missing
-returns-in-Some-clause-missing g c =
-    not_plain (settings_view c.args.settings.now) _ (expansion_view c.in-Some.expansion) (ap (option_map expansion_view) c.in-Some.is) c.expanded.result

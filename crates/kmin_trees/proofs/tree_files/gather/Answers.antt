@@ -1,7 +1,7 @@
 use Rattle.std.proofs.Common.{subst, arith, refl}
 use Rattle.std.proofs.lemmas.Grind.{common_steps}
 use Rattle.kmin_report.proofs.Results.{if_ok_map}
-use Rattle.kmin_trees.specs.FileContents.{Surroundings}
+use Rattle.kmin_inputs.specs.FileContents.{Surroundings}
 use Rattle.kmin_trees.specs.MissingFiles.{LacksOnlyMissing}
 use Rattle.kmin_trees.proofs.MissingFiles.{lacks_over, any_err}
 use Rattle.kmin_trees.proofs.TextGrowth.{below_none}

@@ -1,6 +1,6 @@
 use Rattle.std.proofs.Common.{◌≡◌, ◌++◌, ◌∷◌, [], ℕ, List, ap, ◌∙◌, append_assoc, arith}
 use Rattle.std.proofs.lemmas.Grind.{common_steps, elements}
-use Rattle.kmin_trees.specs.FileContents.{path_below}
+use Rattle.kmin_inputs.specs.FileContents.{path_below}
 use Rattle.kmin_disk.specs.Contents.{OpensAs}
 use Rattle.kmin_trees.proofs.TextGrowth.{front_read}
 use Rattle.kmin_trees.proofs.MissingFiles.{unopened, closed_missing}

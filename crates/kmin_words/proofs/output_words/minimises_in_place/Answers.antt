@@ -3,7 +3,7 @@ use Rattle.std.specs.Prelude.{bytes_eq}
 use Rattle.std.specs.List.{list_any}
 use Rattle.std.specs.Borrow.{Bor}
 use Rattle.kmin_words.specs.between.WordValues.{is_min}
-use Rattle.kmin_words.proofs.Lists.{any_map}
+use Rattle.kmin_options.proofs.Lists.{any_map}
 use Rattle.kmin_words.proofs.output_words.minimises_in_place.Goals as goal
 
 pub returns-then-is_min : goal.returns-then-is_min

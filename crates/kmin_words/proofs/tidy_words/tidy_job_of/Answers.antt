@@ -1,7 +1,7 @@
 use Rattle.std.proofs.Common.{ℕ, List, map, option_map, rules}
 use Rattle.std.specs.Borrow.{Bor}
 use Rattle.clap.specs.Words.{found_of}
-use Rattle.kmin_words.specs.Jobs.{list_view}
+use Rattle.kmin_options.specs.Jobs.{list_view}
 use Rattle.kmin_words.proofs.TidyRefusals.{refused_beside}
 use Rattle.kmin_words.proofs.tidy_words.tidy_job_of.Goals as goal
 

@@ -1,0 +1,5 @@
+pub mod Statuses
+pub mod Strictness
+pub mod Answers
+pub mod Stops
+pub mod between

@@ -1,0 +1,4 @@
+pub mod Lines
+pub mod LoadStops
+pub mod LoadResults
+pub mod Comparisons

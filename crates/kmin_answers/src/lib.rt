@@ -1,0 +1,9 @@
+//! The configurations of a job's files over its tree, and the texts of commands over them.
+#![tactic(auto)]
+
+mod configurations;
+mod symbol_lines;
+mod verb_texts;
+
+pub use configurations::{ReadFiles, configured, configured_by, load, notice_choices};
+pub use verb_texts::{AnswerText, answer_of, compared};

@@ -1,0 +1,5 @@
+pub mod FailureCounts
+pub mod AnswerReads
+pub mod AnswerFileLists
+pub mod LentAnswers
+pub mod ListReads

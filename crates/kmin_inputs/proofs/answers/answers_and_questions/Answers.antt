@@ -1,0 +1,33 @@
+use Rattle.std.proofs.Common.{ℕ, List, ap, subst, arith, rules}
+use Rattle.kmin_options.specs.Jobs.{expansion_view}
+use Rattle.kmin_inputs.specs.FileContents.{Surroundings, VariableContent}
+use Rattle.kmin_inputs.specs.between.AnswerSteps.{AreLent}
+use Rattle.kmin_inputs.proofs.LentAnswers.{questions_of_job}
+use Rattle.kmin_report.proofs.Results.{if_err, memory_err}
+use Rattle.kmin_inputs.proofs.answers.answers_and_questions.Goals as goal
+
+pub returns-in_err-answers-clause-stopped : goal.returns-in_err-answers-clause-stopped
+returns-in_err-answers-clause-stopped g c =
+    if_err c.from_residual.result c.in_err-answers.field-0.0 _ (search rules) (rw c.deref.ensures.value at c.in_err-answers.ensures.stopped)
+
+pub returns-clause-answers : goal.returns-clause-answers
+returns-clause-answers g c =
+    let variable = ap (λ (known : Surroundings). known.variable) c.file_answers.ensures.same in
+    let lent = rw c.deref-3.ensures.value at c.in_ok-lend.ensures.lent in
+    questions_of_job _ _ (expansion_view c.args.expansion.now) c.in_ok-answers.answers c.define.new.answers _ _
+    (rw c.deref.ensures.value at c.in_ok-answers.ensures.recorded) (rw c.deref-2.ensures.value at c.in_ok-define.ensures)
+    (subst (λ (variable_of : List ℕ → VariableContent). AreLent variable_of (expansion_view c.args.expansion.now).environment c.define.new.answers
+    c.lend.new.answers)
+    variable lent) c.in_ok-answered.ensures
+
+pub returns-in_err-answers-clause-failed : goal.returns-in_err-answers-clause-failed
+returns-in_err-answers-clause-failed g c = if_err c.from_residual.result c.in_err-answers.field-0.0 _ (search rules) c.in_err-answers.ensures.failed
+
+pub returns-in_err-answered-clause-failed : goal.returns-in_err-answered-clause-failed
+returns-in_err-answered-clause-failed g c = memory_err _ _ c.from_residual-in_err-answered.ensures (λ stop status. λ five. absurd (omega arith))
+
+pub returns-in_err-define-clause-failed : goal.returns-in_err-define-clause-failed
+returns-in_err-define-clause-failed g c = memory_err _ _ c.from_residual-in_err-define.ensures (λ stop status. λ five. absurd (omega arith))
+
+pub returns-in_err-lend-clause-failed : goal.returns-in_err-lend-clause-failed
+returns-in_err-lend-clause-failed g c = memory_err _ _ c.from_residual-in_err-lend.ensures (λ stop status. λ five. absurd (omega arith))

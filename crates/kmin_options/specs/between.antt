@@ -1,0 +1,2 @@
+pub mod OptionValues
+pub mod Refusals
