@@ -35,7 +35,7 @@ use Rattle.kmin_report.proofs.KnownContents.{rest_of, whole_content}
 use Rattle.kmin_report.proofs.Lists.{map_twice}
 use Rattle.kmin_report.proofs.WriterLemmas.{lines_append}
 
-notices_are : (path : List ℕ) (fragment : Fragment) (meanings : List LineMeaning) → map notice_pair fragment.notices.items ≡ notices_from 1 meanings
+pub notices_are : (path : List ℕ) (fragment : Fragment) (meanings : List LineMeaning) → map notice_pair fragment.notices.items ≡ notices_from 1 meanings
     → fragment_notices path fragment ≡ file_notices path meanings
 notices_are path fragment meanings e = map_twice (notice_line path) notice_pair fragment.notices.items ∙ ap (map (notice_line path)) e
 

@@ -17,7 +17,7 @@ use Rattle.kmin_inputs.specs.WordFiles as stops
 use Rattle.kmin_report.specs.declared.run_error.RunError.{RunError}
 use Rattle.kmin_report.specs.declared.run_error.RunError.TheVariants.{Tree, Configuration, Failed, Memory}
 use Rattle.kmin_report.specs.between.RunErrors.{status_of}
-use Rattle.kmin_options.specs.Jobs.{Settings, Questions, Task}
+use Rattle.kmin_options.specs.Jobs.{ExplainJob, Settings, Questions, Task}
 use Rattle.kmin_words.specs.Parses.{AreParsedBeside, AreReadAs}
 use Rattle.kmin_words.specs.WordOrder.{command_first}
 use Rattle.kmin_words.specs.declared.command_line.ParsedWords.{ParsedWords}
@@ -25,12 +25,14 @@ use Rattle.kmin_inputs.specs.FileContents.{Surroundings}
 use Rattle.kmin_trees.specs.JobTexts.{TreeTexts, AreTextsOfJob}
 use Rattle.kmin_trees.specs.WantedQuestions.{AreAsked, AsksInPart, StopsWanting, questions_text}
 use Rattle.kmin_answers.specs.Answers.{Answer}
+use Rattle.kmin_explain_command.specs.Explains.{Explains}
+use Rattle.kmin_explain_command.specs.Stops.{ExplainsInPart, StopsExplaining}
 use Rattle.kmin_run.specs.PartialAnswers.{AnswersInPart}
 use Rattle.kmin_answers.specs.Statuses.{status_of_list}
 use Rattle.kmin_answers.specs.Stops.{Stops}
 use Rattle.kmin_run.specs.TidyRuns.{Outputs}
 use Rattle.kmin_run.specs.Runs as runs
-use Rattle.kmin_run.specs.Runs.{AreReadForChanges, AreReadForTidying, AskForChanges, AskForTidying, BundleEnds, Ends, Input, JobEnds, MayChangeFiles, QuestionsEnd, ReadEnd, WordsEnd, IsOfFault, IsTidying}
+use Rattle.kmin_run.specs.Runs.{AreReadForChanges, AreReadForTidying, AskForChanges, AskForTidying, BundleEnds, Ends, ExplainEnds, Input, JobEnds, MayChangeFiles, QuestionsEnd, ReadEnd, WordsEnd, IsOfFault, IsTidying}
 
 -- a status is 0 or 1, or it is another one
 zero_or_one : (status : ℕ) → ((status ≡ 0) ⊎ (status ≡ 1)) ⊎ ((status ≢ 0) × (status ≢ 1))
@@ -83,6 +85,27 @@ module _ (known : Surroundings) (counted counted_after : ℕ) (old new : Outputs
     | inl well ↦
         let w = done well in
         ([], runs.done w.0 w.1 w.2 w.3 (unfailed well) same refl, w.4)
+    | inr other ↦
+        let w = stopped other in (
+          w.0 ++ last_lines status,
+          runs.stopped w.0 w.1 (other.0, other.1, accepted)
+              (at_most _ _ status part (unwritten other.0 other.1)) same refl,
+          w.2,
+        )
+  ]
+
+  -- the command `explain` ends as `ExplainEnds` defines, by its clauses
+  pub explain_ended : (job : ExplainJob)
+      → ((status ≡ 0) ⊎ (status ≡ 1) → (t : TreeTexts) × (text : List ℕ) × (lines : List ErrorLine) × AreTextsOfJob known job.settings t
+      × Explains known.content job t text status lines × Appends old.taken new.taken text × TakesLines taken failed lines taken_after failed_after)
+      → ((status ≢ 0) × (status ≢ 1) → (lines : List ErrorLine) × StopsExplaining known counted counted_after job status lines
+      × TakesLines taken failed (lines ++ last_lines status) taken_after failed_after)
+      → (status ≡ 5 → (new.taken ≡ old.taken) ⊎ ExplainsInPart known job old.taken new.taken)
+      → (lines : List ErrorLine) × ExplainEnds known counted counted_after job old new lines status × TakesLines taken failed lines taken_after failed_after
+  explain_ended job done stopped part = elim (zero_or_one status) [
+    | inl well ↦
+        let w = done well in
+        (w.2, runs.done w.0 w.1 w.3 w.4 well w.5 (unfailed well) same, w.6)
     | inr other ↦
         let w = stopped other in (
           w.0 ++ last_lines status,

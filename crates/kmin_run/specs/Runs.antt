@@ -7,15 +7,17 @@ use Rattle.kmin_report.specs.Reports.{ErrorLine, last_lines, output_line, refuse
 use Rattle.kc_files.specs.TreeContents.{HasRisen}
 use Rattle.kmin_messages.specs.declared.message.Form.{Form}
 use Rattle.kmin_texts.specs.Spellings.{AskedForm}
-use Rattle.kmin_options.specs.Jobs.{Settings, Questions, Task, settings_view, questions_view, task_view, tidy_job_view}
+use Rattle.kmin_options.specs.Jobs.{ExplainJob, Settings, Questions, Task, explain_job_view, settings_view, questions_view, task_view, tidy_job_view}
 use Rattle.kmin_words.specs.Parses.{AreReadAs}
 use Rattle.kmin_words.specs.declared.command_line.ParsedWords.{ParsedWords}
-use Rattle.kmin_words.specs.declared.command_line.ParsedWords.TheVariants.{Job, Save, Questions as TheQuestions, Tidy, Help, Refused}
+use Rattle.kmin_words.specs.declared.command_line.ParsedWords.TheVariants.{Job, Save, Questions as TheQuestions, Explain, Tidy, Help, Refused}
 use Rattle.kmin_inputs.specs.FileContents.{Surroundings}
 use Rattle.kmin_trees.specs.JobTexts.{TreeTexts, AreTextsOfJob}
 use Rattle.kmin_inputs.specs.WordFiles.{Represent, StopsAtWords, is_input_read_for}
 use Rattle.kmin_trees.specs.WantedQuestions.{AreAsked, AsksInPart, StopsWanting, questions_text}
 use Rattle.kmin_answers.specs.Answers.{Answer}
+use Rattle.kmin_explain_command.specs.Explains.{Explains}
+use Rattle.kmin_explain_command.specs.Stops.{ExplainsInPart, StopsExplaining}
 use Rattle.kmin_run.specs.BundleAnswers.{AnswersBundle, StopsOnBundle, WritesPart}
 use Rattle.kmin_run.specs.Bundles.{ReadsToEnd}
 use Rattle.kmin_run.specs.PartialAnswers.{AnswersInPart}
@@ -52,6 +54,16 @@ pub data QuestionsEnd (known : Surroundings) (counted counted_after : ℕ) (ques
       → WritesAtMost (AsksInPart known counted counted_after questions old.taken new.taken) old new status → new.disk ≡ old.disk → lines ≡ own ++ last_lines status
       → QuestionsEnd known counted counted_after questions old new lines status
 
+-- The command `explain` ends: its output is written, and no write failed; or it ended without its whole output. The disk is
+-- unchanged.
+pub data ExplainEnds (known : Surroundings) (counted counted_after : ℕ) (job : ExplainJob) (old new : Outputs) (lines : List ErrorLine) (status : ℕ) : Type 0 where
+  done : (t : TreeTexts) (text : List ℕ) → AreTextsOfJob known job.settings t → Explains known.content job t text status lines
+      → (status ≡ 0) ⊎ (status ≡ 1) → Appends old.taken new.taken text → new.failures ≡ old.failures → new.disk ≡ old.disk
+      → ExplainEnds known counted counted_after job old new lines status
+  stopped : (own : List ErrorLine) → StopsExplaining known counted counted_after job status own → IsOfFault status
+      → WritesAtMost (ExplainsInPart known job old.taken new.taken) old new status → new.disk ≡ old.disk → lines ≡ own ++ last_lines status
+      → ExplainEnds known counted counted_after job old new lines status
+
 -- A help ends: its text is written, or the first bytes of it before a write that failed. The disk is unchanged.
 pub data HelpEnds (text : List ℕ) (old new : Outputs) (lines : List ErrorLine) (status : ℕ) : Type 0 where
   done : status ≡ 0 → Appends old.taken new.taken text → new.failures ≡ old.failures → new.disk ≡ old.disk → lines ≡ []
@@ -67,6 +79,7 @@ ParsedEnds known counted counted_after left (Save output_job) old new lines stat
     SaveEnds known counted counted_after (settings_view output_job.job.settings) (task_view output_job.job.task) output_job.output.now old.disk new.disk lines status
     × (new.taken ≡ old.taken) × (new.failures ≡ old.failures)
 ParsedEnds known counted counted_after left (TheQuestions questions) old new lines status = QuestionsEnd known counted counted_after (questions_view questions) old new lines status
+ParsedEnds known counted counted_after left (Explain explain_job) old new lines status = ExplainEnds known counted counted_after (explain_job_view explain_job) old new lines status
 ParsedEnds known counted counted_after left (Tidy tidy_job) old new lines status =
     TidyEnds known counted counted_after left (tidy_job_view tidy_job) old new lines status × (tidy_job.flags.write ≡ false → new.disk.state ≡ old.disk.state)
 ParsedEnds known counted counted_after left (Help text) old new lines status = HelpEnds text.bytes.items old new lines status
@@ -81,6 +94,7 @@ abbrev pub form_asked : ParsedWords → Option AskedForm
 form_asked (Job job) = form_with job.settings.messages job.settings.root.now
 form_asked (Save output_job) = form_with output_job.job.settings.messages output_job.job.settings.root.now
 form_asked (TheQuestions questions) = form_with questions.messages questions.root.now
+form_asked (Explain explain_job) = form_with explain_job.settings.messages explain_job.settings.root.now
 form_asked (Tidy tidy_job) = form_with tidy_job.settings.messages tidy_job.settings.root.now
 form_asked what = None
 

@@ -23,6 +23,7 @@ pub(crate) fn set_form_for<E: FormMessages>(
         ParsedWords::Job(job) => set_form_of(&job.settings, err),
         ParsedWords::Save(output_job) => set_form_of(&output_job.job.settings, err),
         ParsedWords::Questions(questions) => set_form_of_questions(questions, err),
+        ParsedWords::Explain(explain_job) => set_form_of(&explain_job.settings, err),
         ParsedWords::Tidy(tidy_job) => set_form_of(&tidy_job.settings, err),
         ParsedWords::Help(_) | ParsedWords::Refused(_) => Ok(()),
     }

@@ -19,6 +19,7 @@ use crate::tidy_command::{refuse_list, tidy};
 use crate::wants_command::list_questions;
 use kc_value::{Seed, Sink, Source};
 use kmin_disk::WriteDisk;
+use kmin_explain_command::explain;
 use kmin_inputs::{Files, WordFiles, read_word_files};
 use kmin_lines::{WordFault, with_files};
 use kmin_report::{Messages, Report, RunError, exit_status, write_answer};
@@ -30,9 +31,9 @@ use std::alloc::Global;
 ///
 /// Without words it reads a bundle, a Kconfig tree, a line `%%` and a configuration file, and writes the full file.
 /// Else the words, each `@FILE` read as the words in its file, are a command, before which options may stand. Statuses: 0
-/// done, 1 a comparison found differences, symbols are listed with `--exit-code`, a file isn't minimal or a tree has open
-/// questions, 2 words or a list of paths refused, 3 tree refused, also by its expansion, 4 configuration file or answer
-/// file refused, or bundle, list or file of words too large, 5 a read or write failed, 6 out of memory.
+/// done, 1 a comparison found differences, symbols are listed or a line isn't taken with `--exit-code`, a file isn't minimal or a tree
+/// has open questions, 2 words or a list of paths refused, 3 tree refused, also by its expansion, 4 configuration file or answer
+/// file refused, a name that means no symbol, or bundle, list or file of words too large, 5 a read or write failed, 6 out of memory.
 ///
 /// Only `tidy` and a command with an output file use `disk`; all other files are read by `files`.
 pub fn run<F: Files, D: WriteDisk, I: Source, O: Sink, E: FormMessages>(
@@ -252,6 +253,7 @@ fn run_parsed<F: Files, D: WriteDisk, I: Source, O: Sink, E: Messages>(
         ParsedWords::Job(job) => serve(alloc, job, files, out, err),
         ParsedWords::Save(output_job) => save(alloc, output_job, files, disk, err),
         ParsedWords::Questions(questions) => list_questions(alloc, questions, files, out, err),
+        ParsedWords::Explain(explain_job) => explain(alloc, explain_job, files, out, err),
         ParsedWords::Tidy(tidy_job) => tidy(alloc, tidy_job, files, disk, input, out, err),
         ParsedWords::Help(text) => write_help(text, out, err),
         ParsedWords::Refused(text) => refuse_words(text, err),

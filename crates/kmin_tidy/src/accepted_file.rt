@@ -16,9 +16,9 @@ use std::alloc::{AllocError, Global};
 
 /// The bytes of an accepted configuration file, with their assignments and notices.
 #[derive(Drop)]
-pub(crate) struct AcceptedFile {
-    pub(crate) bytes: Vec<u8>,
-    pub(crate) fragment: Fragment,
+pub struct AcceptedFile {
+    pub bytes: Vec<u8>,
+    pub fragment: Fragment,
 }
 
 /// Reads the configuration file of a path.
@@ -50,7 +50,11 @@ pub(crate) fn read_file<D: ReadDisk>(
 }
 
 /// Reads a configuration file to its end. It is likely to have `room` bytes.
-fn read_source<S: Source>(
+///
+/// # Errors
+///
+/// The first fault of the file, or a read that fails before one; or out of memory.
+pub fn read_source<S: Source>(
     alloc: Global,
     settled: &Settled,
     format: &Format,

@@ -1,0 +1,9 @@
+pub mod AskedTexts
+pub mod EachOnce
+pub mod SymbolTexts
+pub mod NameLists
+pub mod ReasonTexts
+pub mod SymbolNames
+pub mod OnceLemmas
+pub mod BlamedLemmas
+pub mod DeepLemmas

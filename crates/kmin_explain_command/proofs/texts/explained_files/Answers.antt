@@ -1,0 +1,54 @@
+use Rattle.std.proofs.Common.{◌≡◌, None, ap, subst}
+use Rattle.kc_dotconfig.specs.ConfigStates.{tree_in}
+use Rattle.kc_tree_model.specs.Trees.{Tree}
+use Rattle.kmin_answers.proofs.ErrorExits.{no_value, with_error}
+use Rattle.kmin_options.specs.Jobs.{explain_job_view}
+use Rattle.kmin_report.proofs.Results.{memory_err}
+use Rattle.kmin_report.specs.between.RunErrors.{status_of}
+use Rattle.kmin_explain_command.specs.Explains.{unknown_for}
+use Rattle.kmin_explain_command.specs.between.Texts.{at_choices, for_memory}
+use Rattle.kmin_explain_command.specs.between.UnknownNames.{StopsAtName}
+use Rattle.kmin_explain_command.proofs.TextEnds.{noticed_alone, name_stops, explained_by}
+use Rattle.kmin_explain_command.proofs.texts.explained_files.Goals as goal
+
+pub returns-in_err-notice_choices : goal.returns-in_err-notice_choices
+returns-in_err-notice_choices g c =
+    record {
+      status = no_value c.from_residual.result _ _ c.from_residual.ensures.1;
+      answer = no_value c.from_residual.result _ _ c.from_residual.ensures.1;
+      noticed = no_value c.from_residual.result _ _ c.from_residual.ensures.1;
+      stopped = with_error c.from_residual.result _ _ c.from_residual.ensures.1 (at_choices (rw c.deref.ensures.value at c.in_err-notice_choices.ensures.stopped));
+    }
+
+pub returns-in_err-refuse_unknown : goal.returns-in_err-refuse_unknown
+returns-in_err-refuse_unknown g c =
+    let noticed = record { allowed = c.in_ok-notice_choices.ensures.allowed; noticed = rw c.deref.ensures.value at c.in_ok-notice_choices.ensures.noticed } in
+    record {
+      status = no_value c.from_residual-in_err-refuse_unknown.result _ _ c.from_residual-in_err-refuse_unknown.ensures.1;
+      answer = no_value c.from_residual-in_err-refuse_unknown.result _ _ c.from_residual-in_err-refuse_unknown.ensures.1;
+      noticed = no_value c.from_residual-in_err-refuse_unknown.result _ _ c.from_residual-in_err-refuse_unknown.ensures.1;
+      stopped = with_error c.from_residual-in_err-refuse_unknown.result _ _ c.from_residual-in_err-refuse_unknown.ensures.1
+          (name_stops c.args.job.now c.args.tree.now c.args.found.now _ _ _ _ _ _ noticed _ c.in_err-refuse_unknown.ensures.stopped);
+    }
+
+pub returns-in_err-text_of : goal.returns-in_err-text_of
+returns-in_err-text_of g c =
+    let noticed = record { allowed = c.in_ok-notice_choices.ensures.allowed; noticed = rw c.deref.ensures.value at c.in_ok-notice_choices.ensures.noticed } in
+    record {
+      status = no_value c.from_residual-in_err-text_of.result _ _ c.from_residual-in_err-text_of.ensures.1;
+      answer = no_value c.from_residual-in_err-text_of.result _ _ c.from_residual-in_err-text_of.ensures.1;
+      noticed = no_value c.from_residual-in_err-text_of.result _ _ c.from_residual-in_err-text_of.ensures.1;
+      stopped = memory_err _ _ c.from_residual-in_err-text_of.ensures (λ stop status.
+          for_memory (noticed_alone c.args.job.now c.args.tree.now c.args.found.now _ _ _ _ _ _ noticed c.in_ok-refuse_unknown.ensures.unreported) status);
+    }
+
+pub returns : goal.returns
+returns g c =
+    let noticed = record { allowed = c.in_ok-notice_choices.ensures.allowed; noticed = rw c.deref.ensures.value at c.in_ok-notice_choices.ensures.noticed } in
+    record {
+      status = c.in_ok-text_of.ensures.status;
+      answer = λ read meanings are. explained_by c.args.job.now c.args.tree.now c.args.found.now read meanings _ _ c.in_ok-refuse_unknown.ensures.known
+          (c.in_ok-text_of.ensures.answer read meanings are);
+      noticed = noticed_alone c.args.job.now c.args.tree.now c.args.found.now _ _ _ _ _ _ noticed c.in_ok-refuse_unknown.ensures.unreported;
+      stopped = tt;
+    }
