@@ -107,8 +107,8 @@ fn push_asked_member(
     }
 }
 
-/// Appends what a user value asks of symbol `s` of this type.
-fn push_asked(
+/// Appends what a user value asks of symbol `s` of this type. An `Err` means out of memory.
+pub fn push_asked(
     out: &mut Vec<u8>,
     under: &Valuation<'_>,
     strings: Strings,

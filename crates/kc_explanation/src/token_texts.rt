@@ -25,8 +25,8 @@ use kc_tokens::Relop;
 use kc_value::{Kind, Tri, loose_number_of, push_escaped};
 use std::alloc::{AllocError, Global};
 
-/// Appends a value as it is spelled in a configuration file.
-pub(crate) fn push_text_of_kind(
+/// Appends a value as it is spelled in a configuration file. An `Err` means out of memory.
+pub fn push_text_of_kind(
     out: &mut Vec<u8>,
     strings: Strings,
     kind: Kind,
@@ -109,7 +109,7 @@ fn push_value_of_word(
 }
 
 /// The letter of a constant.
-pub(crate) fn letter_of(value: Tri) -> &'static str
+pub fn letter_of(value: Tri) -> &'static str
     ensures { result.now ≡ letter value }
 {
     match value {

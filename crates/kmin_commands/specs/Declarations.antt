@@ -33,6 +33,10 @@ one_of rule words = record rule { parser = Some (Names words) }
 abbrev pub any_number : Text → Rule
 any_number name = record (new_rule name) { action = Some Append; range = Some (record { start_inclusive = 0; end_inclusive = usize_max }) }
 
+-- an argument of one word
+abbrev pub one_word : Text → Rule
+one_word name = new_rule name
+
 -- an argument of one word, which can't be left out
 abbrev pub required : Text → Rule
 required name = record (new_rule name) { required = true }
@@ -49,11 +53,15 @@ place = option (codes "root") (codes ".") ∷ option (codes "tree") (codes "Kcon
 abbrev pub answers : List Rule
 answers = flag (codes "expand") ∷ repeated (codes "answers") ∷ repeated (codes "define") ∷ repeated (codes "env") ∷ []
 
+-- the option for the form of messages
+abbrev pub message_form : Choices → Rule
+message_form choices = one_of (option (codes "messages") (codes "plain")) choices.messages
+
 -- the options that all commands over configuration files share
 abbrev pub shared : Choices → List Rule
 shared choices = place ++ (one_of (valued (codes "language")) choices.languages ∷ option (codes "prefix") (codes "CONFIG_")
     ∷ flag (codes "no-prefix") ∷ one_of (option (codes "strings") (codes "escaped")) choices.forms ∷ one_of (option (codes "imply") (codes "present")) choices.profiles
-    ∷ flag (codes "strict") ∷ answers)
+    ∷ flag (codes "strict") ∷ (answers ++ message_form choices ∷ []))
 
 -- the option for the output file: `--output FILE` or `-o FILE`
 abbrev pub output : Rule
@@ -85,6 +93,13 @@ full choices = command (codes "full") (shared choices ++ output ∷ any_number (
 abbrev pub listing : (name : Text) → Choices → Shape
 listing name choices = command name (shared choices ++ any_number (codes "FILE") ∷ flag (codes "exit-code") ∷ [])
 
+-- the flags of `explain`
+abbrev pub explain_flags : List Rule
+explain_flags = flag (codes "every") ∷ flag (codes "deep") ∷ flag (codes "all") ∷ flag (codes "exit-code") ∷ []
+
+abbrev pub explain : Choices → Shape
+explain choices = command (codes "explain") (shared choices ++ (explain_flags ++ linked (one_word (codes "NAME")) ∷ any_number (codes "FILE") ∷ []))
+
 abbrev pub compare : Choices → Shape
 compare choices = command (codes "compare") (shared choices ++ required (codes "LEFT") ∷ required (codes "RIGHT") ∷ [])
 
@@ -92,8 +107,8 @@ abbrev pub tidy : Choices → Shape
 tidy choices = command (codes "tidy") (shared choices
     ++ (tidy_flags ++ valued (codes "from") ∷ linked nul ∷ linked (any_number (codes "FILE")) ∷ []))
 
-abbrev pub wants : Shape
-wants = command (codes "wants") (place ++ (answers ++ flag (codes "unused") ∷ []))
+abbrev pub wants : Choices → Shape
+wants choices = command (codes "wants") (place ++ (answers ++ message_form choices ∷ flag (codes "unused") ∷ []))
 
 -- a program that tells its version
 abbrev pub with_version : App → App
@@ -106,7 +121,7 @@ named = with_version (on_top (λ shape. record shape { no_binary_name = true; su
 -- the program with its commands
 abbrev pub program : Choices → App
 program choices = fold with_subcommand named
-    (min choices ∷ full choices ∷ listing (codes "missed") choices ∷ listing (codes "check") choices ∷ compare choices ∷ tidy choices ∷ wants ∷ [])
+    (min choices ∷ full choices ∷ listing (codes "missed") choices ∷ listing (codes "check") choices ∷ explain choices ∷ compare choices ∷ tidy choices ∷ wants choices ∷ [])
 
 -- the texts of a list of words
 abbrev pub texts_in : Bor (List (Bor (List ℕ))) → List (List ℕ)
@@ -117,6 +132,7 @@ pub record AreChoices (choices : Choices) : Type 0 where
   pub languages : texts_in choices.languages ≡ codes "strict" ∷ codes "linux" ∷ codes "linux-6.1" ∷ codes "linux-6.12" ∷ []
   pub forms : texts_in choices.forms ≡ codes "escaped" ∷ codes "raw" ∷ []
   pub profiles : texts_in choices.profiles ≡ codes "present" ∷ codes "classic" ∷ []
+  pub messages : texts_in choices.messages ≡ codes "plain" ∷ codes "long" ∷ codes "json" ∷ []
 
 -- the program with its commands is declared so
 abbrev pub IsProgram : App → Type 0

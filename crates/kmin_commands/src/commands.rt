@@ -50,6 +50,14 @@ static CHECK: CommandHelp = CommandHelp {
     after: help_texts::CHECK_AFTER,
 };
 
+/// The command that says why symbols have their values.
+static EXPLAIN: CommandHelp = CommandHelp {
+    name: "explain",
+    about: help_texts::EXPLAIN,
+    long: help_texts::EXPLAIN_LONG,
+    after: help_texts::EXPLAIN_AFTER,
+};
+
 /// The command over two configurations of one file each.
 static COMPARE: CommandHelp = CommandHelp {
     name: "compare",
@@ -122,6 +130,17 @@ static STRINGS: OptionHelp = OptionHelp {
     help: help_texts::STRINGS,
 };
 
+/// The option for the form of messages, one of `MESSAGE_FORMS`.
+static MESSAGES: OptionHelp = OptionHelp {
+    name: "messages",
+    value: "FORM",
+    default: "plain",
+    help: help_texts::MESSAGES,
+};
+
+/// The values of `--messages`.
+static MESSAGE_FORMS: [&str; 3] = ["plain", "long", "json"];
+
 /// The values of `--strings`.
 static FORMS: [&str; 2] = ["escaped", "raw"];
 
@@ -140,6 +159,8 @@ pub struct Choices<'a> {
     pub forms: &'a [&'a str],
     /// Those of `--imply`.
     pub profiles: &'a [&'a str],
+    /// Those of `--messages`.
+    pub messages: &'a [&'a str],
 }
 
 /// The program and all its commands, as `clap` needs them.
@@ -152,9 +173,11 @@ pub fn program<'a>(alloc: Global) -> Result<Command<'a>, AllocError>
         languages: &LANGUAGES,
         forms: &FORMS,
         profiles: &PROFILES,
+        messages: &MESSAGE_FORMS,
     };
     let program = with_writing(alloc, named(alloc)?, &choices)?;
     let program = with_listing(alloc, program, &choices)?;
+    let program = program.subcommand(explain(alloc, &choices)?)?;
     let program = program.subcommand(compare(alloc, &choices)?)?;
     with_tidy_and_wants(alloc, program, &choices)
 }
@@ -189,16 +212,16 @@ fn with_tidy_and_wants<'a>(
     program: Command<'a>,
     choices: &Choices<'a>,
 ) -> Result<Command<'a>, AllocError>
-    ensures { IfOk result (λ made. (app : App) → HasApp app program.entry → HasApp (with_subcommand (with_subcommand app (declared.tidy choices.now)) declared.wants) made) }
+    ensures { IfOk result (λ made. (app : App) → HasApp app program.entry → HasApp (with_subcommand (with_subcommand app (declared.tidy choices.now)) (declared.wants choices.now)) made) }
 {
     let program = program.subcommand(tidy(alloc, choices)?)?;
-    program.subcommand(wants(alloc)?)
+    program.subcommand(wants(alloc, choices)?)
 }
 
 /// The names of all commands, with `help`.
 pub fn command_names(alloc: Global) -> Result<Vec<&'static str>, AllocError> {
     let mut names = Vec::new(alloc);
-    for help in [&MIN, &FULL, &MISSED, &CHECK, &COMPARE, &TIDY, &WANTS] {
+    for help in [&MIN, &FULL, &MISSED, &CHECK, &EXPLAIN, &COMPARE, &TIDY, &WANTS] {
         names.push(help.name)?;
     }
     names.push("help")?;
@@ -294,6 +317,33 @@ fn any_number<'a>(alloc: Global, name: &'a str, help: &'a str) -> Arg<'a>
         .help(help)
 }
 
+/// The command that says why symbols have their values: of names, or with `--every` of each symbol.
+fn explain<'a>(alloc: Global, choices: &Choices<'a>) -> Result<Command<'a>, AllocError>
+    ensures { IfOk result (IsDeclared (declared.explain choices.now)) }
+{
+    let command = with_explain_flags(alloc, with_options(alloc, &EXPLAIN, choices)?)?;
+    let command = command.arg(named_symbols(alloc)?)?;
+    command.arg(any_number(alloc, "FILE", help_texts::FILES))
+}
+
+/// The names of `explain`, which are required unless each symbol is asked for.
+fn named_symbols<'a>(alloc: Global) -> Result<Arg<'a>, AllocError>
+    ensures { IfOk result (IsReadBy (declared.linked (declared.one_word (codes "NAME")))) }
+{
+    let names = Arg::new(alloc, "NAME").help(help_texts::NAMES);
+    names.required_unless_present("every")
+}
+
+/// Adds `--every`, `--deep`, `--all` and `--exit-code` to a command.
+fn with_explain_flags<'a>(alloc: Global, command: Command<'a>) -> Result<Command<'a>, AllocError>
+    ensures { IfOk result (λ made. (shape : Shape) → IsDeclared shape command.entry → IsDeclared (fold declared.added shape declared.explain_flags) made) }
+{
+    let command = command.arg(flag(alloc, "every", help_texts::EVERY))?;
+    let command = command.arg(flag(alloc, "deep", help_texts::DEEP))?;
+    let command = command.arg(flag(alloc, "all", help_texts::ALL))?;
+    command.arg(flag(alloc, "exit-code", help_texts::EXIT_CODE_OF_LINES))
+}
+
 /// The command over two files, both of which are required.
 fn compare<'a>(alloc: Global, choices: &Choices<'a>) -> Result<Command<'a>, AllocError>
     ensures { IfOk result (IsDeclared (declared.compare choices.now)) }
@@ -354,11 +404,12 @@ fn required<'a>(alloc: Global, name: &'a str, help: &'a str) -> Arg<'a>
 }
 
 /// The command over a tree without configuration files, with `--unused`.
-fn wants<'a>(alloc: Global) -> Result<Command<'a>, AllocError>
-    ensures { IfOk result (IsDeclared declared.wants) }
+fn wants<'a>(alloc: Global, choices: &Choices<'a>) -> Result<Command<'a>, AllocError>
+    ensures { IfOk result (IsDeclared (declared.wants choices.now)) }
 {
     let command = with_place(alloc, described(alloc, &WANTS))?;
     let command = with_answers(alloc, command)?;
+    let command = command.arg(message_form(alloc, choices))?;
     command.arg(flag(alloc, "unused", help_texts::UNUSED))
 }
 
@@ -377,7 +428,8 @@ fn with_options<'a>(
     let command = command.arg(strings(alloc, choices))?;
     let command = command.arg(imply(alloc, choices))?;
     let command = command.arg(flag(alloc, "strict", help_texts::STRICT))?;
-    with_answers(alloc, command)
+    let command = with_answers(alloc, command)?;
+    command.arg(message_form(alloc, choices))
 }
 
 /// Adds the options for the place of the tree to a command.
@@ -468,6 +520,17 @@ fn imply<'a>(alloc: Global, choices: &Choices<'a>) -> Arg<'a>
         option(alloc, &IMPLY),
         help_texts::IMPLY_LONG,
         choices.profiles,
+    )
+}
+
+/// The option for the form of messages.
+fn message_form<'a>(alloc: Global, choices: &Choices<'a>) -> Arg<'a>
+    ensures { IsReadBy (declared.message_form choices.now) result }
+{
+    one_of(
+        option(alloc, &MESSAGES),
+        help_texts::MESSAGES_LONG,
+        choices.messages,
     )
 }
 

@@ -1,9 +1,11 @@
 //! The commands of `kmin` and its bundles: what each reads, what it writes, and its exit status.
 #![tactic(auto)]
 
+mod asked_forms;
 mod bundle;
 mod bundle_answer;
 mod configurations;
+mod explain_command;
 mod job_output;
 mod output_file;
 mod program;
@@ -12,6 +14,7 @@ mod tidy_command;
 mod verb_texts;
 mod wants_command;
 
+pub use explain_command::explain;
 pub use job_output::serve;
 pub use kmin_trees::{FileStop, Files};
 pub use output_file::save;

@@ -5,11 +5,14 @@ use Rattle.kc_tokens.specs.declared.language.Language.{Language}
 use Rattle.kc_rules_model.specs.declared.profile.Profile.{Profile}
 use Rattle.kc_dotconfig_model.specs.Formats.{FileFormat}
 use Rattle.kc_dotconfig_model.specs.between.Formats.{file_format}
+use Rattle.kmin_messages.specs.declared.message.Form.{Form}
 use Rattle.kmin_words.specs.declared.job.Verb.{Verb}
 use Rattle.kmin_words.specs.declared.job.Definition.{Definition as DeclaredDefinition}
 use Rattle.kmin_words.specs.declared.job.Expansion.{Expansion as DeclaredExpansion}
 use Rattle.kmin_words.specs.declared.job.Settings.{Settings as DeclaredSettings}
 use Rattle.kmin_words.specs.declared.job.TidyFlags.{TidyFlags}
+use Rattle.kmin_words.specs.declared.job.ExplainFlags.{ExplainFlags}
+use Rattle.kmin_words.specs.declared.job.ExplainJob.{ExplainJob as DeclaredExplainJob}
 use Rattle.kmin_words.specs.declared.job.PathList.{PathList as DeclaredPathList}
 use Rattle.kmin_words.specs.declared.job.TidyJob.{TidyJob as DeclaredTidyJob}
 use Rattle.kmin_words.specs.declared.job.Questions.{Questions as DeclaredQuestions}
@@ -29,7 +32,7 @@ pub record Expansion : Type 0 where
   pub environment : List (List ℕ)
 
 -- the options of a command over configuration files: `tree` is the path of the first Kconfig file, relative to the folder
--- `root`; without `expansion` no macro is expanded
+-- `root`; without `expansion` no macro is expanded, and without `messages` the lines of standard error are plain
 pub record Settings : Type 0 where
   pub root : List ℕ
   pub tree : List ℕ
@@ -38,6 +41,7 @@ pub record Settings : Type 0 where
   pub profile : Profile
   pub strict : Bool
   pub expansion : Option Expansion
+  pub messages : Option Form
 
 -- the list of `tidy --from LIST`: its path, and whether each path in it ends with the byte 0 in place of a newline
 pub record PathList : Type 0 where
@@ -51,13 +55,22 @@ pub record TidyJob : Type 0 where
   pub list : Option PathList
   pub files : List (List ℕ)
 
+-- the command `explain`: its options, its flags, the names of symbols with commas between them (none with `--every`), and the
+-- files, in order
+pub record ExplainJob : Type 0 where
+  pub settings : Settings
+  pub flags : ExplainFlags
+  pub names : Option (List ℕ)
+  pub files : List (List ℕ)
+
 -- the command `wants`: the folder of the tree, the path of its first Kconfig file there, where its macros' questions are answered,
--- and whether the questions of answer files that the tree doesn't ask are listed where none is open
+-- whether the questions of answer files that the tree doesn't ask are listed where none is open, and the form of messages
 pub record Questions : Type 0 where
   pub root : List ℕ
   pub tree : List ℕ
   pub expansion : Expansion
   pub unused : Bool
+  pub messages : Option Form
 
 -- a command: a verb over the files of one configuration, or the comparison of two files
 pub data Task : Type 0 where
@@ -86,6 +99,7 @@ settings_view s = record {
   profile = s.profile;
   strict = s.strict;
   expansion = option_map expansion_view s.expansion;
+  messages = s.messages;
 }
 
 -- a `PathList` of the code, as contracts see it
@@ -101,9 +115,19 @@ tidy_job_view t = record {
   files = map (λ (path : Bor (List ℕ)). path.now) t.files.items;
 }
 
+-- an `ExplainJob` of the code, as contracts see it
+abbrev pub explain_job_view : DeclaredExplainJob → ExplainJob
+explain_job_view e = record {
+  settings = settings_view e.settings;
+  flags = e.flags;
+  names = option_map (λ (names : Bor (List ℕ)). names.now) e.names;
+  files = map (λ (path : Bor (List ℕ)). path.now) e.files.items;
+}
+
 -- the `Questions` of the code, as contracts see them
 abbrev pub questions_view : DeclaredQuestions → Questions
-questions_view q = record { root = q.root.now; tree = q.tree.now; expansion = expansion_view q.expansion; unused = q.unused }
+questions_view q =
+    record { root = q.root.now; tree = q.tree.now; expansion = expansion_view q.expansion; unused = q.unused; messages = q.messages }
 
 -- a `Task` of the code, as contracts see it
 abbrev pub task_view : DeclaredTask → Task

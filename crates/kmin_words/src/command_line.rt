@@ -7,8 +7,9 @@ ghost use Rattle.kmin_words.specs.Parses.{AreParsedAs, IsText};
 ghost use Rattle.kmin_words.specs.between.WordValues as parsed;
 ghost use Rattle.kmin_words.specs.checker.Refusals.{Agrees};
 
+use crate::explain_words::explain_job_of;
 use crate::expansion_words::{check_inputs, expansion_if_given, expansion_of};
-use crate::job::{Job, OutputJob, Questions, Settings, Task, TidyJob, Verb};
+use crate::job::{ExplainJob, Job, OutputJob, Questions, Settings, Task, TidyJob, Verb};
 use crate::names::{nearest, with_tip};
 use crate::output_words::job_and_output;
 use crate::prefix_words::name_prefix_of;
@@ -21,6 +22,7 @@ use kc_dotconfig_model::{Format, Strings};
 use kc_rules_model::Profile;
 use kc_tokens::{Language, LinuxVersion};
 use kmin_commands::{command_names, explained_names, kind_asked, message_tables, program};
+use kmin_messages::Form;
 use std::alloc::{AllocError, Global};
 
 /// The words after the program's name, parsed.
@@ -34,6 +36,8 @@ pub enum ParsedWords<'a> {
     Questions(Questions<'a>),
     /// `kmin tidy`, which compares each file with its minimal file, or replaces it.
     Tidy(TidyJob<'a>),
+    /// `kmin explain`, which says why symbols have their values.
+    Explain(ExplainJob<'a>),
     /// The text of the help or of the version, if the words request it.
     Help(String),
     /// The message for words that are refused.
@@ -111,6 +115,7 @@ fn named_job<'a>(
     match name {
         "wants" => parsed_questions(alloc, matches),
         "tidy" => parsed_tidy_job(alloc, matches),
+        "explain" => parsed_explain_job(alloc, matches),
         _ => parsed_job(alloc, name, matches),
     }
 }
@@ -138,6 +143,20 @@ fn parsed_tidy_job<'a>(
 {
     match tidy_job_of(alloc, matches) {
         Ok(tidy_job) => Ok(ParsedWords::Tidy(tidy_job)),
+        Err(Refusal::Words(line)) => Ok(ParsedWords::Refused(String::from_str(alloc, line)?)),
+        Err(Refusal::OutOfMemory) => Err(AllocError),
+    }
+}
+
+/// The command `explain`, or the message for a value that isn't allowed.
+fn parsed_explain_job<'a>(
+    alloc: Global,
+    matches: &ArgMatches<'a>,
+) -> Result<ParsedWords<'a>, AllocError>
+    ensures { IfOk result (parsed.IsExplainJob (parsed.explain_job_of (found_of matches.now))) }
+{
+    match explain_job_of(alloc, matches) {
+        Ok(explain_job) => Ok(ParsedWords::Explain(explain_job)),
         Err(Refusal::Words(line)) => Ok(ParsedWords::Refused(String::from_str(alloc, line)?)),
         Err(Refusal::OutOfMemory) => Err(AllocError),
     }
@@ -182,6 +201,7 @@ fn questions_of<'a>(alloc: Global, matches: &ArgMatches<'a>) -> Result<Questions
         tree,
         expansion,
         unused,
+        messages: form_of(value_of(matches, "messages")),
     })
 }
 
@@ -235,6 +255,7 @@ pub(crate) fn settings_of<'a>(
         profile: profile_of(value_of(matches, "imply")),
         strict: is_given(matches, "strict"),
         expansion,
+        messages: form_of(value_of(matches, "messages")),
     })
 }
 
@@ -270,6 +291,17 @@ fn profile_of(value: &str) -> Profile
     match value {
         "classic" => Profile::Classic,
         _ => Profile::Present,
+    }
+}
+
+/// The form of messages that a value of `--messages` names; `None` for plain ones.
+fn form_of(value: &str) -> Option<Form>
+    ensures { result ≡ parsed.form_of value.now }
+{
+    match value {
+        "long" => Some(Form::Long),
+        "json" => Some(Form::Json),
+        _ => None,
     }
 }
 

@@ -2,6 +2,7 @@
 use kc_dotconfig_model::Format;
 use kc_rules_model::Profile;
 use kc_tokens::Language;
+use kmin_messages::Form;
 
 /// The commands that write a text about one configuration.
 #[derive(Clone, Copy, Debug, PartialEq, Eq)]
@@ -57,6 +58,8 @@ pub struct Settings<'a> {
     pub strict: bool,
     /// Where the questions of the tree's macros are answered; `None` where no macro is expanded.
     pub expansion: Option<Expansion<'a>>,
+    /// The form of messages; `None` for plain ones.
+    pub messages: Option<Form>,
 }
 
 /// A command with its configuration files.
@@ -111,6 +114,27 @@ pub struct TidyJob<'a> {
     pub files: Vec<&'a str>,
 }
 
+/// The flags of `kmin explain`.
+#[derive(Clone, Copy, Debug, PartialEq, Eq)]
+pub struct ExplainFlags {
+    /// `--deep`: whether it goes on with the symbols that keep those explained too low.
+    pub deep: bool,
+    /// `--all`: whether each select and imply is listed, also those that don't decide.
+    pub all: bool,
+    /// `--exit-code`: whether the exit status is 1 where a line for an explained symbol isn't taken.
+    pub exit_code: bool,
+}
+
+/// The command `kmin explain`, with its options, flags, names and files.
+#[derive(Drop)]
+pub struct ExplainJob<'a> {
+    pub settings: Settings<'a>,
+    pub flags: ExplainFlags,
+    /// The names of symbols, with commas between them; `None` with `--every`.
+    pub names: Option<&'a str>,
+    pub files: Vec<&'a str>,
+}
+
 /// The command `kmin wants`, which lists the open questions of a tree's macros, or the answers that they don't use.
 #[derive(Drop)]
 pub struct Questions<'a> {
@@ -122,4 +146,6 @@ pub struct Questions<'a> {
     pub expansion: Expansion<'a>,
     /// `--unused`: whether the questions of the answer files that the tree doesn't ask are listed where none is open.
     pub unused: bool,
+    /// The form of messages; `None` for plain ones.
+    pub messages: Option<Form>,
 }

@@ -1,5 +1,5 @@
 -- The job of accepted words, by the values that their parser found.
-use Rattle.std.specs.Prelude.{◌≡◌, ℕ, ◌+◌, Bool, true, false, not, ◌&&◌, ◌||◌, ◌==◌, nat_lt, nat_le, List, [], ◌∷◌, ◌++◌, length, take, drop, position, count_by, Option, Some, None, Result, Ok, Err, is_some, codes, unwrap_or, option_map, bytes_eq, if◌then◌else◌}
+use Rattle.std.specs.Prelude.{◌≡◌, ℕ, ◌+◌, Bool, true, false, not, ◌&&◌, ◌||◌, ◌==◌, nat_lt, nat_le, List, [], ◌∷◌, ◌++◌, length, take, drop, position, count_by, Option, Some, None, Result, Ok, Err, is_some, codes, unwrap_or, option_map, option_to_list, bytes_eq, if◌then◌else◌}
 use Rattle.std.specs.List.{list_all, list_any, filter_map}
 use Rattle.clap.specs.Words.{matched_of, first_value, is_present}
 use Rattle.clap.specs.Matches.{raw_values}
@@ -16,12 +16,15 @@ use Rattle.kc_dotconfig_model.specs.PrefixGrammar.{is_prefix}
 use Rattle.kc_value.specs.Lines.{has_newline}
 use Rattle.kc_macros_model.specs.Variables.{is_environment_name}
 use Rattle.kc_tree_model.specs.LogicalLines.{without_white_end}
+use Rattle.kmin_messages.specs.declared.message.Form.{Form}
+use Rattle.kmin_messages.specs.declared.message.Form.TheVariants.{Long, Json}
 use Rattle.kmin_words.specs.declared.job.TidyFlags.{TidyFlags}
+use Rattle.kmin_words.specs.declared.job.ExplainFlags.{ExplainFlags}
 use Rattle.kmin_words.specs.declared.job.Verb.{Verb}
 use Rattle.kmin_words.specs.declared.job.Verb.TheVariants.{Min, Full, Missed, Check}
 use Rattle.kmin_words.specs.declared.command_line.ParsedWords.{ParsedWords}
-use Rattle.kmin_words.specs.declared.command_line.ParsedWords.TheVariants.{Job, Save, Questions as TheQuestions, Tidy, Refused}
-use Rattle.kmin_words.specs.Jobs.{Definition, Expansion, Settings, Questions, PathList, TidyJob, Task, over, compare, paths_of, settings_view, questions_view, tidy_job_view, task_view}
+use Rattle.kmin_words.specs.declared.command_line.ParsedWords.TheVariants.{Job, Save, Questions as TheQuestions, Tidy, Explain, Refused}
+use Rattle.kmin_words.specs.Jobs.{Definition, Expansion, Settings, Questions, PathList, TidyJob, ExplainJob, Task, over, compare, paths_of, settings_view, questions_view, tidy_job_view, explain_job_view, task_view}
 
 -- the one value that was found for an option or a word of the command line; empty if there is none
 abbrev pub value_of : Found → List ℕ → List ℕ
@@ -53,6 +56,10 @@ profile_of value = if bytes_eq value (codes "classic") then Classic else Present
 -- the form of strings for a value of `--strings`: `Raw` for `raw`, and `Escaped` for any other
 abbrev pub strings_of : List ℕ → Strings
 strings_of value = if bytes_eq value (codes "raw") then Raw else Escaped
+
+-- the form of messages for a value of `--messages`; None for plain ones
+abbrev pub form_of : List ℕ → Option Form
+form_of value = if bytes_eq value (codes "long") then Some Long else (if bytes_eq value (codes "json") then Some Json else None)
 
 -- the Kconfig language for a value of `--language`; without one that of Linux if macros are expanded, and the strict one if not
 abbrev pub language_of : List ℕ → (is_expanded : Bool) → Language
@@ -185,6 +192,7 @@ settings_of found paths =
       profile = profile_of (value_of found (codes "imply"));
       strict = is_given found (codes "strict");
       expansion = expansion;
+      messages = form_of (value_of found (codes "messages"));
     }))))
 
 -- the options of a command, and the command with this name and its files
@@ -224,13 +232,19 @@ job_and_output_of name found =
     and_then (job_of name found) (λ job.
     Ok (kept_in_place (is_given found (codes "drop")) output job, output)))
 
--- the folder, first Kconfig file, sources of answers and `--unused` that the words of the command `wants` give, or why they are
+-- the folder, first Kconfig file, sources of answers, `--unused` and the form of messages that the words of the command `wants` give, or why they are
 -- refused
 abbrev pub questions_of : Found → ValueResult Questions
 questions_of found =
     and_then (expansion_of found) (λ expansion.
     and_then (paths_beside (values_of found (codes "answers")) []) (λ named.
-    Ok (record { root = value_of found (codes "root"); tree = value_of found (codes "tree"); expansion = expansion; unused = is_given found (codes "unused") })))
+    Ok (record {
+      root = value_of found (codes "root");
+      tree = value_of found (codes "tree");
+      expansion = expansion;
+      unused = is_given found (codes "unused");
+      messages = form_of (value_of found (codes "messages"));
+    })))
 
 -- whether the flags `--write` and `--drop` are given
 abbrev pub flags_of : Found → TidyFlags
@@ -264,6 +278,25 @@ tidy_job_of found =
     and_then (settings_of found (paths_read files (list_of found))) (λ settings.
     Ok (record { settings = settings; flags = flags_of found; list = list_of found; files = files })))
 
+-- whether the flags `--deep`, `--all` and `--exit-code` are given
+abbrev pub explain_flags_of : Found → ExplainFlags
+explain_flags_of found = record { deep = is_given found (codes "deep"); all = is_given found (codes "all"); exit_code = exit_code_of found }
+
+-- the first word of `explain`, which with `--every` is the first file, and else the names
+abbrev pub names_of : Found → Option (List ℕ)
+names_of found = if is_given found (codes "every") then None else Some (value_of found (codes "NAME"))
+
+abbrev pub explained_files_of : Found → List (List ℕ)
+explained_files_of found = if is_given found (codes "every")
+    then option_to_list (first_value found (codes "NAME")) ++ values_of found (codes "FILE")
+    else values_of found (codes "FILE")
+
+-- the values of the command `explain`: its options, flags, names and files
+abbrev pub explain_job_of : Found → ValueResult ExplainJob
+explain_job_of found =
+    and_then (settings_of found (explained_files_of found)) (λ settings.
+    Ok (record { settings = settings; flags = explain_flags_of found; names = names_of found; files = explained_files_of found }))
+
 -- parsed words are the command `wants` with these values, or the message with which a value is refused
 abbrev pub AreQuestions : ValueResult Questions → ParsedWords → Type 0
 AreQuestions found (TheQuestions questions) = found ≡ Ok (questions_view questions)
@@ -284,9 +317,18 @@ IsTidyJob found (Tidy tidy_job) = found ≡ Ok (tidy_job_view tidy_job)
 IsTidyJob found (Refused text) = found ≡ Err text.bytes.items
 IsTidyJob found words = ⊥
 
+-- parsed words are the command `explain` with these values, or the message with which a value is refused
+abbrev pub IsExplainJob : ValueResult ExplainJob → ParsedWords → Type 0
+IsExplainJob found (Explain explain_job) = found ≡ Ok (explain_job_view explain_job)
+IsExplainJob found (Refused text) = found ≡ Err text.bytes.items
+IsExplainJob found words = ⊥
+
 -- parsed words are the command of this name with the values that were found, or the message with which one is refused
 abbrev pub HasValues : (name : List ℕ) → Found → ParsedWords → Type 0
 HasValues name found words = elim (bytes_eq name (codes "wants")) [
   | true ↦ AreQuestions (questions_of found) words
-  | false ↦ elim (bytes_eq name (codes "tidy")) [ true ↦ IsTidyJob (tidy_job_of found) words | false ↦ AreJob (job_and_output_of name found) words ]
+  | false ↦ elim (bytes_eq name (codes "tidy")) [
+    | true ↦ IsTidyJob (tidy_job_of found) words
+    | false ↦ elim (bytes_eq name (codes "explain")) [ true ↦ IsExplainJob (explain_job_of found) words | false ↦ AreJob (job_and_output_of name found) words ]
+  ]
 ]

@@ -1,0 +1,14 @@
+pub mod AskedTexts
+pub mod EachOnce
+pub mod SymbolTexts
+pub mod NameLists
+pub mod ReasonTexts
+pub mod SymbolNames
+pub mod OnceLemmas
+pub mod BlamedLemmas
+pub mod DeepLemmas
+pub mod JsonLists
+pub mod OneLineJson
+pub mod RecordDepths
+pub mod RecordTexts
+pub mod AskedTokens

@@ -1,0 +1,9 @@
+pub mod Names
+pub mod Explanations
+pub mod Deep
+pub mod NearestNames
+pub mod ReasonWords
+pub mod ExplainedJson
+pub mod RecordLaws
+pub mod between
+pub mod checker

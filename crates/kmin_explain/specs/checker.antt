@@ -1,0 +1,6 @@
+pub mod Marks
+pub mod FileLineTexts
+pub mod Bounds
+pub mod BlamedWalk
+pub mod JsonTokens
+pub mod RecordTokens

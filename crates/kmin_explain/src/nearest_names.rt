@@ -1,0 +1,48 @@
+//! The name that is nearest to an unknown one.
+ghost use Rattle.std.specs.Prelude.{◌≡◌, ℕ, List, map, IfOk, option_map, unwrap_or};
+ghost use Rattle.std.specs.Borrow.{Bor};
+ghost use Rattle.kc_tree_model.specs.Trees.{Symbol};
+ghost use Rattle.kc_dotconfig_model.specs.between.Prefixes.{prefix_bytes};
+ghost use Rattle.kc_dotconfig_model.specs.between.LineMeanings.{after_front};
+ghost use Rattle.kmin_explain.specs.NearestNames.{nearest_name};
+
+use super::names::after_prefix;
+use kc_dotconfig::Prefix;
+use kc_tree::{Sym, Tree};
+use kmin_texts::nearest;
+use std::alloc::{AllocError, Global};
+
+/// The names of a tree's symbols.
+fn symbol_names(alloc: Global, tree: &Tree) -> Result<Vec<&str>, AllocError>
+    ensures { IfOk result (λ names. map (λ (name : Bor (List ℕ)). name.now) names.items ≡ map (λ (symbol : Symbol). symbol.name) tree.now.tree.symbols) }
+{
+    let mut names = Vec::new(alloc);
+    for s in 0..tree.symbol_count() {
+        names.push(tree.name(Sym::at(s)))?;
+    }
+    Ok(names)
+}
+
+/// The name of a symbol that is nearest to a name, which is taken without the prefix if it has it: the first of those with the fewest
+/// changes, of 1 to 3, each of which adds, drops or replaces a byte. An `Err` means out of memory.
+pub fn nearest_name<'t>(
+    alloc: Global,
+    tree: &'t Tree,
+    prefix: &Prefix,
+    name: &str,
+) -> Result<Option<&'t str>, AllocError>
+    ensures { IfOk result (λ found. option_map (λ (other : Bor (List ℕ)). other.now) found ≡ nearest_name tree.now.tree (prefix_bytes prefix.now) name.now) }
+{
+    let names = symbol_names(alloc, tree)?;
+    nearest(alloc, bare_name(prefix, name), &names)
+}
+
+/// A name without the prefix, if it has it.
+fn bare_name<'a>(prefix: &Prefix, name: &'a str) -> &'a str
+    ensures { result.now ≡ unwrap_or (after_front (prefix_bytes prefix.now) name.now) name.now }
+{
+    match after_prefix(prefix, name) {
+        Some(rest) => rest,
+        None => name,
+    }
+}
