@@ -2,6 +2,7 @@
 #![tactic(auto)]
 
 mod files;
+mod line_files;
 mod streams;
 
 use files::{Disk, new_seed};
@@ -9,6 +10,7 @@ use kc_value::FromRead;
 use kmin_disk::SystemDisk;
 use kmin_run::run;
 use kmin_words::{ParsedWords, Task, Verb, command_first, read_words};
+use line_files::SystemLines;
 use std::alloc::Global;
 use std::io::IsTerminal;
 use std::process::ExitCode;
@@ -30,7 +32,7 @@ fn run_words(rt: &HostRuntime) -> io::Result<u8> {
     write_without_files(rt, &words);
     let mut input = FromRead::new(rt.stdin());
     let mut out = Output::new(rt.stdout());
-    let mut err = StandardError::new(rt.stderr());
+    let mut err = StandardError::new(rt.alloc(), rt.stderr(), SystemLines::new(rt));
     let mut files = Disk::new(rt);
     let mut disk = SystemDisk::new(rt, new_seed(rt));
     let status = run(

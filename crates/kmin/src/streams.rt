@@ -1,9 +1,11 @@
 //! Standard output and standard error.
 ghost use Rattle.std.specs.Prelude.{None};
-ghost use Rattle.kmin_report.specs.PlainLines.{plain_bytes};
 
+use crate::line_files::SystemLines;
 use kc_value::{Failed, Sink, ToWrite};
-use kmin_report::{Messages, PlainMessages, Report};
+use kmin_report::{Messages, Report};
+use kmin_texts::{FormMessages, FormedMessages, Wording};
+use std::alloc::{AllocError, Global};
 use std::io::{ErrorKind, Write};
 
 /// A writer to standard output, and whether its last failed write was one into a pipe that nobody reads any more.
@@ -52,19 +54,19 @@ impl<W: Write> Sink for Output<W> {
     }
 }
 
-/// Standard error with plain lines. It holds back the line for a failed write of standard output, which is the last line of a run,
-/// until `end`.
+/// Standard error, plain until a form is set. It holds back the line for a failed write of standard output, which is the last line of a
+/// run, until `end`.
 #[derive(Drop)]
-pub(crate) struct StandardError<W> {
-    plain: PlainMessages<ToWrite<W>>,
+pub(crate) struct StandardError<'a, W> {
+    messages: FormedMessages<ToWrite<W>, SystemLines<'a>>,
     holds_line: bool,
 }
 
-impl<W: Write> StandardError<W> {
+impl<'a, W: Write> StandardError<'a, W> {
     /// Wraps a writer, and holds nothing back yet.
-    pub(crate) fn new(inner: W) -> StandardError<W> {
+    pub(crate) fn new(alloc: Global, inner: W, lines: SystemLines<'a>) -> StandardError<'a, W> {
         StandardError {
-            plain: PlainMessages::new(ToWrite::new(inner)),
+            messages: FormedMessages::new(alloc, ToWrite::new(inner), lines),
             holds_line: false,
         }
     }
@@ -72,20 +74,26 @@ impl<W: Write> StandardError<W> {
     /// Writes the line that was held back, unless standard output is a closed pipe: then its reader wants no more, as `head`.
     pub(crate) fn end(&mut self, is_closed: bool) {
         if self.holds_line && !is_closed {
-            self.plain.write_report(Report::OutputFault);
+            self.messages.write_report(Report::OutputFault);
         }
     }
 }
 
-impl<W: Write> Messages for StandardError<W> {
-    ghost taken = { λ _. plain_bytes None };
+impl<'a, W: Write> Messages for StandardError<'a, W> {
+    ghost taken = { λ s. record { spelling = (⟦<FormedMessages<ToWrite<W>, SystemLines<'a>> as Messages>⟧.taken s.messages).spelling; bytes = None } };
 
-    ghost failures = { λ s. ⟦<PlainMessages<ToWrite<W>> as Messages>⟧.failures s.plain };
+    ghost failures = { λ s. ⟦<FormedMessages<ToWrite<W>, SystemLines<'a>> as Messages>⟧.failures s.messages };
 
     fn write_report(&mut self, report: Report<'_>) {
         match report {
             Report::OutputFault => self.holds_line = true,
-            _ => self.plain.write_report(report),
+            _ => self.messages.write_report(report),
         }
+    }
+}
+
+impl<'a, W: Write> FormMessages for StandardError<'a, W> {
+    fn set_form(&mut self, wording: &Wording<'_>) -> Result<(), AllocError> {
+        self.messages.set_form(wording)
     }
 }

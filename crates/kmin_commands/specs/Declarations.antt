@@ -49,11 +49,15 @@ place = option (codes "root") (codes ".") ∷ option (codes "tree") (codes "Kcon
 abbrev pub answers : List Rule
 answers = flag (codes "expand") ∷ repeated (codes "answers") ∷ repeated (codes "define") ∷ repeated (codes "env") ∷ []
 
+-- the option for the form of messages
+abbrev pub message_form : Choices → Rule
+message_form choices = one_of (option (codes "messages") (codes "plain")) choices.messages
+
 -- the options that all commands over configuration files share
 abbrev pub shared : Choices → List Rule
 shared choices = place ++ (one_of (valued (codes "language")) choices.languages ∷ option (codes "prefix") (codes "CONFIG_")
     ∷ flag (codes "no-prefix") ∷ one_of (option (codes "strings") (codes "escaped")) choices.forms ∷ one_of (option (codes "imply") (codes "present")) choices.profiles
-    ∷ flag (codes "strict") ∷ answers)
+    ∷ flag (codes "strict") ∷ (answers ++ message_form choices ∷ []))
 
 -- the option for the output file: `--output FILE` or `-o FILE`
 abbrev pub output : Rule
@@ -92,8 +96,8 @@ abbrev pub tidy : Choices → Shape
 tidy choices = command (codes "tidy") (shared choices
     ++ (tidy_flags ++ valued (codes "from") ∷ linked nul ∷ linked (any_number (codes "FILE")) ∷ []))
 
-abbrev pub wants : Shape
-wants = command (codes "wants") (place ++ (answers ++ flag (codes "unused") ∷ []))
+abbrev pub wants : Choices → Shape
+wants choices = command (codes "wants") (place ++ (answers ++ message_form choices ∷ flag (codes "unused") ∷ []))
 
 -- a program that tells its version
 abbrev pub with_version : App → App
@@ -106,7 +110,7 @@ named = with_version (on_top (λ shape. record shape { no_binary_name = true; su
 -- the program with its commands
 abbrev pub program : Choices → App
 program choices = fold with_subcommand named
-    (min choices ∷ full choices ∷ listing (codes "missed") choices ∷ listing (codes "check") choices ∷ compare choices ∷ tidy choices ∷ wants ∷ [])
+    (min choices ∷ full choices ∷ listing (codes "missed") choices ∷ listing (codes "check") choices ∷ compare choices ∷ tidy choices ∷ wants choices ∷ [])
 
 -- the texts of a list of words
 abbrev pub texts_in : Bor (List (Bor (List ℕ))) → List (List ℕ)
@@ -117,6 +121,7 @@ pub record AreChoices (choices : Choices) : Type 0 where
   pub languages : texts_in choices.languages ≡ codes "strict" ∷ codes "linux" ∷ codes "linux-6.1" ∷ codes "linux-6.12" ∷ []
   pub forms : texts_in choices.forms ≡ codes "escaped" ∷ codes "raw" ∷ []
   pub profiles : texts_in choices.profiles ≡ codes "present" ∷ codes "classic" ∷ []
+  pub messages : texts_in choices.messages ≡ codes "plain" ∷ codes "long" ∷ codes "json" ∷ []
 
 -- the program with its commands is declared so
 abbrev pub IsProgram : App → Type 0

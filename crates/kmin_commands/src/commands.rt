@@ -122,6 +122,17 @@ static STRINGS: OptionHelp = OptionHelp {
     help: help_texts::STRINGS,
 };
 
+/// The option for the form of messages, one of `MESSAGE_FORMS`.
+static MESSAGES: OptionHelp = OptionHelp {
+    name: "messages",
+    value: "FORM",
+    default: "plain",
+    help: help_texts::MESSAGES,
+};
+
+/// The values of `--messages`.
+static MESSAGE_FORMS: [&str; 3] = ["plain", "long", "json"];
+
 /// The values of `--strings`.
 static FORMS: [&str; 2] = ["escaped", "raw"];
 
@@ -140,6 +151,8 @@ pub struct Choices<'a> {
     pub forms: &'a [&'a str],
     /// Those of `--imply`.
     pub profiles: &'a [&'a str],
+    /// Those of `--messages`.
+    pub messages: &'a [&'a str],
 }
 
 /// The program and all its commands, as `clap` needs them.
@@ -152,6 +165,7 @@ pub fn program<'a>(alloc: Global) -> Result<Command<'a>, AllocError>
         languages: &LANGUAGES,
         forms: &FORMS,
         profiles: &PROFILES,
+        messages: &MESSAGE_FORMS,
     };
     let program = with_writing(alloc, named(alloc)?, &choices)?;
     let program = with_listing(alloc, program, &choices)?;
@@ -189,10 +203,10 @@ fn with_tidy_and_wants<'a>(
     program: Command<'a>,
     choices: &Choices<'a>,
 ) -> Result<Command<'a>, AllocError>
-    ensures { IfOk result (λ made. (app : App) → HasApp app program.entry → HasApp (with_subcommand (with_subcommand app (declared.tidy choices.now)) declared.wants) made) }
+    ensures { IfOk result (λ made. (app : App) → HasApp app program.entry → HasApp (with_subcommand (with_subcommand app (declared.tidy choices.now)) (declared.wants choices.now)) made) }
 {
     let program = program.subcommand(tidy(alloc, choices)?)?;
-    program.subcommand(wants(alloc)?)
+    program.subcommand(wants(alloc, choices)?)
 }
 
 /// The names of all commands, with `help`.
@@ -354,11 +368,12 @@ fn required<'a>(alloc: Global, name: &'a str, help: &'a str) -> Arg<'a>
 }
 
 /// The command over a tree without configuration files, with `--unused`.
-fn wants<'a>(alloc: Global) -> Result<Command<'a>, AllocError>
-    ensures { IfOk result (IsDeclared declared.wants) }
+fn wants<'a>(alloc: Global, choices: &Choices<'a>) -> Result<Command<'a>, AllocError>
+    ensures { IfOk result (IsDeclared (declared.wants choices.now)) }
 {
     let command = with_place(alloc, described(alloc, &WANTS))?;
     let command = with_answers(alloc, command)?;
+    let command = command.arg(message_form(alloc, choices))?;
     command.arg(flag(alloc, "unused", help_texts::UNUSED))
 }
 
@@ -377,7 +392,8 @@ fn with_options<'a>(
     let command = command.arg(strings(alloc, choices))?;
     let command = command.arg(imply(alloc, choices))?;
     let command = command.arg(flag(alloc, "strict", help_texts::STRICT))?;
-    with_answers(alloc, command)
+    let command = with_answers(alloc, command)?;
+    command.arg(message_form(alloc, choices))
 }
 
 /// Adds the options for the place of the tree to a command.
@@ -468,6 +484,17 @@ fn imply<'a>(alloc: Global, choices: &Choices<'a>) -> Arg<'a>
         option(alloc, &IMPLY),
         help_texts::IMPLY_LONG,
         choices.profiles,
+    )
+}
+
+/// The option for the form of messages.
+fn message_form<'a>(alloc: Global, choices: &Choices<'a>) -> Arg<'a>
+    ensures { IsReadBy (declared.message_form choices.now) result }
+{
+    one_of(
+        option(alloc, &MESSAGES),
+        help_texts::MESSAGES_LONG,
+        choices.messages,
     )
 }
 

@@ -222,6 +222,16 @@ pub(crate) const DEFINE: &str = "Value of a name, in place of any in a file; rep
 
 pub(crate) const ENV: &str = "Name that the environment answers where no file does; repeatable";
 
+pub(crate) const MESSAGES: &str = "Form of messages";
+
+pub(crate) const MESSAGES_LONG: &str = "\
+How a line of standard error is spelled:
+plain  FILE:LINE: KIND
+long   FILE:LINE: error: KIND: TEXT, or warning, with a path that opens
+json   an object with the members kind, severity, file, line, text and names
+TEXT, of at most 200 bytes, has words of the line alone, and of a file that isn't below
+--root or the working folder only a symbol's name. Refused words (2) are plain";
+
 pub(crate) const FILES: &str =
     "Configuration files, each overriding those before it; without one\nnothing is assigned; /dev/stdin is standard input";
 

@@ -10,7 +10,7 @@ ghost use Rattle.kmin_commands.specs.OptionWords.{command_words, gives_option, h
 static COMMANDS: [&str; 7] = ["min", "full", "missed", "check", "compare", "tidy", "wants"];
 
 /// The words that name an option with a value.
-static VALUED: [&str; 12] = [
+static VALUED: [&str; 13] = [
     "--root",
     "--tree",
     "--language",
@@ -23,6 +23,7 @@ static VALUED: [&str; 12] = [
     "--output",
     "-o",
     "--from",
+    "--messages",
 ];
 
 /// The words that name an option without a value.

@@ -4,6 +4,8 @@ use Rattle.std.specs.Str.Lossy.{utf8_lossy}
 use Rattle.json.specs.Json.{Json, null, number, string, array, object, Items, no_items, item, no_members, member, document}
 use Rattle.json.specs.Tree.{json_tokens}
 use Rattle.json.specs.Print.{print}
+use Rattle.kmin_messages.specs.declared.message.Form.{Form}
+use Rattle.kmin_messages.specs.declared.message.Form.TheVariants.{Long, Json as Object}
 use Rattle.kmin_messages.specs.declared.message.Severity.{Severity}
 use Rattle.kmin_messages.specs.declared.message.Severity.TheVariants.{Error, Warning}
 use Rattle.kmin_messages.specs.ShownTexts.{has_no_byte}
@@ -62,6 +64,11 @@ message_json m =
 -- the line of a message for programs: its JSON, without white space between tokens
 abbrev pub json_line : Message → List ℕ
 json_line m = print (json_tokens (message_json m)) ++ codes "\n"
+
+-- the line of a message in a form
+abbrev pub form_line : Form → Message → List ℕ
+form_line Long message = long_line message
+form_line Object message = json_line message
 
 -- a line is one JSON object, that of this message: it reads back as that, and has a newline at its end alone
 pub record IsOneObject (m : Message) (line : List ℕ) : Type 0 where

@@ -23,6 +23,15 @@ impl Severity {
     }
 }
 
+/// A form of messages that has more than the file, the line and the kind.
+#[derive(Clone, Copy, Debug, PartialEq, Eq)]
+pub enum Form {
+    /// A line for people.
+    Long,
+    /// A line for programs, one JSON object.
+    Json,
+}
+
 /// A message: the name of its kind, the path of its file, if it is of one, and the line there, counted from 1 (0 where there is
 /// none), what there is to say about it, which may be empty, and the names of symbols in that.
 #[derive(Clone, Copy)]

@@ -11,6 +11,6 @@ mod symbol_names;
 pub use messages::Messages;
 pub use output::{exit_status, write_answer};
 pub use plain_messages::PlainMessages;
-pub use report::Report;
+pub use report::{Report, write_plain_line};
 pub use run_error::RunError;
 pub use symbol_names::name_of;

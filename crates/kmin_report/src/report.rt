@@ -70,7 +70,7 @@ pub enum Report<'a> {
 }
 
 /// Writes the plain line of a report, up to the first write that fails. Takes no memory.
-pub(crate) fn write_line<W: Sink>(report: &Report<'_>, sink: &mut W) -> Result<(), WriteFault>
+pub fn write_plain_line<W: Sink>(report: &Report<'_>, sink: &mut W) -> Result<(), WriteFault>
     ensures whole { OnOk result (TakesWhole (W.taken sink.old) (W.failures sink.old) (plain_line (report_line report.now)) (W.taken sink.new) (W.failures sink.new)) }
     ensures part { OnErr result (TakesPart (W.taken sink.old) (W.failures sink.old) (plain_line (report_line report.now)) (W.taken sink.new) (W.failures sink.new)) }
 {

@@ -1,9 +1,12 @@
 -- Ends of runs, from what the parts of a run ensure.
-use Rattle.std.proofs.Common.{◌≡◌, ◌≢◌, ◌≤◌, ◌==◌, eqb-true, true≢false, map, Bool, false, ◌⊎◌, ℕ, true, List, [], ◌∷◌, ◌++◌, Option, Ok, length, inl, inr, refl, subst, arith}
+use Rattle.std.proofs.Common.{◌≡◌, ◌≢◌, ◌≤◌, ◌==◌, eqb-true, true≢false, map, Bool, false, ◌⊎◌, ℕ, true, List, [], ◌∷◌, ◌++◌, Option, Ok, length, inl, inr, refl, subst, arith, None, ap, sym, ◌∙◌, length-append}
 use Rattle.std.proofs.lemmas.Bool.Decides.{eqb_tells}
 use Rattle.std.specs.Io.KnownBytes.{Appends}
 use Rattle.kmin_report.specs.Reports.{ErrorLine, last_lines}
-use Rattle.kmin_report.specs.StandardError.{SpelledBytes, TakesLine, TakesLines}
+use Rattle.kmin_report.specs.StandardError.{SpelledBytes, TakesLine, TakesLines, none, one_more}
+use Rattle.kmin_texts.specs.Spellings.{AskedForm, as_asked}
+use Rattle.kmin_run.specs.between.WordRuns.{FormedEnds}
+use Rattle.kmin_run.specs.between.WordRuns as formed
 use Rattle.kmin_report.proofs.WriterLemmas.{lines_append, lines_one}
 use Rattle.kc_files.specs.TreeContents.{FileContent}
 use Rattle.kmin_lines.specs.WordLines.{are_utf8}
@@ -115,15 +118,15 @@ bundle_wrote P Q stop status is part (inr nothing) = inl nothing
 module _ (known : Surroundings) (input input_after : Input) (old new : Outputs) (lines : List ErrorLine) (status : ℕ) where
   -- a run without words ends as one on a bundle
   pub without_words : {A : Type 0} (f : A → List ℕ) (words : List A) → (length words == 0) ≡ true → BundleEnds input input_after old new lines status
-      → Ends known (map f words) input input_after old new lines status
-  without_words f [] none ends = ends
+      → Ends known (map f words) input input_after old new None lines status
+  without_words f [] none ends = (ends, refl)
   without_words f (word ∷ words) none ends = absurd (omega (arith, eqb-true _ _ none))
 
   -- a run with words ends as they are parsed
-  pub with_words : {A : Type 0} (f : A → List ℕ) (words : List A) → (length words == 0) ≡ false
-      → WordsEnd known (map f words) input.left old new lines status → Ends known (map f words) input input_after old new lines status
-  with_words f [] some ends = absurd (true≢false some)
-  with_words f (word ∷ words) some ends = ends
+  pub with_words : {A : Type 0} (form : Option AskedForm) (f : A → List ℕ) (words : List A) → (length words == 0) ≡ false
+      → WordsEnd known (map f words) input.left old new form lines status → Ends known (map f words) input input_after old new form lines status
+  with_words form f [] some ends = absurd (true≢false some)
+  with_words form f (word ∷ words) some ends = ends
 
 -- words are read as what they are parsed as once the command is first
 pub read_first : (is_input_read : Bool) (words ordered : List (List ℕ)) (what : ParsedWords) → ordered ≡ command_first words
@@ -140,6 +143,30 @@ module _ (P : Type 0) (is_input_read : Bool) (words : List (List ℕ)) (what : P
   pub tidied : P ⊎ IsTidying what → P ⊎ AreReadForTidying is_input_read words
   tidied (inl unwritten) = inl unwritten
   tidied (inr tidies) = inr (what, are, tidies)
+
+-- a run on what the words were parsed as ends as one on these words
+pub read_ended : (known : Surroundings) (is_input_read : Bool) (words : List (List ℕ)) (left : Option (List ℕ)) (what : ParsedWords) (old new : Outputs)
+    (form : Option AskedForm) (lines : List ErrorLine) (status : ℕ) → AreReadAs is_input_read words what
+    → FormedEnds known left what old new form lines status → ReadEnd known is_input_read words left old new form lines status
+read_ended known is_input_read words left what old new form lines status are (formed.formed f ends) = runs.parsed what are f ends
+read_ended known is_input_read words left what old new form lines status are (formed.for_memory s n f l) = runs.for_memory s n f l
+
+-- standard error that took no lines is as it was
+nothing_taken : (lines : List ErrorLine) (taken middle : SpelledBytes) (failed failed_middle : ℕ) → lines ≡ []
+    → TakesLines taken failed lines middle failed_middle → (middle ≡ taken) × (failed_middle ≡ failed)
+nothing_taken lines taken middle failed failed_middle e none = (refl, refl)
+nothing_taken lines taken middle failed failed_middle e (one_more some all line last after failed_last failed_after h t same) =
+    let empty : length (some ++ line ∷ []) ≡ 0 = ap length (sym same ∙ e) in
+    absurd (omega (arith, empty, length-append some (line ∷ [])))
+
+-- lines in a form that standard error took after no lines are those that it took since before that
+pub formed_since : (form : Option AskedForm) (lines : List ErrorLine) (taken middle after : SpelledBytes) (failed failed_middle failed_after : ℕ)
+    → TakesLines taken failed [] middle failed_middle → TakesLines (as_asked form middle) failed_middle lines after failed_after
+    → TakesLines (as_asked form taken) failed lines after failed_after
+formed_since form lines taken middle after failed failed_middle failed_after before h =
+    let same = nothing_taken [] taken middle failed failed_middle refl before in
+    subst (λ (s : SpelledBytes). TakesLines (as_asked form s) failed lines after failed_after) same.0
+    (subst (λ n. TakesLines (as_asked form middle) n lines after failed_after) same.1 h)
 
 -- the status of a run that a file of words ended
 list_at_most_six : (content : FileContent) (path : List ℕ) (status : ℕ) (lines : List ErrorLine) → StopsReadingList content path status lines → status ≤ 6
@@ -158,17 +185,20 @@ module _ (known : Surroundings) (left : Option (List ℕ)) (words : List (List �
   -- a run that a file of words ended, with its last lines reported
   pub words_stopped : (old : Outputs) (status : ℕ) (taken taken_after : SpelledBytes) (failed failed_after : ℕ)
       → (lines : List ErrorLine) × StopsAtWords known.content left words status lines × TakesLines taken failed (lines ++ last_lines status) taken_after failed_after
-      → (lines : List ErrorLine) × WordsEnd known words left old old lines status × TakesLines taken failed lines taken_after failed_after
-  words_stopped old status taken taken_after failed failed_after h = (h.0 ++ last_lines status, runs.stopped h.0 h.1 refl refl, h.2)
+      → (form : Option AskedForm) × (lines : List ErrorLine) × WordsEnd known words left old old form lines status
+      × TakesLines (as_asked form taken) failed lines taken_after failed_after
+  words_stopped old status taken taken_after failed failed_after h = (None, h.0 ++ last_lines status, runs.stopped h.0 h.1 refl refl refl, h.2)
 
   -- a run that a word in a file ended, which isn't UTF-8
   pub words_malformed : (old : Outputs) (status : ℕ) (taken middle taken_after : SpelledBytes) (failed failed_middle failed_after : ℕ) (files : List (List ℕ))
       → AreFilesRead known.content left (files_of words) files → are_utf8 files ≡ false → status ≡ 2 → TakesLines taken failed [] middle failed_middle
       → TakesLine middle failed_middle malformed_line taken_after failed_after
-      → (lines : List ErrorLine) × WordsEnd known words left old old lines status × TakesLines taken failed lines taken_after failed_after
+      → (form : Option AskedForm) × (lines : List ErrorLine) × WordsEnd known words left old old form lines status
+      × TakesLines (as_asked form taken) failed lines taken_after failed_after
   words_malformed old status taken middle taken_after failed failed_middle failed_after files r u s before h = (
+    None,
     malformed_line ∷ [],
-    runs.stopped (malformed_line ∷ []) (stops.malformed files r u s refl) refl (rw s refl),
+    runs.stopped (malformed_line ∷ []) (stops.malformed files r u s refl) refl refl (rw s refl),
     lines_append taken middle failed failed_middle [] (malformed_line ∷ []) taken_after failed_after before
         (lines_one middle taken_after failed_middle failed_after malformed_line h),
   )
@@ -176,26 +206,30 @@ module _ (known : Surroundings) (left : Option (List ℕ)) (words : List (List �
   -- a run that ended since memory ran out after the files of words were read
   pub words_forgotten : (old : Outputs) (status : ℕ) (taken middle taken_after : SpelledBytes) (failed failed_middle failed_after : ℕ) → status ≡ 6
       → TakesLines taken failed [] middle failed_middle → TakesLines middle failed_middle (last_lines status) taken_after failed_after
-      → (lines : List ErrorLine) × WordsEnd known words left old old lines status × TakesLines taken failed lines taken_after failed_after
+      → (form : Option AskedForm) × (lines : List ErrorLine) × WordsEnd known words left old old form lines status
+      × TakesLines (as_asked form taken) failed lines taken_after failed_after
   words_forgotten old status taken middle taken_after failed failed_middle failed_after s before h = (
+    None,
     last_lines status,
-    runs.stopped [] (stops.for_memory s refl) refl refl,
+    runs.stopped [] (stops.for_memory s refl) refl refl refl,
     lines_append taken middle failed failed_middle [] (last_lines status) taken_after failed_after before h,
   )
 
   module _ (is_input_read : Bool) (is : is_input_read ≡ is_input_read_for words) (represented : List (List ℕ))
       (represent : Represent known.content left words represented) where
     -- a run ends as one on the words that its words represent does
-    pub words_ended : (old new : Outputs) (status : ℕ) (taken middle taken_after : SpelledBytes) (failed failed_middle failed_after : ℕ)
-        (left_after : Option (List ℕ)) → (is_input_read_for words ≡ false → left_after ≡ left) → TakesLines taken failed [] middle failed_middle
-        → (lines : List ErrorLine) × ReadEnd known is_input_read represented left_after old new lines status
-        × TakesLines middle failed_middle lines taken_after failed_after
-        → (lines : List ErrorLine) × WordsEnd known words left old new lines status × TakesLines taken failed lines taken_after failed_after
-    words_ended old new status taken middle taken_after failed failed_middle failed_after left_after untouched before h = (
+    pub words_ended : (old new : Outputs) (status : ℕ) (taken taken_after : SpelledBytes) (failed failed_after : ℕ)
+        (left_after : Option (List ℕ)) → (is_input_read_for words ≡ false → left_after ≡ left)
+        → (form : Option AskedForm) × (lines : List ErrorLine) × ReadEnd known is_input_read represented left_after old new form lines status
+        × TakesLines (as_asked form taken) failed lines taken_after failed_after
+        → (form : Option AskedForm) × (lines : List ErrorLine) × WordsEnd known words left old new form lines status
+        × TakesLines (as_asked form taken) failed lines taken_after failed_after
+    words_ended old new status taken taken_after failed failed_after left_after untouched h = (
       h.0,
+      h.1,
       runs.represented represented left_after represent untouched
-          (subst (λ (b : Bool). ReadEnd known b represented left_after old new h.0 status) is h.1),
-      lines_append taken middle failed failed_middle [] h.0 taken_after failed_after before h.2,
+          (subst (λ (b : Bool). ReadEnd known b represented left_after old new h.0 h.1 status) is h.2),
+      h.3,
     )
 
     pub changes_asked : AreReadForChanges is_input_read represented → AskForChanges known left words

@@ -21,7 +21,7 @@ use Rattle.kmin_run.specs.Stops.{StopsAmongFiles}
 
 -- the options of a run on a bundle: a tree in the strict language that begins at `Kconfig`, without the expansion of macros
 abbrev pub bundle_settings : Settings
-bundle_settings = record { root = []; tree = codes "Kconfig"; language = Strict; format = plain_format; profile = Present; strict = false; expansion = None }
+bundle_settings = record { root = []; tree = codes "Kconfig"; language = Strict; format = plain_format; profile = Present; strict = false; expansion = None; messages = None }
 
 -- the command of a run on a bundle: the full file of the one configuration file `config`
 abbrev pub bundle_task : Task

@@ -1,9 +1,11 @@
 -- What a run of the program does with these words.
-use Rattle.std.specs.Prelude.{◌≡◌, ◌≢◌, ◌<◌, ◌≤◌, ◌⊎◌, ℕ, Bool, true, false, List, [], ◌∷◌, ◌++◌, Option, Ok, length, take}
+use Rattle.std.specs.Prelude.{◌≡◌, ◌≢◌, ◌<◌, ◌≤◌, ◌⊎◌, ℕ, Bool, true, false, List, [], ◌∷◌, ◌++◌, Option, None, Ok, length, take, option_map}
 use Rattle.std.specs.Io.KnownBytes.{Appends}
 use Rattle.kc_value.specs.declared.limits.TheConstants.{MAX_BUNDLE_BYTES}
 use Rattle.kmin_report.specs.Reports.{ErrorLine, last_lines, output_line, refused_line}
 use Rattle.kmin_report.specs.StandardError.{HasRisen}
+use Rattle.kmin_messages.specs.declared.message.Form.{Form}
+use Rattle.kmin_texts.specs.Spellings.{AskedForm}
 use Rattle.kmin_words.specs.Jobs.{Settings, Questions, Task, settings_view, questions_view, task_view, tidy_job_view}
 use Rattle.kmin_words.specs.Parses.{AreReadAs}
 use Rattle.kmin_words.specs.declared.command_line.ParsedWords.{ParsedWords}
@@ -69,21 +71,34 @@ ParsedEnds known left (Tidy tidy_job) old new lines status =
 ParsedEnds known left (Help text) old new lines status = HelpEnds text.bytes.items old new lines status
 ParsedEnds known left (Refused text) old new lines status = (status ≡ 2) × (new ≡ old) × (lines ≡ refused_line text.bytes.items ∷ [])
 
--- A run on words without `@FILE` ends as what they are read as does, or memory ran out before, and nothing changes. Where standard
--- input was read before for words in a file (`is_input_read`), they are refused if they read it once more.
-pub data ReadEnd (known : Surroundings) (is_input_read : Bool) (words : List (List ℕ)) (left : Option (List ℕ)) (old new : Outputs) (lines : List ErrorLine) (status : ℕ) : Type 0 where
-  parsed : (what : ParsedWords) → AreReadAs is_input_read words what → ParsedEnds known left what old new lines status
-      → ReadEnd known is_input_read words left old new lines status
-  for_memory : status ≡ 6 → new ≡ old → lines ≡ last_lines status → ReadEnd known is_input_read words left old new lines status
+-- the form of messages and the folder of the tree by these values; None for plain messages
+abbrev pub form_with : Option Form → (root : List ℕ) → Option AskedForm
+form_with messages root = option_map (λ form. record { form = form; root = root }) messages
+
+-- the form of messages for which the words of a command ask; a help and a message that refuses the words have plain ones
+abbrev pub form_asked : ParsedWords → Option AskedForm
+form_asked (Job job) = form_with job.settings.messages job.settings.root.now
+form_asked (Save output_job) = form_with output_job.job.settings.messages output_job.job.settings.root.now
+form_asked (TheQuestions questions) = form_with questions.messages questions.root.now
+form_asked (Tidy tidy_job) = form_with tidy_job.settings.messages tidy_job.settings.root.now
+form_asked what = None
+
+-- A run on words without `@FILE` ends as what they are read as does, with lines in the form for which they ask, or memory ran out
+-- before, and nothing changes. Where standard input was read before for words in a file (`is_input_read`), they are refused if they
+-- read it once more.
+pub data ReadEnd (known : Surroundings) (is_input_read : Bool) (words : List (List ℕ)) (left : Option (List ℕ)) (old new : Outputs) (form : Option AskedForm) (lines : List ErrorLine) (status : ℕ) : Type 0 where
+  parsed : (what : ParsedWords) → AreReadAs is_input_read words what → form ≡ form_asked what → ParsedEnds known left what old new lines status
+      → ReadEnd known is_input_read words left old new form lines status
+  for_memory : status ≡ 6 → new ≡ old → form ≡ None → lines ≡ last_lines status → ReadEnd known is_input_read words left old new form lines status
 
 -- A run on words ends as one on the words that they represent does, each `@FILE` those in its file; or such a file ends it, and
 -- nothing changes. Of standard input all is left then but where it is one of these files.
-pub data WordsEnd (known : Surroundings) (words : List (List ℕ)) (left : Option (List ℕ)) (old new : Outputs) (lines : List ErrorLine) (status : ℕ) : Type 0 where
+pub data WordsEnd (known : Surroundings) (words : List (List ℕ)) (left : Option (List ℕ)) (old new : Outputs) (form : Option AskedForm) (lines : List ErrorLine) (status : ℕ) : Type 0 where
   represented : (represented : List (List ℕ)) (left_after : Option (List ℕ)) → Represent known.content left words represented
       → (is_input_read_for words ≡ false → left_after ≡ left)
-      → ReadEnd known (is_input_read_for words) represented left_after old new lines status → WordsEnd known words left old new lines status
-  stopped : (own : List ErrorLine) → StopsAtWords known.content left words status own → new ≡ old → lines ≡ own ++ last_lines status
-      → WordsEnd known words left old new lines status
+      → ReadEnd known (is_input_read_for words) represented left_after old new form lines status → WordsEnd known words left old new form lines status
+  stopped : (own : List ErrorLine) → StopsAtWords known.content left words status own → new ≡ old → form ≡ None → lines ≡ own ++ last_lines status
+      → WordsEnd known words left old new form lines status
 
 -- standard input: the bytes that are left, as far as that is known, and the count of its failed reads
 pub record Input : Type 0 where
@@ -111,10 +126,10 @@ pub data BundleEnds (input input_after : Input) (old new : Outputs) (lines : Lis
       → (status ≡ 5 → HasRisen input.failures input_after.failures ⊎ HasRisen old.failures new.failures)
       → new.disk ≡ old.disk → lines ≡ own ++ last_lines status → BundleEnds input input_after old new lines status
 
--- a run ends, without words on a bundle, and with words as they are parsed
-abbrev pub Ends : Surroundings → (words : List (List ℕ)) → (input input_after : Input) → (old new : Outputs) → (lines : List ErrorLine) → (status : ℕ) → Type 0
-Ends known [] input input_after old new lines status = BundleEnds input input_after old new lines status
-Ends known (word ∷ words) input input_after old new lines status = WordsEnd known (word ∷ words) input.left old new lines status
+-- a run ends, without words on a bundle, with plain lines, and with words as they are parsed
+abbrev pub Ends : Surroundings → (words : List (List ℕ)) → (input input_after : Input) → (old new : Outputs) → (form : Option AskedForm) → (lines : List ErrorLine) → (status : ℕ) → Type 0
+Ends known [] input input_after old new form lines status = BundleEnds input input_after old new lines status × (form ≡ None)
+Ends known (word ∷ words) input input_after old new form lines status = WordsEnd known (word ∷ words) input.left old new form lines status
 
 -- what was parsed is `tidy --write`, or a command with an output file
 abbrev pub MayChangeFiles : ParsedWords → Type 0

@@ -1,6 +1,7 @@
 //! The commands of `kmin` and its bundles: what each reads, what it writes, and its exit status.
 #![tactic(auto)]
 
+mod asked_forms;
 mod bundle;
 mod bundle_answer;
 mod configurations;

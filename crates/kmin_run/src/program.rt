@@ -7,8 +7,11 @@ ghost use Rattle.kmin_report.specs.Reports.{ErrorLine, refused_line};
 ghost use Rattle.kmin_disk.specs.Disks.{Disk};
 ghost use Rattle.kmin_run.specs.Runs.{AreReadForChanges, AreReadForTidying, AskForChanges, AskForTidying, BundleEnds, Ends, HasFailed, HelpEnds, IsTidying, MayChangeFiles, ParsedEnds, ReadEnd, WordsEnd, input_of};
 ghost use Rattle.kmin_run.specs.TidyRuns.{outputs_of};
+ghost use Rattle.kmin_run.specs.between.WordRuns.{FormedEnds};
+ghost use Rattle.kmin_texts.specs.Spellings.{AskedForm, as_asked};
 ghost use Rattle.kmin_run.specs.between.WordRuns.{AreWordsRead};
 
+use crate::asked_forms::set_form_for;
 use crate::bundle_answer::run_bundle;
 use crate::job_output::serve;
 use crate::output_file::save;
@@ -18,6 +21,7 @@ use kc_value::{Seed, Sink, Source};
 use kmin_disk::WriteDisk;
 use kmin_lines::{WordFault, with_files};
 use kmin_report::{Messages, Report, RunError, exit_status, write_answer};
+use kmin_texts::FormMessages;
 use kmin_trees::{Files, WordFiles, read_word_files};
 use kmin_words::{ParsedWords, command_first, read_words_beside};
 use std::alloc::Global;
@@ -31,7 +35,7 @@ use std::alloc::Global;
 /// file refused, or bundle, list or file of words too large, 5 a read or write failed, 6 out of memory.
 ///
 /// Only `tidy` and a command with an output file use `disk`; all other files are read by `files`.
-pub fn run<F: Files, D: WriteDisk, I: Source, O: Sink, E: Messages>(
+pub fn run<F: Files, D: WriteDisk, I: Source, O: Sink, E: FormMessages>(
     alloc: Global,
     words: &[&str],
     files: &mut F,
@@ -45,11 +49,11 @@ pub fn run<F: Files, D: WriteDisk, I: Source, O: Sink, E: Messages>(
     // Without words the run is on a bundle. Else each `@FILE` represents the words in its file, what they represent is
     // parsed, the command first, and the run ends as what it is parsed as does: a command by the clauses of its own, a
     // help, or a message that refuses the words, with status 2; or such a file can't be read or is refused, or memory runs
-    // out before. Standard error takes just these lines.
-    ensures ends { (lines : List ErrorLine) × Ends (F.surroundings files.old) (map (λ (word : Bor (List ℕ)). word.now) words.now)
+    // out before. Standard error takes just these lines, in the form for which the words of a command ask, and else as before.
+    ensures ends { (form : Option AskedForm) × (lines : List ErrorLine) × Ends (F.surroundings files.old) (map (λ (word : Bor (List ℕ)). word.now) words.now)
         (input_of (I.left input.old) (I.failures input.old)) (input_of (I.left input.new) (I.failures input.new))
         (outputs_of (D.disk disk.old) (O.taken out.old) (O.failures out.old))
-        (outputs_of (D.disk disk.new) (O.taken out.new) (O.failures out.new)) lines result × TakesLines (E.taken err.old) (E.failures err.old) lines (E.taken err.new) (E.failures err.new) }
+        (outputs_of (D.disk disk.new) (O.taken out.new) (O.failures out.new)) form lines result × TakesLines (as_asked form (E.taken err.old)) (E.failures err.old) lines (E.taken err.new) (E.failures err.new) }
 
     // The disk changes only if the words, with those in files, are parsed as `tidy --write`, or have an output file.
     ensures unasked { ((D.disk disk.new).state ≡ (D.disk disk.old).state) ⊎ AskForChanges (F.surroundings files.old) (I.left input.old) (map (λ (word : Bor (List ℕ)). word.now) words.now) }
@@ -93,7 +97,7 @@ fn answer_bundle<I: Source, O: Sink, E: Messages>(
 }
 
 /// Runs the words, each `@FILE` read as the words in its file, and returns the exit status.
-fn run_words<F: Files, D: WriteDisk, I: Source, O: Sink, E: Messages>(
+fn run_words<F: Files, D: WriteDisk, I: Source, O: Sink, E: FormMessages>(
     alloc: Global,
     words: &[&str],
     files: &mut F,
@@ -103,9 +107,9 @@ fn run_words<F: Files, D: WriteDisk, I: Source, O: Sink, E: Messages>(
     err: &mut E,
 ) -> u8
     ensures status { result ≤ 6 }
-    ensures ends { (lines : List ErrorLine) × WordsEnd (F.surroundings files.old) (map (λ (word : Bor (List ℕ)). word.now) words.now) (I.left input.old)
+    ensures ends { (form : Option AskedForm) × (lines : List ErrorLine) × WordsEnd (F.surroundings files.old) (map (λ (word : Bor (List ℕ)). word.now) words.now) (I.left input.old)
         (outputs_of (D.disk disk.old) (O.taken out.old) (O.failures out.old))
-        (outputs_of (D.disk disk.new) (O.taken out.new) (O.failures out.new)) lines result × TakesLines (E.taken err.old) (E.failures err.old) lines (E.taken err.new) (E.failures err.new) }
+        (outputs_of (D.disk disk.new) (O.taken out.new) (O.failures out.new)) form lines result × TakesLines (as_asked form (E.taken err.old)) (E.failures err.old) lines (E.taken err.new) (E.failures err.new) }
     ensures unasked { ((D.disk disk.new).state ≡ (D.disk disk.old).state) ⊎ AskForChanges (F.surroundings files.old) (I.left input.old) (map (λ (word : Bor (List ℕ)). word.now) words.now) }
     ensures refused { result ≡ 4 → (O.taken out.new ≡ O.taken out.old) ⊎ AskForTidying (F.surroundings files.old) (I.left input.old) (map (λ (word : Bor (List ℕ)). word.now) words.now) }
     ensures unwritten { result ≢ 0 → result ≢ 1 → result ≢ 4 → result ≢ 5 → O.taken out.new ≡ O.taken out.old }
@@ -122,7 +126,7 @@ fn run_words<F: Files, D: WriteDisk, I: Source, O: Sink, E: Messages>(
 }
 
 /// Runs the words, each `@FILE` as the words in its file, which was read, and returns the exit status.
-fn run_given<F: Files, D: WriteDisk, I: Source, O: Sink, E: Messages>(
+fn run_given<F: Files, D: WriteDisk, I: Source, O: Sink, E: FormMessages>(
     alloc: Global,
     words: &[&str],
     read: &WordFiles,
@@ -134,9 +138,9 @@ fn run_given<F: Files, D: WriteDisk, I: Source, O: Sink, E: Messages>(
 ) -> u8
     ensures status { result ≤ 6 }
     ensures ends { (left : Option (List ℕ)) → AreWordsRead (F.surroundings files.old).content left (I.left input.old) (map (λ (word : Bor (List ℕ)). word.now) words.now) (texts_of read.now.files) read.now.is_input_read
-        → (lines : List ErrorLine) × WordsEnd (F.surroundings files.old) (map (λ (word : Bor (List ℕ)). word.now) words.now) left
+        → (form : Option AskedForm) × (lines : List ErrorLine) × WordsEnd (F.surroundings files.old) (map (λ (word : Bor (List ℕ)). word.now) words.now) left
         (outputs_of (D.disk disk.old) (O.taken out.old) (O.failures out.old))
-        (outputs_of (D.disk disk.new) (O.taken out.new) (O.failures out.new)) lines result × TakesLines (E.taken err.old) (E.failures err.old) lines (E.taken err.new) (E.failures err.new) }
+        (outputs_of (D.disk disk.new) (O.taken out.new) (O.failures out.new)) form lines result × TakesLines (as_asked form (E.taken err.old)) (E.failures err.old) lines (E.taken err.new) (E.failures err.new) }
     ensures unasked { (left : Option (List ℕ)) → AreWordsRead (F.surroundings files.old).content left (I.left input.old) (map (λ (word : Bor (List ℕ)). word.now) words.now) (texts_of read.now.files) read.now.is_input_read
         → ((D.disk disk.new).state ≡ (D.disk disk.old).state) ⊎ AskForChanges (F.surroundings files.old) left (map (λ (word : Bor (List ℕ)). word.now) words.now) }
     ensures refused { (left : Option (List ℕ)) → AreWordsRead (F.surroundings files.old).content left (I.left input.old) (map (λ (word : Bor (List ℕ)). word.now) words.now) (texts_of read.now.files) read.now.is_input_read
@@ -161,7 +165,7 @@ fn run_given<F: Files, D: WriteDisk, I: Source, O: Sink, E: Messages>(
 
 /// Runs the command that words without `@FILE` name, behind options or before them, and returns the exit status. Where standard input
 /// was read (`is_input_read`), words that read it once more are refused.
-fn run_read<F: Files, D: WriteDisk, I: Source, O: Sink, E: Messages>(
+fn run_read<F: Files, D: WriteDisk, I: Source, O: Sink, E: FormMessages>(
     alloc: Global,
     words: &[&str],
     is_input_read: bool,
@@ -172,9 +176,9 @@ fn run_read<F: Files, D: WriteDisk, I: Source, O: Sink, E: Messages>(
     err: &mut E,
 ) -> u8
     ensures status { result ≤ 6 }
-    ensures ends { (lines : List ErrorLine) × ReadEnd (F.surroundings files.old) is_input_read (map (λ (word : Bor (List ℕ)). word.now) words.now) (I.left input.old)
+    ensures ends { (form : Option AskedForm) × (lines : List ErrorLine) × ReadEnd (F.surroundings files.old) is_input_read (map (λ (word : Bor (List ℕ)). word.now) words.now) (I.left input.old)
         (outputs_of (D.disk disk.old) (O.taken out.old) (O.failures out.old))
-        (outputs_of (D.disk disk.new) (O.taken out.new) (O.failures out.new)) lines result × TakesLines (E.taken err.old) (E.failures err.old) lines (E.taken err.new) (E.failures err.new) }
+        (outputs_of (D.disk disk.new) (O.taken out.new) (O.failures out.new)) form lines result × TakesLines (as_asked form (E.taken err.old)) (E.failures err.old) lines (E.taken err.new) (E.failures err.new) }
     ensures unasked { ((D.disk disk.new).state ≡ (D.disk disk.old).state) ⊎ AreReadForChanges is_input_read (map (λ (word : Bor (List ℕ)). word.now) words.now) }
     ensures refused { result ≡ 4 → (O.taken out.new ≡ O.taken out.old) ⊎ AreReadForTidying is_input_read (map (λ (word : Bor (List ℕ)). word.now) words.now) }
     ensures unwritten { result ≢ 0 → result ≢ 1 → result ≢ 4 → result ≢ 5 → O.taken out.new ≡ O.taken out.old }
@@ -188,7 +192,36 @@ fn run_read<F: Files, D: WriteDisk, I: Source, O: Sink, E: Messages>(
         return exit_status(RunError::Memory, err);
     };
     match read_words_beside(alloc, &ordered, is_input_read) {
-        Ok(parsed) => run_parsed(alloc, &parsed, files, disk, input, out, err),
+        Ok(parsed) => run_formed(alloc, &parsed, files, disk, input, out, err),
+        Err(_) => exit_status(RunError::Memory, err),
+    }
+}
+
+/// Runs what the words are parsed as, with messages in the form for which they ask, and returns the exit status.
+fn run_formed<F: Files, D: WriteDisk, I: Source, O: Sink, E: FormMessages>(
+    alloc: Global,
+    parsed: &ParsedWords<'_>,
+    files: &mut F,
+    disk: &mut D,
+    input: &mut I,
+    out: &mut O,
+    err: &mut E,
+) -> u8
+    ensures status { result ≤ 6 }
+    ensures ends { (form : Option AskedForm) × (lines : List ErrorLine) × FormedEnds (F.surroundings files.old) (I.left input.old) parsed.now
+        (outputs_of (D.disk disk.old) (O.taken out.old) (O.failures out.old))
+        (outputs_of (D.disk disk.new) (O.taken out.new) (O.failures out.new)) form lines result
+        × TakesLines (as_asked form (E.taken err.old)) (E.failures err.old) lines (E.taken err.new) (E.failures err.new) }
+    ensures unasked { ((D.disk disk.new).state ≡ (D.disk disk.old).state) ⊎ MayChangeFiles parsed.now }
+    ensures refused { result ≡ 4 → (O.taken out.new ≡ O.taken out.old) ⊎ IsTidying parsed.now }
+    ensures unwritten { result ≢ 0 → result ≢ 1 → result ≢ 4 → result ≢ 5 → O.taken out.new ≡ O.taken out.old }
+    ensures failed { result ≡ 5 → HasFailed (F.failures files.old) (F.failures files.new)
+        (input_of (I.left input.old) (I.failures input.old)) (input_of (I.left input.new) (I.failures input.new))
+        (outputs_of (D.disk disk.old) (O.taken out.old) (O.failures out.old))
+        (outputs_of (D.disk disk.new) (O.taken out.new) (O.failures out.new)) ⊎ (IsTidying parsed.now ⊎ MayChangeFiles parsed.now) }
+{
+    match set_form_for(parsed, err) {
+        Ok(()) => run_parsed(alloc, parsed, files, disk, input, out, err),
         Err(_) => exit_status(RunError::Memory, err),
     }
 }

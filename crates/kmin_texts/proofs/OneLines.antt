@@ -4,18 +4,18 @@ use Rattle.std.specs.Str.{chars}
 use Rattle.std.proofs.lemmas.Bool.{eqb-true}
 use Rattle.kmin_messages.specs.declared.message.Severity.{Severity}
 use Rattle.kmin_messages.specs.declared.message.Severity.TheVariants.{Error, Warning}
-use Rattle.kmin_messages.specs.Messages.{Message, severity_name, place, after_colon, long_line}
+use Rattle.kmin_messages.specs.Messages.{Message, severity_name, place, after_colon, long_line, form_line}
 use Rattle.kmin_messages.specs.ShownTexts.{has_no_byte, has_no_control_byte, shown_char, fitting}
 use Rattle.kmin_messages.specs.between.MessageViews.{bytes_of}
 use Rattle.kmin_messages.proofs.SafeBytes.{cond_passes, all_joined}
 use Rattle.kmin_messages.proofs.PlainTexts.{char_plain}
 use Rattle.kmin_messages.proofs.ObjectLines.{one_object, decimal_safe}
 use Rattle.kmin_texts.specs.declared.message_lines.MessageParts.{MessageParts}
-use Rattle.kmin_texts.specs.declared.message_lines.Form.{Form}
-use Rattle.kmin_texts.specs.declared.message_lines.Form.TheVariants.{Long, Json}
+use Rattle.kmin_messages.specs.declared.message.Form.{Form}
+use Rattle.kmin_messages.specs.declared.message.Form.TheVariants.{Long, Json}
 use Rattle.kmin_texts.specs.OneLines.{IsOneLine, HasNoNewline}
 use Rattle.kmin_texts.specs.between.Details.{detail_text}
-use Rattle.kmin_texts.specs.between.MessageLines.{message_of_parts, form_line}
+use Rattle.kmin_texts.specs.between.MessageLines.{message_of_parts}
 
 -- the pieces that fit have no control byte
 pieces_plain : (cs : List ℕ) (room : ℕ) → has_no_control_byte (fitting room (map shown_char cs)) ≡ true

@@ -4,4 +4,5 @@ pub mod LineTexts
 pub mod OneLines
 pub mod NumberedLines
 pub mod ReportMessages
+pub mod Spellings
 pub mod between

@@ -3,11 +3,10 @@ use Rattle.std.specs.Prelude.{ℕ, List, [], ◌∷◌, ◌++◌, Option, Some, 
 use Rattle.kc_tree_model.specs.FaultNames.{tree_kind_name}
 use Rattle.kc_dotconfig_model.specs.KindNames.{load_kind_name, notice_kind_name}
 use Rattle.kc_macros_model.specs.FaultNames.{macro_kind_name, macro_notice_name, answers_kind_name}
-use Rattle.kmin_messages.specs.Messages.{Message}
+use Rattle.kmin_messages.specs.Messages.{Message, form_line}
+use Rattle.kmin_messages.specs.declared.message.Form.{Form}
 use Rattle.kmin_messages.specs.declared.message.Severity.{Severity}
 use Rattle.kmin_messages.specs.declared.message.Severity.TheVariants.{Error, Warning}
-use Rattle.kmin_texts.specs.declared.message_lines.Form.{Form}
-use Rattle.kmin_texts.specs.between.MessageLines.{form_line}
 use Rattle.kmin_report.specs.Reports.{ErrorLine, tree_line, cycle_line, fault_line, notice_line, answers_line, macro_notice_line, macro_fault_line, output_line, not_regular_line, write_line, left_line, memory_line, refused_line}
 
 -- the name of the kind of a line; words that are refused have none

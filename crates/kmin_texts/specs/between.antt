@@ -3,3 +3,4 @@ pub mod CycleSteps
 pub mod NamedSymbols
 pub mod Details
 pub mod MessageLines
+pub mod Wordings

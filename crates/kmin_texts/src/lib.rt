@@ -3,9 +3,13 @@
 #![tactic(auto)]
 
 mod cycle_steps;
+mod cycle_words;
 mod details;
+mod form_messages;
+mod formed_messages;
 mod kinds;
 mod limits;
+mod line_files;
 mod line_words;
 mod message_lines;
 mod names;
@@ -14,13 +18,17 @@ mod numbered_lines;
 mod places;
 mod report_lines;
 mod tree_lines;
+mod worded_lines;
 
 pub use cycle_steps::{Cause, Step, cycle_text};
 pub use details::{Detail, detail_names, shown_detail, without_words};
+pub use form_messages::{FormMessages, Wording};
+pub use formed_messages::FormedMessages;
 pub use kinds::{file_line_text, notice_detail, tree_line_text};
 pub use limits::{Limit, limit_text};
+pub use line_files::{LineFiles, Reread};
 pub use line_words::{first_run, named_on};
-pub use message_lines::{Form, MessageParts, message_line, messages_are_one_line};
+pub use message_lines::{MessageParts, message_line, messages_are_one_line};
 pub use names::{unknown_text, value_text};
 pub use near_names::nearest;
 pub use numbered_lines::{after_lines, file_fault_text, file_notice_detail, line_at};

@@ -3,20 +3,12 @@ ghost use Rattle.std.specs.Prelude.{◌≡◌, ◌<◌, ◌^◌, true, IfOk};
 ghost use Rattle.kmin_messages.specs.ShownTexts.{has_no_byte};
 ghost use Rattle.kmin_messages.specs.between.MessageViews.{bytes_of};
 ghost use Rattle.kmin_texts.specs.OneLines.{IsOneLine, HasNoNewline};
-ghost use Rattle.kmin_texts.specs.between.MessageLines.{message_of_parts, form_line};
+ghost use Rattle.kmin_messages.specs.Messages.{form_line};
+ghost use Rattle.kmin_texts.specs.between.MessageLines.{message_of_parts};
 
 use crate::details::{Detail, detail_names, shown_detail};
-use kmin_messages::{Message, Severity, json_line, long_line};
+use kmin_messages::{Form, Message, Severity, json_line, long_line};
 use std::alloc::{AllocError, Global};
-
-/// A form of messages that has more than the file, the line and the kind.
-#[derive(Clone, Copy, Debug, PartialEq, Eq)]
-pub enum Form {
-    /// A line for people.
-    Long,
-    /// A line for programs, one JSON object.
-    Json,
-}
 
 /// The parts of a message: the name of its kind, its severity, its file, if it is of one, the line there (0 where there is none),
 /// and its detail.

@@ -85,7 +85,7 @@ fn utf8_line(line: Option<&[u8]>) -> Option<&str>
 }
 
 /// Bytes as a text, if they are UTF-8.
-fn text_of(bytes: &[u8]) -> Option<&str>
+pub(crate) fn text_of(bytes: &[u8]) -> Option<&str>
     ensures { option_map (λ (text : Bor (List ℕ)). text.now) result ≡ (if is_utf8 bytes.now then Some bytes.now else None) }
 {
     match str::from_utf8(bytes) {

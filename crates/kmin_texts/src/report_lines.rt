@@ -4,13 +4,13 @@ ghost use Rattle.std.specs.Global.{Vec};
 ghost use Rattle.kmin_messages.specs.ShownTexts.{shown};
 ghost use Rattle.kmin_messages.specs.between.MessageViews.{bytes_of};
 ghost use Rattle.kmin_texts.specs.between.Details.{detail_names, detail_text};
-ghost use Rattle.kmin_texts.specs.between.MessageLines.{form_line};
+ghost use Rattle.kmin_messages.specs.Messages.{form_line};
 ghost use Rattle.kmin_texts.specs.ReportMessages.{file_of, kind_of, line_in, message_of, number_of, severity_of};
 ghost use Rattle.kmin_report.specs.between.ReportLines.{report_line};
 
 use crate::details::Detail;
-use crate::message_lines::{Form, MessageParts, message_line};
-use kmin_messages::Severity;
+use crate::message_lines::{MessageParts, message_line};
+use kmin_messages::{Form, Severity};
 use kmin_report::Report;
 use std::alloc::{AllocError, Global};
 

@@ -5,6 +5,7 @@ use Rattle.kc_tokens.specs.declared.language.Language.{Language}
 use Rattle.kc_rules_model.specs.declared.profile.Profile.{Profile}
 use Rattle.kc_dotconfig_model.specs.Formats.{FileFormat}
 use Rattle.kc_dotconfig_model.specs.between.Formats.{file_format}
+use Rattle.kmin_messages.specs.declared.message.Form.{Form}
 use Rattle.kmin_words.specs.declared.job.Verb.{Verb}
 use Rattle.kmin_words.specs.declared.job.Definition.{Definition as DeclaredDefinition}
 use Rattle.kmin_words.specs.declared.job.Expansion.{Expansion as DeclaredExpansion}
@@ -29,7 +30,7 @@ pub record Expansion : Type 0 where
   pub environment : List (List ℕ)
 
 -- the options of a command over configuration files: `tree` is the path of the first Kconfig file, relative to the folder
--- `root`; without `expansion` no macro is expanded
+-- `root`; without `expansion` no macro is expanded, and without `messages` the lines of standard error are plain
 pub record Settings : Type 0 where
   pub root : List ℕ
   pub tree : List ℕ
@@ -38,6 +39,7 @@ pub record Settings : Type 0 where
   pub profile : Profile
   pub strict : Bool
   pub expansion : Option Expansion
+  pub messages : Option Form
 
 -- the list of `tidy --from LIST`: its path, and whether each path in it ends with the byte 0 in place of a newline
 pub record PathList : Type 0 where
@@ -52,12 +54,13 @@ pub record TidyJob : Type 0 where
   pub files : List (List ℕ)
 
 -- the command `wants`: the folder of the tree, the path of its first Kconfig file there, where its macros' questions are answered,
--- and whether the questions of answer files that the tree doesn't ask are listed where none is open
+-- whether the questions of answer files that the tree doesn't ask are listed where none is open, and the form of messages
 pub record Questions : Type 0 where
   pub root : List ℕ
   pub tree : List ℕ
   pub expansion : Expansion
   pub unused : Bool
+  pub messages : Option Form
 
 -- a command: a verb over the files of one configuration, or the comparison of two files
 pub data Task : Type 0 where
@@ -86,6 +89,7 @@ settings_view s = record {
   profile = s.profile;
   strict = s.strict;
   expansion = option_map expansion_view s.expansion;
+  messages = s.messages;
 }
 
 -- a `PathList` of the code, as contracts see it
@@ -103,7 +107,8 @@ tidy_job_view t = record {
 
 -- the `Questions` of the code, as contracts see them
 abbrev pub questions_view : DeclaredQuestions → Questions
-questions_view q = record { root = q.root.now; tree = q.tree.now; expansion = expansion_view q.expansion; unused = q.unused }
+questions_view q =
+    record { root = q.root.now; tree = q.tree.now; expansion = expansion_view q.expansion; unused = q.unused; messages = q.messages }
 
 -- a `Task` of the code, as contracts see it
 abbrev pub task_view : DeclaredTask → Task

@@ -21,6 +21,7 @@ use kc_dotconfig_model::{Format, Strings};
 use kc_rules_model::Profile;
 use kc_tokens::{Language, LinuxVersion};
 use kmin_commands::{command_names, explained_names, kind_asked, message_tables, program};
+use kmin_messages::Form;
 use std::alloc::{AllocError, Global};
 
 /// The words after the program's name, parsed.
@@ -182,6 +183,7 @@ fn questions_of<'a>(alloc: Global, matches: &ArgMatches<'a>) -> Result<Questions
         tree,
         expansion,
         unused,
+        messages: form_of(value_of(matches, "messages")),
     })
 }
 
@@ -235,6 +237,7 @@ pub(crate) fn settings_of<'a>(
         profile: profile_of(value_of(matches, "imply")),
         strict: is_given(matches, "strict"),
         expansion,
+        messages: form_of(value_of(matches, "messages")),
     })
 }
 
@@ -270,6 +273,17 @@ fn profile_of(value: &str) -> Profile
     match value {
         "classic" => Profile::Classic,
         _ => Profile::Present,
+    }
+}
+
+/// The form of messages that a value of `--messages` names; `None` for plain ones.
+fn form_of(value: &str) -> Option<Form>
+    ensures { result ≡ parsed.form_of value.now }
+{
+    match value {
+        "long" => Some(Form::Long),
+        "json" => Some(Form::Json),
+        _ => None,
     }
 }
 

@@ -2,6 +2,7 @@
 use kc_dotconfig_model::Format;
 use kc_rules_model::Profile;
 use kc_tokens::Language;
+use kmin_messages::Form;
 
 /// The commands that write a text about one configuration.
 #[derive(Clone, Copy, Debug, PartialEq, Eq)]
@@ -57,6 +58,8 @@ pub struct Settings<'a> {
     pub strict: bool,
     /// Where the questions of the tree's macros are answered; `None` where no macro is expanded.
     pub expansion: Option<Expansion<'a>>,
+    /// The form of messages; `None` for plain ones.
+    pub messages: Option<Form>,
 }
 
 /// A command with its configuration files.
@@ -122,4 +125,6 @@ pub struct Questions<'a> {
     pub expansion: Expansion<'a>,
     /// `--unused`: whether the questions of the answer files that the tree doesn't ask are listed where none is open.
     pub unused: bool,
+    /// The form of messages; `None` for plain ones.
+    pub messages: Option<Form>,
 }

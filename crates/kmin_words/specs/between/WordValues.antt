@@ -16,6 +16,8 @@ use Rattle.kc_dotconfig_model.specs.PrefixGrammar.{is_prefix}
 use Rattle.kc_value.specs.Lines.{has_newline}
 use Rattle.kc_macros_model.specs.Variables.{is_environment_name}
 use Rattle.kc_tree_model.specs.LogicalLines.{without_white_end}
+use Rattle.kmin_messages.specs.declared.message.Form.{Form}
+use Rattle.kmin_messages.specs.declared.message.Form.TheVariants.{Long, Json}
 use Rattle.kmin_words.specs.declared.job.TidyFlags.{TidyFlags}
 use Rattle.kmin_words.specs.declared.job.Verb.{Verb}
 use Rattle.kmin_words.specs.declared.job.Verb.TheVariants.{Min, Full, Missed, Check}
@@ -53,6 +55,10 @@ profile_of value = if bytes_eq value (codes "classic") then Classic else Present
 -- the form of strings for a value of `--strings`: `Raw` for `raw`, and `Escaped` for any other
 abbrev pub strings_of : List ℕ → Strings
 strings_of value = if bytes_eq value (codes "raw") then Raw else Escaped
+
+-- the form of messages for a value of `--messages`; None for plain ones
+abbrev pub form_of : List ℕ → Option Form
+form_of value = if bytes_eq value (codes "long") then Some Long else (if bytes_eq value (codes "json") then Some Json else None)
 
 -- the Kconfig language for a value of `--language`; without one that of Linux if macros are expanded, and the strict one if not
 abbrev pub language_of : List ℕ → (is_expanded : Bool) → Language
@@ -185,6 +191,7 @@ settings_of found paths =
       profile = profile_of (value_of found (codes "imply"));
       strict = is_given found (codes "strict");
       expansion = expansion;
+      messages = form_of (value_of found (codes "messages"));
     }))))
 
 -- the options of a command, and the command with this name and its files
@@ -224,13 +231,19 @@ job_and_output_of name found =
     and_then (job_of name found) (λ job.
     Ok (kept_in_place (is_given found (codes "drop")) output job, output)))
 
--- the folder, first Kconfig file, sources of answers and `--unused` that the words of the command `wants` give, or why they are
+-- the folder, first Kconfig file, sources of answers, `--unused` and the form of messages that the words of the command `wants` give, or why they are
 -- refused
 abbrev pub questions_of : Found → ValueResult Questions
 questions_of found =
     and_then (expansion_of found) (λ expansion.
     and_then (paths_beside (values_of found (codes "answers")) []) (λ named.
-    Ok (record { root = value_of found (codes "root"); tree = value_of found (codes "tree"); expansion = expansion; unused = is_given found (codes "unused") })))
+    Ok (record {
+      root = value_of found (codes "root");
+      tree = value_of found (codes "tree");
+      expansion = expansion;
+      unused = is_given found (codes "unused");
+      messages = form_of (value_of found (codes "messages"));
+    })))
 
 -- whether the flags `--write` and `--drop` are given
 abbrev pub flags_of : Found → TidyFlags

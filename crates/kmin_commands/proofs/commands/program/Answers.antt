@@ -17,7 +17,7 @@ returns-clause-declared c =
     let listing = c.in_ok-program-2.ensures _ (c.in_ok-program.ensures _ c.in_ok-named.ensures) in
     let compare = with_command _ _ _ _ _ c.in_ok-program-3.ensures c.in_ok-compare.ensures listing in
     IfOk-weaker c.with_tidy_and_wants.result _ _ (λ made adds.
-    (_, record { languages = search rules; forms = search rules; profiles = search rules }, (adds _ compare).1)) c.with_tidy_and_wants.ensures
+    (_, record { languages = search rules; forms = search rules; profiles = search rules; messages = search rules }, (adds _ compare).1)) c.with_tidy_and_wants.ensures
 
 pub returns-clause-simple : goal.returns-clause-simple
 returns-clause-simple c =

@@ -11,4 +11,5 @@ returns c =
     let strings = with_argument _ _ _ _ _ c.in_ok-command-5.ensures c.strings.ensures none in
     let imply = with_argument _ _ _ _ _ c.in_ok-command-6.ensures c.imply.ensures strings in
     let strict = with_argument _ _ _ _ _ c.in_ok-command-7.ensures c.flag-2.ensures imply in
-    IfOk-weaker c.with_answers.result _ _ (λ made answers. answers _ strict) c.with_answers.ensures
+    let answers = c.in_ok-command-8.ensures _ strict in
+    IfOk-weaker c.arg-7.result _ _ (λ made adds. with_argument _ made _ _ _ adds c.message_form.ensures answers) c.arg-7.ensures

@@ -1,4 +1,4 @@
-use Rattle.std.proofs.Common.{inl, refl, sym, ◌∙◌, inr}
+use Rattle.std.proofs.Common.{None, inl, refl, sym, ◌∙◌, inr}
 use Rattle.kmin_run.proofs.ReadFailures.{bundle_rises}
 use Rattle.kmin_run.proofs.RunEnds.{with_words, without_words}
 use Rattle.kmin_run.proofs.RunStatuses.{on_four}
@@ -8,7 +8,7 @@ pub returns-then-is_empty : goal.returns-then-is_empty
 returns-then-is_empty g c =
     let ends = c.answer_bundle.ensures.ends (g.D.ReadDisk.disk c.args.disk.now) in record {
       status = c.answer_bundle.ensures.status;
-      ends = (ends.0, without_words _ _ _ _ _ ends.0 _ _ c.args.words.now (sym c.is_empty.ensures ∙ c.if-is_empty.true) ends.1, ends.2);
+      ends = (None, ends.0, without_words _ _ _ _ _ ends.0 _ _ c.args.words.now (sym c.is_empty.ensures ∙ c.if-is_empty.true) ends.1, ends.2);
       unasked = inl refl;
       refused = λ e. inl (on_four c.answer_bundle.result e c.answer_bundle.ensures.unwritten);
       unwritten = λ zero one four five. c.answer_bundle.ensures.unwritten zero five;
@@ -18,7 +18,7 @@ returns-then-is_empty g c =
 pub returns-clause-ends : goal.returns-clause-ends
 returns-clause-ends g c =
     let ends = c.run_words.ensures.ends in
-    (ends.0, with_words _ _ _ _ _ ends.0 _ _ c.args.words.now (sym c.is_empty.ensures ∙ c.if-is_empty.false) ends.1, ends.2)
+    (ends.0, ends.1, with_words _ _ _ _ _ ends.1 _ ends.0 _ c.args.words.now (sym c.is_empty.ensures ∙ c.if-is_empty.false) ends.2, ends.3)
 
 pub returns-clause-failed : goal.returns-clause-failed
 returns-clause-failed g c = c.run_words.ensures.failed

@@ -27,7 +27,7 @@ returns-in-Ok g c =
     record {
       status = c.run_read.ensures.status;
       ends = λ left read.
-          words_ended known left words is_input_read read.input given (represent left read) _ _ _ _ _ _ _ _ _ after read.untouched none c.run_read.ensures.ends;
+          words_ended known left words is_input_read read.input given (represent left read) _ _ _ _ _ _ _ after read.untouched c.run_read.ensures.ends;
       unasked = λ left read. elim c.run_read.ensures.unasked [
         | inl same ↦ inl same
         | inr asks ↦ inr (changes_asked known left words is_input_read read.input given (represent left read) asks)

@@ -1,10 +1,9 @@
-use Rattle.std.proofs.Common.{◌≡◌, ◌⊎◌, [], ℕ, List, Option, map, inl, inr, refl, subst}
+use Rattle.std.proofs.Common.{◌≡◌, ◌⊎◌, ℕ, List, Option, map, inl, inr, refl, subst}
 use Rattle.std.specs.Borrow.{Bor}
 use Rattle.kc_files.specs.TextViews.{texts_of}
 use Rattle.kmin_report.specs.StandardError.{HasRisen}
-use Rattle.kmin_report.proofs.WriterLemmas.{lines_append}
 use Rattle.kmin_run.specs.between.WordRuns.{AreWordsRead}
-use Rattle.kmin_run.proofs.RunEnds.{words_at_most_six, words_stopped}
+use Rattle.kmin_run.proofs.RunEnds.{formed_since, words_at_most_six, words_stopped}
 use Rattle.kmin_run.proofs.program.run_words.Goals as goal
 
 -- what failed after a step without a failure failed since before it
@@ -26,7 +25,7 @@ returns-in-Ok g c =
     let ends = (rw c.read_word_files.ensures.same at (c.run_given.ensures.ends left)) read in
     record {
       status = c.run_given.ensures.status;
-      ends = (ends.0, ends.1, lines_append _ _ _ _ [] ends.0 _ _ c.in-Ok.ensures.unreported ends.2);
+      ends = (ends.0, ends.1, ends.2, formed_since ends.0 ends.1 _ _ _ _ _ _ c.in-Ok.ensures.unreported ends.3);
       unasked = (rw c.read_word_files.ensures.same at (c.run_given.ensures.unasked left)) read;
       refused = (rw c.read_word_files.ensures.same at (c.run_given.ensures.refused left)) read;
       unwritten = c.run_given.ensures.unwritten;

@@ -1,0 +1,6 @@
+pub mod Counted
+pub mod LeftOver
+pub mod LastLines
+pub mod OneLine
+pub mod Lines
+pub mod RecordSteps

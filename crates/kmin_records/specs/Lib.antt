@@ -1,0 +1,4 @@
+pub mod LackingLines
+pub mod Records
+pub mod between
+pub mod checker

@@ -1,0 +1,18 @@
+use Rattle.std.proofs.Common.{None, refl}
+use Rattle.kmin_report.specs.Reports.{last_lines}
+use Rattle.kmin_run.specs.Runs.{form_asked}
+use Rattle.kmin_run.specs.between.WordRuns.{formed, for_memory}
+use Rattle.kmin_run.proofs.program.run_formed.Goals as goal
+
+pub returns-in-Ok-clause-ends : goal.returns-in-Ok-clause-ends
+returns-in-Ok-clause-ends g c =
+    let ends = rw (c.in-Ok.ensures.set, c.set_form_for.ensures.failures) at c.run_parsed.ensures.ends in
+    (form_asked c.args.parsed.now, ends.0, formed refl ends.1, ends.2)
+
+pub returns-in-Err-clause-ends : goal.returns-in-Err-clause-ends
+returns-in-Err-clause-ends g c = (
+  None,
+  last_lines c.exit_status.result,
+  for_memory c.exit_status.ensures.status refl refl refl,
+  rw (c.in-Err.ensures.unset, c.set_form_for.ensures.failures) at c.exit_status.ensures.reported,
+)

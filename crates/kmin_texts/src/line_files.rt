@@ -1,0 +1,33 @@
+//! The files that lines of standard error are about, read once more.
+use crate::places::Unreadable;
+use std::alloc::{AllocError, Global};
+
+/// A line of a file that was read once more.
+#[derive(Drop)]
+pub enum Reread {
+    /// The bytes of the line, of which a message may show words.
+    Shown(Vec<u8>),
+    /// The bytes of the line, of which a message may show the name of a symbol alone.
+    Hidden(Vec<u8>),
+    /// The file has no such line.
+    NoLine,
+    /// Why the file can't be read.
+    Unread(Unreadable),
+}
+
+/// Files that are read once more for the texts of messages. No contract says what they hold.
+pub trait LineFiles {
+    /// The line with this number, counted from 1, of a file of a tree in the folder `root`. A message may show its words if the real
+    /// path of the file is below that of the folder. An `Err` means out of memory.
+    fn tree_line(
+        &mut self,
+        alloc: Global,
+        root: &str,
+        path: &[u8],
+        number: u32,
+    ) -> Result<Reread, AllocError>;
+
+    /// The line with this number, counted from 1, of a file of the command line. A message may show its words if the real path of the
+    /// file is below that of the working folder. An `Err` means out of memory.
+    fn named_line(&mut self, alloc: Global, path: &str, number: u32) -> Result<Reread, AllocError>;
+}
